@@ -2,14 +2,19 @@
 SCENARIO ?= examples/count.toml
 PREFIX ?= /usr/local
 PROGRAM := crates/mailrun/out/mailrun
+TRACE := crates/mailtrace/out/mailtrace
 
-.PHONY: run prove quick examples test refuse check wrong-bodies bench install proved
+.PHONY: run trace prove quick examples test refuse check wrong-bodies bench install proved
 .DEFAULT_GOAL := run
 
 # Runs a scenario and prints its report: make run [SCENARIO=path]. Where the program is not proved yet, an unproved build of its
 # sources runs. (Make ends with 2 where the run fails; tools/run ends with the program's own status.)
 run:
 	@tools/run $(SCENARIO)
+
+# The same, and prints the trace: what came to each actor and what became of it (docs/TRACE.md).
+trace:
+	@tools/run --trace $(SCENARIO)
 
 # Proves the program, or another crate, with all that it stands on, and builds it: make prove [CRATE=name]. What was proved before and
 # did not change takes seconds.
@@ -25,6 +30,7 @@ quick:
 	tools/check_commands
 	tools/check_schema
 	tools/check_scenarios
+	tools/check_traces
 	tools/try_scenarios
 
 # Runs each scenario of examples/, and sees to it that the report is printed that stands beside it.
@@ -48,6 +54,7 @@ test:
 	tools/check_program $(PROGRAM)
 	tools/check_workers $(PROGRAM)
 	tools/check_commands $(PROGRAM)
+	tools/check_traces $(TRACE)
 	@if command -v "$${CC:-cc}" > /dev/null; then $(MAKE) --no-print-directory refuse; else echo 'no C compiler: no allocation was refused'; fi
 	tools/compare_with_a_model $(PROGRAM)
 
@@ -68,9 +75,11 @@ bench:
 	@tools/prove bench
 	@crates/bench/out/bench
 
-# Installs the one binary: make install [PREFIX=path]
+# Installs the two programs: make install [PREFIX=path]
 install: proved
 	install -D -m 755 $(PROGRAM) $(DESTDIR)$(PREFIX)/bin/mailrun
+	install -D -m 755 $(TRACE) $(DESTDIR)$(PREFIX)/bin/mailtrace
 
 proved:
 	@tools/prove mailrun
+	@tools/prove mailtrace

@@ -19,8 +19,9 @@ WORD = re.compile(r"[^\W\d][\w-]*")
 ENDINGS = ("", ".antt", ".rt", ".edit", ".md")
 PROOFS = ROOT / "docs/PROOFS.md"
 # A path within a crate's folder, maybe with the crate before it, and a name in that file.
-WITHIN = re.compile(r"((?:mb_\w+/)?(?:src|specs|proofs|must-fail|wrong-bodies)/[\w./-]*\w)(?:::(.*))?")
-WRONG_BODY = re.compile(r"(?:mb_\w+/)?(?:must-fail|wrong-bodies)/\w+")
+NAME_OF_CRATE = f"(?:{'|'.join(crate_list.rows())})"
+WITHIN = re.compile(rf"((?:{NAME_OF_CRATE}/)?(?:src|specs|proofs|must-fail|wrong-bodies)/[\w./-]*\w)(?:::(.*))?")
+WRONG_BODY = re.compile(rf"(?:{NAME_OF_CRATE}/)?(?:must-fail|wrong-bodies)/\w+")
 # How many words docs/PROOFS.md has at most, and a cell of its tables.
 MOST_WORDS, MOST_IN_A_CELL = 6000, 40
 

@@ -19,7 +19,7 @@ class JournalFull(Exception):
 
 
 class Mailbox:
-    """The envelopes of an actor, each (sender, body), by the kind of its mailbox."""
+    """The envelopes of an actor, each ((sender, number), body), by the kind of its mailbox."""
 
     def __init__(self, table):
         self.kind = table.get("mailbox", "unbounded")
@@ -110,10 +110,12 @@ class Script:
 class Cell:
     """An actor with all that is known of it."""
 
+    script_type = Script
+
     def __init__(self, system, number, table, parent, prepared):
         self.system, self.number, self.parent, self.prepared = system, number, parent, prepared
         self.name = table.get("name", "guardian")
-        self.script = Script(table, system.number_of, prepared, len(system.tables)) if number else None
+        self.script = self.script_type(table, system.number_of, prepared, len(system.tables)) if number else None
         self.strategy = [(row["cause"], row["then"]) for row in table.get("strategy", [])]
         self.retries, self.all_for_one = table.get("retries", -1), table.get("all_for_one", False)
         self.mailbox = Mailbox(table)
@@ -302,7 +304,7 @@ class Cell:
             if self.phase == ENDING and not self.children:
                 self.end()
 
-    def apply_envelope(self, body):
+    def apply_envelope(self, sent, body):
         self.entries += 1
         self.handled += 1
         if body[0] == "poison":
@@ -326,6 +328,8 @@ class Cell:
 class System:
     """All actors, and the claims of those that are to be run, in order."""
 
+    cell_type = Cell
+
     def __init__(self, top, refused=0):
         self.tables, self.top = top.get("actor", []), top
         self.pushed, self.refused = 0, refused
@@ -334,7 +338,7 @@ class System:
         self.cells = []
         for number, table in enumerate([{}, *self.tables]):
             prepared = [child for child, parent in enumerate(parents, 1) if parent == number]
-            self.cells.append(Cell(self, number, table, parents[number - 1] if number else None, prepared))
+            self.cells.append(self.cell_type(self, number, table, parents[number - 1] if number else None, prepared))
         self.cells[0].listed.append(("create",))
         self.limit, self.throughput = top.get("journal_limit", 4294967295), max(1, top.get("throughput", 5))
         stealing = top.get("pool") == "stealing"
@@ -342,6 +346,8 @@ class System:
         # What was scheduled before the run: with one queue it comes first, with a queue for each worker last.
         self.feed = collections.deque() if stealing else self.own
         self.claims, self.turns = self.feed, []
+        # Who sends now, an actor by its number and a sender outside from 64 on, and how many envelopes each has sent.
+        self.by, self.sent = 64, collections.Counter()
 
     # Scheduling.
 
@@ -354,13 +360,18 @@ class System:
             self.claims.append(cell)
 
     def tell(self, to, body):
-        cell = self.cells[to]
+        cell, envelope = self.cells[to], ((self.by, self.sent[self.by]), body)
+        self.sent[self.by] += 1
         self.pushed += 1
-        if cell.closed or self.pushed == self.refused or not cell.mailbox.push((None, body)):
-            cell.dead += 1
+        if cell.closed or self.pushed == self.refused or not cell.mailbox.push(envelope):
+            self.lose(cell, envelope, "closed" if cell.closed else "no memory" if self.pushed == self.refused else "full")
             self.register(cell)
         else:
             self.register(cell, message=True)
+
+    def lose(self, cell, envelope, why):
+        """The envelope to the cell is a dead letter."""
+        cell.dead += 1
 
     def send_system(self, to, message):
         cell = self.cells[to]
@@ -383,8 +394,8 @@ class System:
         cell.listed.clear()
         for message in dead:
             self.answer_dead(cell, message)
-        while cell.mailbox.take():
-            cell.dead += 1
+        while envelope := cell.mailbox.take():
+            self.lose(cell, envelope, "cleaned")
 
     # A run of a mailbox.
 
@@ -406,13 +417,14 @@ class System:
         return applied
 
     def run_mailbox(self, cell):
+        self.by = cell.number
         systems, envelopes = self.apply_all_system(cell), 0
         while envelopes < self.throughput and not cell.closed and cell.suspensions == 0:
             self.make_room(cell)
             envelope = cell.mailbox.take()
             if envelope is None:
                 break
-            cell.apply_envelope(envelope[1])
+            cell.apply_envelope(*envelope)
             envelopes += 1
             systems += self.apply_all_system(cell)
         cell.scheduled = False
@@ -422,6 +434,7 @@ class System:
     def run(self):
         for send in self.top.get("send", []):
             what, to = send.get("what", "user"), self.number_of[send["to"]]
+            self.by = 64 + send.get("from", 0)
             for _ in range(send.get("times", 1)):
                 if what == "stop":
                     self.send_system(to, ("terminate",))

@@ -134,7 +134,7 @@ pub record Handles (old : CellView) (body : Body) (new : CellView) : Type 0 wher
   pub same_who : new.who ≡ old.who
   pub idle : IsIdle (taken new)
   pub one_more : length new.journal ≡ length old.journal + 1
-  pub heard : messages new.who new.journal ≡ messages old.who old.journal ++ body_messages body
+  pub messages_added : messages new.who new.journal ≡ messages old.who old.journal ++ body_messages body
 
 not_dropped : (who : Identity) (before : List Entry) (b : Body) (kind : ℕ) (value : ℤ) → b ≡ User kind value → IsUnexpected who before b → ⊥
 not_dropped who before b kind value is unexpected = subst (λ (x : Body). IsUnexpected who before x) is unexpected
@@ -160,7 +160,7 @@ handled_by gives cell envelope reading (Handled e r (Applied a effects)) kind va
         no_acts = refl;
       };
       one_more = omega arith;
-      heard = messages-handled who before e r a effects ∙ ap (λ (x : Envelope). messages who before ++ body_messages x.body) of_it.0;
+      messages_added = messages-handled who before e r a effects ∙ ap (λ (x : Envelope). messages who before ++ body_messages x.body) of_it.0;
     }
 handled_by gives cell envelope reading (Handled e r SetAside) kind value steady idle is of_it may_come = absurd may_come
 handled_by gives cell envelope reading (System number m outcome) kind value steady idle is of_it may_come = absurd of_it

@@ -14,7 +14,7 @@ use alone::{Work, measure};
 use desk::{BenchHome, two};
 use held::fill;
 use mb_gate::{Gates, Pass};
-use paired::{Paired, turns};
+use paired::{Paired, measure_paired};
 use shown::{show, show_gain};
 use std::alloc::Global;
 use std::io;
@@ -43,8 +43,8 @@ fn measure_each<R: Clock + Wait + Print + Eprint>(
     gates: &Gates<BenchHome>,
     pass: &mut Pass<BenchHome>,
 ) -> io::Result<()>
-    requires ours { pass_id pass.old ≡ gates_id gates.now }
-    requires there { 1 < actors_of gates.now }
+    requires same_gates { pass_id pass.old ≡ gates_id gates.now }
+    requires present { 1 < actors_of gates.now }
 {
     measure(rt, gates, pass, "a status load", Work::Load)?;
     measure(rt, gates, pass, "a won turn", Work::Turn)?;
@@ -63,7 +63,7 @@ fn two_threads<R: Clock + Threads + Sync + Print + Eprint>(
 ) -> io::Result<()> {
     let (gates, mut first) = two(alloc)?;
     let second = gates.another(&mut first);
-    show_paired(rt, turns(rt, &gates, first, second))
+    show_paired(rt, measure_paired(rt, &gates, first, second))
 }
 
 fn show_paired<R: Print + Eprint>(rt: &R, paired: Paired) -> io::Result<()> {

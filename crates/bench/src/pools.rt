@@ -26,33 +26,42 @@ pub fn run<R: Clock + Threads + Wait + Sync + Print + Eprint>(
     rt: &R,
     alloc: Global,
 ) -> io::Result<()> {
-    show(rt, "shared, one end", turns(rt, alloc, PoolKind::Shared, 1))?;
+    show(
+        rt,
+        "shared, one end",
+        measure(rt, alloc, PoolKind::Shared, 1),
+    )?;
     show(
         rt,
         "stealing, one end",
-        turns(rt, alloc, PoolKind::Stealing, 1),
+        measure(rt, alloc, PoolKind::Stealing, 1),
     )?;
     show(
         rt,
         "shared, four ends",
-        turns(rt, alloc, PoolKind::Shared, 4),
+        measure(rt, alloc, PoolKind::Shared, 4),
     )?;
     show(
         rt,
         "stealing, four ends",
-        turns(rt, alloc, PoolKind::Stealing, 4),
+        measure(rt, alloc, PoolKind::Stealing, 4),
     )
 }
 
 /// With one end, or with four ends where there are four.
-fn turns<R: Clock + Threads + Wait + Sync>(rt: &R, alloc: Global, kind: PoolKind, ends: u32) -> Made
+fn measure<R: Clock + Threads + Wait + Sync>(
+    rt: &R,
+    alloc: Global,
+    kind: PoolKind,
+    ends: u32,
+) -> Made
     requires { 0 < ends }
 {
     let (gates, mut pass) = gates_of(alloc, ends as usize).ok()?;
-    turns_at(rt, alloc, &gates, &mut pass, kind, ends)
+    measure_at(rt, alloc, &gates, &mut pass, kind, ends)
 }
 
-fn turns_at<R: Clock + Threads + Wait + Sync>(
+fn measure_at<R: Clock + Threads + Wait + Sync>(
     rt: &R,
     alloc: Global,
     gates: &Gates<StubHome>,
@@ -60,13 +69,13 @@ fn turns_at<R: Clock + Threads + Wait + Sync>(
     kind: PoolKind,
     ends: u32,
 ) -> Made
-    requires ours { pass_id pass.old ≡ gates_id gates.now }
-    requires there { (0 < ends) × (ends ≤ actors_of gates.now) }
+    requires same_gates { pass_id pass.old ≡ gates_id gates.now }
+    requires present { (0 < ends) × (ends ≤ actors_of gates.now) }
 {
     let mut all = workers(alloc, gates, pass, kind, ends)?;
     if ends < 4 {
-        alone::turns(rt, gates, &mut all)
+        alone::measure(rt, gates, &mut all)
     } else {
-        four::turns(rt, gates, &mut all)
+        four::measure(rt, gates, &mut all)
     }
 }

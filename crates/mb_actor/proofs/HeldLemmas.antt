@@ -72,10 +72,10 @@ once-more tray (effect.Spawn x) held may = distinct-push (spawns_of tray.effects
 
 pub can_hold-more : (tray : OutboxView) (e : Effect) → CanHold tray → Passes tray e → CanHold (record tray { effects = tray.effects ++ e ∷ [] })
 can_hold-more tray e held passes = record {
-  few = omega (arith, passes.room, length-append tray.effects (e ∷ []));
-  there =
+  within_limit = omega (arith, passes.room, length-append tray.effects (e ∷ []));
+  present =
       list_all-append (λ x. is_actor tray (actor_of x)) tray.effects (e ∷ [])
-      ∙ (λ i. held.there i && (passes.actor i && true));
+      ∙ (λ i. held.present i && (passes.actor i && true));
   prepared = ap (list_all (has tray.unspawned)) (spawns-more tray.effects e) ∙ prepared-more tray e held passes.may;
   once = ap is_distinct (spawns-more tray.effects e) ∙ once-more tray e held passes.may;
 }
@@ -83,4 +83,4 @@ can_hold-more tray e held passes = record {
 pub can_hold-none : (tray : OutboxView) → tray.effects ≡ [] → CanHold tray
 can_hold-none tray none =
     subst (λ (effects : List Effect). CanHold (record tray { effects = effects })) (sym none)
-    (record { few = omega arith; there = refl; prepared = refl; once = refl })
+    (record { within_limit = omega arith; present = refl; prepared = refl; once = refl })

@@ -14,7 +14,7 @@ is_distinct (a ∷ list) = not (has list a) && is_distinct list
 -- effects that one call can have asked for: no more than 16, on actors that exist, and the spawns are of prepared children
 -- that were not spawned before, each once (this project's own profile: Akka carries effects out at once)
 pub record CanHold (tray : OutboxView) : Type 0 where
-  pub few : length tray.effects ≤ most_effects
-  pub there : IsTrue (list_all (λ e. is_actor tray (actor_of e)) tray.effects)
+  pub within_limit : length tray.effects ≤ most_effects
+  pub present : IsTrue (list_all (λ e. is_actor tray (actor_of e)) tray.effects)
   pub prepared : IsTrue (list_all (has tray.unspawned) (spawns_of tray.effects))
   pub once : IsTrue (is_distinct (spawns_of tray.effects))

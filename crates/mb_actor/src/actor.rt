@@ -31,7 +31,7 @@ pub trait Actor: Drop {
     /// Handles a message (`receive`). Whatever it answers, the content is that of one message more.
     fn receive(&mut self, message: &Message, out: &mut Outbox) -> Answer
         requires empty { out.old.effects ≡ [] }
-        ensures goes_on { (l : List Message) → content self.old ≡ after self.old l →
+        ensures continues { (l : List Message) → content self.old ≡ after self.old l →
             content self.new ≡ after self.new (l ++ message.now ∷ []) }
         ensures given { IsAllowed (content self.old) (after self.old) (gives self.new) (Call.Receive message.now) (Some result)
             out.old out.new }

@@ -124,7 +124,7 @@ impl Outbox {
     /// The effects that were asked for, in order: at most 16.
     pub fn effects(&self) -> &[Effect]
         ensures value { result.now ≡ self.now.effects }
-        ensures few { length self.now.effects ≤ most_effects }
+        ensures within_limit { length self.now.effects ≤ most_effects }
         ensures held { CanHold self.now }
     {
         self.effects.as_slice()

@@ -58,7 +58,7 @@ impl<A: Actor> RecordedActor<A> {
     pub fn receive(&mut self, message: &Message, out: &mut Outbox) -> Answer
         requires empty { out.old.effects ≡ [] }
         ensures called { self.new.calls ≡ Call.Receive message.now ∷ self.old.calls }
-        ensures goes_on { (l : List Message) → A.content self.old.actor ≡ A.after self.old.actor l →
+        ensures continues { (l : List Message) → A.content self.old.actor ≡ A.after self.old.actor l →
             A.content self.new.actor ≡ A.after self.new.actor (l ++ message.now ∷ []) }
         ensures given { IsAllowed (A.content self.old.actor) (A.after self.old.actor) (A.gives self.new.actor)
             (Call.Receive message.now) (Some result) out.old out.new }

@@ -29,7 +29,7 @@ pub directory-push : {X : Type 0} (view : X → DirectoryEntry) (old new : List 
 directory-push view old new x e pushed is = ap (map view) pushed ∙ map_push view old x ∙ ap (λ y. map view old ++ y ∷ []) is
 
 abbrev pub the_enrolled : Identity → TakePassView → DirectoryEntry
-the_enrolled who t = record { who = who; queue = t.queue; turns = t.turns }
+the_enrolled who t = record { who = who; queue = t.queue; discipline = t.discipline }
 
 -- one actor more is enrolled
 pub enrolled-more : (here there : List Identity) (this that : List TakePassView) (who : Identity) (t : TakePassView) (old new whole : List DirectoryEntry)

@@ -29,20 +29,20 @@ unstarted-here (x ∷ done) cell rest are =
     unstarted-here done cell rest others
 
 -- the guardian's pass is the first
-pub all-made : (kinds : List MailboxType) (senders : List ℕ) (ways : List TakePassView) (rows : List (List SendPassView)) → AreAllMade kinds senders ways rows
-    → (guardian : TakePassView) × (takes : List TakePassView) × (ways ≡ guardian ∷ takes) × AreMade kinds senders guardian takes rows
+pub all-made : (kinds : List MailboxType) (senders : List ℕ) (all_takes : List TakePassView) (rows : List (List SendPassView)) → AreAllMade kinds senders all_takes rows
+    → (guardian : TakePassView) × (takes : List TakePassView) × (all_takes ≡ guardian ∷ takes) × AreMade kinds senders guardian takes rows
 all-made kinds senders [] rows made = absurd made
 all-made kinds senders (guardian ∷ takes) rows made = (guardian, takes, refl, made)
 
 -- the actors of a system, with empty queues and unused passes
-module _ (cells : List CellView) (kinds : List MailboxType) (outside : ℕ) (ways : List TakePassView) (rows : List (List SendPassView))
+module _ (cells : List CellView) (kinds : List MailboxType) (outside : ℕ) (all_takes : List TakePassView) (rows : List (List SendPassView))
     (unused : cells ≡ map unstarted (whose cells)) (planned : ArePlanned (length cells) 0 (whose cells)) (count : length cells ≡ length kinds + 1)
-    (made : AreAllMade kinds (sender_numbers (length cells) outside) ways rows) where
-  parts : (guardian : TakePassView) × (takes : List TakePassView) × (ways ≡ guardian ∷ takes)
+    (made : AreAllMade kinds (sender_numbers (length cells) outside) all_takes rows) where
+  parts : (guardian : TakePassView) × (takes : List TakePassView) × (all_takes ≡ guardian ∷ takes)
       × AreMade kinds (sender_numbers (length cells) outside) guardian takes rows
-  parts = all-made kinds (sender_numbers (length cells) outside) ways rows made
+  parts = all-made kinds (sender_numbers (length cells) outside) all_takes rows made
 
-  pub passes-count : length ways ≡ length cells
+  pub passes-count : length all_takes ≡ length cells
   passes-count =
       let many = as-many kinds 1 (sender_numbers (length cells) outside) parts.1 parts.3.empty in let whole = ap length parts.2 in
       omega (arith, many, count, whole)
@@ -81,10 +81,10 @@ module _ (cells : List CellView) (kinds : List MailboxType) (outside : ℕ) (way
     own-row : (row : List SendPassView) (more : List (List SendPassView)) → drop place rows ≡ row ∷ more → row ≡ passes_of parts.1 place
     own-row row more here = let both = sym here ∙ rows-from in cc
 
-    pub row-there : (row : List SendPassView) (more : List (List SendPassView)) → drop place rows ≡ row ∷ more → row ≡ passes_of (drop 1 ways) place
+    pub row-there : (row : List SendPassView) (more : List (List SendPassView)) → drop place rows ≡ row ∷ more → row ≡ passes_of (drop 1 all_takes) place
     row-there row more here = own-row row more here ∙ sym (ap (λ l. passes_of (drop 1 l) place) parts.2)
 
-    module _ (t : TakePassView) (takes' : List TakePassView) (this : drop place ways ≡ t ∷ takes') where
+    module _ (t : TakePassView) (takes' : List TakePassView) (this : drop place all_takes ≡ t ∷ takes') where
       here : drop place (parts.0 ∷ parts.1) ≡ t ∷ takes'
       here = subst (λ l. drop place l ≡ t ∷ takes') parts.2 this
 
@@ -93,7 +93,7 @@ module _ (cells : List CellView) (kinds : List MailboxType) (outside : ℕ) (way
 
       -- and its home is its own
       pub own-there : (sends : List SendPassView) (more : List (List SendPassView)) → drop place rows ≡ sends ∷ more
-          → IsOwn (at_first cell t sends 0 (directory_of (whose cells) ways))
+          → IsOwn (at_first cell t sends 0 (directory_of (whose cells) all_takes))
       own-there sends more there =
           subst (λ w. IsOwn (at_first cell t sends 0 (directory_of (whose cells) w))) (sym parts.2)
           (subst (λ l. IsOwn (at_first cell t l 0 (directory_of (whose cells) (parts.0 ∷ parts.1)))) (sym (own-row sends more there))

@@ -8,11 +8,11 @@ use Rattle.mb_msg.specs.declared.mailbox_type.MailboxType.TheVariants as mailbox
 use Rattle.mb_msg.specs.declared.actor_plan.ActorPlan.{ActorPlan}
 use Rattle.mb_queue.specs.Made.{IsMakeable, bound_of}
 use Rattle.mb_build.specs.Reasons.{may_be_bound}
-use Rattle.mb_build.specs.Kinds.{AreQueues, Queues}
+use Rattle.mb_build.specs.Kinds.{AreKindsOf, IsKindOf}
 
 -- one queue more
-pub queues-more : (plans : List ActorPlan) (kinds : List MailboxType) (a : ActorPlan) (k : MailboxType) → AreQueues plans kinds → Queues a.mailbox k
-    → AreQueues (plans ++ a ∷ []) (kinds ++ k ∷ [])
+pub queues-more : (plans : List ActorPlan) (kinds : List MailboxType) (a : ActorPlan) (k : MailboxType) → AreKindsOf plans kinds → IsKindOf a.mailbox k
+    → AreKindsOf (plans ++ a ∷ []) (kinds ++ k ∷ [])
 queues-more [] [] a k are is = (is, tt)
 queues-more [] (x ∷ kinds) a k are is = absurd are
 queues-more (p ∷ plans) [] a k are is = absurd are
@@ -20,11 +20,11 @@ queues-more (p ∷ plans) (x ∷ kinds) a k are is = (are.0, queues-more plans k
 
 -- the queue of the plan in the next place
 pub queues-next : (plans : List ActorPlan) (place : ℕ) (d : ActorPlan) (kinds new : List MailboxType) (k : MailboxType) → place < length plans
-    → AreQueues (take place plans) kinds → Queues (get_or plans place d).mailbox k → new ≡ kinds ++ k ∷ []
-    → AreQueues (take (place + 1) plans) new
+    → AreKindsOf (take place plans) kinds → IsKindOf (get_or plans place d).mailbox k → new ≡ kinds ++ k ∷ []
+    → AreKindsOf (take (place + 1) plans) new
 queues-next plans place d kinds new k lt are is pushed =
-    subst (λ l. AreQueues l new) (sym (take_more plans place d lt))
-    (subst (AreQueues (take place plans ++ get_or plans place d ∷ [])) (sym pushed)
+    subst (λ l. AreKindsOf l new) (sym (take_more plans place d lt))
+    (subst (AreKindsOf (take place plans ++ get_or plans place d ∷ [])) (sym pushed)
     (queues-more (take place plans) kinds (get_or plans place d) k are is))
 
 both_true : (a b : Bool) → (a && b) ≡ true → a ≡ true
@@ -45,5 +45,5 @@ by-bound (mailbox.Priority rows other) some = tt
 by-bound mailbox.Control some = tt
 
 -- a queue with a bound that a plan may have can be made
-pub makeable : (m k : MailboxType) → may_be_bound m ≡ true → Queues m k → IsMakeable k
+pub makeable : (m k : MailboxType) → may_be_bound m ≡ true → IsKindOf m k → IsMakeable k
 makeable m k may is = by-bound k (subst (λ b. IfSome b (λ n. 0 < n)) (sym is.1) (bounded m may))

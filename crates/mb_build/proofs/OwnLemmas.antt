@@ -16,9 +16,9 @@ use Rattle.mb_build.specs.Made.{AreEmpty, AreMade}
 use Rattle.mb_build.specs.Unstarted.{unstarted}
 use Rattle.mb_build.proofs.DirectoryLemmas.{enrolled-there, length-enrolled, queues-enrolled}
 
-ways-of-passes : (takes : List TakePassView) (sender : ℕ) → map (λ (p : SendPassView). p.queue) (passes_of takes sender) ≡ map (λ (t : TakePassView). t.queue) takes
-ways-of-passes [] sender = refl
-ways-of-passes (t ∷ takes) sender = ap (λ l. t.queue ∷ l) (ways-of-passes takes sender)
+queues-of-passes : (takes : List TakePassView) (sender : ℕ) → map (λ (p : SendPassView). p.queue) (passes_of takes sender) ≡ map (λ (t : TakePassView). t.queue) takes
+queues-of-passes [] sender = refl
+queues-of-passes (t ∷ takes) sender = ap (λ l. t.queue ∷ l) (queues-of-passes takes sender)
 
 all-by : (takes : List TakePassView) (sender : ℕ) → All (λ (p : SendPassView). p.by ≡ sender) (passes_of takes sender)
 all-by [] sender = All-nil (λ (p : SendPassView). p.by ≡ sender)
@@ -95,9 +95,9 @@ own-first kinds senders guardian takes rows whos place who t whos' takes' made m
       enrolled = ap (slice_get (directory_of whos (guardian ∷ takes))) number
           ∙ enrolled-there whos (guardian ∷ takes) place who t whos' takes' here this;
       all_there = planned.actors_are ∙ sym (length-enrolled whos (guardian ∷ takes) many);
-      few = planned.few;
+      within_limit = planned.within_limit;
       not_zero = λ plain. subst (λ n. 0 < n) (sym number) (others-later who place planned.guardian_is plain);
-      queues = ways-of-passes takes place ∙ ap (drop 1) (sym (queues-enrolled whos (guardian ∷ takes) many));
+      queues = queues-of-passes takes place ∙ ap (drop 1) (sym (queues-enrolled whos (guardian ∷ takes) many));
       by = subst (λ n. All (λ (p : SendPassView). p.by ≡ n) (passes_of takes place)) (sym number) (all-by takes place);
       receivers = λ at p there. let sum : 1 + at ≡ at + 1 = omega arith in receivers kinds 1 senders takes place at p made.empty there ∙ sum;
       receiver = pass.receiver ∙ sym number;

@@ -10,7 +10,7 @@ use Rattle.mb_msg.specs.declared.mailbox_type.MailboxType.{MailboxType}
 use Rattle.mb_queue.specs.Made.{IsMakeable}
 use Rattle.mb_ghost.specs.Seen.{Each}
 use Rattle.mb_build.specs.Identities.{ArePlanned, children_from, id, identities, planned_from}
-use Rattle.mb_build.specs.Kinds.{AreQueues}
+use Rattle.mb_build.specs.Kinds.{AreKindsOf}
 use Rattle.mb_build.specs.Reasons.{bad_bounds, bad_parents, may_be_bound, unless}
 use Rattle.mb_build.specs.declared.check.PlanError.{PlanError}
 use Rattle.mb_build.proofs.KindLemmas.{makeable}
@@ -21,14 +21,14 @@ no-reason true reason rest none = (refl, none)
 no-reason false reason rest none = absurd (cc)
 
 -- as many queues as plans
-pub length-queues : (plans : List ActorPlan) (kinds : List MailboxType) → AreQueues plans kinds → length kinds ≡ length plans
+pub length-queues : (plans : List ActorPlan) (kinds : List MailboxType) → AreKindsOf plans kinds → length kinds ≡ length plans
 length-queues [] [] are = refl
 length-queues [] (k ∷ kinds) are = absurd are
 length-queues (a ∷ plans) [] are = absurd are
 length-queues (a ∷ plans) (k ∷ kinds) are = let rest = length-queues plans kinds are.1 in omega (arith, rest)
 
 -- each of which can be made
-pub all-makeable : (number : ℕ) (plans : List ActorPlan) (kinds : List MailboxType) → bad_bounds number plans ≡ [] → AreQueues plans kinds
+pub all-makeable : (number : ℕ) (plans : List ActorPlan) (kinds : List MailboxType) → bad_bounds number plans ≡ [] → AreKindsOf plans kinds
     → All IsMakeable kinds
 all-makeable number [] [] none are = All-nil IsMakeable
 all-makeable number [] (k ∷ kinds) none are = absurd are
@@ -70,7 +70,7 @@ planned-all actors limit all number (a ∷ plans) none lt le few bound =
         guardian_is = not-zero number lt;
         parent = omega (arith, parent, le);
         prepared = children-there actors 1 number all few;
-        few = bound;
+        within_limit = bound;
       },
       planned-all actors limit all (number + 1) plans both.1 (omega arith) (omega (arith, le)) few bound,
     )
@@ -87,7 +87,7 @@ all-planned limit plans none bound =
         guardian_is = refl;
         parent = tt;
         prepared = children-there (length plans + 1) 1 0 (map (λ a. a.parent) plans) few;
-        few = bound;
+        within_limit = bound;
       },
       planned-all (length plans + 1) limit (map (λ a. a.parent) plans) 1 plans none (omega arith) (omega arith) few bound,
     )

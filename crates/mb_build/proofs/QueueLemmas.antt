@@ -55,11 +55,11 @@ pub refilled : {X : Type 0} (count : ℕ) (old new : List X) → length new ≡ 
 refilled count old new e = ap (λ (n : ℕ). take n (new ++ drop (length new) old)) (sym e) ∙ take-front new (drop (length new) old)
 
 -- the guardian's queue, and then the others'
-pub all-made-of : (kinds : List MailboxType) (senders numbers : List ℕ) (guardian : TakePassView) (ways takes : List TakePassView) (rows : List (List SendPassView))
-    → ways ≡ guardian ∷ takes → IsEmpty Unbounded 0 [] guardian → AreEmpty kinds 1 senders takes → rows ≡ map (passes_of takes) senders
-    → senders ≡ numbers → AreAllMade kinds numbers ways rows
-all-made-of kinds senders numbers guardian ways takes rows are nobody empty passes same =
-    subst (λ n. AreAllMade kinds n ways rows) same (subst (λ w. AreAllMade kinds senders w rows) (sym are) (record {
+pub all-made-of : (kinds : List MailboxType) (senders numbers : List ℕ) (guardian : TakePassView) (all_takes takes : List TakePassView) (rows : List (List SendPassView))
+    → all_takes ≡ guardian ∷ takes → IsEmpty Unbounded 0 [] guardian → AreEmpty kinds 1 senders takes → rows ≡ map (passes_of takes) senders
+    → senders ≡ numbers → AreAllMade kinds numbers all_takes rows
+all-made-of kinds senders numbers guardian all_takes takes rows are nobody empty passes same =
+    subst (λ n. AreAllMade kinds n all_takes rows) same (subst (λ w. AreAllMade kinds senders w rows) (sym are) (record {
       nobody = nobody;
       empty = empty;
       passes = passes;

@@ -59,7 +59,7 @@ pub record IsPlanned (actors number : ℕ) (who : Identity) : Type 0 where
   pub guardian_is : is_guardian who ≡ (number == 0)
   pub parent : IfSome who.parent (λ p. p.0 < actors)
   pub prepared : Each (λ (x : ActorId). x.0 < actors) who.prepared
-  pub few : who.limit < 2 ^ 32
+  pub within_limit : who.limit < 2 ^ 32
 
 -- Each of these is an actor of its number; they are numbered on from this one.
 abbrev pub ArePlanned : ℕ → ℕ → List Identity → Type 0

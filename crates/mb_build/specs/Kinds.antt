@@ -2,15 +2,15 @@
 use Rattle.std.specs.Prelude.{◌≡◌, List, [], ◌∷◌}
 use Rattle.mb_msg.specs.declared.actor_plan.ActorPlan.{ActorPlan}
 use Rattle.mb_msg.specs.declared.mailbox_type.MailboxType.{MailboxType}
-use Rattle.mb_queue.specs.Made.{bound_of, turns_in}
+use Rattle.mb_queue.specs.Made.{bound_of, discipline_of}
 
--- The queue is of the mailbox's kind, with its bound or its ranks.
-abbrev pub Queues : MailboxType → MailboxType → Type 0
-Queues planned made = (turns_in made ≡ turns_in planned) × (bound_of made ≡ bound_of planned)
+-- A queue that is made by the second is of the kind of the first: it has the discipline, with the ranks, and the bound.
+abbrev pub IsKindOf : MailboxType → MailboxType → Type 0
+IsKindOf planned made = (discipline_of made ≡ discipline_of planned) × (bound_of made ≡ bound_of planned)
 
 -- The queues are of the kinds of these actors' mailboxes.
-abbrev pub AreQueues : List ActorPlan → List MailboxType → Type 0
-AreQueues [] [] = Unit {0}
-AreQueues (a ∷ actors) (k ∷ kinds) = Queues a.mailbox k × AreQueues actors kinds
-AreQueues [] (k ∷ kinds) = ⊥
-AreQueues (a ∷ actors) [] = ⊥
+abbrev pub AreKindsOf : List ActorPlan → List MailboxType → Type 0
+AreKindsOf [] [] = Unit {0}
+AreKindsOf (a ∷ actors) (k ∷ kinds) = IsKindOf a.mailbox k × AreKindsOf actors kinds
+AreKindsOf [] (k ∷ kinds) = ⊥
+AreKindsOf (a ∷ actors) [] = ⊥

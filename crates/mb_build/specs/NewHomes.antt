@@ -16,9 +16,9 @@ use Rattle.mb_build.specs.Made.{AreMade}
 use Rattle.mb_build.specs.Numbers.{numbers, sender_numbers}
 use Rattle.mb_build.specs.Unstarted.{unstarted}
 
--- The directory of these actors, in order: who each is, its queue, and the order in which that is taken from.
+-- The directory of these actors, in order: who each is, its queue, and the discipline of that.
 abbrev pub directory_of : List Identity → List TakePassView → List DirectoryEntry
-directory_of (who ∷ all) (t ∷ takes) = record { who = who; queue = t.queue; turns = t.turns } ∷ directory_of all takes
+directory_of (who ∷ all) (t ∷ takes) = record { who = who; queue = t.queue; discipline = t.discipline } ∷ directory_of all takes
 directory_of _ _ = []
 
 -- the homes of these actors, which are numbered on from this one, as they begin: each has its cell, takes from its queue, and pushes into

@@ -4,22 +4,19 @@ use Rattle.mb_journal.specs.Identity.{Identity}
 use Rattle.mb_home.specs.Directory.{DirectoryEntry}
 use Rattle.mb_msg.specs.declared.actor_plan.ActorPlan.{ActorPlan}
 use Rattle.mb_msg.specs.declared.plan.Plan.{Plan}
-use Rattle.mb_queue.specs.Made.{bound_of, turns_in}
+use Rattle.mb_queue.specs.Made.{bound_of, discipline_of}
 use Rattle.mb_msg.specs.declared.mailbox_type.MailboxType.{MailboxType}
 use Rattle.mb_build.specs.Identities.{identities}
-use Rattle.mb_build.specs.Kinds.{Queues}
 
 -- The actors of this plan, the guardian first.
 abbrev pub actors_in : Plan → List Identity
 actors_in plan = identities (length plan.actors.items + 1) plan.journal_limit (map (λ a. a.parent) plan.actors.items)
     (map (λ a. a.strategy) plan.actors.items)
 
--- The actor has the mailbox of its plan: the order in which its queue is taken from, and how much the queue holds at most.
+-- The actor has the mailbox of its plan: its queue has the discipline of that mailbox, and its bound.
 pub record HasMailbox (plan : ActorPlan) (e : DirectoryEntry) : Type 0 where
-  pub kind : MailboxType
-  pub queues : Queues plan.mailbox kind
-  pub turns : e.turns ≡ turns_in kind
-  pub bound : e.queue.main.capacity ≡ bound_of kind
+  pub discipline : e.discipline ≡ discipline_of plan.mailbox
+  pub bound : e.queue.main.capacity ≡ bound_of plan.mailbox
 
 -- The directory has the guardian, and behind it the actors of this plan in the order of their numbers, each with the mailbox that is planned.
 pub record IsDirectoryOf (plan : Plan) (directory : List DirectoryEntry) : Type 0 where

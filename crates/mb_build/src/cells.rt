@@ -21,8 +21,8 @@ pub(crate) fn cells<A: Actor, K: Behaviours>(
     actors: Vec<A>,
     journal_limit: u32,
 ) -> Result<Vec<Cell<A, K>>, AllocError>
-    requires few { length plans.items < 64 }
-    requires many { length actors.items ≡ length plans.items }
+    requires within_limit { length plans.items < 64 }
+    requires same_count { length actors.items ≡ length plans.items }
     requires behaved { BehaveAsPlanned A.content A.after A.gives K.after K.gives 1 actors.items }
     ensures { IfOk result (λ cells. cells.items ≡ map unstarted
         (identities (length plans.items + 1) journal_limit (map (λ a. a.parent) plans.items) (map (λ a. a.strategy) plans.items))) }
@@ -57,9 +57,9 @@ fn add_cells<A: Actor, K: Behaviours>(
     parents: &[ActorId],
     journal_limit: u32,
 ) -> Result<(), AllocError>
-    requires few { (length cells.old.items ≡ 1) × (length parents.now < 64) }
+    requires within_limit { (length cells.old.items ≡ 1) × (length parents.now < 64) }
     requires room { vec_capacity cells.old ≡ length parents.now + 1 }
-    requires many { (length plans.items ≡ length parents.now) × (length actors.items ≡ length parents.now) }
+    requires same_count { (length plans.items ≡ length parents.now) × (length actors.items ≡ length parents.now) }
     requires behaved { BehaveAsPlanned A.content A.after A.gives K.after K.gives 1 actors.items }
     ensures { IfOk result (λ _. cells.new.items ≡ cells.old.items ++ map unstarted (planned_from (length parents.now + 1) journal_limit parents.now 1
         (map (λ a. a.parent) plans.items) (map (λ a. a.strategy) plans.items))) }
@@ -83,7 +83,7 @@ fn add_cell<A: Actor, K: Behaviours>(
     parents: &[ActorId],
     journal_limit: u32,
 ) -> Result<(), AllocError>
-    requires few { (length cells.old.items < 64) × (length parents.now < 64) }
+    requires within_limit { (length cells.old.items < 64) × (length parents.now < 64) }
     requires room { length cells.old.items < vec_capacity cells.old }
     requires behaved { BehavesAsPlanned A.content A.after A.gives (K.after (length cells.old.items)) (K.gives (length cells.old.items)) actor }
     ensures room { IfOk result (λ _. vec_capacity cells.new ≡ vec_capacity cells.old) }

@@ -7,7 +7,7 @@ ghost use Rattle.mb_msg.specs.declared.mailbox_type.MailboxType.{MailboxType};
 ghost use Rattle.mb_build.specs.BehavesAsPlanned.{BehaveAsPlanned};
 ghost use Rattle.mb_build.specs.NewHomes.{directory_of, AreAtFirst, AreFresh, AreNewHomes};
 ghost use Rattle.mb_build.specs.Identities.{ArePlanned, identities};
-ghost use Rattle.mb_build.specs.Kinds.{AreQueues};
+ghost use Rattle.mb_build.specs.Kinds.{AreKindsOf};
 ghost use Rattle.mb_build.specs.Made.{AreAllMade};
 ghost use Rattle.mb_build.specs.Numbers.{sender_numbers};
 ghost use Rattle.mb_build.specs.Reasons.{bad_bounds, bad_parents};
@@ -43,11 +43,11 @@ pub fn make_homes<A: Actor, K: Behaviours>(
     senders: u32,
     journal_limit: u32,
 ) -> Result<NewHomes<A, K>, AllocError>
-    requires few { (length plans.items < 64) × (senders ≤ 16) }
+    requires within_limit { (length plans.items < 64) × (senders ≤ 16) }
     requires right { (bad_parents 1 plans.items ≡ []) × (bad_bounds 1 plans.items ≡ []) }
-    requires many { length actors.items ≡ length plans.items }
+    requires same_count { length actors.items ≡ length plans.items }
     requires behaved { BehaveAsPlanned A.content A.after A.gives K.after K.gives 1 actors.items }
-    ensures { IfOk result (λ housed. (kinds : List MailboxType) × AreQueues plans.items kinds
+    ensures { IfOk result (λ housed. (kinds : List MailboxType) × AreKindsOf plans.items kinds
         × AreNewHomes K.gives (identities (length plans.items + 1) journal_limit (map (λ a. a.parent) plans.items) (map (λ a. a.strategy) plans.items))
         kinds senders housed.homes.items (map (λ row. row.items) housed.outside.items)) }
 {
@@ -66,7 +66,7 @@ fn make_directory<A: Actor, K: Behaviours>(
     takes: &[TakePass],
 ) -> Result<Vec<EntrySnapshot<A, K>>, AllocError>
     requires { length cells.now ≡ length takes.now }
-    ensures { IfOk result (λ directory. map (λ n. record { who = n.cell.value.who; queue = n.take.value.queue; turns = n.take.value.turns }) directory.items
+    ensures { IfOk result (λ directory. map (λ n. record { who = n.cell.value.who; queue = n.take.value.queue; discipline = n.take.value.discipline }) directory.items
         ≡ directory_of (map (λ c. c.who) cells.now) takes.now) }
 {
     let mut directory = Vec::with_capacity(alloc, cells.len())?;
@@ -86,12 +86,12 @@ fn homes<A: Actor, K: Behaviours>(
     queues: Queues,
     directory: &Vec<EntrySnapshot<A, K>>,
 ) -> Result<NewHomes<A, K>, AllocError>
-    requires few { length cells.items ≤ 64 }
+    requires within_limit { length cells.items ≤ 64 }
     requires cells { (cells.items ≡ map unstarted (map (λ c. c.who) cells.items))
         × ArePlanned (length cells.items) 0 (map (λ c. c.who) cells.items) }
     requires made { (kinds : List MailboxType) × (outside : ℕ) × (length cells.items ≡ length kinds + 1) × AreAllMade kinds
         (sender_numbers (length cells.items) outside) queues.takes.items (map (λ row. row.items) queues.senders.items) }
-    requires directory { map (λ n. record { who = n.cell.value.who; queue = n.take.value.queue; turns = n.take.value.turns }) directory.now.items
+    requires directory { map (λ n. record { who = n.cell.value.who; queue = n.take.value.queue; discipline = n.take.value.discipline }) directory.now.items
         ≡ directory_of (map (λ c. c.who) cells.items) queues.takes.items }
     ensures first { IfOk result (λ housed. AreAtFirst (directory_of (map (λ c. c.who) cells.items) queues.takes.items) (drop 1 queues.takes.items) 0
         (map (λ c. c.who) cells.items) queues.takes.items housed.homes.items) }
@@ -117,12 +117,12 @@ fn add_homes<A: Actor, K: Behaviours>(
     directory: &Vec<EntrySnapshot<A, K>>,
 ) -> Result<(), AllocError>
     requires none { (homes.old.items ≡ []) × (length cells.items ≤ vec_capacity homes.old) }
-    requires few { length cells.items ≤ 64 }
+    requires within_limit { length cells.items ≤ 64 }
     requires cells { (cells.items ≡ map unstarted (map (λ c. c.who) cells.items))
         × ArePlanned (length cells.items) 0 (map (λ c. c.who) cells.items) }
     requires made { (kinds : List MailboxType) × (outside : ℕ) × (length cells.items ≡ length kinds + 1) × AreAllMade kinds
         (sender_numbers (length cells.items) outside) takes.items (map (λ row. row.items) (into_iter_items rows.old)) }
-    requires directory { map (λ n. record { who = n.cell.value.who; queue = n.take.value.queue; turns = n.take.value.turns }) directory.now.items
+    requires directory { map (λ n. record { who = n.cell.value.who; queue = n.take.value.queue; discipline = n.take.value.discipline }) directory.now.items
         ≡ directory_of (map (λ c. c.who) cells.items) takes.items }
     ensures first { IfOk result (λ _. AreAtFirst (directory_of (map (λ c. c.who) cells.items) takes.items) (drop 1 takes.items) 0
         (map (λ c. c.who) cells.items) takes.items homes.new.items) }

@@ -1,13 +1,13 @@
 //! From the mailboxes of a plan to the kinds of queues.
 ghost use Rattle.std.specs.Prelude.{◌≡◌, IfOk};
-ghost use Rattle.mb_build.specs.Kinds.{Queues};
+ghost use Rattle.mb_build.specs.Kinds.{IsKindOf};
 
 use mb_msg::{MailboxType, RankRow};
 use std::alloc::{AllocError, Global};
 
 /// The kind of queue for a mailbox of the plan.
 pub(crate) fn kind_of(alloc: Global, mailbox: &MailboxType) -> Result<MailboxType, AllocError>
-    ensures { IfOk result (Queues mailbox.now) }
+    ensures { IfOk result (IsKindOf mailbox.now) }
 {
     match mailbox {
         MailboxType::Unbounded => Ok(MailboxType::Unbounded),

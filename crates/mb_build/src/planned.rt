@@ -1,6 +1,6 @@
 //! The parents and the queues that a plan gives its actors.
 ghost use Rattle.std.specs.Prelude.{◌≡◌, IfOk, map};
-ghost use Rattle.mb_build.specs.Kinds.{AreQueues};
+ghost use Rattle.mb_build.specs.Kinds.{AreKindsOf};
 
 use crate::kinds::kind_of;
 use mb_msg::{ActorId, ActorPlan, MailboxType};
@@ -19,7 +19,7 @@ pub(crate) fn parents_of(alloc: Global, plans: &[ActorPlan]) -> Result<Vec<Actor
 
 /// The kinds of their queues.
 pub(crate) fn kinds_of(alloc: Global, plans: &[ActorPlan]) -> Result<Vec<MailboxType>, AllocError>
-    ensures { IfOk result (λ kinds. AreQueues plans.now kinds.items) }
+    ensures { IfOk result (λ kinds. AreKindsOf plans.now kinds.items) }
 {
     let mut kinds = Vec::with_capacity(alloc, plans.len())?;
     for plan in plans {

@@ -29,7 +29,7 @@ pub(crate) fn make_queues(
     kinds: Vec<MailboxType>,
     outside: u32,
 ) -> Result<Queues, AllocError>
-    requires few { (length kinds.items < 64) × (outside ≤ 16) }
+    requires within_limit { (length kinds.items < 64) × (outside ≤ 16) }
     requires kinds { All IsMakeable kinds.items }
     ensures { IfOk result (λ queues. AreAllMade kinds.items (sender_numbers (length kinds.items + 1) outside) queues.takes.items
         (map (λ row. row.items) queues.senders.items)) }
@@ -74,11 +74,11 @@ fn add_queues(
     takes: &mut Vec<TakePass>,
     rows: &mut [Vec<SendPass>],
 ) -> Result<(), AllocError>
-    requires few { (length takes.old.items ≡ 1) × (length kinds.items < 64) }
+    requires within_limit { (length takes.old.items ≡ 1) × (length kinds.items < 64) }
     requires kinds { All IsMakeable kinds.items }
     requires distinct { AllPairs (λ (a b : ℕ). a ≢ b) (numbers_of senders.now) }
     requires none { map (λ row. row.items) rows.old ≡ map (passes_of []) (numbers_of senders.now) }
-    ensures many { length rows.new ≡ length rows.old }
+    ensures same_count { length rows.new ≡ length rows.old }
     ensures made { IfOk result (λ _. (more : List TakePassView) × (takes.new.items ≡ takes.old.items ++ more)
         × AreEmpty kinds.items 1 (numbers_of senders.now) more
         × (map (λ row. row.items) rows.new ≡ map (passes_of more) (numbers_of senders.now))) }
@@ -97,11 +97,11 @@ fn add_queue(
     takes: &mut Vec<TakePass>,
     rows: &mut [Vec<SendPass>],
 ) -> Result<(), AllocError>
-    requires few { length takes.old.items ≤ 64 }
+    requires within_limit { length takes.old.items ≤ 64 }
     requires kind { IsMakeable kind }
     requires distinct { AllPairs (λ (a b : ℕ). a ≢ b) (numbers_of senders.now) }
-    requires many { length rows.old ≡ length senders.now }
-    ensures many { length rows.new ≡ length rows.old }
+    requires same_count { length rows.old ≡ length senders.now }
+    ensures same_count { length rows.new ≡ length rows.old }
     ensures made { IfOk result (λ _. (take : TakePassView) × (takes.new.items ≡ takes.old.items ++ take ∷ [])
         × (IsEmpty kind (length takes.old.items) (numbers_of senders.now) take × (take.accounts ≡ map lent (numbers_of senders.now)))
         × (map (λ row. row.items) rows.new ≡ handed (map (λ row. row.items) rows.old) (map (unused take.queue) (numbers_of senders.now)))) }
@@ -147,9 +147,9 @@ fn rows(alloc: Global, count: usize) -> Result<Vec<Vec<SendPass>>, AllocError>
 
 /// Gives each sender its pass into one more queue.
 fn hand_out(rows: &mut [Vec<SendPass>], sends: Vec<SendPass>) -> Result<(), AllocError>
-    requires many { length sends.items ≡ length rows.old }
+    requires same_count { length sends.items ≡ length rows.old }
     ensures handed { IfOk result (λ _. map (λ row. row.items) rows.new ≡ handed (map (λ row. row.items) rows.old) sends.items) }
-    ensures many { length rows.new ≡ length rows.old }
+    ensures same_count { length rows.new ≡ length rows.old }
 {
     let mut sends = sends;
     while let Some(send) = sends.pop() {

@@ -6,9 +6,9 @@ use Rattle.mb_msg.specs.declared.system.SysMsg.{SysMsg}
 use Rattle.mb_journal.specs.Aside.{next_front}
 use Rattle.mb_journal.specs.Entry.{Entry}
 use Rattle.mb_journal.specs.Entry.Entry.{Handled, System, Dropped}
-use Rattle.mb_journal.specs.Run.{IsBlock, IsTurns, IsOfEnvelope}
+use Rattle.mb_journal.specs.Run.{IsBlock, AreBlocks, IsOfEnvelope}
 use Rattle.mb_journal.specs.Run.IsBlock.{no_more, one_more}
-use Rattle.mb_journal.specs.Run.IsTurns.{a_turn}
+use Rattle.mb_journal.specs.Run.AreBlocks.{next_block}
 use Rattle.mb_cell.specs.CellView.{CellView, TakesSystem, TakesEnvelope, IsOf}
 
 -- a system message more: the one that was set aside and is due, where one is
@@ -24,8 +24,8 @@ of_envelope (System number m outcome) envelope reading of_it = absurd of_it
 of_envelope (Dropped other) envelope reading of_it = tt
 
 -- an envelope more, where no message that was set aside is due
-pub turn-more : (from : List Entry) (n : ℕ) (old new : CellView) (envelope : Envelope) (reading : ℕ) → TakesEnvelope old new envelope reading →
-    next_front old.who old.journal ≡ None → IsTurns old.who from n old.journal → IsTurns old.who from (suc n) new.journal
-turn-more from n old new envelope reading took none turns =
-    subst (λ (s : CellView). IsTurns old.who from (suc n) s.journal) (sym took.adds)
-    (a_turn n old.journal (took.entry ∷ old.journal) took.entry turns none (of_envelope took.entry envelope reading took.of_it) no_more)
+pub envelope-more : (from : List Entry) (n : ℕ) (old new : CellView) (envelope : Envelope) (reading : ℕ) → TakesEnvelope old new envelope reading →
+    next_front old.who old.journal ≡ None → AreBlocks old.who from n old.journal → AreBlocks old.who from (suc n) new.journal
+envelope-more from n old new envelope reading took none blocks =
+    subst (λ (s : CellView). AreBlocks old.who from (suc n) s.journal) (sym took.adds)
+    (next_block n old.journal (took.entry ∷ old.journal) took.entry blocks none (of_envelope took.entry envelope reading took.of_it) no_more)

@@ -105,7 +105,7 @@ impl<A: Actor, K: Behaviours> Cell<A, K> {
         journal_limit: u32,
     ) -> Self
         requires guardian { is_some actor ≡ is_some parent }
-        requires few { length prepared.items ≤ most_actors }
+        requires within_limit { length prepared.items ≤ most_actors }
         requires numbered { All (λ x. x.0 < most_actors) prepared.items }
         requires unused { IfSome actor (λ a. A.content a ≡ A.after a []) }
         requires behaves { IfSome actor (λ a. A.after a ≡ K.after this.0) }

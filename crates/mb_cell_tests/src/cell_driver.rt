@@ -54,7 +54,7 @@ impl<A: Actor, K: Behaviours> CellDriver<A, K> {
         strategy: Strategy,
         limit: u32,
     ) -> Self
-        requires few { length prepared.items ≤ most_actors }
+        requires within_limit { length prepared.items ≤ most_actors }
         requires numbered { All (λ x. x.0 < most_actors) prepared.items }
         requires unused { A.content actor ≡ A.after actor [] }
         requires behaves { A.after actor ≡ K.after this }
@@ -86,7 +86,7 @@ impl<A: Actor, K: Behaviours> CellDriver<A, K> {
         strategy: Strategy,
         limit: u32,
     ) -> Self
-        requires few { length prepared.items ≤ most_actors }
+        requires within_limit { length prepared.items ≤ most_actors }
         requires numbered { All (λ x. x.0 < most_actors) prepared.items }
     {
         let cell = Cell::new(alloc, ActorId(0), 64, None, None, prepared, strategy, limit);

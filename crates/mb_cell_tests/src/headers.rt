@@ -58,7 +58,7 @@ fn place_of<R: Abort>(rt: &R, head: &str) -> Option<(u32, u32)> {
 
 /// The children that the actor may start, as `2` or `2 to 3`.
 fn children_of(alloc: Global, text: &str) -> Result<Vec<ActorId>, AllocError>
-    ensures few { IfOk result (λ v. length v.items ≤ most_actors) }
+    ensures within_limit { IfOk result (λ v. length v.items ≤ most_actors) }
     ensures numbered { IfOk result (λ v. All (λ x. x.0 < most_actors) v.items) }
 {
     let (first, last) = text.split_once(" to ").unwrap_or((text, text));

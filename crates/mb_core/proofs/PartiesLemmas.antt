@@ -132,7 +132,7 @@ copied_owed x party =
     (λ held. record {
       scheduled = held.scheduled;
       free = held.free;
-      there = λ holder is. let inside = held.there holder is in omega (arith, length-append {A = WakeObligation});
+      present = λ holder is. let inside = held.present holder is in omega (arith, length-append {A = WakeObligation});
     })
 
 pub moved_owed : (x : Actor) (party : ℕ) → IsOwedTheSame x (moved x party)
@@ -143,8 +143,8 @@ moved_owed x party =
     (λ held. record {
       scheduled = held.scheduled;
       free = held.free;
-      there = λ holder is.
-          let inside = held.there holder is in omega (arith, length-append {A = WakeObligation}, length-set {A = WakeObligation});
+      present = λ holder is.
+          let inside = held.present holder is in omega (arith, length-append {A = WakeObligation}, length-set {A = WakeObligation});
     })
 
 absorbed_held : (x : Actor) (into from : ℕ) → into < length x.owed → IsHeldRightly x → IsHeldRightly (absorbed x into from)
@@ -181,4 +181,4 @@ pub join_keeps :
 join_keeps P keeps into from old new join all =
     subst (All P) (sym join.each)
     (All-map P (λ x. absorbed x into from) old
-    (λ k d inside. keeps (get_or old k d) into from join.two (join.there k d inside) (all k d inside)))
+    (λ k d inside. keeps (get_or old k d) into from join.two (join.present k d inside) (all k d inside)))

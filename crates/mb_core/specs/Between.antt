@@ -58,7 +58,7 @@ pub record IsSetByHolder (old : List Actor) (number : ℕ) (events : List Event)
   pub held : Actor
   pub order : events ≡ earlier ++ event ∷ later
   pub run : Run old earlier state
-  pub there : slice_get state number ≡ Some held
+  pub present : slice_get state number ≡ Some held
   pub same_actor : event.actor.0 ≡ number
   pub holder : held.holder ≡ Some event.party
   pub sets : IsTrue (sets_count event.step)

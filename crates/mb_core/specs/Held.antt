@@ -8,7 +8,7 @@ use Rattle.mb_core.specs.Actor.{Actor}
 pub record IsHeldRightly (x : Actor) : Type 0 where
   pub scheduled : IsTrue x.mailbox.scheduled → IsSome x.holder
   pub free : IsFalse x.mailbox.closed → IsFalse x.mailbox.scheduled → IsNone x.holder
-  pub there : (party : ℕ) → x.holder ≡ Some party → party < length x.owed
+  pub present : (party : ℕ) → x.holder ≡ Some party → party < length x.owed
 
 -- the mailbox is a possible one, and so its word a valid one
 pub record HasPossibleMailbox (x : Actor) : Type 0 where

@@ -43,7 +43,7 @@ pub record IsSplit (party : ℕ) (old new : List Actor) : Type 0 where
 -- One party takes over another one, at each actor; both exist, and are not the same.
 pub record IsJoined (into from : ℕ) (old new : List Actor) : Type 0 where
   pub two : into ≢ from
-  pub there : All (λ x. into < length x.owed) old
+  pub present : All (λ x. into < length x.owed) old
   pub each : new ≡ map (λ x. absorbed x into from) old
 
 -- y is owed what x is owed, no less and no more, and what the laws say of x holds of y

@@ -47,7 +47,7 @@ pub fn every_run_keeps_debts()
 /// there is no actor that a worker should take.
 pub fn runnable_is_owed()
     ensures owed { (x : Actor) → IsSettled x → IsTrue (is_runnable x) → IsOwedSystem x ⊎ IsOwedMessage x }
-    ensures paid { (x : Actor) → IsSettled x → IsOwedNothing x → IsFalse (is_runnable x) }
+    ensures not_runnable { (x : Actor) → IsSettled x → IsOwedNothing x → IsFalse (is_runnable x) }
 {}
 
 /// A law: nobody takes an actor from its holder. A step leaves the actor to the party that holds it, or is that party's

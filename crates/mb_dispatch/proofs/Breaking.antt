@@ -26,6 +26,7 @@ use Rattle.mb_mailbox.specs.declared.turn.Turn.{Turn}
 use Rattle.mb_dispatch.specs.Parallel.{AnyZip}
 use Rattle.mb_dispatch.specs.Faults.{BreaksRun, BreaksWork, CameToLimit, BreaksSending, IsToNobody}
 use Rattle.mb_dispatch.specs.Orders.{order_for}
+use Rattle.mb_system.specs.RunErrors.{of_ready, of_send}
 use Rattle.mb_system.specs.declared.end.WorkerEnd.{WorkerEnd}
 use Rattle.mb_system.specs.declared.failure.RunError.{RunError}
 use Rattle.mb_system.specs.declared.failure.RunError.TheVariants.{JournalFull, NoMemory, NoSuchActor}
@@ -61,6 +62,33 @@ module _ (gates : Gates (Box Contents)) where
   breaks-many orders order NoSuchActor there breaks =
       let P : Order → Type 0 = λ o. Contains orders o in
       (breaks.0, All-contains P (order ∷ []) breaks.0 (All-cons P order [] there (All-nil P)) breaks.1, breaks.2, breaks.3)
+
+-- which error is one of these
+abbrev IsFull : RunError → Type 0
+IsFull JournalFull = ⊤
+IsFull _ = ⊥
+
+abbrev IsUnknown : RunError → Type 0
+IsUnknown NoSuchActor = ⊤
+IsUnknown _ = ⊥
+
+-- a run of a mailbox was broken off by a full journal only where its own error says so, and never since there is no such actor
+pub full-of-ready : (error : ReadyError) → of_ready error ≡ JournalFull → error ≡ Ready.JournalFull
+full-of-ready Ready.NoMemory is = absurd (subst IsFull (sym is) tt)
+full-of-ready Ready.JournalFull is = refl
+
+pub ready-is-known : (error : ReadyError) → of_ready error ≢ NoSuchActor
+ready-is-known Ready.NoMemory is = subst IsUnknown (sym is) tt
+ready-is-known Ready.JournalFull is = subst IsUnknown (sym is) tt
+
+-- a sender's error says that there is no such actor only where its own does, and never that a journal is full
+pub nobody-of-send : (error : SendError) → of_send error ≡ NoSuchActor → error ≡ Refusal.NoSuchActor
+nobody-of-send Refusal.NoMemory is = absurd (subst IsUnknown (sym is) tt)
+nobody-of-send Refusal.NoSuchActor is = refl
+
+pub send-is-not-full : (error : SendError) → of_send error ≢ JournalFull
+send-is-not-full Refusal.NoMemory is = subst IsFull (sym is) tt
+send-is-not-full Refusal.NoSuchActor is = subst IsFull (sym is) tt
 
 -- a tell, or a stop, was refused
 IsOfMemory : {T : Type 0} → Result T SendError → Type 0

@@ -31,7 +31,7 @@ use Rattle.mb_send.specs.declared.ticket.Look.{Look}
 use Rattle.mb_send.specs.declared.ticket.Look.TheVariants.{Open, Closed}
 use Rattle.mb_system.specs.Obligations.{KeepsObligations}
 use Rattle.mb_system.specs.Members.{sender_caller}
-use Rattle.mb_dispatch.specs.Orders.{HasSent, addressed, order_for, over, said_to, stopped_by, stopped_by_one, told_by, told_by_one}
+use Rattle.mb_dispatch.specs.Orders.{HasSent, addressed, order_for, over, addressed_system, terminates_of, terminates_of_one, envelopes_of, envelopes_of_one}
 use Rattle.mb_system.specs.declared.sender.Sender.{Sender}
 use Rattle.mb_system.proofs.Obligations.{obligations-at}
 use Rattle.mb_system.proofs.Saw.{saw-more, saw-same, saw-then}
@@ -40,17 +40,17 @@ accepted-append : (ps qs : List SentEnvelope) → addressed (accepted (ps ++ qs)
 accepted-append ps qs =
     ap addressed (map-append (λ (p : SentEnvelope). p.envelope) ps qs) ∙ map-append (λ (e : Envelope). (e.to, e.body)) (accepted ps) (accepted qs)
 
-told-append : (xs ys : List Order) → told_by (xs ++ ys) ≡ told_by xs ++ told_by ys
-told-append [] ys = refl
-told-append (o ∷ xs) ys =
-    let all = over o.times (told_by_one o.to o.what) in
-    ap (λ l. all ++ l) (told-append xs ys) ∙ sym (append_assoc all (told_by xs) (told_by ys))
+envelopes-append : (xs ys : List Order) → envelopes_of (xs ++ ys) ≡ envelopes_of xs ++ envelopes_of ys
+envelopes-append [] ys = refl
+envelopes-append (o ∷ xs) ys =
+    let all = over o.times (envelopes_of_one o.to o.what) in
+    ap (λ l. all ++ l) (envelopes-append xs ys) ∙ sym (append_assoc all (envelopes_of xs) (envelopes_of ys))
 
-stopped-append : (xs ys : List Order) → stopped_by (xs ++ ys) ≡ stopped_by xs ++ stopped_by ys
-stopped-append [] ys = refl
-stopped-append (o ∷ xs) ys =
-    let all = over o.times (stopped_by_one o.to o.what) in
-    ap (λ l. all ++ l) (stopped-append xs ys) ∙ sym (append_assoc all (stopped_by xs) (stopped_by ys))
+terminates-append : (xs ys : List Order) → terminates_of (xs ++ ys) ≡ terminates_of xs ++ terminates_of ys
+terminates-append [] ys = refl
+terminates-append (o ∷ xs) ys =
+    let all = over o.times (terminates_of_one o.to o.what) in
+    ap (λ l. all ++ l) (terminates-append xs ys) ∙ sym (append_assoc all (terminates_of xs) (terminates_of ys))
 
 -- a list once more stands behind it so many times over
 over-next : {T : Type 0} (n : ℕ) (xs : List T) → over n xs ++ xs ≡ over (suc n) xs
@@ -65,7 +65,7 @@ over-more n xs =
 module _ {A K : Type 0} where
   -- nothing was to be sent
   pub sent-none : (s : Sender A K) → HasSent [] s s
-  sent-none s = record { by = refl; more = []; posted = sym (append-nil s.inner.send_log.posted); accepted_are = refl; said = refl; saw = saw-same _ }
+  sent-none s = record { by = refl; more = []; posted = sym (append-nil s.inner.send_log.posted); accepted_are = refl; system_sent = refl; log_kept = saw-same _ }
 
   -- first this was sent, and then that
   pub sent-then : (xs ys : List Order) (a b c : Sender A K) → HasSent xs a b → HasSent ys b c → HasSent (xs ++ ys) a c
@@ -73,23 +73,23 @@ module _ {A K : Type 0} where
     by = q.by ∙ p.by;
     more = p.more ++ q.more;
     posted = q.posted ∙ ap (λ l. l ++ q.more) p.posted ∙ append_assoc a.inner.send_log.posted p.more q.more;
-    accepted_are = accepted-append p.more q.more ∙ (λ i. p.accepted_are i ++ q.accepted_are i) ∙ sym (told-append xs ys);
-    said =
-        q.said ∙ ap (λ l. reverse (stopped_by ys) ++ l) p.said ∙ sym (append_assoc (reverse (stopped_by ys)) (reverse (stopped_by xs)) _)
-        ∙ ap (λ l. l ++ said_to (pass_view a.inner.registrar.pass).said)
-        (sym (reverse-append (stopped_by xs) (stopped_by ys)) ∙ ap reverse (sym (stopped-append xs ys)));
-    saw = saw-then _ _ _ p.saw q.saw;
+    accepted_are = accepted-append p.more q.more ∙ (λ i. p.accepted_are i ++ q.accepted_are i) ∙ sym (envelopes-append xs ys);
+    system_sent =
+        q.system_sent ∙ ap (λ l. reverse (terminates_of ys) ++ l) p.system_sent ∙ sym (append_assoc (reverse (terminates_of ys)) (reverse (terminates_of xs)) _)
+        ∙ ap (λ l. l ++ addressed_system (pass_view a.inner.registrar.pass).said)
+        (sym (reverse-append (terminates_of xs) (terminates_of ys)) ∙ ap reverse (sym (terminates-append xs ys)));
+    log_kept = saw-then _ _ _ p.log_kept q.log_kept;
   }
 
   -- other orders that come to the same were sent
-  sent-alike : (xs ys : List Order) (a b : Sender A K) → told_by xs ≡ told_by ys → stopped_by xs ≡ stopped_by ys → HasSent xs a b → HasSent ys a b
-  sent-alike xs ys a b told stopped p = record {
+  sent-alike : (xs ys : List Order) (a b : Sender A K) → envelopes_of xs ≡ envelopes_of ys → terminates_of xs ≡ terminates_of ys → HasSent xs a b → HasSent ys a b
+  sent-alike xs ys a b envelopes terminates p = record {
     by = p.by;
     more = p.more;
     posted = p.posted;
-    accepted_are = p.accepted_are ∙ told;
-    said = p.said ∙ ap (λ l. reverse l ++ said_to (pass_view a.inner.registrar.pass).said) stopped;
-    saw = p.saw;
+    accepted_are = p.accepted_are ∙ envelopes;
+    system_sent = p.system_sent ∙ ap (λ l. reverse l ++ addressed_system (pass_view a.inner.registrar.pass).said) terminates;
+    log_kept = p.log_kept;
   }
 
   -- an order that says so was sent no time
@@ -101,40 +101,40 @@ module _ {A K : Type 0} where
       → HasSent (order_for to what 1 ∷ []) b c → HasSent (order_for to what (n + 1) ∷ []) a c
   sent-again to what n a b c before more =
       sent-alike (order_for to what n ∷ order_for to what 1 ∷ []) (order_for to what (n + 1) ∷ []) a c
-      (over-more n (told_by_one to what)) (over-more n (stopped_by_one to what))
+      (over-more n (envelopes_of_one to what)) (over-more n (terminates_of_one to what))
       (sent-then (order_for to what n ∷ []) (order_for to what 1 ∷ []) a b c before more)
 
   -- it sent no envelope and no system message since
   pub sent-still : (xs : List Order) (a b c : Sender A K) → c.inner.send_log ≡ b.inner.send_log
       → (pass_view c.inner.registrar.pass).said ≡ (pass_view b.inner.registrar.pass).said
       → IsPart (pass_view b.inner.registrar.pass).log (pass_view c.inner.registrar.pass).log → HasSent xs a b → HasSent xs a c
-  sent-still xs a b c send_log said saw p = record {
+  sent-still xs a b c send_log same saw p = record {
     by = ap (λ k. k.by) send_log ∙ p.by;
     more = p.more;
     posted = ap (λ k. k.posted) send_log ∙ p.posted;
     accepted_are = p.accepted_are;
-    said = ap said_to said ∙ p.said;
-    saw = saw-then _ _ _ p.saw saw;
+    system_sent = ap addressed_system same ∙ p.system_sent;
+    log_kept = saw-then _ _ _ p.log_kept saw;
   }
 
 -- it sees still what it saw, and owes the others what it did
 pub record GoesOnAt (id : ℕ) (old new : View) : Type 0 where
-  pub saw : IsPart old.log new.log
+  pub log_kept : IsPart old.log new.log
   pub others : (other : ℕ) → other ≢ id → obligation_to other new ≡ obligation_to other old
 
-does-at : (id : ℕ) (did : List Observation) (told : List SentSystem) (old new : View) → Does id did told old new → GoesOnAt id old new
-does-at id did told old new does = record {
-  saw = saw-more (does.looks ++ did) old.log new.log does.log;
+does-at : (id : ℕ) (did : List Observation) (sent : List SentSystem) (old new : View) → Does id did sent old new → GoesOnAt id old new
+does-at id did sent old new does = record {
+  log_kept = saw-more (does.looks ++ did) old.log new.log does.log;
   others = does.others;
 }
 
 then-at : (id : ℕ) (a b c : View) → GoesOnAt id a b → GoesOnAt id b c → GoesOnAt id a c
 then-at id a b c p q = record {
-  saw = saw-then a.log b.log c.log p.saw q.saw;
+  log_kept = saw-then a.log b.log c.log p.log_kept q.log_kept;
   others = λ other ne. q.others other ne ∙ p.others other ne;
 }
 
--- an envelope was told
+-- an envelope was sent by a tell
 module _ (by : SenderId) (number : ℕ) (to : ActorId) (body : Body) (posted posted' : List SentEnvelope) where
   abbrev pub IsOnePosted : Type 0
   IsOnePosted = (refused : Option Why) × (posted' ≡ posted ++ posting (envelope_of by to number body) refused ∷ [])
@@ -156,10 +156,10 @@ module _ (by : SenderId) (number : ℕ) (to : ActorId) (body : Body) (posted pos
         sent.counted.said ∙ same,
         then-at to.0 old told.between new read (does-at to.0 (counts to.0 sent.refused) [] told.between new sent.counted),
       )
-      by_look Closed buried = (
-        (_, buried.0.posted_is),
-        ap (λ (v : View). v.said) buried.1 ∙ same,
-        subst (GoesOnAt to.0 old) (sym buried.1) read,
+      by_look Closed is_dead = (
+        (_, is_dead.0.posted_is),
+        ap (λ (v : View). v.said) is_dead.1 ∙ same,
+        subst (GoesOnAt to.0 old) (sym is_dead.1) read,
       )
 
 module _ {A K : Type 0} where
@@ -174,26 +174,26 @@ module _ {A K : Type 0} where
         more = posting (envelope_of a.inner.send_log.by to a.inner.send_log.sent body) one.0.0 ∷ [];
         posted = one.0.1;
         accepted_are = refl;
-        said = ap said_to one.1;
-        saw = one.2.saw;
+        system_sent = ap addressed_system one.1;
+        log_kept = one.2.log_kept;
       }
 
 -- a Terminate was sent
-said-stopped : (id : ℕ) (old new : View) (stopped : Bool) → Stops id old new stopped
-    → (said_to new.said ≡ (id, Terminate) ∷ said_to old.said) × GoesOnAt id old new
-said-stopped id old new true s = (ap said_to s.1.said, does-at id _ _ old new s.1)
-said-stopped id old new false s = (ap said_to s.said, does-at id _ _ old new s)
+sent-terminate : (id : ℕ) (old new : View) (stopped : Bool) → Stops id old new stopped
+    → (addressed_system new.said ≡ (id, Terminate) ∷ addressed_system old.said) × GoesOnAt id old new
+sent-terminate id old new true s = (ap addressed_system s.1.said, does-at id _ _ old new s.1)
+sent-terminate id old new false s = (ap addressed_system s.said, does-at id _ _ old new s)
 
 module _ {A K : Type 0} where
   pub sent-stopped : (to : ActorId) (stopped : Bool) (a b : Sender A K) → b.inner.send_log ≡ a.inner.send_log
       → Stops to.0 (pass_view a.inner.registrar.pass) (pass_view b.inner.registrar.pass) stopped → HasSent (order_for to Stop 1 ∷ []) a b
-  sent-stopped to stopped a b send_log s = let stop = said-stopped to.0 (pass_view a.inner.registrar.pass) (pass_view b.inner.registrar.pass) stopped s in record {
+  sent-stopped to stopped a b send_log s = let stop = sent-terminate to.0 (pass_view a.inner.registrar.pass) (pass_view b.inner.registrar.pass) stopped s in record {
     by = ap (λ k. k.by) send_log;
     more = [];
     posted = ap (λ k. k.posted) send_log ∙ sym (append-nil a.inner.send_log.posted);
     accepted_are = refl;
-    said = stop.0;
-    saw = stop.1.saw;
+    system_sent = stop.0;
+    log_kept = stop.1.log_kept;
   }
 
 -- a sender that looks at the receiver and still owes all looks that it owed forgets nothing
@@ -211,5 +211,5 @@ module _ {A K : Type 0} (actors : ℕ) (to : ActorId) (a b : Sender A K)
   pub obligations-stopped : (stopped : Bool) → Stops to.0 (pass_view a.inner.registrar.pass) (pass_view b.inner.registrar.pass) stopped
       → KeepsObligations actors (sender_caller a.inner.registrar) (sender_caller b.inner.registrar)
   obligations-stopped stopped s =
-      let stop = said-stopped to.0 (pass_view a.inner.registrar.pass) (pass_view b.inner.registrar.pass) stopped s in
+      let stop = sent-terminate to.0 (pass_view a.inner.registrar.pass) (pass_view b.inner.registrar.pass) stopped s in
       obligations-at actors to.0 (sender_caller a.inner.registrar) (sender_caller b.inner.registrar) stop.1.others discharged still

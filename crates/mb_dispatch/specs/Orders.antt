@@ -25,32 +25,32 @@ over zero xs = []
 over (suc n) xs = xs ++ over n xs
 
 -- The envelope that this is, if it is one: its receiver and its body.
-abbrev pub told_by_one : ActorId → OrderKind → List (ActorId × Body)
-told_by_one to (Tell body) = (to, body) ∷ []
-told_by_one to Stop = []
+abbrev pub envelopes_of_one : ActorId → OrderKind → List (ActorId × Body)
+envelopes_of_one to (Tell body) = (to, body) ∷ []
+envelopes_of_one to Stop = []
 
 -- All envelopes of these orders, in order: each receiver with the body.
-abbrev pub told_by : List Order → List (ActorId × Body)
-told_by [] = []
-told_by (o ∷ orders) = over o.times (told_by_one o.to o.what) ++ told_by orders
+abbrev pub envelopes_of : List Order → List (ActorId × Body)
+envelopes_of [] = []
+envelopes_of (o ∷ orders) = over o.times (envelopes_of_one o.to o.what) ++ envelopes_of orders
 
 -- The Terminate that this is, if it is one, with its receiver.
-abbrev pub stopped_by_one : ActorId → OrderKind → List (ℕ × SysMsg)
-stopped_by_one to (Tell body) = []
-stopped_by_one to Stop = (to.0, Terminate) ∷ []
+abbrev pub terminates_of_one : ActorId → OrderKind → List (ℕ × SysMsg)
+terminates_of_one to (Tell body) = []
+terminates_of_one to Stop = (to.0, Terminate) ∷ []
 
 -- The Terminates of these orders, in order, each with its receiver.
-abbrev pub stopped_by : List Order → List (ℕ × SysMsg)
-stopped_by [] = []
-stopped_by (o ∷ orders) = over o.times (stopped_by_one o.to o.what) ++ stopped_by orders
+abbrev pub terminates_of : List Order → List (ℕ × SysMsg)
+terminates_of [] = []
+terminates_of (o ∷ orders) = over o.times (terminates_of_one o.to o.what) ++ terminates_of orders
 
 -- The receiver and the body of each of these envelopes.
 abbrev pub addressed : List Envelope → List (ActorId × Body)
 addressed = map (λ (e : Envelope). (e.to, e.body))
 
 -- The receiver and the message of each of these system messages.
-abbrev pub said_to : List SentSystem → List (ℕ × SysMsg)
-said_to = map (λ (s : SentSystem). (s.to, s.message))
+abbrev pub addressed_system : List SentSystem → List (ℕ × SysMsg)
+addressed_system = map (λ (s : SentSystem). (s.to, s.message))
 
 module _ {A K : Type 0} where
   -- The sender was answered for the envelopes of these orders, in order, after all that it was answered for before, and for nothing else. It sent
@@ -60,6 +60,6 @@ module _ {A K : Type 0} where
     pub by : new.inner.send_log.by ≡ old.inner.send_log.by
     pub more : List SentEnvelope
     pub posted : new.inner.send_log.posted ≡ old.inner.send_log.posted ++ more
-    pub accepted_are : addressed (accepted more) ≡ told_by orders
-    pub said : said_to (pass_view new.inner.registrar.pass).said ≡ reverse (stopped_by orders) ++ said_to (pass_view old.inner.registrar.pass).said
-    pub saw : IsPart (pass_view old.inner.registrar.pass).log (pass_view new.inner.registrar.pass).log
+    pub accepted_are : addressed (accepted more) ≡ envelopes_of orders
+    pub system_sent : addressed_system (pass_view new.inner.registrar.pass).said ≡ reverse (terminates_of orders) ++ addressed_system (pass_view old.inner.registrar.pass).said
+    pub log_kept : IsPart (pass_view old.inner.registrar.pass).log (pass_view new.inner.registrar.pass).log

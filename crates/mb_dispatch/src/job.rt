@@ -30,8 +30,8 @@ impl<A: Actor, K: Behaviours> Job<A, K> {
         rt: &R,
         system: &System<A, K>,
     ) -> Result<(), RunError>
-        requires ours { IsSenderOf system.now.gates self.old.sender.inner }
-        ensures ours { IsSenderOf system.now.gates self.new.sender.inner }
+        requires same_gates { IsSenderOf system.now.gates self.old.sender.inner }
+        ensures same_gates { IsSenderOf system.now.gates self.new.sender.inner }
         ensures by { self.new.sender.inner.send_log.by ≡ self.old.sender.inner.send_log.by }
         ensures sends { self.new.sends ≡ self.old.sends }
         ensures sent { OnOk result (HasSent self.old.sends.items self.old.sender self.new.sender × OwesNobody system.now.gates self.new.sender) }
@@ -76,8 +76,8 @@ fn send_and_retry<A: Actor, K: Behaviours, R: Wait>(
     sender: &mut Sender<A, K>,
     orders: &[Order],
 ) -> Result<(), RunError>
-    requires ours { IsSenderOf system.now.gates sender.old.inner }
-    ensures ours { IsSenderOf system.now.gates sender.new.inner }
+    requires same_gates { IsSenderOf system.now.gates sender.old.inner }
+    ensures same_gates { IsSenderOf system.now.gates sender.new.inner }
     ensures by { sender.new.inner.send_log.by ≡ sender.old.inner.send_log.by }
     ensures sent { OnOk result (HasSent orders.now sender.old sender.new × OwesNobody system.now.gates sender.new) }
     ensures obligations { OnOk result (KeepsObligations (actors_of system.now.gates) (sender_caller sender.old.inner.registrar)

@@ -2,7 +2,6 @@
 //! its senders send what they are to send (`akka.dispatch.Dispatcher`).
 #![tactic(auto)]
 
-mod failure;
 mod job;
 mod mailbox;
 mod order;

@@ -31,9 +31,9 @@ pub fn run_mailbox<A: Actor, K: Behaviours, R: Wait>(
     end: &mut WorkerEnd<A, K>,
     claim: Claim<BoxedHome<A, K>>,
 ) -> Result<Turn, ReadyError>
-    requires ours { IsEndOf system.now.gates end.old.registrar }
+    requires same_gates { IsEndOf system.now.gates end.old.registrar }
     requires untouched { IsFreshClaim K.gives (Some (origin_of system.now.gates)) claim }
-    ensures ours { IsEndOf system.now.gates end.new.registrar }
+    ensures same_gates { IsEndOf system.now.gates end.new.registrar }
     ensures leaves { LeavesCaller (end_caller end.old.registrar) (end_caller end.new.registrar) }
     ensures discharged { IsDischargedOrOwed (held_actor claim) (end_caller end.new.registrar) }
     ensures ran { (journal : List Entry) × MatchResult result

@@ -7,7 +7,6 @@ ghost use Rattle.mb_system.specs.Members.{IsSenderOf, sender_caller};
 ghost use Rattle.mb_dispatch.specs.Orders.{HasSent, order_for};
 ghost use Rattle.mb_register.specs.Caller.{OwesForRefusals};
 
-use crate::failure::of_sending;
 use mb_actor::{Actor, Behaviours};
 use mb_msg::{ActorId, Order, OrderKind};
 use mb_system::{RunError, Sender, System};
@@ -22,8 +21,8 @@ pub fn send_all<A: Actor, K: Behaviours, R: Wait>(
     sender: &mut Sender<A, K>,
     orders: &[Order],
 ) -> Result<(), RunError>
-    requires ours { IsSenderOf system.now.gates sender.old.inner }
-    ensures ours { IsSenderOf system.now.gates sender.new.inner }
+    requires same_gates { IsSenderOf system.now.gates sender.old.inner }
+    ensures same_gates { IsSenderOf system.now.gates sender.new.inner }
     ensures by { sender.new.inner.send_log.by ≡ sender.old.inner.send_log.by }
     ensures sent { OnOk result (HasSent orders.now sender.old sender.new) }
     ensures obligations { OnOk result (KeepsObligations (actors_of system.now.gates) (sender_caller sender.old.inner.registrar)
@@ -44,8 +43,8 @@ fn send_often<A: Actor, K: Behaviours, R: Wait>(
     sender: &mut Sender<A, K>,
     order: Order,
 ) -> Result<(), RunError>
-    requires ours { IsSenderOf system.now.gates sender.old.inner }
-    ensures ours { IsSenderOf system.now.gates sender.new.inner }
+    requires same_gates { IsSenderOf system.now.gates sender.old.inner }
+    ensures same_gates { IsSenderOf system.now.gates sender.new.inner }
     ensures by { sender.new.inner.send_log.by ≡ sender.old.inner.send_log.by }
     ensures sent { OnOk result (HasSent (order ∷ []) sender.old sender.new) }
     ensures obligations { OnOk result (KeepsObligations (actors_of system.now.gates) (sender_caller sender.old.inner.registrar)
@@ -68,8 +67,8 @@ fn send<A: Actor, K: Behaviours, R: Wait>(
     to: ActorId,
     what: OrderKind,
 ) -> Result<(), RunError>
-    requires ours { IsSenderOf system.now.gates sender.old.inner }
-    ensures ours { IsSenderOf system.now.gates sender.new.inner }
+    requires same_gates { IsSenderOf system.now.gates sender.old.inner }
+    ensures same_gates { IsSenderOf system.now.gates sender.new.inner }
     ensures by { sender.new.inner.send_log.by ≡ sender.old.inner.send_log.by }
     ensures sent { OnOk result (HasSent (order_for to what 1 ∷ []) sender.old sender.new) }
     ensures obligations { OnOk result (KeepsObligations (actors_of system.now.gates) (sender_caller sender.old.inner.registrar)
@@ -78,13 +77,13 @@ fn send<A: Actor, K: Behaviours, R: Wait>(
     ensures fault { IfErr result (BreaksSending system.now.gates (order_for to what 1 ∷ [])) }
 {
     match what {
-        OrderKind::Tell(body) => match sender.tell(rt, system, to, body) {
-            Ok(_) => Ok(()),
-            Err(error) => Err(of_sending(error)),
-        },
-        OrderKind::Stop => match sender.stop(rt, system, to) {
-            Ok(_) => Ok(()),
-            Err(error) => Err(of_sending(error)),
-        },
+        OrderKind::Tell(body) => {
+            sender.tell(rt, system, to, body)?;
+            Ok(())
+        }
+        OrderKind::Stop => {
+            sender.stop(rt, system, to)?;
+            Ok(())
+        }
     }
 }

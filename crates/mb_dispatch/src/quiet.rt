@@ -26,14 +26,14 @@ pub fn run_quietly<A: Actor, K: Behaviours, R: Wait>(
     system: &System<A, K>,
     end: &mut WorkerEnd<A, K>,
 ) -> Result<Vec<Turn>, RunError>
-    requires ours { IsEndOf system.now.gates end.old.registrar }
-    ensures ours { IsEndOf system.now.gates end.new.registrar }
+    requires same_gates { IsEndOf system.now.gates end.old.registrar }
+    ensures same_gates { IsEndOf system.now.gates end.new.registrar }
     ensures discharged { OnOk result (IsNobody end.new.registrar.owed) }
     ensures obligations { AreDischargedOrOwed (actors_of system.now.gates) (end_caller end.new.registrar) }
     ensures settled { OnOk result (HasNoObligationTo (actors_of system.now.gates) (end_caller end.new.registrar)) }
     ensures empty { OnOk result (FoundPoolEmpty K.gives end.new) }
     ensures number { end.new.number ≡ end.old.number }
-    ensures saw { IsPart (pass_view end.old.registrar.pass).log (pass_view end.new.registrar.pass).log }
+    ensures log_kept { IsPart (pass_view end.old.registrar.pass).log (pass_view end.new.registrar.pass).log }
     ensures fault { IfErr result (BreaksWork K.gives system.now end.new) }
 {
     end.register_all(rt, system);

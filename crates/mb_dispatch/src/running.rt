@@ -30,7 +30,7 @@ pub fn run<A: Actor + Send, K: Behaviours + Send, R: Threads + Wait + Sync>(
     ensures ends { AreEndsOf system.now.gates ends.new × (ends_numbers ends.new ≡ ends_numbers ends.old) }
     ensures jobs { AreJobsOf system.now.gates jobs.new × (length jobs.new ≡ length jobs.old) }
     ensures by { jobs_senders jobs.new ≡ jobs_senders jobs.old }
-    ensures saw { StillSee ends.old ends.new }
+    ensures log_kept { StillSee ends.old ends.new }
     ensures discharged { OnOk result (OweNobody system.now.gates ends.new) }
     ensures obligations { KeepAllObligations system.now.gates ends.old ends.new }
     ensures settled { OnOk result (FirstHasNoObligation system.now.gates ends.new) }
@@ -51,7 +51,7 @@ fn register_by_first<A: Actor, K: Behaviours, R: Wait>(
 )
     requires { AreEndsOf system.now.gates ends.old }
     ensures ends { AreEndsOf system.now.gates ends.new × (ends_numbers ends.new ≡ ends_numbers ends.old) }
-    ensures saw { StillSee ends.old ends.new }
+    ensures log_kept { StillSee ends.old ends.new }
     ensures obligations { KeepAllObligations system.now.gates ends.old ends.new }
     ensures discharged { FirstDischargedOrOwed system.now.gates ends.new }
 {

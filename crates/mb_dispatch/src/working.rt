@@ -11,7 +11,6 @@ ghost use Rattle.mb_system.specs.Members.{IsEndOf, end_caller};
 ghost use Rattle.mb_dispatch.specs.Faults.{BreaksWork};
 ghost use Rattle.mb_dispatch.specs.Found.{FoundPoolEmpty};
 
-use crate::failure::of_turn;
 use crate::mailbox::run_mailbox;
 use crate::parallel::Task;
 use crossbeam_utils::Backoff;
@@ -32,13 +31,13 @@ pub fn work<A: Actor, K: Behaviours, R: Wait>(
     system: &System<A, K>,
     end: &mut WorkerEnd<A, K>,
 ) -> Result<(), RunError>
-    requires ours { IsEndOf system.now.gates end.old.registrar }
-    ensures ours { IsEndOf system.now.gates end.new.registrar }
+    requires same_gates { IsEndOf system.now.gates end.old.registrar }
+    ensures same_gates { IsEndOf system.now.gates end.new.registrar }
     ensures discharged { OnOk result ((id : ℕ) → id < actors_of system.now.gates → is_owed end.new.registrar.owed id ≡ false) }
     ensures empty { OnOk result (FoundPoolEmpty K.gives end.new) }
     ensures obligations { KeepsObligations (actors_of system.now.gates) (end_caller end.old.registrar) (end_caller end.new.registrar) }
     ensures number { end.new.number ≡ end.old.number }
-    ensures saw { IsPart (pass_view end.old.registrar.pass).log (pass_view end.new.registrar.pass).log }
+    ensures log_kept { IsPart (pass_view end.old.registrar.pass).log (pass_view end.new.registrar.pass).log }
     ensures fault { IfErr result (BreaksWork K.gives system.now end.new) }
 {
     system.going.enter();
@@ -53,13 +52,13 @@ fn work_on<A: Actor, K: Behaviours, R: Wait>(
     system: &System<A, K>,
     end: &mut WorkerEnd<A, K>,
 ) -> Result<(), RunError>
-    requires ours { IsEndOf system.now.gates end.old.registrar }
-    ensures ours { IsEndOf system.now.gates end.new.registrar }
+    requires same_gates { IsEndOf system.now.gates end.old.registrar }
+    ensures same_gates { IsEndOf system.now.gates end.new.registrar }
     ensures discharged { OnOk result ((id : ℕ) → id < actors_of system.now.gates → is_owed end.new.registrar.owed id ≡ false) }
     ensures empty { OnOk result (FoundPoolEmpty K.gives end.new) }
     ensures obligations { KeepsObligations (actors_of system.now.gates) (end_caller end.old.registrar) (end_caller end.new.registrar) }
     ensures number { end.new.number ≡ end.old.number }
-    ensures saw { IsPart (pass_view end.old.registrar.pass).log (pass_view end.new.registrar.pass).log }
+    ensures log_kept { IsPart (pass_view end.old.registrar.pass).log (pass_view end.new.registrar.pass).log }
     ensures fault { IfErr result (BreaksWork K.gives system.now end.new) }
 {
     for _ in rt.forever() {
@@ -77,12 +76,12 @@ fn run_all<A: Actor, K: Behaviours, R: Wait>(
     system: &System<A, K>,
     end: &mut WorkerEnd<A, K>,
 ) -> Result<(), RunError>
-    requires ours { IsEndOf system.now.gates end.old.registrar }
-    ensures ours { IsEndOf system.now.gates end.new.registrar }
+    requires same_gates { IsEndOf system.now.gates end.old.registrar }
+    ensures same_gates { IsEndOf system.now.gates end.new.registrar }
     ensures discharged { OnOk result ((id : ℕ) → id < actors_of system.now.gates → is_owed end.new.registrar.owed id ≡ false) }
     ensures obligations { KeepsObligations (actors_of system.now.gates) (end_caller end.old.registrar) (end_caller end.new.registrar) }
     ensures number { end.new.number ≡ end.old.number }
-    ensures saw { IsPart (pass_view end.old.registrar.pass).log (pass_view end.new.registrar.pass).log }
+    ensures log_kept { IsPart (pass_view end.old.registrar.pass).log (pass_view end.new.registrar.pass).log }
     ensures fault { IfErr result (BreaksWork K.gives system.now end.new) }
 {
     for _ in rt.forever() {
@@ -100,17 +99,15 @@ pub(crate) fn run_one<A: Actor, K: Behaviours, R: Wait>(
     end: &mut WorkerEnd<A, K>,
     claim: Claim<BoxedHome<A, K>>,
 ) -> Result<Turn, RunError>
-    requires ours { IsEndOf system.now.gates end.old.registrar }
+    requires same_gates { IsEndOf system.now.gates end.old.registrar }
     requires untouched { IsFreshClaim K.gives (Some (origin_of system.now.gates)) claim }
-    ensures ours { IsEndOf system.now.gates end.new.registrar }
+    ensures same_gates { IsEndOf system.now.gates end.new.registrar }
     ensures leaves { LeavesCaller (end_caller end.old.registrar) (end_caller end.new.registrar) }
     ensures number { end.new.number ≡ end.old.number }
     ensures fault { IfErr result (BreaksWork K.gives system.now end.new) }
 {
-    match run_mailbox(rt, system, end, claim) {
-        Ok(turn) => Ok(turn),
-        Err(error) => Err(of_turn(error)),
-    }
+    let turn = run_mailbox(rt, system, end, claim)?;
+    Ok(turn)
 }
 
 // Waits for a claim, and runs it; or finds that none will come.
@@ -119,14 +116,14 @@ fn is_over<A: Actor, K: Behaviours, R: Wait>(
     system: &System<A, K>,
     end: &mut WorkerEnd<A, K>,
 ) -> Result<bool, RunError>
-    requires ours { IsEndOf system.now.gates end.old.registrar }
+    requires same_gates { IsEndOf system.now.gates end.old.registrar }
     requires discharged { (id : ℕ) → id < actors_of system.now.gates → is_owed end.old.registrar.owed id ≡ false }
-    ensures ours { IsEndOf system.now.gates end.new.registrar }
+    ensures same_gates { IsEndOf system.now.gates end.new.registrar }
     ensures discharged { OnOk result (result ≡ Ok true → (id : ℕ) → id < actors_of system.now.gates → is_owed end.new.registrar.owed id ≡ false) }
     ensures empty { OnOk result (result ≡ Ok true → FoundPoolEmpty K.gives end.new) }
     ensures obligations { KeepsObligations (actors_of system.now.gates) (end_caller end.old.registrar) (end_caller end.new.registrar) }
     ensures number { end.new.number ≡ end.old.number }
-    ensures saw { IsPart (pass_view end.old.registrar.pass).log (pass_view end.new.registrar.pass).log }
+    ensures log_kept { IsPart (pass_view end.old.registrar.pass).log (pass_view end.new.registrar.pass).log }
     ensures fault { IfErr result (BreaksWork K.gives system.now end.new) }
 {
     system.going.leave();

@@ -2,12 +2,12 @@
 ghost use Rattle.std.specs.Prelude.{◌≡◌, [], All, IfOk};
 
 use crate::seen::see;
+use heddleorange::run_here;
 use mb_actor::{Actor, Outbox};
 use mb_msg::ActorId;
 use mb_testkit::{
     ADD, COUNTER, Order, PLAIN, TestActor, TestCase, Watcher, plan_and_sends, poison, tell, text_of,
 };
-use mb_whole::run_boxed;
 use std::alloc::{AllocError, Global};
 use std::sync::Wait;
 use std::test::Fail;
@@ -38,7 +38,7 @@ fn run_both<R: Wait>(
     let Ok(actors) = fresh(alloc, first, second) else {
         return None;
     };
-    match run_boxed(rt, alloc, plan, actors, &orders) {
+    match run_here::<Box<dyn Actor + Send>, R>(rt, alloc, plan, actors, &orders) {
         Ok(report) => text_of(alloc, &report, 2),
         Err(_) => None,
     }

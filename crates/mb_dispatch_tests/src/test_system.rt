@@ -194,8 +194,8 @@ fn run_next<R: Wait>(
     system: &System<TestActor, Adding>,
     end: &mut WorkerEnd<TestActor, Adding>,
 ) -> Option<Turn>
-    requires ours { IsEndOf system.now.gates end.old.registrar }
-    ensures ours { IsEndOf system.now.gates end.new.registrar }
+    requires same_gates { IsEndOf system.now.gates end.old.registrar }
+    ensures same_gates { IsEndOf system.now.gates end.new.registrar }
 {
     match end.take(rt) {
         Some(claim) => run_mailbox(rt, system, end, claim).ok(),

@@ -114,12 +114,12 @@ use Rattle.mb_gate.specs.Rule.{
   ListPlace,
   Fact,
 }
+use Rattle.mb_gate.specs.ListWord.{shows_work}
 use Rattle.mb_gate.specs.TableSteps.{
   IsBefore,
   ExtendsSeen,
   IsWord,
   StaysClosed,
-  shows_work,
   Reads,
   Writes,
   CountsSent,
@@ -743,7 +743,7 @@ module _ {H : Type 0} (all_of : H → ℕ → H → Type 0) (first : Snapshot (S
             seen = subst (λ j. ExtendsSeen actor j me.0) (sym h.1.fold) (goes_further (all_of first.value.value) facts
                 actor x me.0 f.ended (λ one. omega arith) (f.seen id me.0 at));
             now = λ z. (
-              taking actor (sym h.1.fold z) (sym h.1.shut z) (sym hit z) x.ghost.gave (sym h.1.count z) me.0,
+              taking actor (sym h.1.fold z) (sym h.1.known_closed z) (sym hit z) x.ghost.gave (sym h.1.count z) me.0,
               (slot_at actor 0, Home h.1.home) ∷ me.1,
             );
           }),

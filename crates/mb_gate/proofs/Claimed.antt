@@ -56,7 +56,7 @@ module _ {H : Type 0} (is_of : ℕ → H → Type 0) (facts : H → HomeFacts) w
       (found.0, h.1, subst (λ q. get_elem? vs q ≡ some found.0) (same_seat h.0 p e) found.1, found.2)
 
   at_home : (actor : ℕ) (x : Place) (holder : Option (ℕ × Held)) → Kept actor x holder → IsNone (holder_of holder) → IsAtHome x
-  at_home actor x None kept free = (kept.home, kept.there)
+  at_home actor x None kept free = (kept.home, kept.present)
   at_home actor x (Some h) kept free = absurd (cc)
 
   nobody : (actor : ℕ) (x : Place) (holder : Option (ℕ × Held)) → Kept actor x holder → IsAtHome x → IsNone (holder_of holder)
@@ -65,7 +65,7 @@ module _ {H : Type 0} (is_of : ℕ → H → Type 0) (facts : H → HomeFacts) w
 
   home_there : (actor : ℕ) (x : Place) (kept : Kept actor x None) (home : H) → x.slot CellSlot ≡ some (some (Home home)) → kept.home ≡ home
   home_there actor x kept home there = same_home kept.home home (some-injective (Home kept.home) (Home home)
-      (some-injective (some (Home kept.home)) (some (Home home)) (sym kept.there ∙ there)))
+      (some-injective (some (Home kept.home)) (some (Home home)) (sym kept.present ∙ there)))
 
   -- the journal that the rule keeps of the actor is the one of its home, and the one with which its claim was taken
   at_home_journal : (actor : ℕ) (x : Place) (holder : Option (ℕ × Held)) → Kept actor x holder → (home : H)

@@ -114,9 +114,9 @@ pub still_balanced : (actor n : ℕ) (vs : List View) (id : ℕ) (v w : View) �
 still_balanced actor n vs id v w at same b = same_balance actor n vs id v w at same.on same.off b
 
 -- and so do the claims that are out
-pub still_turns : (actor : ℕ) (old new : Option (ℕ × Held)) (vs : List View) (id : ℕ) (v w : View) → get_elem? vs id ≡ some v → claims_got actor w ≡
+pub still_claims : (actor : ℕ) (old new : Option (ℕ × Held)) (vs : List View) (id : ℕ) (v w : View) → get_elem? vs id ≡ some v → claims_got actor w ≡
     claims_got actor v → claims_returned actor w ≡ claims_returned actor v → claims_out new ≡ claims_out old → ClaimsBalance actor old vs → ClaimsBalance actor new (set vs id w)
-still_turns actor old new vs id v w at got back same t = total_stays (claims_got actor) vs id v w at got ∙ (t ∙ sym (ap (λ n. n + claims_out new)
+still_claims actor old new vs id v w at got back same t = total_stays (claims_got actor) vs id v w at got ∙ (t ∙ sym (ap (λ n. n + claims_out new)
     (total_stays (claims_returned actor) vs id v w at back) ∙ ap (λ n. total (claims_returned actor) vs + n) same))
 
 one_more : (got got' back k m m' : ℕ) → got' + m ≡ got + m' → m' ≡ 1 + m → k ≡ 0 → got ≡ back + k → got' ≡ back + 1
@@ -126,17 +126,17 @@ one_less : (got back back' k m m' : ℕ) → back' + m ≡ back + m' → m' ≡ 
 one_less got back back' k m m' e more one t = omega arith
 
 -- a seat gets a claim, where none was out
-pub turns_more : (actor : ℕ) (old : Option (ℕ × Held)) (h : ℕ × Held) (vs : List View) (id : ℕ) (v w : View) → get_elem? vs id ≡ some v → claims_got
+pub claims_more : (actor : ℕ) (old : Option (ℕ × Held)) (h : ℕ × Held) (vs : List View) (id : ℕ) (v w : View) → get_elem? vs id ≡ some v → claims_got
     actor w ≡ 1 + claims_got actor v → claims_returned actor w ≡ claims_returned actor v → claims_out old ≡ 0 → ClaimsBalance actor old vs → ClaimsBalance actor (Some h) (set vs
     id w)
-turns_more actor old h vs id v w at more same none t = one_more (total (claims_got actor) vs) (total (claims_got actor) (set vs id w)) (total (claims_returned
+claims_more actor old h vs id v w at more same none t = one_more (total (claims_got actor) vs) (total (claims_got actor) (set vs id w)) (total (claims_returned
     actor) vs) (claims_out old) (claims_got actor v) (claims_got actor w) (total_set (claims_got actor) vs id v w at) more none t ∙ ap (λ n. n + 1) (sym
     (total_stays (claims_returned actor) vs id v w at same))
 
 -- and given back
-pub turns_less : (actor : ℕ) (old : Option (ℕ × Held)) (vs : List View) (id : ℕ) (v w : View) → get_elem? vs id ≡ some v → claims_got actor w ≡ claims_got
+pub claims_less : (actor : ℕ) (old : Option (ℕ × Held)) (vs : List View) (id : ℕ) (v w : View) → get_elem? vs id ≡ some v → claims_got actor w ≡ claims_got
     actor v → claims_returned actor w ≡ 1 + claims_returned actor v → claims_out old ≡ 1 → ClaimsBalance actor old vs → ClaimsBalance actor None (set vs id w)
-turns_less actor old vs id v w at same more one t = total_stays (claims_got actor) vs id v w at same ∙ one_less (total (claims_got actor) vs) (total
+claims_less actor old vs id v w at same more one t = total_stays (claims_got actor) vs id v w at same ∙ one_less (total (claims_got actor) vs) (total
     (claims_returned actor) vs) (total (claims_returned actor) (set vs id w)) (claims_out old) (claims_returned actor v) (claims_returned actor w) (total_set (claims_returned actor) vs id v
     w at) more one t
 
@@ -149,9 +149,9 @@ still_held actor old new vs id v w at same before was one =
 -- and who is held now was held
 pub now_held : (actor new : ℕ) (holder : Option (ℕ × Held)) (vs : List View) (id : ℕ) (v w : View) → get_elem? vs id ≡ some v → claims_got actor w ≡
     claims_got actor v → claims_out holder ≡ 1 → ClaimsBalance actor holder vs → WasHeld actor new (set vs id w)
-now_held actor new holder vs id v w at same out turns one =
+now_held actor new holder vs id v w at same out claims_balance one =
     some_got (total (claims_got actor) vs) (total (claims_got actor) (set vs id w)) (total (claims_returned actor) vs) (claims_out holder)
-    (total_stays (claims_got actor) vs id v w at same) out turns
+    (total_stays (claims_got actor) vs id v w at same) out claims_balance
   where
     some_got : (got now back k : ℕ) → now ≡ got → k ≡ 1 → got ≡ back + k → 0 < now
     some_got got now back k is out t = omega arith
@@ -193,10 +193,10 @@ no_share share has none = false_true (sym (ap is_some_item none) ∙ has)
 -- and one that has a share or the claim may have the list
 pub gripper_bare : (actor : ℕ) (vs : List View) (id : ℕ) (v w : View) → get_elem? vs id ≡ some v → w.claim ≡ v.claim → w.log ≡ v.log → w.share ≡
     v.share → (w.got ≡ v.got) × (w.returned ≡ v.returned) → may_lock_list actor v ≡ true → EachBare actor vs → EachBare actor (set vs id w)
-gripper_bare actor vs id v w at claim log share turns may bare = learns (λ (u : View). u.share ≡ [] → IsBare actor u) (λ (u : View). u.share ≡ [] →
+gripper_bare actor vs id v w at claim log share claims_balance may bare = learns (λ (u : View). u.share ≡ [] → IsBare actor u) (λ (u : View). u.share ≡ [] →
     IsBare actor u) vs id w (λ u k. k) (λ none. let b = bare id v at (sym share ∙ none) in record {
-      got = ap (times actor) turns.0 ∙ b.got;
-      back = ap (times actor) turns.1 ∙ b.back;
+      got = ap (times actor) claims_balance.0 ∙ b.got;
+      back = ap (times actor) claims_balance.1 ∙ b.back;
       on = ap (total (counted_on actor)) log ∙ b.on;
       rest = λ n. absurd (no_claim (ap (held_of actor) (sym claim) ∙ n) (sym share ∙ none));
     }) bare
@@ -226,11 +226,11 @@ module _ {H : Type 0} (is_of : ℕ → H → Type 0) (facts : H → HomeFacts) (
       → CellPlace is_of facts actor y holder
   still_kept x y status flag slot tale shut count gave None k = record {
     home = k.home;
-    there = slot ∙ k.there;
+    present = slot ∙ k.present;
     own = k.own;
     fold = k.fold ∙ sym tale;
     count = k.count ∙ sym count;
-    shut = k.shut ∙ sym shut;
+    known_closed = k.known_closed ∙ sym shut;
     word = status ∙ k.word;
     idle = subst (λ n. (n % 4 ≡ 0) ⊎ (n ≡ 1)) (sym status) k.idle;
     flag = flag ∙ (k.flag ∙ ap (λ n. if n == 1 then 1 else 0) (sym status));
@@ -239,7 +239,7 @@ module _ {H : Type 0} (is_of : ℕ → H → Type 0) (facts : H → HomeFacts) (
   still_kept x y status flag slot tale shut count gave (Some h) k = record {
     own = k.own;
     taken = k.taken ∙ sym tale;
-    shut = k.shut ∙ sym shut;
+    known_closed = k.known_closed ∙ sym shut;
     count = k.count ∙ sym count;
     gave = k.gave ∙ sym gave;
     word = status ∙ k.word;
@@ -253,7 +253,7 @@ module _ {H : Type 0} (is_of : ℕ → H → Type 0) (facts : H → HomeFacts) (
       → (keeper : Option (ℕ × Lent)) → ListPlace is_of facts x keeper
       → ListPlace is_of facts y keeper
   still_shelved x y gate slot items gave None k = record {
-    there = slot ∙ (k.there ∙ ap (λ (l : MessageList). some (some (Listing l))) (sym items));
+    present = slot ∙ (k.present ∙ ap (λ (l : MessageList). some (some (Listing l))) (sym items));
     word = gate ∙ (k.word ∙ (λ i. gate_word false (sym items i) (sym gave i)));
   }
   still_shelved x y gate slot items gave (Some h) k = record {
@@ -277,7 +277,7 @@ module _ {H : Type 0} (is_of : ℕ → H → Type 0) (facts : H → HomeFacts) (
     listing = f.listing;
     named = f.named;
     balance = still_balanced actor (x.row Waiting) vs id v w at account f.balance;
-    turns = still_turns actor x.ghost.holder x.ghost.holder vs id v w at account.got account.back refl f.turns;
+    claims_balance = still_claims actor x.ghost.holder x.ghost.holder vs id v w at account.got account.back refl f.claims_balance;
     held = still_held actor (x.row Status) (x.row Status) vs id v w at account.got (λ one. one) f.held;
     shares = shares_stay (λ (u : View). u.share) vs id v w at account.share f.shares;
     bare = still_bare actor vs id v w at account (λ c. sym claim ∙ c) (λ c. list ∙ c) f.bare;

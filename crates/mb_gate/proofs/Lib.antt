@@ -8,6 +8,7 @@ pub mod WaitingSteps
 pub mod Parting
 pub mod Alike
 pub mod ListSteps
+pub mod ListBits
 pub mod Whole
 pub mod Allowed
 pub mod Wins

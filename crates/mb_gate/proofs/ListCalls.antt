@@ -1,38 +1,8 @@
 -- A list that was taken out and put back, and the words of its gate.
-use Rattle.std.proofs.Common.{
-  ◌≡◌,
-  ◌≢◌,
-  ℕ,
-  ◌+◌,
-  ◌/◌,
-  ◌%◌,
-  ◌==◌,
-  ◌<◌,
-  if◌then◌else◌,
-  Bool,
-  true,
-  false,
-  not,
-  ◌||◌,
-  IsTrue,
-  Option,
-  Some,
-  is_some,
-  List,
-  [],
-  ◌∷◌,
-  ◌++◌,
-  sym,
-  refl,
-  ap,
-  ◌∙◌,
-  subst,
-  eq-eqb,
-  ne_eqb,
-  arith,
-}
+use Rattle.std.proofs.Common.{◌≡◌, ◌≢◌, ℕ, ◌+◌, ◌%◌, ◌==◌, if◌then◌else◌, Bool, true, false, not, ◌||◌, IsTrue, Option, Some, is_some, List, [], ◌∷◌, ◌++◌, sym, refl, ap, ◌∙◌, eq-eqb, ne_eqb, arith}
 use mathlib.Core.Logic.{dite}
 use native.Mathlib.Decide.{ℕ_discrete}
+use Rattle.std.proofs.lemmas.Bool.Decides.{nat_tests}
 use Rattle.atomic_table.specs.Table.{Me, rest}
 use Rattle.mb_msg.specs.declared.system.SysMsg.{SysMsg}
 use Rattle.mb_syslist.specs.MessageList.{MessageList, with_last, drained, ended, listed, numbered}
@@ -43,7 +13,8 @@ use Rattle.mb_gate.specs.View.{View, Held, lending}
 use Rattle.mb_gate.specs.Rule.{is_some_item, held_of, claim_for, gate_word}
 use Rattle.mb_gate.specs.TableSteps.{ListLocked}
 use Rattle.mb_gate.proofs.Views.{held_here}
-use Rattle.mb_gate.specs.Lists.{may_lock_list, IsLentBy, IsOut, with_listed, with_drained, with_ended}
+use Rattle.mb_gate.specs.Lists.{may_lock_list, IsLentBy, IsOut}
+use Rattle.mb_gate.specs.ListWord.{is_locked, is_ended, with_listed, with_drained, with_ended}
 
 head_same : {A : Type 0} (a b : A) (xs ys : List A) → a ∷ xs ≡ b ∷ ys → a ≡ b
 head_same a b xs ys e = cc
@@ -151,36 +122,23 @@ ended_bits false false false = refl
 pub word_ended : (word : ℕ) (l : MessageList) (gave : Bool) → word ≡ gate_word false l gave → with_ended word ≡ gate_word false (ended l) gave
 word_ended word l gave e = ap with_ended e ∙ ended_bits (is_some_item l.messages) gave l.closed
 
-shut_bit : (a b c : Bool) → (0 + (if a then 2 else 0) + (if b then 4 else 0) + (if c then 8 else 0)) / 8 % 2 ≡ (if c then 1 else 0)
-shut_bit true true true = refl
-shut_bit true true false = refl
-shut_bit true false true = refl
-shut_bit true false false = refl
-shut_bit false true true = refl
-shut_bit false true false = refl
-shut_bit false false true = refl
-shut_bit false false false = refl
-
-open_bit : (c : Bool) → ((let n : ℕ = if c then 1 else 0 in n ≡ 1) → ⊥) → c ≡ false
-open_bit true n = absurd (n refl)
-open_bit false n = refl
+ended_bit : (a b c : Bool) → is_ended (0 + (if a then 2 else 0) + (if b then 4 else 0) + (if c then 8 else 0)) ≡ c
+ended_bit true true true = refl
+ended_bit true true false = refl
+ended_bit true false true = refl
+ended_bit true false false = refl
+ended_bit false true true = refl
+ended_bit false true false = refl
+ended_bit false false true = refl
+ended_bit false false false = refl
 
 -- a word that does not show it is one of a list that is not ended
-pub not_ended : (word : ℕ) (l : MessageList) (gave : Bool) → word ≡ gate_word false l gave → word / 8 % 2 ≢ 1 → l.closed ≡ false
-not_ended word l gave e n = open_bit l.closed (λ one. n (ap (λ w. w / 8 % 2) e ∙ (shut_bit (is_some_item l.messages) gave l.closed ∙ one)))
+pub is_not_ended : (word : ℕ) (l : MessageList) (gave : Bool) → word ≡ gate_word false l gave → is_ended word ≡ false → l.closed ≡ false
+is_not_ended word l gave e n = sym (ended_bit (is_some_item l.messages) gave l.closed) ∙ (ap is_ended (sym e) ∙ n)
 
-small_bits : (a b c : Bool) → 0 + (if a then 2 else 0) + (if b then 4 else 0) + (if c then 8 else 0) < 16
-small_bits true true true = omega arith
-small_bits true true false = omega arith
-small_bits true false true = omega arith
-small_bits true false false = omega arith
-small_bits false true true = omega arith
-small_bits false true false = omega arith
-small_bits false false true = omega arith
-small_bits false false false = omega arith
-
-pub small_word : (word : ℕ) (l : MessageList) (gave : Bool) → word ≡ gate_word false l gave → word < 16
-small_word word l gave e = subst (λ w. w < 16) (sym e) (small_bits (is_some_item l.messages) gave l.closed)
+-- the word of a gate that is not locked is even
+pub is_even : (word : ℕ) → is_locked word ≡ false → word % 2 ≡ 0
+is_even word free = grind (arith, nat_tests)
 
 -- what is listed is numbered message by message
 pub some_listed : (l : MessageList) → is_some_item (listed l) ≡ is_some_item l.messages

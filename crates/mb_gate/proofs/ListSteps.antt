@@ -100,7 +100,7 @@ use Rattle.mb_gate.proofs.Views.{
   goes_on,
 }
 use Rattle.mb_gate.proofs.Numbers.{among_more, pushed_so, part_so, length_numbered}
-use Rattle.mb_gate.proofs.Facts.{still_kept, still_balanced, still_turns, still_held, still_bare, claimed_bare, gripper_bare, views_change, elsewhere, load_here}
+use Rattle.mb_gate.proofs.Facts.{still_kept, still_balanced, still_claims, still_held, still_bare, claimed_bare, gripper_bare, views_change, elsewhere, load_here}
 use Rattle.mb_gate.proofs.StatusSteps.{is_held}
 
 bits : (a b c : Bool) → ((if a then 2 else 0) + (if b then 4 else 0) + (if c then 8 else 0)) % 2 ≡ 0
@@ -169,7 +169,7 @@ module _ {H : Type 0} (is_of : ℕ → H → Type 0) (facts : H → HomeFacts) (
         view = w;
         deed = takes_from ListSlot (Listing x.ghost.listed);
         kept = g;
-        able = h.1.there;
+        able = h.1.present;
         here = record {
           valid = f.valid;
           claims = stays_locked (claim_for actor) x.ghost.holder vs id v w at refl f.claims;
@@ -182,7 +182,7 @@ module _ {H : Type 0} (is_of : ℕ → H → Type 0) (facts : H → HomeFacts) (
           named = f.named;
           balance = still_balanced actor (x.row Waiting) vs id v w at (record { on = refl; off = refl; share = refl; got = refl; back = refl })
               f.balance;
-          turns = still_turns actor x.ghost.holder x.ghost.holder vs id v w at refl refl refl f.turns;
+          claims_balance = still_claims actor x.ghost.holder x.ghost.holder vs id v w at refl refl refl f.claims_balance;
           held = still_held actor (x.row Status) (x.row Status) vs id v w at refl (λ one. one) f.held;
           shares = shares_stay (λ (u : View). u.share) vs id v w at refl f.shares;
           bare = gripper_bare actor vs id v w at refl refl refl (refl, refl) may f.bare;
@@ -251,7 +251,7 @@ module _ {H : Type 0} (is_of : ℕ → H → Type 0) (facts : H → HomeFacts) (
           cell = still_kept is_of facts actors actor x y refl refl refl refl refl
               (ap (λ (z : MessageList). z.given) h.1.taken) refl x.ghost.holder f.cell;
           lists = puts_back (list_for actor) vs id v w l at refl (subst (λ o. Locked (list_for actor) o vs) h.0 f.lists);
-          list_place = record { there = refl; word = word ∙ ap (gate_word false (with_last l.listed m)) h.1.gave };
+          list_place = record { present = refl; word = word ∙ ap (gate_word false (with_last l.listed m)) h.1.gave };
           ended = λ e. f.ended (ap (λ (z : MessageList). z.closed) (sym h.1.taken) ∙ e);
           listing = record {
             given = f.listing.given;
@@ -264,7 +264,7 @@ module _ {H : Type 0} (is_of : ℕ → H → Type 0) (facts : H → HomeFacts) (
           balance = still_balanced actor (x.row Waiting) vs id v w at (counts_no_more actor (Pushed actor (pushed l.listed) m) v w refl
               (refl, refl) refl refl refl)
               f.balance;
-          turns = still_turns actor x.ghost.holder x.ghost.holder vs id v w at refl refl refl f.turns;
+          claims_balance = still_claims actor x.ghost.holder x.ghost.holder vs id v w at refl refl refl f.claims_balance;
           held = still_held actor (x.row Status) (x.row Status) vs id v w at refl (λ one. one) f.held;
           shares = shares_stay (λ (u : View). u.share) vs id v w at refl f.shares;
           bare = still_bare actor vs id v w at (counts_no_more actor (Pushed actor (pushed l.listed) m) v w refl (refl, refl) refl refl refl)
@@ -338,7 +338,7 @@ module _ {H : Type 0} (is_of : ℕ → H → Type 0) (facts : H → HomeFacts) (
           cell = record {
             own = of;
             taken = h.1.taken;
-            shut = h.1.shut;
+            known_closed = h.1.known_closed;
             count = ap (λ z. given_after z given) (h.1.count ∙ sym same_given) ∙ sym counts;
             gave = refl;
             word = h.1.word;
@@ -347,7 +347,7 @@ module _ {H : Type 0} (is_of : ℕ → H → Type 0) (facts : H → HomeFacts) (
             out = h.1.out;
           };
           lists = puts_back (list_for actor) vs id v w l at refl (subst (λ o. Locked (list_for actor) o vs) k.0 f.lists);
-          list_place = record { there = refl; word = word };
+          list_place = record { present = refl; word = word };
           ended = λ e. ⊎_elim (λ was. f.ended (ap (λ (z : MessageList). z.closed) (sym k.1.taken) ∙ was)) (λ one. h.1.word ∙ one) (closed e);
           listing = record {
             given = x.ghost.pushed;
@@ -360,7 +360,7 @@ module _ {H : Type 0} (is_of : ℕ → H → Type 0) (facts : H → HomeFacts) (
           };
           named = subst (All (NamesBelow actors)) (sym empty) (All-nil (NamesBelow actors));
           balance = still_balanced actor (x.row Waiting) vs id v w at (counts_no_more actor s v w refl (uncounted actor) refl refl refl) f.balance;
-          turns = still_turns actor x.ghost.holder (Some (id, c')) vs id v w at refl refl (sym (ap claims_out h.0)) f.turns;
+          claims_balance = still_claims actor x.ghost.holder (Some (id, c')) vs id v w at refl refl (sym (ap claims_out h.0)) f.claims_balance;
           held = still_held actor (x.row Status) (x.row Status) vs id v w at refl (λ one. one) f.held;
           shares = shares_stay (λ (u : View). u.share) vs id v w at refl f.shares;
           bare = claimed_bare actor vs id v w c' at (ap (λ z. held_of actor (regiven given gave z)) has ∙ held_here actor c' of) refl refl refl

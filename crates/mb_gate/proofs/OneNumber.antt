@@ -47,16 +47,16 @@ place_below (x ∷ xs) (suc i) m at = let rest = place_below xs i m at in omega 
 record Placed (k : ℕ) (ms : List SysMsg) (n : ℕ) (m : SysMsg) : Type 0 where
   place : ℕ
   number : n ≡ k + place
-  there : get_elem? ms place ≡ some m
+  present : get_elem? ms place ≡ some m
 
 placed : (k : ℕ) (ms : List SysMsg) (n : ℕ) (m : SysMsg) → k + length ms ≤ 2 ^ 64 → IsAmong (n, m) (numbered k ms) → Placed k ms n m
 placed k [] n m fits is = absurd (among_none (n, m) is)
 placed k (x ∷ xs) n m fits is = ⊎_elim
-    (λ e. record { place = 0; number = sym (ap (λ (z : ℕ × SysMsg). z.0) e) ∙ plus_none k; there = ap (λ (z : ℕ × SysMsg). some z.1) e })
+    (λ e. record { place = 0; number = sym (ap (λ (z : ℕ × SysMsg). z.0) e) ∙ plus_none k; present = ap (λ (z : ℕ × SysMsg). some z.1) e })
     (λ rest. let p = placed ((k + 1) % 2 ^ 64) xs n m (fits_on k (length xs) fits) rest in record {
       place = suc p.place;
-      number = p.number ∙ next k (length xs) p.place fits (place_below xs p.place m p.there);
-      there = p.there;
+      number = p.number ∙ next k (length xs) p.place fits (place_below xs p.place m p.present);
+      present = p.present;
     })
     (first_or_rest (n, m) (k, x) (numbered ((k + 1) % 2 ^ 64) xs) is)
   where
@@ -74,7 +74,7 @@ pub one_message : (ms : List SysMsg) (n : ℕ) (a b : SysMsg) → length ms ≤ 
 one_message ms n a b fits first second =
     let p = placed 0 ms n a (begins (length ms) fits) first in
     let q = placed 0 ms n b (begins (length ms) fits) second in
-    some-injective a b (sym p.there ∙ (ap (get_elem? ms) (same p.place q.place (sym p.number ∙ q.number)) ∙ q.there))
+    some-injective a b (sym p.present ∙ (ap (get_elem? ms) (same p.place q.place (sym p.number ∙ q.number)) ∙ q.present))
   where
     begins : (l : ℕ) → l ≤ 2 ^ 64 → 0 + l ≤ 2 ^ 64
     begins l fits = omega arith

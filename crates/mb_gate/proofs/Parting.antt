@@ -238,7 +238,7 @@ module _ {H : Type 0} (is_of : ℕ → H → Type 0) (facts : H → HomeFacts) (
         named = f.named;
         balance = same_balance actor (x.row Waiting) vs (set vs id left ++ right ∷ []) (total_splits (on_by actor) vs id v left right at (account
             actor).on) (total_splits (off_by actor) vs id v left right at (account actor).off) f.balance;
-        turns = total_splits (claims_got actor) vs id v left right at (account actor).got ∙ (f.turns ∙ sym (ap (λ n. n + claims_out x.ghost.holder)
+        claims_balance = total_splits (claims_got actor) vs id v left right at (account actor).got ∙ (f.claims_balance ∙ sym (ap (λ n. n + claims_out x.ghost.holder)
             (total_splits (claims_returned actor) vs id v left right at (account actor).back)));
         held = λ one. subst (λ k. 0 < k) (sym (total_splits (claims_got actor) vs id v left right at (account actor).got)) (f.held one);
         shares = splits_shares (λ (u : View). u.share) vs id v left right at (λ e l r. let s = share e l r in (s.fits, s.amounts)) f.shares;
@@ -272,8 +272,8 @@ module _ {H : Type 0} (is_of : ℕ → H → Type 0) (facts : H → HomeFacts) (
         balance = same_balance actor (x.row Waiting) vs (set (set vs id both) other blank)
             (total_joins (on_by actor) vs id other v w both blank at there (both_logs (counted_on actor) w.log v.log))
             (total_joins (off_by actor) vs id other v w both blank at there (both_logs (counted_off actor) w.log v.log)) f.balance;
-        turns = total_joins (claims_got actor) vs id other v w both blank at there (both_logs (λ a. if a == actor then 1 else 0) w.got v.got)
-            ∙ (f.turns ∙ sym (ap (λ n. n + claims_out x.ghost.holder) (total_joins (claims_returned actor) vs id other v w both blank at there
+        claims_balance = total_joins (claims_got actor) vs id other v w both blank at there (both_logs (λ a. if a == actor then 1 else 0) w.got v.got)
+            ∙ (f.claims_balance ∙ sym (ap (λ n. n + claims_out x.ghost.holder) (total_joins (claims_returned actor) vs id other v w both blank at there
             (both_logs (λ a. if a == actor then 1 else 0) w.returned v.returned))));
         held = λ one. subst (λ k. 0 < k) (sym (total_joins (claims_got actor) vs id other v w both blank at there
             (both_logs (λ a. if a == actor then 1 else 0) w.got v.got))) (f.held one);

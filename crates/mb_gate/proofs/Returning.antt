@@ -175,9 +175,9 @@ module _ {H : Type 0} (is_of : ℕ → H → Type 0) (facts : H → HomeFacts) w
         let gate = found (word_at actor 9) t.0.gate t.0.gate_is in
         let k = at_home actor here here.ghost.holder f.cell (⊎_elim (λ z. inl (ap (λ w. w % 4) status ∙ z)) (λ o. inr (flag ∙ o)) t.0.cell) in
         let l = (is_shelved is_of facts n actor here s.views f (ap (λ w. w % 2) gate ∙ t.0.list)).1 in
-        let home : k.home ≡ left.home = home_same k.home left.home (some-injective _ _ (sym (same (slot_at actor 0) (Home k.home) k.there) ∙ t.1)) in
+        let home : k.home ≡ left.home = home_same k.home left.home (some-injective _ _ (sym (same (slot_at actor 0) (Home k.home) k.present) ∙ t.1)) in
         let list : here.ghost.listed ≡ t.2.0 = list_same {H = H} here.ghost.listed t.2.0 (some-injective _ _ (sym (same (slot_at actor 1) (Listing
-        here.ghost.listed) l.there) ∙ t.2.1)) in
+        here.ghost.listed) l.present) ∙ t.2.1)) in
         let given : left.given ≡ here.ghost.listed.given = t.2.2 ∙ ap (λ (z : MessageList). z.given) (sym list) in (
           subst (is_of actor) home k.own,
           k.word ∙ ap (λ h. word_of (facts h).mailbox) home,
@@ -218,8 +218,8 @@ module _ {H : Type 0} (is_of : ℕ → H → Type 0) (facts : H → HomeFacts) w
         let status = found (word_at actor 8) t.0.status t.0.status_is in
         let flag = found (word_at actor 7) t.0.flag t.0.flag_is in
         let k = at_home actor here here.ghost.holder f.cell (⊎_elim (λ z. inl (ap (λ w. w % 4) status ∙ z)) (λ o. inr (flag ∙ o)) t.0.cell) in
-        let home : k.home ≡ left.home = home_same k.home left.home (some-injective _ _ (sym (same (slot_at actor 0) (Home k.home) k.there) ∙ t.1)) in
-        subst (IsAmong other) k.shut (subst (λ h. IsAmong other (facts h).closed_to) (sym home) is)
+        let home : k.home ≡ left.home = home_same k.home left.home (some-injective _ _ (sym (same (slot_at actor 0) (Home k.home) k.present) ∙ t.1)) in
+        subst (IsAmong other) k.known_closed (subst (λ h. IsAmong other (facts h).closed_to) (sym home) is)
 
     none_left : IsTakenOut ws xs actor None → IsReturned is_of facts actor here v None
     none_left t = let f = r.each actor inside in cases here.ghost.holder here.ghost.keeper f.cell f.list_place
@@ -241,7 +241,7 @@ module _ {H : Type 0} (is_of : ℕ → H → Type 0) (facts : H → HomeFacts) w
           gate_is = at (word_at actor 9) (omega arith);
           cell = home_tells actor here k;
           list = ap (λ w. w % 2) l.word ∙ gate_even here.ghost.listed here.ghost.gave;
-        }) (same (slot_at actor 0) (Home k.home) k.there) (same (slot_at actor 1) (Listing here.ghost.listed) l.there))
+        }) (same (slot_at actor 0) (Home k.home) k.present) (same (slot_at actor 1) (Listing here.ghost.listed) l.present))
 
     is_left : (left : Option (ReturnedActor H)) → IsTakenOut ws xs actor left → IsReturned is_of facts actor here v left
     is_left (Some left) t = some_left left t
@@ -257,7 +257,7 @@ module _ {H : Type 0} (is_of : ℕ → H → Type 0) (facts : H → HomeFacts) w
     rule = final.1.0;
     seat = id;
     known = final.1.1;
-    many = many;
+    same_count = many;
     each = λ a left inside at. is_left n v id ws xs final.0 final.1.0 final.1.1 final.2 final.4 a inside left (each a left at);
     out = λ whole a inside at. is_out is_of facts n a _ final.0.views id v (final.1.0.each a inside) final.1.1
         whole bare_list (none_left n v id ws xs final.0 final.1.0 final.1.1 final.2 final.4 a inside (each a None at));

@@ -76,7 +76,7 @@ place_of f (y ∷ ys) (suc q) x d e = let p = place_of f ys q x d e in (omega ar
 
 -- a seat with the obligation is among those that owe
 pays_among : (P : WakeObligation → Type 0) (actor : ℕ) (vs : List View) → Debtor (λ v. P (obligation_to actor v)) vs → Any P (map (obligation_to actor) vs)
-pays_among P actor vs p = let at = place_of (obligation_to actor) vs p.seat p.view (obligation_to actor p.view) p.there in (
+pays_among P actor vs p = let at = place_of (obligation_to actor) vs p.seat p.view (obligation_to actor p.view) p.present in (
   p.seat,
   obligation_to actor p.view,
   at.0,
@@ -142,7 +142,7 @@ module _ {H : Type 0} (is_of : ℕ → H → Type 0) (facts : H → HomeFacts) w
         record {
           scheduled = held actor x x.ghost.holder f.cell;
           free = λ c z. free actor x x.ghost.holder f.cell (free_mod (x.row Status) f.valid c z);
-          there = there actor s.views x.ghost.holder f.claims;
+          present = there actor s.views x.ghost.holder f.claims;
         },
         record {
           system = λ c z work. pays_among (λ d. IsTrue d.system) actor s.views (f.system (
@@ -162,7 +162,7 @@ module _ {H : Type 0} (is_of : ℕ → H → Type 0) (facts : H → HomeFacts) w
   pub shows_closed : ShowsClosed is_of facts
   shows_closed n s r actor other inside there is =
       let p = (r.each actor inside).vouched other is in
-      let k = (r.each other there).seen p.seat p.view p.there in
+      let k = (r.each other there).seen p.seat p.view p.present in
       each_among (ObservationHolds other (spot_of word_offset slot_offset s r.ghosts other)) (Read other 1) p.view.log k.seen p.pays refl refl
 
   pub shows_balance : ShowsBalance is_of facts

@@ -64,7 +64,7 @@ module _ {H : Type 0} (facts : H → HomeFacts) where
 
   -- the words and slots of the actor a, whose home is h
   record Begun (hs : List H) (a : ℕ) (h : H) : Type 0 where
-    there : slice_get hs a ≡ Some h
+    present : slice_get hs a ≡ Some h
     tale : journal_at hs a ≡ (facts h).journal
     status : get_or (rows_of facts hs) (word_at a 8) 0 ≡ word_of (facts h).mailbox
     flag : get_or (rows_of facts hs) (word_at a 7) 0 ≡ 0
@@ -86,7 +86,7 @@ module _ {H : Type 0} (facts : H → HomeFacts) where
   begun (h ∷ hs) zero l = (
     h,
     record {
-      there = refl;
+      present = refl;
       tale = refl;
       status = refl;
       flag = refl;
@@ -100,7 +100,7 @@ module _ {H : Type 0} (facts : H → HomeFacts) where
   begun (h ∷ hs) (suc a) l = let b = begun hs a (omega arith) in let w = word_of (facts h).mailbox in (
     b.0,
     record {
-      there = b.1.there;
+      present = b.1.present;
       tale = b.1.tale;
       status = next_row w (rows_of facts hs) (word_at (suc a) 8) (word_at a 8) (omega arith) ∙ b.1.status;
       flag = next_row w (rows_of facts hs) (word_at (suc a) 7) (word_at a 7) (omega arith) ∙ b.1.flag;
@@ -149,28 +149,28 @@ module _ {H : Type 0} (is_of : ℕ → H → Type 0) (facts : H → HomeFacts) w
         ghosts = begins hs;
         wide = length-rows_of facts hs ∙ ap (λ k. 16 * k) (sym many);
         deep = length-map (slots_of hs) (λ (x : Slot H). some x) ∙ (length-slots_of hs ∙ ap (λ k. 2 * k) (sym many));
-        each = λ a l. let b = begun facts hs a (omega arith) in let f = fresh a b.0 b.1.there in let m = (facts b.0).mailbox in record {
+        each = λ a l. let b = begun facts hs a (omega arith) in let f = fresh a b.0 b.1.present in let m = (facts b.0).mailbox in record {
           valid = subst (λ k. IsTrue (is_valid k)) (sym b.1.status) (valid_word m f.possible);
           claims = nobody_has (claim_for a) refl;
           cell = record {
             home = b.0;
-            there = b.1.cell;
+            present = b.1.cell;
             own = f.own;
             fold = sym b.1.tale;
             count = f.none_given;
-            shut = f.none_closed;
+            known_closed = f.none_closed;
             word = b.1.status;
             idle = inl (ap (λ k. k % 4) b.1.status ∙ free_mod m f.free);
             flag = b.1.flag ∙ sym (ap (λ b. if b then 1 else 0) (ne_eqb _ 1 (λ e. let z = free_word m f.free in let s = b.1.status in omega arith)));
             rest = λ _. f.rest;
           };
           lists = nobody_has (list_for a) refl;
-          list_place = record { there = b.1.list; word = b.1.gate };
+          list_place = record { present = b.1.list; word = b.1.gate };
           ended = λ e. absurd (cc);
           listing = record { given = []; joined = refl; counted = refl };
           named = All-nil (NamesBelow n);
           balance = ap (λ k. (k + total (off_by a) (alone ∷ [])) % 2 ^ 64) b.1.waiting;
-          turns = refl;
+          claims_balance = refl;
           held = λ one. absurd (let z = free_word m f.free in let s = b.1.status in omega arith);
           shares = first_shares (λ (u : View). u.share) alone refl;
           bare = only_alone (λ (u : View). u.share ≡ [] → IsBare a u) (λ empty. absurd (no_share (0 ∷ []) refl empty));

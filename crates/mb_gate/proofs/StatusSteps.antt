@@ -98,11 +98,11 @@ use Rattle.mb_gate.proofs.Numbers.{among_more, each_among}
 use Rattle.mb_gate.proofs.Facts.{
   still_shelved,
   same_balance,
-  still_turns,
+  still_claims,
   still_held,
   now_held,
-  turns_more,
-  turns_less,
+  claims_more,
+  claims_less,
   claimed_bare,
   sharer_bare,
   views_change,
@@ -200,14 +200,14 @@ module _ {H : Type 0} (is_of : ℕ → H → Type 0) (facts : H → HomeFacts) (
         view = w;
         deed = takes_from CellSlot (Home h.1.home);
         kept = record x.ghost { holder = Some (id, c) };
-        able = h.1.there;
+        able = h.1.present;
         here = record {
           valid = subst (λ n. IsTrue (is_valid (n + 2))) is (scheduled_valid (x.row Status) free f.valid);
           claims = takes_up (claim_for actor) vs id v w c at (held_here actor c refl) (subst (λ o. Locked (claim_for actor) o vs) h.0 f.claims);
           cell = record {
             own = refl;
             taken = refl;
-            shut = refl;
+            known_closed = refl;
             count = refl;
             gave = refl;
             word = refl;
@@ -222,7 +222,7 @@ module _ {H : Type 0} (is_of : ℕ → H → Type 0) (facts : H → HomeFacts) (
           listing = f.listing;
           named = f.named;
           balance = same_balance actor (x.row Waiting) vs id v w at refl refl f.balance;
-          turns = turns_more actor x.ghost.holder (id, c) vs id v w at (times_here actor v.got) refl (ap claims_out h.0) f.turns;
+          claims_balance = claims_more actor x.ghost.holder (id, c) vs id v w at (times_here actor v.got) refl (ap claims_out h.0) f.claims_balance;
           held = λ one. absurd (let z : old + 2 ≡ 1 = one in omega arith);
           shares = shares_stay (λ (u : View). u.share) vs id v w at refl f.shares;
           bare = sharer_bare actor vs id w share f.bare;
@@ -263,7 +263,7 @@ module _ {H : Type 0} (is_of : ℕ → H → Type 0) (facts : H → HomeFacts) (
           cell = record {
             own = of;
             taken = h.1.taken;
-            shut = h.1.shut;
+            known_closed = h.1.known_closed;
             count = h.1.count;
             gave = h.1.gave;
             word = refl;
@@ -278,8 +278,8 @@ module _ {H : Type 0} (is_of : ℕ → H → Type 0) (facts : H → HomeFacts) (
           listing = f.listing;
           named = f.named;
           balance = same_balance actor (x.row Waiting) vs id v w at refl refl f.balance;
-          turns = still_turns actor x.ghost.holder (Some (id, d)) vs id v w at refl refl (sym (ap claims_out h.0)) f.turns;
-          held = now_held actor new x.ghost.holder vs id v w at refl (ap claims_out h.0) f.turns;
+          claims_balance = still_claims actor x.ghost.holder (Some (id, d)) vs id v w at refl refl (sym (ap claims_out h.0)) f.claims_balance;
+          held = now_held actor new x.ghost.holder vs id v w at refl (ap claims_out h.0) f.claims_balance;
           shares = shares_stay (λ (u : View). u.share) vs id v w at refl f.shares;
           bare = claimed_bare actor vs id v w d at (ap (λ z. held_of actor (rewritten new z)) has ∙ held_here actor d of) refl refl refl refl f.bare;
           vouched = λ b. still_owed (HasSeenClosed b) (IsAmong b x.ghost.closed_to) (IsAmong b x.ghost.closed_to) vs id v w at (λ d. d) (λ _ p. p)
@@ -334,11 +334,11 @@ module _ {H : Type 0} (is_of : ℕ → H → Type 0) (facts : H → HomeFacts) (
           claims = puts_back (claim_for actor) vs id v w c at refl (subst (λ o. Locked (claim_for actor) o vs) h.0 f.claims);
           cell = record {
             home = home;
-            there = refl;
+            present = refl;
             own = own;
             fold = refl;
             count = count ∙ h.1.count;
-            shut = refl;
+            known_closed = refl;
             word = word;
             idle = inl free;
             flag = h.1.flag ∙ sym (ap (λ b. if b then 1 else 0) (ne_eqb new 1 (λ e. omega arith)));
@@ -350,11 +350,11 @@ module _ {H : Type 0} (is_of : ℕ → H → Type 0) (facts : H → HomeFacts) (
           listing = f.listing;
           named = f.named;
           balance = same_balance actor (x.row Waiting) vs id v w at (none_more (on_by actor v)) (none_more (off_by actor v)) f.balance;
-          turns = turns_less actor x.ghost.holder vs id v w at refl (times_here actor v.returned) (ap claims_out h.0) f.turns;
+          claims_balance = claims_less actor x.ghost.holder vs id v w at refl (times_here actor v.returned) (ap claims_out h.0) f.claims_balance;
           held = λ one. absurd (let z : new ≡ 1 = one in omega arith);
           shares = shares_stay (λ (u : View). u.share) vs id v w at refl f.shares;
           bare = sharer_bare actor vs id w share f.bare;
-          vouched = vouches_home actor j v c x.ghost.closed_to (facts home).closed_to vs id at h.1.shut known f.vouched;
+          vouched = vouches_home actor j v c x.ghost.closed_to (facts home).closed_to vs id at h.1.known_closed known f.vouched;
           message = pays (HasMessageObligation actor) (MessageDue y) vs id v w at (subst (λ (d : WakeObligation). IsTrue (d.message || d.sending)) (sym (owes_here
               actor debt (record v { log = Saw actor j ∷ v.log; claim = None; returned = actor ∷ v.returned }))) refl);
           system = pays (HasSystemObligation actor) (SystemDue y) vs id v w at (subst (λ (d : WakeObligation). IsTrue d.system) (sym (owes_here actor debt (record v
@@ -401,11 +401,11 @@ module _ {H : Type 0} (is_of : ℕ → H → Type 0) (facts : H → HomeFacts) (
           claims = puts_back (claim_for actor) vs id v w c at refl (subst (λ o. Locked (claim_for actor) o vs) h.0 f.claims);
           cell = record {
             home = home;
-            there = refl;
+            present = refl;
             own = own;
             fold = refl;
             count = count ∙ h.1.count;
-            shut = refl;
+            known_closed = refl;
             word = shut ∙ word;
             idle = inr shut;
             flag = sym (ap (λ b. if b then 1 else 0) (eq-eqb (x.row Status) 1 shut));
@@ -417,11 +417,11 @@ module _ {H : Type 0} (is_of : ℕ → H → Type 0) (facts : H → HomeFacts) (
           listing = f.listing;
           named = f.named;
           balance = same_balance actor (x.row Waiting) vs id v w at (none_more (on_by actor v)) (none_more (off_by actor v)) f.balance;
-          turns = turns_less actor x.ghost.holder vs id v w at refl (times_here actor v.returned) (ap claims_out h.0) f.turns;
+          claims_balance = claims_less actor x.ghost.holder vs id v w at refl (times_here actor v.returned) (ap claims_out h.0) f.claims_balance;
           held = still_held actor (x.row Status) (x.row Status) vs id v w at refl (λ one. one) f.held;
           shares = shares_stay (λ (u : View). u.share) vs id v w at refl f.shares;
           bare = sharer_bare actor vs id w share f.bare;
-          vouched = vouches_home actor j v c x.ghost.closed_to (facts home).closed_to vs id at h.1.shut known f.vouched;
+          vouched = vouches_home actor j v c x.ghost.closed_to (facts home).closed_to vs id at h.1.known_closed known f.vouched;
           message = pays (HasMessageObligation actor) (MessageDue y) vs id v w at (subst (λ (d : WakeObligation). IsTrue (d.message || d.sending)) (sym (owes_here
               actor debt (record v { log = Saw actor j ∷ v.log; claim = None; returned = actor ∷ v.returned }))) refl);
           system = pays (HasSystemObligation actor) (SystemDue y) vs id v w at (subst (λ (d : WakeObligation). IsTrue d.system) (sym (owes_here actor debt (record v

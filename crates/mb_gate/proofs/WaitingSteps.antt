@@ -97,7 +97,7 @@ use Rattle.mb_gate.proofs.Views.{
   goes_on,
 }
 use Rattle.mb_gate.proofs.Numbers.{among_more}
-use Rattle.mb_gate.proofs.Facts.{still_kept, still_shelved, still_turns, still_held, claimed_bare, sharer_bare, views_change, elsewhere, load_here}
+use Rattle.mb_gate.proofs.Facts.{still_kept, still_shelved, still_claims, still_held, claimed_bare, sharer_bare, views_change, elsewhere, load_here}
 use Rattle.mb_gate.proofs.StatusSteps.{is_held}
 use Rattle.std.proofs.lemmas.Bool.{eqb-true}
 
@@ -173,7 +173,7 @@ module _ {H : Type 0} (is_of : ℕ → H → Type 0) (facts : H → HomeFacts) (
           listing = f.listing;
           named = f.named;
           balance = balance;
-          turns = still_turns actor x.ghost.holder x.ghost.holder vs id v w at refl refl refl f.turns;
+          claims_balance = still_claims actor x.ghost.holder x.ghost.holder vs id v w at refl refl refl f.claims_balance;
           held = still_held actor (x.row Status) (x.row Status) vs id v w at refl (λ one. one) f.held;
           shares = shares_stay (λ (u : View). u.share) vs id v w at refl f.shares;
           bare = sharer_bare actor vs id w share f.bare;
@@ -244,7 +244,7 @@ module _ {H : Type 0} (is_of : ℕ → H → Type 0) (facts : H → HomeFacts) (
           listing = f.listing;
           named = f.named;
           balance = balances_less actor k vs id v w at (x.row Waiting) n f.balance s refl refl refl less;
-          turns = still_turns actor x.ghost.holder x.ghost.holder vs id v w at refl refl refl f.turns;
+          claims_balance = still_claims actor x.ghost.holder x.ghost.holder vs id v w at refl refl refl f.claims_balance;
           held = still_held actor (x.row Status) (x.row Status) vs id v w at refl (λ one. one) f.held;
           shares = shares_stay (λ (u : View). u.share) vs id v w at refl f.shares;
           bare = claimed_bare actor vs id v w c at (ap (held_of actor) has ∙ held_here actor c of) refl refl refl (none_more (on_by actor v)) f.bare;

@@ -45,9 +45,9 @@ module _ {H : Type 0} (is_of : ℕ → H → Type 0) (facts : H → HomeFacts) (
   others_bare q u other there = f.bare q u there (alone (λ (z : View). z.share) vs id v at whole f.shares q u other there)
 
   -- its own account is the account of all
-  own_turns : claims_got actor v ≡ claims_returned actor v + claims_out x.ghost.holder
-  own_turns = sym (total_alone (claims_got actor) vs id v at (λ q u other there. (others_bare q u other there).got))
-      ∙ (f.turns ∙ ap (λ k. k + claims_out x.ghost.holder) (total_alone (claims_returned actor) vs id v at (λ q u other there. (others_bare q u other
+  own_claims : claims_got actor v ≡ claims_returned actor v + claims_out x.ghost.holder
+  own_claims = sym (total_alone (claims_got actor) vs id v at (λ q u other there. (others_bare q u other there).got))
+      ∙ (f.claims_balance ∙ ap (λ k. k + claims_out x.ghost.holder) (total_alone (claims_returned actor) vs id v at (λ q u other there. (others_bare q u other
       there).back)))
 
   unclaimed : x.ghost.holder ≡ None → (q : ℕ) (u : View) → get_elem? vs q ≡ some u → claim_for actor u ≡ None
@@ -67,17 +67,17 @@ module _ {H : Type 0} (is_of : ℕ → H → Type 0) (facts : H → HomeFacts) (
 
   -- an actor of which there is no home left has a claim out
   pub is_out : v.list ≡ None → (x.ghost.holder ≢ None) ⊎ (x.ghost.keeper ≢ None) → claims_got actor v ≡ claims_returned actor v + 1
-  is_out bare why = own_turns ∙ ap (λ k. claims_returned actor v + k) (one_out x.ghost.holder (λ free. ⊎_elim (λ h. h free) (λ k. k (no_list_out bare free
+  is_out bare why = own_claims ∙ ap (λ k. claims_returned actor v + k) (one_out x.ghost.holder (λ free. ⊎_elim (λ h. h free) (λ k. k (no_list_out bare free
       x.ghost.keeper f.lists)) why))
 
   -- and one that nobody holds has none
   pub is_back : x.ghost.holder ≡ None → claims_got actor v ≡ claims_returned actor v
-  is_back free = own_turns ∙ (ap (λ h. claims_returned actor v + claims_out h) free ∙ plus_none (claims_returned actor v))
+  is_back free = own_claims ∙ (ap (λ h. claims_returned actor v + claims_out h) free ∙ plus_none (claims_returned actor v))
 
   -- with no claim out, how many are waiting is what the seat itself counted
   pub own_balance : IsOwnBalance actor (x.row Waiting) v
   own_balance all back =
-      let free = none_out x.ghost.holder (no_more (claims_returned actor v) (claims_out x.ghost.holder) (sym back ∙ own_turns)) in
+      let free = none_out x.ghost.holder (no_more (claims_returned actor v) (claims_out x.ghost.holder) (sym back ∙ own_claims)) in
       let on = total_alone (on_by actor) vs id v at (λ q u other there. (others_bare q u other there).on) in
       let off = total_alone (off_by actor) vs id v at (λ q u other there. ((others_bare q u other there).rest (unclaimed free q u there)).1) in
       ap (λ k. (x.row Waiting + k) % 2 ^ 64) (sym off) ∙ (f.balance ∙ ap (λ k. k % 2 ^ 64) on)
@@ -88,7 +88,7 @@ module _ {H : Type 0} (is_of : ℕ → H → Type 0) (facts : H → HomeFacts) (
 
   -- nobody holds an actor of which it got no claim
   pub unheld : claims_got actor v ≡ 0 → x.ghost.holder ≡ None
-  unheld none = none_out x.ghost.holder (no_part (claims_got actor v) (claims_returned actor v) (claims_out x.ghost.holder) none own_turns)
+  unheld none = none_out x.ghost.holder (no_part (claims_got actor v) (claims_returned actor v) (claims_out x.ghost.holder) none own_claims)
     where
       no_part : (all back k : ℕ) → all ≡ 0 → all ≡ back + k → k ≡ 0
       no_part all back k is sum = omega arith

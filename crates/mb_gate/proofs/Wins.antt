@@ -107,7 +107,7 @@ module _ {H : Type 0} (is_of : ℕ → H → Type 0) (facts : H → HomeFacts) (
         status = status;
         own = subst (is_of actor) same w.own;
         word = ap (λ h. word_of (facts h).mailbox) (sym same) ∙ (sym w.word ∙ is_seen);
-        goes_on = subst (λ h. ExtendsSeen actor (facts h).journal m.0) same w.seen;
+        continues = subst (λ h. ExtendsSeen actor (facts h).journal m.0) same w.seen;
         rest = λ no. subst (λ (h : H). (facts h).rested) same (w.rest (sym gave ∙ no));
         known = all ∙ (λ i. claimed actor (facts (same i)).journal (facts (same i)).closed_to (word i) (sym gave i) (facts (same i)).given);
         recorded = none;

@@ -62,7 +62,7 @@ module _ {H : Type 0} (is_of : ℕ → H → Type 0) (facts : H → HomeFacts) w
     pub longer : Extends (facts home).journal (held_in me.0).journal
     pub fold : word_of (facts home).mailbox ≡ word_of (idle status)
     pub count : (facts home).given ≡ (held_in me.0).given
-    pub shut : Each (λ other. IsKnownClosed other (held_in me.0).closed_to me.0) (facts home).closed_to
+    pub known_closed : Each (λ other. IsKnownClosed other (held_in me.0).closed_to me.0) (facts home).closed_to
     pub rest : (status.closed ≡ true) ⊎ ((held_in me.0).gave ≡ false) → (facts home).rested
     pub share : is_some_item me.0.share ≡ true
 

@@ -10,6 +10,7 @@ pub mod TableSteps
 pub mod Accessors
 pub mod Tries
 pub mod Starts
+pub mod ListWord
 pub mod Lists
 pub mod Shown
 pub mod Returned

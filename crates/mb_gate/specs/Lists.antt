@@ -1,6 +1,6 @@
--- A list of system messages that a seat took out, and the words of the gate that locks it (`akka.dispatch.SystemMessageQueue.systemEnqueue`,
+-- A list of system messages that a seat took out (`akka.dispatch.SystemMessageQueue.systemEnqueue`,
 -- `systemDrain`; that a list has a gate is this project's own profile).
-use Rattle.std.specs.Prelude.{◌≡◌, ℕ, ◌+◌, ◌*◌, ◌/◌, ◌%◌, ◌==◌, Bool, false, ◌||◌, if◌then◌else◌, List, ◌∷◌, Some, is_some}
+use Rattle.std.specs.Prelude.{◌≡◌, ℕ, Bool, false, ◌||◌, List, ◌∷◌, Some, is_some}
 use Rattle.atomic_table.specs.Table.{Me, rest}
 use Rattle.mb_syslist.specs.MessageList.{MessageList, numbered}
 use Rattle.mb_msg.specs.declared.system.SysMsg.{SysMsg}
@@ -37,15 +37,3 @@ may_lock_list actor v = is_some_item v.share || is_some (claim_for actor v)
 pub record IsNumberedFrom (number : ℕ) (given : List (ℕ × SysMsg)) : Type 0 where
   pub messages : List SysMsg
   pub each : given ≡ numbered number messages
-
--- The gate's word once a message is listed.
-abbrev pub with_listed : ℕ → ℕ
-with_listed word = if word / 2 % 2 == 0 then word + 2 else word
-
--- The gate's word after a drain: nothing is listed, and the word says whether the drain gave something.
-abbrev pub with_drained : ℕ → Bool → ℕ
-with_drained word is_empty = word / 8 * 8 + (if is_empty then 0 else 4)
-
--- The gate's word once the list is ended: nothing is listed any more.
-abbrev pub with_ended : ℕ → ℕ
-with_ended word = word / 4 % 2 * 4 + 8

@@ -75,7 +75,7 @@ module _ {H : Type 0} (is_of : ℕ → H → Type 0) (facts : H → HomeFacts) w
     pub rule : Ruled word_offset slot_offset actors (Fact is_of facts actors) state
     pub seat : ℕ
     pub known : get_elem? state.views seat ≡ some v
-    pub many : length all ≡ actors
+    pub same_count : length all ≡ actors
     pub each : (actor : ℕ) (left : Option (ReturnedActor H)) → actor < actors → slice_get all actor ≡ Some left
         → IsReturned actor (spot_of word_offset slot_offset state rule.ghosts actor) v left
     pub out : IsWhole v.share → (actor : ℕ) → actor < actors → slice_get all actor ≡ Some None → claims_got actor v ≡ claims_returned actor v + 1

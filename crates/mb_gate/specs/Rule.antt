@@ -208,11 +208,11 @@ module _ {H : Type 0} (is_of : ℕ → H → Type 0) (facts : H → HomeFacts) w
   -- one.
   pub record IsHome (actor : ℕ) (x : Spot Word SlotName (Slot H) Ghost) : Type 0 where
     pub home : H
-    pub there : x.slot CellSlot ≡ some (some (Home home))
+    pub present : x.slot CellSlot ≡ some (some (Home home))
     pub own : is_of actor home
     pub fold : (facts home).journal ≡ x.ghost.journal
     pub count : (facts home).given ≡ x.ghost.listed.given
-    pub shut : (facts home).closed_to ≡ x.ghost.closed_to
+    pub known_closed : (facts home).closed_to ≡ x.ghost.closed_to
     pub word : x.row Status ≡ word_of (facts home).mailbox
     pub idle : (x.row Status % 4 ≡ 0) ⊎ (x.row Status ≡ 1)
     pub flag : x.row Flag ≡ (if x.row Status == 1 then 1 else 0)
@@ -222,7 +222,7 @@ module _ {H : Type 0} (is_of : ℕ → H → Type 0) (facts : H → HomeFacts) w
   pub record IsHeld (actor : ℕ) (x : Spot Word SlotName (Slot H) Ghost) (claim : Held) : Type 0 where
     pub own : claim.actor ≡ actor
     pub taken : claim.journal ≡ x.ghost.journal
-    pub shut : claim.closed_to ≡ x.ghost.closed_to
+    pub known_closed : claim.closed_to ≡ x.ghost.closed_to
     pub count : claim.given ≡ x.ghost.listed.given
     pub gave : claim.gave ≡ x.ghost.gave
     pub word : x.row Status ≡ claim.word
@@ -237,7 +237,7 @@ module _ {H : Type 0} (is_of : ℕ → H → Type 0) (facts : H → HomeFacts) w
 
   -- The list is in its slot.
   pub record IsListInSlot (x : Spot Word SlotName (Slot H) Ghost) : Type 0 where
-    pub there : x.slot ListSlot ≡ some (some (Listing x.ghost.listed))
+    pub present : x.slot ListSlot ≡ some (some (Listing x.ghost.listed))
     pub word : x.row Gate ≡ gate_word false x.ghost.listed x.ghost.gave
 
   -- A seat has the list, and knows what was listed.
@@ -263,7 +263,7 @@ module _ {H : Type 0} (is_of : ℕ → H → Type 0) (facts : H → HomeFacts) w
     pub listing : IsListing x.ghost.pushed x.ghost.listed
     pub named : All (NamesBelow actors) x.ghost.listed.messages
     pub balance : IsBalance actor (x.row Waiting) vs
-    pub turns : ClaimsBalance actor x.ghost.holder vs
+    pub claims_balance : ClaimsBalance actor x.ghost.holder vs
     pub held : WasHeld actor (x.row Status) vs
     pub shares : AreShares (λ (v : View). v.share) vs
     pub bare : EachBare actor vs

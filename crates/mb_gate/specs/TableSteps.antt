@@ -1,6 +1,6 @@
 -- What each step at the gates tells the seat that makes it. (The steps are those of `akka.dispatch.Mailbox` and its `SystemMessageQueue`; what a seat
 -- knows is this project's own profile.) A step does not know its actor, so the actor is found by the place of the word.
-use Rattle.std.specs.Prelude.{◌≡◌, ◌≢◌, ℕ, ◌*◌, ◌/◌, ◌%◌, ◌==◌, Bool, false, not, IsTrue, List, [], ◌∷◌, Some, None, All}
+use Rattle.std.specs.Prelude.{◌≡◌, ◌≢◌, ℕ, ◌*◌, ◌%◌, Bool, false, IsTrue, List, [], ◌∷◌, Some, None, All}
 use mathlib.Core.Option.{some}
 use Rattle.atomic_table.specs.Table.{Me, Step, rest}
 use Rattle.std.specs.declared.snapshot.Snapshot.{Snapshot}
@@ -46,6 +46,7 @@ use Rattle.mb_gate.specs.View.{
 use Rattle.mb_gate.specs.ClaimCounts.{IsOwnBalance, WasHeldBy}
 use Rattle.mb_gate.specs.NamedActors.{NamesBelow}
 use Rattle.mb_gate.specs.Rule.{Extends, is_some_item, gate_word}
+use Rattle.mb_gate.specs.ListWord.{shows_work}
 
 -- This observation allows that the actor is taken with this journal: it was not seen closed, its list was not ended, and the journal extends each
 -- that was seen.
@@ -81,10 +82,6 @@ IsWord actor now (Drained a given) = Unit {0}
 -- The status word is the closed one if the view has seen the actor closed.
 abbrev pub StaysClosed : ℕ → ℕ → View → Type 0
 StaysClosed actor word v = Each (IsWord actor word) v.log
-
--- By the word of a list's gate there is system work: something is listed, or the last drain gave something.
-abbrev pub shows_work : ℕ → Bool
-shows_work word = not (word / 2 % 4 == 0)
 
 module _ {H : Type 0} where
   -- What a seat knows after it read a status word.

@@ -1,6 +1,6 @@
 -- What a try to schedule an actor answers (`Mailbox.setAsScheduled`, which answers whether it won; that a claim comes with it is this project's own
 -- profile).
-use Rattle.std.specs.Prelude.{◌≡◌, ◌≢◌, ℕ, Bool, true, false, List, [], ◌∷◌, Some, None}
+use Rattle.std.specs.Prelude.{◌≡◌, ◌≢◌, ℕ, Bool, true, false, [], ◌∷◌, Some, None}
 use Rattle.atomic_table.specs.Table.{Me}
 use Rattle.atomic_table.specs.Seated.{TableId}
 use Rattle.mb_ghost.specs.Layout.{slot_at}
@@ -54,7 +54,7 @@ module _ {H : Type 0} (is_of : ℕ → H → Type 0) (facts : H → HomeFacts) (
     pub status : status_of claim ≡ record seen { scheduled = true }
     pub own : is_of actor claim.home
     pub word : word_of (facts claim.home).mailbox ≡ word_of seen
-    pub goes_on : ExtendsSeen actor (facts claim.home).journal before
+    pub continues : ExtendsSeen actor (facts claim.home).journal before
     pub rest : gave_last claim ≡ false → (facts claim.home).rested
     pub known : claim_view claim ≡ claimed actor (facts claim.home).journal (facts claim.home).closed_to (word_of (status_of claim)) (gave_last claim)
         (facts claim.home).given

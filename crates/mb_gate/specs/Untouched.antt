@@ -1,5 +1,5 @@
 -- A claim as it was taken: nothing of it changed since (this project's own profile; Akka hands an executor the mailbox itself).
-use Rattle.std.specs.Prelude.{◌≡◌, ◌<◌, ℕ, List, [], true, false, MatchOption, Option}
+use Rattle.std.specs.Prelude.{◌≡◌, ◌<◌, ℕ, [], true, false, MatchOption, Option}
 use Rattle.atomic_table.specs.Seated.{TableId}
 use Rattle.mb_status.specs.Mailbox.{word_of, idle}
 use Rattle.mb_gate.specs.HomeFacts.{HomeFacts}
@@ -22,14 +22,14 @@ module _ {H : Type 0} (is_of : H → ℕ → H → Type 0) (facts : H → HomeFa
   -- the claim is of one of the actors of these gates, and its home is this actor's own
   pub record IsOurs (origin : Origin H) (claim : Claim H) : Type 0 where
     pub gates : claim_id claim ≡ origin.gates
-    pub there : held_actor claim < origin.actors
+    pub present : held_actor claim < origin.actors
     pub own : is_of origin.first (held_actor claim) claim.home
 
   -- The claim is of these gates and as a try to schedule gave it: its status is the one that the home's journal says, and scheduled;
   -- unless the last drain gave something, nothing is left beside the cell; it knows what a claim knows that was just taken, and nothing
   -- was said for it yet. There are no such claims before it is settled which gates these are.
   pub record IsUntouched (origin : Option (Origin H)) (claim : Claim H) : Type 0 where
-    pub ours : MatchOption origin ⊥ (λ of. IsOurs of claim)
+    pub same_gates : MatchOption origin ⊥ (λ of. IsOurs of claim)
     pub open_yet : (status_of claim).closed ≡ false
     pub scheduled : (status_of claim).scheduled ≡ true
     pub word : word_of (facts claim.home).mailbox ≡ word_of (idle (status_of claim))

@@ -2,6 +2,7 @@
 ghost use Rattle.std.specs.Prelude.{◌≡◌, ◌*◌, ◌<◌, ◌≤◌};
 
 mod finish;
+mod put_back;
 
 use crate::gates_key::GatesKey;
 use crate::gates_rule::GatesRule;

@@ -28,10 +28,10 @@ impl<H: MailboxState> Gates<H> {
     /// Suspends the claim's actor once more, and answers whether it was not suspended before (`Mailbox.suspend`).
     /// A closed mailbox stays as it is, with the answer `false`.
     pub fn suspend(&self, claim: &mut Claim<H>) -> bool
-        requires ours { claim_id claim.old ≡ gates_id self.now }
-        requires there { held_actor claim.old < actors_of self.now }
-        requires few { (status_of claim.old).count < most_suspensions }
-        ensures ours { (claim_id claim.new ≡ claim_id claim.old) × (held_actor claim.new ≡ held_actor claim.old) }
+        requires same_gates { claim_id claim.old ≡ gates_id self.now }
+        requires present { held_actor claim.old < actors_of self.now }
+        requires within_limit { (status_of claim.old).count < most_suspensions }
+        ensures same_gates { (claim_id claim.new ≡ claim_id claim.old) × (held_actor claim.new ≡ held_actor claim.old) }
         ensures status { status_of claim.new ≡ suspend (status_of claim.old) }
         ensures known { claim_view claim.new ≡ writing (word_of (status_of claim.new)) (claim_view claim.old) }
         ensures home { claim.new.home ≡ claim.old.home }
@@ -47,9 +47,9 @@ impl<H: MailboxState> Gates<H> {
     /// Undoes one suspension of the claim's actor where there is one, and answers whether none is left
     /// (`Mailbox.resume`). A closed mailbox stays as it is, with the answer `false`.
     pub fn resume(&self, claim: &mut Claim<H>) -> bool
-        requires ours { claim_id claim.old ≡ gates_id self.now }
-        requires there { held_actor claim.old < actors_of self.now }
-        ensures ours { (claim_id claim.new ≡ claim_id claim.old) × (held_actor claim.new ≡ held_actor claim.old) }
+        requires same_gates { claim_id claim.old ≡ gates_id self.now }
+        requires present { held_actor claim.old < actors_of self.now }
+        ensures same_gates { (claim_id claim.new ≡ claim_id claim.old) × (held_actor claim.new ≡ held_actor claim.old) }
         ensures status { status_of claim.new ≡ resume (status_of claim.old) }
         ensures known { claim_view claim.new ≡ writing (word_of (status_of claim.new)) (claim_view claim.old) }
         ensures home { claim.new.home ≡ claim.old.home }
@@ -65,9 +65,9 @@ impl<H: MailboxState> Gates<H> {
     /// Closes the mailbox of the claim's actor for good, and answers `false` if it was closed already
     /// (`Mailbox.becomeClosed`).
     pub fn close_mailbox(&self, claim: &mut Claim<H>) -> bool
-        requires ours { claim_id claim.old ≡ gates_id self.now }
-        requires there { held_actor claim.old < actors_of self.now }
-        ensures ours { (claim_id claim.new ≡ claim_id claim.old) × (held_actor claim.new ≡ held_actor claim.old) }
+        requires same_gates { claim_id claim.old ≡ gates_id self.now }
+        requires present { held_actor claim.old < actors_of self.now }
+        ensures same_gates { (claim_id claim.new ≡ claim_id claim.old) × (held_actor claim.new ≡ held_actor claim.old) }
         ensures status { status_of claim.new ≡ closed_mailbox }
         ensures known { claim_view claim.new ≡ writing (word_of (status_of claim.new)) (claim_view claim.old) }
         ensures home { claim.new.home ≡ claim.old.home }
@@ -82,11 +82,11 @@ impl<H: MailboxState> Gates<H> {
 
     // A plain store is enough: no other seat changes the word of an actor that is held.
     fn write(&self, claim: &mut Claim<H>, status: Status)
-        requires ours { claim_id claim.old ≡ gates_id self.now }
-        requires there { held_actor claim.old < actors_of self.now }
+        requires same_gates { claim_id claim.old ≡ gates_id self.now }
+        requires present { held_actor claim.old < actors_of self.now }
         requires busy { is_busy (word_of status) ≡ true }
         requires closed { (status_of claim.old).closed ≡ true → word_of status ≡ 1 }
-        ensures ours { (claim_id claim.new ≡ claim_id claim.old) × (held_actor claim.new ≡ held_actor claim.old) }
+        ensures same_gates { (claim_id claim.new ≡ claim_id claim.old) × (held_actor claim.new ≡ held_actor claim.old) }
         ensures status { status_of claim.new ≡ status }
         ensures known { claim_view claim.new ≡ writing (word_of status) (claim_view claim.old) }
         ensures home { claim.new.home ≡ claim.old.home }
@@ -106,18 +106,18 @@ impl<H: MailboxState> Gates<H> {
     /// entries have had their system messages sent; and, unless the actor is open and its last drain gave something, nothing is
     /// left beside the cell. Afterwards the pass has seen the journal, and owes the actor a look at both its queues.
     pub fn release(&self, claim: Claim<H>, pass: &mut Pass<H>)
-        requires ours { (claim_id claim ≡ gates_id self.now) × (pass_id pass.old ≡ gates_id self.now) }
-        requires there { held_actor claim < actors_of self.now }
+        requires same_gates { (claim_id claim ≡ gates_id self.now) × (pass_id pass.old ≡ gates_id self.now) }
+        requires present { held_actor claim < actors_of self.now }
         requires own { H.is_of (first_home self.now) (held_actor claim) claim.home }
         requires longer { Extends (H.facts claim.home).journal (taken_with claim) }
         requires fold { word_of (H.facts claim.home).mailbox ≡ word_of (idle (status_of claim)) }
         requires count { (H.facts claim.home).given ≡ given_to claim }
-        requires shut { Each (λ other. IsKnownClosed other (closed_with claim) (taking_in (claim_view claim) (pass_view pass.old)))
+        requires known_closed { Each (λ other. IsKnownClosed other (closed_with claim) (taking_in (claim_view claim) (pass_view pass.old)))
             (H.facts claim.home).closed_to }
         requires told { HasSentDueSince (H.who claim.home) (held_actor claim) (status_of claim).closed (H.facts claim.home).journal
             (taken_with claim) (recorded_by claim) }
         requires rest { ((status_of claim).closed ≡ true) ⊎ (gave_last claim ≡ false) → (H.facts claim.home).rested }
-        ensures ours { pass_id pass.new ≡ pass_id pass.old }
+        ensures same_gates { pass_id pass.new ≡ pass_id pass.old }
         ensures known { pass_view pass.new ≡ idling (held_actor claim) (H.facts claim.home).journal (taking_in (claim_view claim) (pass_view pass.old)) }
     {
         let Claim {
@@ -128,42 +128,29 @@ impl<H: MailboxState> Gates<H> {
             sent_log: _,
         } = claim;
         self.take_in(&mut pass.seat, seat);
-        self.put_back_home(&mut pass.seat, actor, home);
+        self.put_back(&mut pass.seat, actor, CELL, Slot::Home(home));
         self.idle(&mut pass.seat, actor, status);
     }
 
     // The claim's seat takes the place of the pass's, with all that the pass knows.
     fn take_in(&self, seat: &mut Seat<Slot<H>, SeatView>, mine: Seat<Slot<H>, SeatView>)
-        requires ours { (seat.old.table_id ≡ gates_id self.now) × (mine.table_id ≡ gates_id self.now) }
+        requires same_gates { (seat.old.table_id ≡ gates_id self.now) × (mine.table_id ≡ gates_id self.now) }
         requires nothing { (seat.old.me.1 ≡ []) × (seat.old.me.0.claim ≡ None) × (seat.old.me.0.list ≡ None) }
         requires share { is_some_item seat.old.me.0.share ≡ true }
-        ensures ours { seat.new.table_id ≡ gates_id self.now }
+        ensures same_gates { seat.new.table_id ≡ gates_id self.now }
         ensures known { seat.new.me ≡ (taking_in mine.me.0 seat.old.me.0, mine.me.1) }
     {
         let pass = mem::replace(seat, mine);
         self.table.shared.join_seat::<TakeIn>(seat, pass);
     }
 
-    // Puts the cell into its slot, which no other seat can see before the next step. The slot is empty, so nothing is dropped.
-    // Nor is it read, since a read would wait for the write that emptied it.
-    fn put_back_home(&self, seat: &mut Seat<Slot<H>, SeatView>, actor: ActorId, home: H)
-        requires ours { seat.old.table_id ≡ gates_id self.now }
-        requires there { actor.0 < actors_of self.now }
-        requires carries { seat.old.me.1 ≡ (slot_at actor.0 0, Empty) ∷ [] }
-        ensures ours { seat.new.table_id ≡ seat.old.table_id }
-        ensures carries { seat.new.me ≡ (seat.old.me.0, (slot_at actor.0 0, Home home) ∷ []) }
-    {
-        let slot = slot_index(actor, CELL);
-        mem::forget(self.table.shared.exchange(seat, slot, Slot::Home(home)));
-    }
-
     // The step that shows that the cell is in its slot: a store of the status word or, of a closed actor, of the flag beside
     // it.
     fn idle(&self, seat: &mut Seat<Slot<H>, SeatView>, actor: ActorId, status: Status)
-        requires ours { seat.old.table_id ≡ gates_id self.now }
-        requires there { actor.0 < actors_of self.now }
+        requires same_gates { seat.old.table_id ≡ gates_id self.now }
+        requires present { actor.0 < actors_of self.now }
         requires ready { IsReadyToRelease (H.is_of (first_home self.now)) H.facts actor.0 status seat.old.me }
-        ensures ours { seat.new.table_id ≡ seat.old.table_id }
+        ensures same_gates { seat.new.table_id ≡ seat.old.table_id }
         ensures idle { Idled H.facts actor.0 seat.old.me seat.new.me }
     {
         if status.closed() {

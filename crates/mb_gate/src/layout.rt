@@ -13,8 +13,7 @@ pub const FLAG: usize = 7;
 /// A word: the mailbox's status, 1 where it is closed, else four times its suspensions and 2 more where it is scheduled.
 pub const STATUS: usize = 8;
 
-/// A word: the gate of the list, 1 while the list is out, 2 where something is listed, 4 where the last drain gave something,
-/// and 8 once it is ended, added up.
+/// A word: the gate of the list, a `ListWord`.
 pub const GATE: usize = 9;
 
 /// A slot: the actor's home, and nothing while a claim has it.

@@ -20,6 +20,7 @@ mod gates_rule;
 mod holding;
 mod laws;
 mod layout;
+mod list_word;
 mod lists;
 mod mailbox_state;
 mod new;

@@ -10,7 +10,8 @@ ghost use Rattle.mb_gate.specs.Rule.{is_some_item};
 ghost use Rattle.mb_gate.specs.Claims.{held_in};
 ghost use Rattle.mb_gate.specs.NamedActors.{NamesBelow, EachNamesBelow};
 ghost use Rattle.mb_gate.specs.ClaimCounts.{WasHeldBy};
-ghost use Rattle.mb_gate.specs.Lists.{IsLentBy, IsOut, HasClaim, IsNumberedFrom, may_lock_list, with_listed, with_drained, with_ended};
+ghost use Rattle.mb_gate.specs.Lists.{IsLentBy, IsOut, HasClaim, IsNumberedFrom, may_lock_list};
+ghost use Rattle.mb_gate.specs.ListWord.{is_locked, is_ended};
 ghost use Rattle.mb_gate.specs.Accessors.{gates_id, pass_id, claim_id, actors_of, pass_view};
 ghost use Rattle.mb_gate.specs.Accessors.{claim_view, held_actor, status_of, taken_with, closed_with, gave_last, given_to};
 ghost use Rattle.mb_gate.specs.Accessors.{drained_by, recorded_by, IsRecorded};
@@ -19,6 +20,7 @@ use crate::claim::Claim;
 use crate::gates::Gates;
 use crate::gates_rule::{CheckDrained, Drain, End, Enlist, LockList, Refuse};
 use crate::layout::{GATE, LIST, slot_index, word_index};
+use crate::list_word::ListWord;
 use crate::mailbox_state::MailboxState;
 use crate::pass::Pass;
 use crate::seat_view::SeatView;
@@ -27,31 +29,7 @@ use atomic_table::Seat;
 use mb_msg::{ActorId, SysMsg};
 use mb_syslist::{Chain, ListClosed, Node, SysList};
 use std::sync::Wait;
-use std::{mem, thread};
-
-// The gate's word once something is listed.
-fn with_listed_bit(word: u64) -> u64
-    requires { word < 16 }
-    ensures { result ≡ with_listed word }
-{
-    if word / 2 % 2 == 0 { word + 2 } else { word }
-}
-
-// The gate's word once nothing is listed, and the last drain gave something or nothing.
-fn with_drained_bits(word: u64, is_empty: bool) -> u64
-    requires { word < 16 }
-    ensures { result ≡ with_drained word is_empty }
-{
-    word / 8 * 8 + if is_empty { 0 } else { 4 }
-}
-
-// The gate's word once nothing is listed any more, for good.
-fn with_ended_bits(word: u64) -> u64
-    requires { word < 16 }
-    ensures { result ≡ with_ended word }
-{
-    word / 4 % 2 * 4 + 8
-}
+use std::thread;
 
 impl<H: MailboxState> Gates<H> {
     // Tries once to take the list out, where the gate shows this word.
@@ -59,22 +37,22 @@ impl<H: MailboxState> Gates<H> {
         &self,
         seat: &mut Seat<Slot<H>, SeatView>,
         id: ActorId,
-        word: u64,
+        word: ListWord,
     ) -> Option<SysList>
-        requires ours { seat.old.table_id ≡ gates_id self.now }
-        requires there { id.0 < actors_of self.now }
-        requires in_slot { word % 2 ≡ 0 }
+        requires same_gates { seat.old.table_id ≡ gates_id self.now }
+        requires present { id.0 < actors_of self.now }
+        requires in_slot { is_locked word.bits ≡ false }
         requires no_list { seat.old.me.0.list ≡ None }
         requires may { may_lock_list id.0 seat.old.me.0 ≡ true }
-        ensures ours { seat.new.table_id ≡ seat.old.table_id }
-        ensures answer { MatchOption result (seat.new.me ≡ seat.old.me) (λ list. IsLentBy id.0 word list seat.old.me seat.new.me) }
+        ensures same_gates { seat.new.table_id ≡ seat.old.table_id }
+        ensures answer { MatchOption result (seat.new.me ≡ seat.old.me) (λ list. IsLentBy id.0 word.bits list seat.old.me seat.new.me) }
     {
         let gate = word_index(id, GATE);
         let found = self
             .table
             .shared
-            .compare_exchange::<LockList>(seat, gate, word, word + 1);
-        if found != word {
+            .compare_exchange::<LockList>(seat, gate, word.bits, word.locked().bits);
+        if found != word.bits {
             return None;
         }
         let slot = slot_index(id, LIST);
@@ -89,13 +67,13 @@ impl<H: MailboxState> Gates<H> {
         &self,
         seat: &mut Seat<Slot<H>, SeatView>,
         id: ActorId,
-        word: u64,
+        word: ListWord,
         message: SysMsg,
     ) -> bool
-        requires ours { seat.old.table_id ≡ gates_id self.now }
-        requires there { id.0 < actors_of self.now }
-        requires ended { word / 8 % 2 ≡ 1 }
-        ensures ours { seat.new.table_id ≡ seat.old.table_id }
+        requires same_gates { seat.old.table_id ≡ gates_id self.now }
+        requires present { id.0 < actors_of self.now }
+        requires ended { is_ended word.bits ≡ true }
+        ensures same_gates { seat.new.table_id ≡ seat.old.table_id }
         ensures answer { seat.new.me ≡ (if result then (refusing id.0 message seat.old.me.0, seat.old.me.1) else seat.old.me) }
         ensures held { result ≡ true → WasHeldBy id.0 seat.old.me.0 }
     {
@@ -104,8 +82,8 @@ impl<H: MailboxState> Gates<H> {
         let found = self
             .table
             .shared
-            .compare_exchange_with::<Refuse>(seat, gate, word, word, &note);
-        found == word
+            .compare_exchange_with::<Refuse>(seat, gate, word.bits, word.bits, &note);
+        found == word.bits
     }
 
     // Takes the list out, or notes that the message found it ended.
@@ -115,21 +93,21 @@ impl<H: MailboxState> Gates<H> {
         seat: &mut Seat<Slot<H>, SeatView>,
         id: ActorId,
         message: SysMsg,
-    ) -> Option<(u64, SysList)>
-        requires ours { seat.old.table_id ≡ gates_id self.now }
-        requires there { id.0 < actors_of self.now }
+    ) -> Option<(ListWord, SysList)>
+        requires same_gates { seat.old.table_id ≡ gates_id self.now }
+        requires present { id.0 < actors_of self.now }
         requires no_list { seat.old.me.0.list ≡ None }
         requires share { is_some_item seat.old.me.0.share ≡ true }
-        ensures ours { seat.new.table_id ≡ seat.old.table_id }
+        ensures same_gates { seat.new.table_id ≡ seat.old.table_id }
         ensures refused { result ≡ None → seat.new.me ≡ (refusing id.0 message seat.old.me.0, seat.old.me.1) }
         ensures held { result ≡ None → WasHeldBy id.0 seat.old.me.0 }
-        ensures lent { IfSome result (λ got. IsLentBy id.0 got.0 got.1 seat.old.me seat.new.me × (got.1.closed ≡ false)) }
+        ensures lent { IfSome result (λ got. IsLentBy id.0 got.0.bits got.1 seat.old.me seat.new.me × (got.1.closed ≡ false)) }
     {
         for _ in rt.forever() {
-            let word = self.table.shared.peek(word_index(id, GATE));
-            if word % 2 == 1 {
+            let word = ListWord::of(self.table.shared.peek(word_index(id, GATE)));
+            if word.is_locked() {
                 thread::yield_now();
-            } else if word / 8 % 2 == 1 {
+            } else if word.is_ended() {
                 if self.try_refuse(seat, id, word, message) {
                     return None;
                 }
@@ -146,36 +124,23 @@ impl<H: MailboxState> Gates<H> {
         rt: &R,
         seat: &mut Seat<Slot<H>, SeatView>,
         id: ActorId,
-    ) -> (u64, SysList)
-        requires ours { seat.old.table_id ≡ gates_id self.now }
-        requires there { id.0 < actors_of self.now }
+    ) -> (ListWord, SysList)
+        requires same_gates { seat.old.table_id ≡ gates_id self.now }
+        requires present { id.0 < actors_of self.now }
         requires no_list { seat.old.me.0.list ≡ None }
         requires holder { HasClaim id.0 seat.old.me }
-        ensures ours { seat.new.table_id ≡ seat.old.table_id }
-        ensures answer { IsLentBy id.0 result.0 result.1 seat.old.me seat.new.me }
+        ensures same_gates { seat.new.table_id ≡ seat.old.table_id }
+        ensures answer { IsLentBy id.0 result.0.bits result.1 seat.old.me seat.new.me }
     {
         for _ in rt.forever() {
-            let word = self.table.shared.peek(word_index(id, GATE));
-            if word % 2 == 1 {
+            let word = ListWord::of(self.table.shared.peek(word_index(id, GATE)));
+            if word.is_locked() {
                 thread::yield_now();
             } else if let Some(list) = self.try_lock_list(seat, id, word) {
                 return (word, list);
             }
         }
         unreachable!()
-    }
-
-    // Puts the list that is out into its slot, which no other seat can see before the next step. The slot is empty, so nothing
-    // is dropped. Nor is it read, since a read would wait for the write that emptied it.
-    fn put_back_list(&self, seat: &mut Seat<Slot<H>, SeatView>, id: ActorId, list: SysList)
-        requires ours { seat.old.table_id ≡ gates_id self.now }
-        requires there { id.0 < actors_of self.now }
-        requires carries { seat.old.me.1 ≡ (slot_at id.0 1, Empty) ∷ rest seat.old.me.1 }
-        ensures ours { seat.new.table_id ≡ seat.old.table_id }
-        ensures carries { seat.new.me ≡ (seat.old.me.0, (slot_at id.0 1, List list) ∷ rest seat.old.me.1) }
-    {
-        let slot = slot_index(id, LIST);
-        mem::forget(self.table.shared.exchange(seat, slot, Slot::List(list)));
     }
 
     /// Puts a node last into the actor's list (`systemEnqueue`), and records that. It answers the message's number: how many
@@ -192,10 +157,10 @@ impl<H: MailboxState> Gates<H> {
         id: ActorId,
         node: Node,
     ) -> Result<u64, ListClosed>
-        requires ours { pass_id pass.old ≡ gates_id self.now }
-        requires there { id.0 < actors_of self.now }
+        requires same_gates { pass_id pass.old ≡ gates_id self.now }
+        requires present { id.0 < actors_of self.now }
         requires named { NamesBelow (actors_of self.now) node }
-        ensures ours { pass_id pass.new ≡ pass_id pass.old }
+        ensures same_gates { pass_id pass.new ≡ pass_id pass.old }
         ensures listed { IfOk result (λ number. pass_view pass.new ≡ enlisting id.0 number node (pass_view pass.old)) }
         ensures ended { IfErr result (λ refused. (refused.0 ≡ node) × (pass_view pass.new ≡ refusing id.0 node (pass_view pass.old))) }
         ensures held { IfErr result (λ _. WasHeldBy id.0 (pass_view pass.old)) }
@@ -216,10 +181,10 @@ impl<H: MailboxState> Gates<H> {
         id: ActorId,
         node: Node,
     ) -> Result<u64, ListClosed>
-        requires ours { pass_id pass.old ≡ gates_id self.now }
-        requires there { id.0 < actors_of self.now }
+        requires same_gates { pass_id pass.old ≡ gates_id self.now }
+        requires present { id.0 < actors_of self.now }
         requires named { NamesBelow (actors_of self.now) node }
-        ensures ours { pass_id pass.new ≡ pass_id pass.old }
+        ensures same_gates { pass_id pass.new ≡ pass_id pass.old }
         ensures listed { IfOk result (λ number. pass_view pass.new ≡ enlisting id.0 number node (pass_view pass.old)) }
         ensures ended { IfErr result (λ refused. (refused.0 ≡ node) × (pass_view pass.new ≡ refusing id.0 node (pass_view pass.old))) }
         ensures recorded { IsRecorded claim.old claim.new (record { to = id.0; message = node; was_ended = is_err result }) }
@@ -235,42 +200,42 @@ impl<H: MailboxState> Gates<H> {
         &self,
         seat: &mut Seat<Slot<H>, SeatView>,
         id: ActorId,
-        word: u64,
+        word: ListWord,
         mut list: SysList,
         node: Node,
     ) -> u64
-        requires ours { seat.old.table_id ≡ gates_id self.now }
-        requires there { id.0 < actors_of self.now }
-        requires lent { IsOut id.0 word list seat.old.me }
+        requires same_gates { seat.old.table_id ≡ gates_id self.now }
+        requires present { id.0 < actors_of self.now }
+        requires lent { IsOut id.0 word.bits list seat.old.me }
         requires not_ended { list.closed ≡ false }
         requires named { NamesBelow (actors_of self.now) node }
-        ensures ours { seat.new.table_id ≡ seat.old.table_id }
+        ensures same_gates { seat.new.table_id ≡ seat.old.table_id }
         ensures listed { seat.new.me ≡ (enlisting id.0 result node seat.old.me.0, rest seat.old.me.1) }
     {
         let gate = word_index(id, GATE);
-        let new = with_listed_bit(word);
+        let new = word.with_listed();
         let number = match list.push(node) {
             Ok(number) => number,
             Err(_) => unreachable!(),
         };
-        self.put_back_list(seat, id, list);
-        self.table.shared.store::<Enlist>(seat, gate, new);
+        self.put_back(seat, id, LIST, Slot::List(list));
+        self.table.shared.store::<Enlist>(seat, gate, new.bits);
         number
     }
 
     // Whether nothing is listed and the last drain gave nothing, by the gate's word: then this load counts as a drain that
     // gives nothing.
     fn is_drained(&self, seat: &mut Seat<Slot<H>, SeatView>, id: ActorId) -> bool
-        requires ours { seat.old.table_id ≡ gates_id self.now }
-        requires there { id.0 < actors_of self.now }
+        requires same_gates { seat.old.table_id ≡ gates_id self.now }
+        requires present { id.0 < actors_of self.now }
         requires holder { HasClaim id.0 seat.old.me }
         requires no_list { seat.old.me.0.list ≡ None }
-        ensures ours { seat.new.table_id ≡ seat.old.table_id }
+        ensures same_gates { seat.new.table_id ≡ seat.old.table_id }
         ensures answer { seat.new.me ≡ (if result then (draining id.0 [] false seat.old.me.0, seat.old.me.1) else seat.old.me) }
     {
         let gate = word_index(id, GATE);
-        let word = self.table.shared.load::<CheckDrained>(seat, gate);
-        word % 8 == 0
+        let bits = self.table.shared.load::<CheckDrained>(seat, gate);
+        ListWord::of(bits).is_drained()
     }
 
     // Takes all out of the list that is out, and puts the list back.
@@ -278,23 +243,23 @@ impl<H: MailboxState> Gates<H> {
         &self,
         seat: &mut Seat<Slot<H>, SeatView>,
         id: ActorId,
-        word: u64,
+        word: ListWord,
         mut list: SysList,
     ) -> Chain
-        requires ours { seat.old.table_id ≡ gates_id self.now }
-        requires there { id.0 < actors_of self.now }
-        requires lent { IsOut id.0 word list seat.old.me }
+        requires same_gates { seat.old.table_id ≡ gates_id self.now }
+        requires present { id.0 < actors_of self.now }
+        requires lent { IsOut id.0 word.bits list seat.old.me }
         requires holder { HasClaim id.0 seat.old.me }
-        ensures ours { seat.new.table_id ≡ seat.old.table_id }
+        ensures same_gates { seat.new.table_id ≡ seat.old.table_id }
         ensures drained { seat.new.me ≡ (draining id.0 result (is_some_item result) seat.old.me.0, rest seat.old.me.1) }
         ensures numbers { IsNumberedFrom (held_in seat.old.me.0).given result }
         ensures named { EachNamesBelow (actors_of self.now) result }
     {
         let gate = word_index(id, GATE);
         let chain = list.drain();
-        let new = with_drained_bits(word, chain.is_empty());
-        self.put_back_list(seat, id, list);
-        self.table.shared.store::<Drain>(seat, gate, new);
+        let new = word.with_drained(chain.is_empty());
+        self.put_back(seat, id, LIST, Slot::List(list));
+        self.table.shared.store::<Drain>(seat, gate, new.bits);
         chain
     }
 
@@ -303,24 +268,24 @@ impl<H: MailboxState> Gates<H> {
         &self,
         seat: &mut Seat<Slot<H>, SeatView>,
         id: ActorId,
-        word: u64,
+        word: ListWord,
         mut list: SysList,
     ) -> Chain
-        requires ours { seat.old.table_id ≡ gates_id self.now }
-        requires there { id.0 < actors_of self.now }
-        requires lent { IsOut id.0 word list seat.old.me }
+        requires same_gates { seat.old.table_id ≡ gates_id self.now }
+        requires present { id.0 < actors_of self.now }
+        requires lent { IsOut id.0 word.bits list seat.old.me }
         requires holder { HasClaim id.0 seat.old.me }
         requires closed { (held_in seat.old.me.0).word ≡ 1 }
-        ensures ours { seat.new.table_id ≡ seat.old.table_id }
+        ensures same_gates { seat.new.table_id ≡ seat.old.table_id }
         ensures drained { seat.new.me ≡ (ending id.0 result (held_in seat.old.me.0).gave seat.old.me.0, rest seat.old.me.1) }
         ensures numbers { IsNumberedFrom (held_in seat.old.me.0).given result }
         ensures named { EachNamesBelow (actors_of self.now) result }
     {
         let gate = word_index(id, GATE);
         let chain = list.close();
-        let new = with_ended_bits(word);
-        self.put_back_list(seat, id, list);
-        self.table.shared.store::<End>(seat, gate, new);
+        let new = word.with_ended();
+        self.put_back(seat, id, LIST, Slot::List(list));
+        self.table.shared.store::<End>(seat, gate, new.bits);
         chain
     }
 
@@ -328,9 +293,9 @@ impl<H: MailboxState> Gates<H> {
     /// that gives nothing, as by `sys_drain`. Else nothing changes (`systemQueue` that is empty). It waits for nobody.
     #[inline]
     pub fn sys_is_drained(&self, claim: &mut Claim<H>) -> bool
-        requires ours { claim_id claim.old ≡ gates_id self.now }
-        requires there { held_actor claim.old < actors_of self.now }
-        ensures ours { (claim_id claim.new ≡ claim_id claim.old) × (held_actor claim.new ≡ held_actor claim.old) }
+        requires same_gates { claim_id claim.old ≡ gates_id self.now }
+        requires present { held_actor claim.old < actors_of self.now }
+        ensures same_gates { (claim_id claim.new ≡ claim_id claim.old) × (held_actor claim.new ≡ held_actor claim.old) }
         ensures known { result ≡ true → claim_view claim.new ≡ draining (held_actor claim.old) [] false (claim_view claim.old) }
         ensures same { (status_of claim.new ≡ status_of claim.old) × (claim.new.home ≡ claim.old.home) }
         ensures taken { (taken_with claim.new ≡ taken_with claim.old) × (closed_with claim.new ≡ closed_with claim.old) }
@@ -349,9 +314,9 @@ impl<H: MailboxState> Gates<H> {
     /// and may wait for the list's gate. Where nothing is listed and the last drain gave nothing, it is one load.
     #[inline]
     pub fn sys_drain<R: Wait>(&self, rt: &R, claim: &mut Claim<H>) -> Chain
-        requires ours { claim_id claim.old ≡ gates_id self.now }
-        requires there { held_actor claim.old < actors_of self.now }
-        ensures ours { (claim_id claim.new ≡ claim_id claim.old) × (held_actor claim.new ≡ held_actor claim.old) }
+        requires same_gates { claim_id claim.old ≡ gates_id self.now }
+        requires present { held_actor claim.old < actors_of self.now }
+        ensures same_gates { (claim_id claim.new ≡ claim_id claim.old) × (held_actor claim.new ≡ held_actor claim.old) }
         ensures known { claim_view claim.new ≡ draining (held_actor claim.old) result (is_some_item result) (claim_view claim.old) }
         ensures same { (status_of claim.new ≡ status_of claim.old) × (claim.new.home ≡ claim.old.home) }
         ensures taken { (taken_with claim.new ≡ taken_with claim.old) × (closed_with claim.new ≡ closed_with claim.old) }
@@ -377,11 +342,11 @@ impl<H: MailboxState> Gates<H> {
         seat: &mut Seat<Slot<H>, SeatView>,
         id: ActorId,
     ) -> Chain
-        requires ours { seat.old.table_id ≡ gates_id self.now }
-        requires there { id.0 < actors_of self.now }
+        requires same_gates { seat.old.table_id ≡ gates_id self.now }
+        requires present { id.0 < actors_of self.now }
         requires no_list { seat.old.me.0.list ≡ None }
         requires holder { HasClaim id.0 seat.old.me }
-        ensures ours { seat.new.table_id ≡ seat.old.table_id }
+        ensures same_gates { seat.new.table_id ≡ seat.old.table_id }
         ensures drained { seat.new.me ≡ (draining id.0 result (is_some_item result) seat.old.me.0, seat.old.me.1) }
         ensures numbers { IsNumberedFrom (held_in seat.old.me.0).given result }
         ensures named { EachNamesBelow (actors_of self.now) result }
@@ -393,10 +358,10 @@ impl<H: MailboxState> Gates<H> {
     /// Takes out all that is listed, as `sys_drain` does, and ends the list for good (`systemDrain` that leaves no list). The
     /// claim's actor has to be closed.
     pub fn sys_close<R: Wait>(&self, rt: &R, claim: &mut Claim<H>) -> Chain
-        requires ours { claim_id claim.old ≡ gates_id self.now }
-        requires there { held_actor claim.old < actors_of self.now }
+        requires same_gates { claim_id claim.old ≡ gates_id self.now }
+        requires present { held_actor claim.old < actors_of self.now }
         requires closed { (status_of claim.old).closed ≡ true }
-        ensures ours { (claim_id claim.new ≡ claim_id claim.old) × (held_actor claim.new ≡ held_actor claim.old) }
+        ensures same_gates { (claim_id claim.new ≡ claim_id claim.old) × (held_actor claim.new ≡ held_actor claim.old) }
         ensures known { claim_view claim.new ≡ ending (held_actor claim.old) result (gave_last claim.old) (claim_view claim.old) }
         ensures same { (status_of claim.new ≡ status_of claim.old) × (claim.new.home ≡ claim.old.home) }
         ensures taken { (taken_with claim.new ≡ taken_with claim.old) × (closed_with claim.new ≡ closed_with claim.old) }

@@ -13,8 +13,8 @@ impl<H: MailboxState> Gates<H> {
     /// A second pass, which knows and owes what this one does. What this one counted as sent or took back stays its own (this
     /// project's own profile).
     pub fn another(&self, pass: &mut Pass<H>) -> Pass<H>
-        requires ours { pass_id pass.old ≡ gates_id self.now }
-        ensures ours { (pass_id pass.new ≡ pass_id pass.old) × (pass_id result ≡ pass_id pass.old) }
+        requires same_gates { pass_id pass.old ≡ gates_id self.now }
+        ensures same_gates { (pass_id pass.new ≡ pass_id pass.old) × (pass_id result ≡ pass_id pass.old) }
         ensures known { (pass_view pass.new ≡ halving (pass_view pass.old)) × (pass_view result ≡ copied (pass_view pass.old)) }
     {
         let seat = self.table.shared.split_seat::<SplitCopy>(&mut pass.seat);
@@ -23,8 +23,8 @@ impl<H: MailboxState> Gates<H> {
 
     /// A second pass, which knows nothing and owes nothing (this project's own profile).
     pub fn apart(&self, pass: &mut Pass<H>) -> Pass<H>
-        requires ours { pass_id pass.old ≡ gates_id self.now }
-        ensures ours { (pass_id pass.new ≡ pass_id pass.old) × (pass_id result ≡ pass_id pass.old) }
+        requires same_gates { pass_id pass.old ≡ gates_id self.now }
+        ensures same_gates { (pass_id pass.new ≡ pass_id pass.old) × (pass_id result ≡ pass_id pass.old) }
         ensures known { (pass_view pass.new ≡ halving (pass_view pass.old)) × (pass_view result ≡ split_off (pass_view pass.old)) }
     {
         let rest = self.table.shared.split_seat::<SplitNew>(&mut pass.seat);
@@ -35,8 +35,8 @@ impl<H: MailboxState> Gates<H> {
     /// The pass takes over what another has seen and what it owes. What it sent itself stays its own (this project's own
     /// profile).
     pub fn absorb(&self, pass: &mut Pass<H>, other: Pass<H>)
-        requires ours { (pass_id pass.old ≡ gates_id self.now) × (pass_id other ≡ gates_id self.now) }
-        ensures ours { pass_id pass.new ≡ pass_id pass.old }
+        requires same_gates { (pass_id pass.old ≡ gates_id self.now) × (pass_id other ≡ gates_id self.now) }
+        ensures same_gates { pass_id pass.new ≡ pass_id pass.old }
         ensures known { pass_view pass.new ≡ taking_over (pass_view pass.old) (pass_view other) }
     {
         let Pass { seat } = other;

@@ -10,6 +10,7 @@ use crate::claim::Claim;
 use crate::gates::Gates;
 use crate::gates_rule::{Read, ReadGate, ReadWaiting};
 use crate::layout::{GATE, STATUS, WAITING, word_index};
+use crate::list_word::ListWord;
 use crate::mailbox_state::MailboxState;
 use crate::pass::Pass;
 use crate::seat_view::SeatView;
@@ -30,9 +31,9 @@ impl<H: MailboxState> Gates<H> {
     ///
     /// It answers closed where the pass has seen the actor closed.
     pub fn status(&self, pass: &mut Pass<H>, id: ActorId) -> Status
-        requires ours { pass_id pass.old ≡ gates_id self.now }
-        requires there { id.0 < actors_of self.now }
-        ensures ours { pass_id pass.new ≡ pass_id pass.old }
+        requires same_gates { pass_id pass.old ≡ gates_id self.now }
+        requires present { id.0 < actors_of self.now }
+        ensures same_gates { pass_id pass.new ≡ pass_id pass.old }
         ensures known { pass_view pass.new ≡ reading id.0 (word_of result) (pass_view pass.old) }
         ensures closed { StaysClosed id.0 (word_of result) (pass_view pass.old) }
     {
@@ -40,9 +41,9 @@ impl<H: MailboxState> Gates<H> {
     }
 
     fn read(&self, seat: &mut Seat<Slot<H>, SeatView>, id: ActorId) -> Status
-        requires ours { seat.old.table_id ≡ gates_id self.now }
-        requires there { id.0 < actors_of self.now }
-        ensures ours { seat.new.table_id ≡ seat.old.table_id }
+        requires same_gates { seat.old.table_id ≡ gates_id self.now }
+        requires present { id.0 < actors_of self.now }
+        ensures same_gates { seat.new.table_id ≡ seat.old.table_id }
         ensures known { seat.new.me ≡ (reading id.0 (word_of result) seat.old.me.0, seat.old.me.1) }
         ensures closed { StaysClosed id.0 (word_of result) seat.old.me.0 }
     {
@@ -57,9 +58,9 @@ impl<H: MailboxState> Gates<H> {
     /// that has taken in all others reads what it counted as sent less what it took back and counted as taken, where no claim
     /// of the actor is out.
     pub fn waiting(&self, pass: &mut Pass<H>, id: ActorId) -> u64
-        requires ours { pass_id pass.old ≡ gates_id self.now }
-        requires there { id.0 < actors_of self.now }
-        ensures ours { pass_id pass.new ≡ pass_id pass.old }
+        requires same_gates { pass_id pass.old ≡ gates_id self.now }
+        requires present { id.0 < actors_of self.now }
+        ensures same_gates { pass_id pass.new ≡ pass_id pass.old }
         ensures known { pass_view pass.new ≡ counting id.0 result (pass_view pass.old) }
         ensures own { IsOwnBalance id.0 result (pass_view pass.old) }
     {
@@ -67,9 +68,9 @@ impl<H: MailboxState> Gates<H> {
     }
 
     fn count(&self, seat: &mut Seat<Slot<H>, SeatView>, id: ActorId) -> u64
-        requires ours { seat.old.table_id ≡ gates_id self.now }
-        requires there { id.0 < actors_of self.now }
-        ensures ours { seat.new.table_id ≡ seat.old.table_id }
+        requires same_gates { seat.old.table_id ≡ gates_id self.now }
+        requires present { id.0 < actors_of self.now }
+        ensures same_gates { seat.new.table_id ≡ seat.old.table_id }
         ensures known { seat.new.me ≡ (counting id.0 result seat.old.me.0, seat.old.me.1) }
         ensures own { IsOwnBalance id.0 result seat.old.me.0 }
     {
@@ -81,24 +82,24 @@ impl<H: MailboxState> Gates<H> {
     /// Whether something is listed, or the last drain gave something, which may lie beside the cell still
     /// (`hasSystemMessages`). One load.
     pub fn has_system(&self, pass: &mut Pass<H>, id: ActorId) -> bool
-        requires ours { pass_id pass.old ≡ gates_id self.now }
-        requires there { id.0 < actors_of self.now }
-        ensures ours { pass_id pass.new ≡ pass_id pass.old }
+        requires same_gates { pass_id pass.old ≡ gates_id self.now }
+        requires present { id.0 < actors_of self.now }
+        ensures same_gates { pass_id pass.new ≡ pass_id pass.old }
         ensures known { pass_view pass.new ≡ looking id.0 result (pass_view pass.old) }
     {
         self.look(&mut pass.seat, id)
     }
 
     fn look(&self, seat: &mut Seat<Slot<H>, SeatView>, id: ActorId) -> bool
-        requires ours { seat.old.table_id ≡ gates_id self.now }
-        requires there { id.0 < actors_of self.now }
-        ensures ours { seat.new.table_id ≡ seat.old.table_id }
+        requires same_gates { seat.old.table_id ≡ gates_id self.now }
+        requires present { id.0 < actors_of self.now }
+        ensures same_gates { seat.new.table_id ≡ seat.old.table_id }
         ensures known { seat.new.me ≡ (looking id.0 result seat.old.me.0, seat.old.me.1) }
     {
-        let word = self
+        let bits = self
             .table
             .shared
             .load::<ReadGate>(seat, word_index(id, GATE));
-        word / 2 % 4 != 0
+        ListWord::of(bits).shows_work()
     }
 }

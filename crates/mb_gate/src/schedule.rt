@@ -43,9 +43,9 @@ impl<H: MailboxState> Gates<H> {
     /// It reads the status, and answers `Closed` or `Already` where the status says that. Else it exchanges the word that it
     /// read, and answers `Lost` with the status that it found where another step came between.
     pub fn try_schedule(&self, pass: &mut Pass<H>, id: ActorId) -> Tried<H>
-        requires ours { pass_id pass.old ≡ gates_id self.now }
-        requires there { id.0 < actors_of self.now }
-        ensures ours { (pass_id pass.new ≡ pass_id pass.old) × IsClaimOf (gates_id self.now) result }
+        requires same_gates { pass_id pass.old ≡ gates_id self.now }
+        requires present { id.0 < actors_of self.now }
+        ensures same_gates { (pass_id pass.new ≡ pass_id pass.old) × IsClaimOf (gates_id self.now) result }
         ensures answer { (seen : Mailbox) × IsTried (H.is_of (first_home self.now)) H.facts id.0 (pass_view pass.old) (pass_view pass.new) seen result }
     {
         let seen = self.status(pass, id);
@@ -65,11 +65,11 @@ impl<H: MailboxState> Gates<H> {
         seen: Status,
         status: Status,
     ) -> Tried<H>
-        requires ours { pass_id pass.old ≡ gates_id self.now }
-        requires there { id.0 < actors_of self.now }
+        requires same_gates { pass_id pass.old ≡ gates_id self.now }
+        requires present { id.0 < actors_of self.now }
         requires free { IsFree seen }
         requires scheduled { status ≡ record seen { scheduled = true } }
-        ensures ours { (pass_id pass.new ≡ pass_id pass.old) × IsClaimOf (gates_id self.now) result }
+        ensures same_gates { (pass_id pass.new ≡ pass_id pass.old) × IsClaimOf (gates_id self.now) result }
         ensures answer { IsExchanged (H.is_of (first_home self.now)) H.facts id.0 (pass_view pass.old) (pass_view pass.new) seen result }
     {
         let old = seen.word();
@@ -99,11 +99,11 @@ impl<H: MailboxState> Gates<H> {
 
     /// Gives the claim a seat of its own, with the cell.
     fn claim(&self, seat: &mut Seat<Slot<H>, SeatView>, id: ActorId, status: Status) -> Claim<H>
-        requires ours { seat.old.table_id ≡ gates_id self.now }
-        requires there { id.0 < actors_of self.now }
+        requires same_gates { seat.old.table_id ≡ gates_id self.now }
+        requires present { id.0 < actors_of self.now }
         requires busy { is_busy (word_of status) ≡ true }
         requires won { Taken H.facts id.0 status seat.old.me }
-        ensures ours { (seat.new.table_id ≡ seat.old.table_id) × (claim_id result ≡ seat.old.table_id) }
+        ensures same_gates { (seat.new.table_id ≡ seat.old.table_id) × (claim_id result ≡ seat.old.table_id) }
         ensures rest { seat.new.me ≡ (without_claim seat.old.me.0, []) }
         ensures claim { (claim_view result ≡ claim_alone seat.old.me.0) × (held_actor result ≡ id.0) × (status_of result ≡ status) }
         ensures home { seat.old.me.1 ≡ (slot_at id.0 0, Home result.home) ∷ [] }

@@ -12,53 +12,53 @@ use std::sync::Wait;
 
 /// A second pass.
 pub fn second(gates: &Gates<TestHome>, pass: &mut Pass<TestHome>) -> Pass<TestHome>
-    requires ours { pass_id pass.old ≡ gates_id gates.now }
-    ensures ours { (pass_id pass.new ≡ pass_id pass.old) × (pass_id result ≡ gates_id gates.now) }
+    requires same_gates { pass_id pass.old ≡ gates_id gates.now }
+    ensures same_gates { (pass_id pass.new ≡ pass_id pass.old) × (pass_id result ≡ gates_id gates.now) }
 {
     gates.another(pass)
 }
 
 /// The actor's status word.
 pub fn word(gates: &Gates<TestHome>, pass: &mut Pass<TestHome>) -> u64
-    requires ours { pass_id pass.old ≡ gates_id gates.now }
-    requires there { 0 < actors_of gates.now }
-    ensures ours { pass_id pass.new ≡ pass_id pass.old }
+    requires same_gates { pass_id pass.old ≡ gates_id gates.now }
+    requires present { 0 < actors_of gates.now }
+    ensures same_gates { pass_id pass.new ≡ pass_id pass.old }
 {
     gates.status(pass, GUARDIAN).word()
 }
 
 /// How many envelopes are counted as waiting.
 pub fn waiting(gates: &Gates<TestHome>, pass: &mut Pass<TestHome>) -> u64
-    requires ours { pass_id pass.old ≡ gates_id gates.now }
-    requires there { 0 < actors_of gates.now }
-    ensures ours { pass_id pass.new ≡ pass_id pass.old }
+    requires same_gates { pass_id pass.old ≡ gates_id gates.now }
+    requires present { 0 < actors_of gates.now }
+    ensures same_gates { pass_id pass.new ≡ pass_id pass.old }
 {
     gates.waiting(pass, GUARDIAN)
 }
 
 /// Whether there is system work.
 pub fn has_system(gates: &Gates<TestHome>, pass: &mut Pass<TestHome>) -> bool
-    requires ours { pass_id pass.old ≡ gates_id gates.now }
-    requires there { 0 < actors_of gates.now }
-    ensures ours { pass_id pass.new ≡ pass_id pass.old }
+    requires same_gates { pass_id pass.old ≡ gates_id gates.now }
+    requires present { 0 < actors_of gates.now }
+    ensures same_gates { pass_id pass.new ≡ pass_id pass.old }
 {
     gates.has_system(pass, GUARDIAN)
 }
 
 /// Counts one envelope.
 pub fn note_sent(gates: &Gates<TestHome>, pass: &mut Pass<TestHome>)
-    requires ours { pass_id pass.old ≡ gates_id gates.now }
-    requires there { 0 < actors_of gates.now }
-    ensures ours { pass_id pass.new ≡ pass_id pass.old }
+    requires same_gates { pass_id pass.old ≡ gates_id gates.now }
+    requires present { 0 < actors_of gates.now }
+    ensures same_gates { pass_id pass.new ≡ pass_id pass.old }
 {
     gates.note_sent(pass, GUARDIAN);
 }
 
 /// Counts one envelope, which is then refused and taken back.
 pub fn note_refused(gates: &Gates<TestHome>, pass: &mut Pass<TestHome>)
-    requires ours { pass_id pass.old ≡ gates_id gates.now }
-    requires there { 0 < actors_of gates.now }
-    ensures ours { pass_id pass.new ≡ pass_id pass.old }
+    requires same_gates { pass_id pass.old ≡ gates_id gates.now }
+    requires present { 0 < actors_of gates.now }
+    ensures same_gates { pass_id pass.new ≡ pass_id pass.old }
 {
     gates.note_sent(pass, GUARDIAN);
     gates.note_unsent(pass, GUARDIAN);
@@ -73,10 +73,10 @@ pub fn enqueue<R: Wait>(
     pass: &mut Pass<TestHome>,
     message: SysMsg,
 ) -> Option<u64>
-    requires ours { pass_id pass.old ≡ gates_id gates.now }
+    requires same_gates { pass_id pass.old ≡ gates_id gates.now }
     requires one { actors_of gates.now ≡ 1 }
     requires named { NamesBelow 1 message }
-    ensures ours { pass_id pass.new ≡ pass_id pass.old }
+    ensures same_gates { pass_id pass.new ≡ pass_id pass.old }
 {
     let Ok(node) = Node::new(alloc, message) else {
         return None;
@@ -86,9 +86,9 @@ pub fn enqueue<R: Wait>(
 
 /// The holder counts one envelope as taken.
 pub fn note_taken(gates: &Gates<TestHome>, claim: &mut Claim<TestHome>)
-    requires ours { claim_id claim.old ≡ gates_id gates.now }
-    requires there { held_actor claim.old < actors_of gates.now }
-    ensures ours { (claim_id claim.new ≡ claim_id claim.old) × (held_actor claim.new ≡ held_actor claim.old) }
+    requires same_gates { claim_id claim.old ≡ gates_id gates.now }
+    requires present { held_actor claim.old < actors_of gates.now }
+    ensures same_gates { (claim_id claim.new ≡ claim_id claim.old) × (held_actor claim.new ≡ held_actor claim.old) }
     ensures home { (claim.new.home ≡ claim.old.home) × (given_to claim.new ≡ given_to claim.old) }
     ensures same { (taken_with claim.new ≡ taken_with claim.old) × (recorded_by claim.new ≡ recorded_by claim.old) }
 {
@@ -97,9 +97,9 @@ pub fn note_taken(gates: &Gates<TestHome>, claim: &mut Claim<TestHome>)
 
 /// The holder suspends the actor, unless it is suspended too often, and answers whether that was the first time.
 pub fn suspend(gates: &Gates<TestHome>, claim: &mut Claim<TestHome>) -> Option<bool>
-    requires ours { claim_id claim.old ≡ gates_id gates.now }
-    requires there { held_actor claim.old < actors_of gates.now }
-    ensures ours { (claim_id claim.new ≡ claim_id claim.old) × (held_actor claim.new ≡ held_actor claim.old) }
+    requires same_gates { claim_id claim.old ≡ gates_id gates.now }
+    requires present { held_actor claim.old < actors_of gates.now }
+    ensures same_gates { (claim_id claim.new ≡ claim_id claim.old) × (held_actor claim.new ≡ held_actor claim.old) }
     ensures home { (claim.new.home ≡ claim.old.home) × (given_to claim.new ≡ given_to claim.old) }
     ensures same { (taken_with claim.new ≡ taken_with claim.old) × (recorded_by claim.new ≡ recorded_by claim.old) }
 {
@@ -112,9 +112,9 @@ pub fn suspend(gates: &Gates<TestHome>, claim: &mut Claim<TestHome>) -> Option<b
 
 /// The holder undoes one suspension, and answers whether that was the last one.
 pub fn resume(gates: &Gates<TestHome>, claim: &mut Claim<TestHome>) -> bool
-    requires ours { claim_id claim.old ≡ gates_id gates.now }
-    requires there { held_actor claim.old < actors_of gates.now }
-    ensures ours { (claim_id claim.new ≡ claim_id claim.old) × (held_actor claim.new ≡ held_actor claim.old) }
+    requires same_gates { claim_id claim.old ≡ gates_id gates.now }
+    requires present { held_actor claim.old < actors_of gates.now }
+    ensures same_gates { (claim_id claim.new ≡ claim_id claim.old) × (held_actor claim.new ≡ held_actor claim.old) }
     ensures home { (claim.new.home ≡ claim.old.home) × (given_to claim.new ≡ given_to claim.old) }
     ensures same { (taken_with claim.new ≡ taken_with claim.old) × (recorded_by claim.new ≡ recorded_by claim.old) }
 {

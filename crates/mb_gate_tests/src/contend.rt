@@ -15,8 +15,8 @@ const TRIES: u32 = 10_000;
 
 // Tries over and over, gives each claim back at once, and answers whether another held the actor meanwhile.
 fn contend(gates: &Gates<TestHome>, mut pass: Pass<TestHome>, is_held: &AtomicBool) -> bool
-    requires ours { pass_id pass ≡ gates_id gates.now }
-    requires there { 0 < actors_of gates.now }
+    requires same_gates { pass_id pass ≡ gates_id gates.now }
+    requires present { 0 < actors_of gates.now }
 {
     let mut two_held = false;
     for _ in 0..TRIES {

@@ -26,9 +26,9 @@ impl Drop for FreshClaim {
 impl FreshClaim {
     /// Gives the cell back.
     pub fn end(self, gates: &Gates<TestHome>, pass: &mut Pass<TestHome>)
-        requires ours { (claim_id self.claim ≡ gates_id gates.now) × (pass_id pass.old ≡ gates_id gates.now) }
-        requires there { held_actor self.claim < actors_of gates.now }
-        ensures ours { pass_id pass.new ≡ pass_id pass.old }
+        requires same_gates { (claim_id self.claim ≡ gates_id gates.now) × (pass_id pass.old ≡ gates_id gates.now) }
+        requires present { held_actor self.claim < actors_of gates.now }
+        ensures same_gates { pass_id pass.new ≡ pass_id pass.old }
     {
         let FreshClaim { claim } = self;
         tries::give(gates, claim, pass);
@@ -36,45 +36,45 @@ impl FreshClaim {
 
     /// Suspends the actor, unless it is suspended too often, and answers whether that was the first time.
     pub fn suspend(&mut self, gates: &Gates<TestHome>) -> Option<bool>
-        requires ours { claim_id self.old.claim ≡ gates_id gates.now }
-        requires there { held_actor self.old.claim < actors_of gates.now }
-        ensures ours { (claim_id self.new.claim ≡ claim_id self.old.claim) × (held_actor self.new.claim ≡ held_actor self.old.claim) }
+        requires same_gates { claim_id self.old.claim ≡ gates_id gates.now }
+        requires present { held_actor self.old.claim < actors_of gates.now }
+        ensures same_gates { (claim_id self.new.claim ≡ claim_id self.old.claim) × (held_actor self.new.claim ≡ held_actor self.old.claim) }
     {
         calls::suspend(gates, &mut self.claim)
     }
 
     /// Undoes one suspension, and answers whether that was the last one.
     pub fn resume(&mut self, gates: &Gates<TestHome>) -> bool
-        requires ours { claim_id self.old.claim ≡ gates_id gates.now }
-        requires there { held_actor self.old.claim < actors_of gates.now }
-        ensures ours { (claim_id self.new.claim ≡ claim_id self.old.claim) × (held_actor self.new.claim ≡ held_actor self.old.claim) }
+        requires same_gates { claim_id self.old.claim ≡ gates_id gates.now }
+        requires present { held_actor self.old.claim < actors_of gates.now }
+        ensures same_gates { (claim_id self.new.claim ≡ claim_id self.old.claim) × (held_actor self.new.claim ≡ held_actor self.old.claim) }
     {
         calls::resume(gates, &mut self.claim)
     }
 
     /// Counts one envelope as taken.
     pub fn note_taken(&mut self, gates: &Gates<TestHome>)
-        requires ours { claim_id self.old.claim ≡ gates_id gates.now }
-        requires there { held_actor self.old.claim < actors_of gates.now }
-        ensures ours { (claim_id self.new.claim ≡ claim_id self.old.claim) × (held_actor self.new.claim ≡ held_actor self.old.claim) }
+        requires same_gates { claim_id self.old.claim ≡ gates_id gates.now }
+        requires present { held_actor self.old.claim < actors_of gates.now }
+        ensures same_gates { (claim_id self.new.claim ≡ claim_id self.old.claim) × (held_actor self.new.claim ≡ held_actor self.old.claim) }
     {
         calls::note_taken(gates, &mut self.claim);
     }
 
     /// Drains the list, and adds what it gave to the tally.
     pub fn drain<R: Wait>(&mut self, rt: &R, gates: &Gates<TestHome>, tally: &mut OrderCheck)
-        requires ours { claim_id self.old.claim ≡ gates_id gates.now }
-        requires there { held_actor self.old.claim < actors_of gates.now }
-        ensures ours { (claim_id self.new.claim ≡ claim_id self.old.claim) × (held_actor self.new.claim ≡ held_actor self.old.claim) }
+        requires same_gates { claim_id self.old.claim ≡ gates_id gates.now }
+        requires present { held_actor self.old.claim < actors_of gates.now }
+        ensures same_gates { (claim_id self.new.claim ≡ claim_id self.old.claim) × (held_actor self.new.claim ≡ held_actor self.old.claim) }
     {
         tries::drain(rt, gates, &mut self.claim, tally);
     }
 
     /// Closes the actor and its list, and adds what that gave to the tally.
     pub fn close<R: Wait>(&mut self, rt: &R, gates: &Gates<TestHome>, tally: &mut OrderCheck)
-        requires ours { claim_id self.old.claim ≡ gates_id gates.now }
-        requires there { held_actor self.old.claim < actors_of gates.now }
-        ensures ours { (claim_id self.new.claim ≡ claim_id self.old.claim) × (held_actor self.new.claim ≡ held_actor self.old.claim) }
+        requires same_gates { claim_id self.old.claim ≡ gates_id gates.now }
+        requires present { held_actor self.old.claim < actors_of gates.now }
+        ensures same_gates { (claim_id self.new.claim ≡ claim_id self.old.claim) × (held_actor self.new.claim ≡ held_actor self.old.claim) }
     {
         tries::close(rt, gates, &mut self.claim, tally);
     }

@@ -16,8 +16,8 @@ use std::test::Fail;
 pub struct Holding {
     pub(crate) single: Single,
     pub(crate) shift: FreshClaim,
-    ghost ours: { claim_id shift.claim ≡ gates_id single.gates },
-    ghost there: { held_actor shift.claim < actors_of single.gates },
+    ghost same_gates: { claim_id shift.claim ≡ gates_id single.gates },
+    ghost present: { held_actor shift.claim < actors_of single.gates },
 }
 
 impl Holding {

@@ -22,8 +22,8 @@ struct SentClaim {
     gates: Gates<TestHome>,
     pass: Pass<TestHome>,
     shift: FreshClaim,
-    ghost ours: { (claim_id shift.claim ≡ gates_id gates) × (pass_id pass ≡ gates_id gates) },
-    ghost there: { (held_actor shift.claim < actors_of gates) × (0 < actors_of gates) },
+    ghost same_gates: { (claim_id shift.claim ≡ gates_id gates) × (pass_id pass ≡ gates_id gates) },
+    ghost present: { (held_actor shift.claim < actors_of gates) × (0 < actors_of gates) },
 }
 
 impl SentClaim {

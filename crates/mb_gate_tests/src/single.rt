@@ -20,7 +20,7 @@ pub struct Single {
     pub(crate) gates: Gates<TestHome>,
     pub(crate) pass: Pass<TestHome>,
     pub(crate) other: Pass<TestHome>,
-    ghost ours: { (pass_id pass ≡ gates_id gates) × (pass_id other ≡ gates_id gates) },
+    ghost same_gates: { (pass_id pass ≡ gates_id gates) × (pass_id other ≡ gates_id gates) },
     ghost one: { actors_of gates ≡ 1 },
 }
 

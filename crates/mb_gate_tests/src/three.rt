@@ -38,7 +38,7 @@ fn send<R: Wait>(
     mut pass: Pass<TestHome>,
     is_first: bool,
 ) -> u32
-    requires ours { pass_id pass ≡ gates_id gates.now }
+    requires same_gates { pass_id pass ≡ gates_id gates.now }
     requires one { actors_of gates.now ≡ 1 }
 {
     let mut sent = 0u32;
@@ -59,8 +59,8 @@ fn hold<R: Wait>(
     mut shift: FreshClaim,
     mut pass: Pass<TestHome>,
 ) -> OrderCheck
-    requires ours { (claim_id shift.claim ≡ gates_id gates.now) × (pass_id pass ≡ gates_id gates.now) }
-    requires there { held_actor shift.claim < actors_of gates.now }
+    requires same_gates { (claim_id shift.claim ≡ gates_id gates.now) × (pass_id pass ≡ gates_id gates.now) }
+    requires present { held_actor shift.claim < actors_of gates.now }
 {
     let mut tally = NOTHING;
     for _ in rt.forever() {
@@ -116,7 +116,7 @@ fn send_both<R: Wait + Threads + Sync>(
     a: Pass<TestHome>,
     b: Pass<TestHome>,
 ) -> (u32, u32)
-    requires ours { (pass_id a ≡ gates_id gates.now) × (pass_id b ≡ gates_id gates.now) }
+    requires same_gates { (pass_id a ≡ gates_id gates.now) × (pass_id b ≡ gates_id gates.now) }
     requires one { actors_of gates.now ≡ 1 }
 {
     join(

@@ -10,9 +10,9 @@ use std::sync::Wait;
 
 /// A claim, if the try wins.
 pub fn attempt(gates: &Gates<TestHome>, pass: &mut Pass<TestHome>) -> Option<Claim<TestHome>>
-    requires ours { pass_id pass.old ≡ gates_id gates.now }
-    requires there { 0 < actors_of gates.now }
-    ensures ours { pass_id pass.new ≡ pass_id pass.old }
+    requires same_gates { pass_id pass.old ≡ gates_id gates.now }
+    requires present { 0 < actors_of gates.now }
+    ensures same_gates { pass_id pass.new ≡ pass_id pass.old }
     ensures got { IfSome result (λ claim. (claim_id claim ≡ gates_id gates.now) × (held_actor claim ≡ 0)) }
     ensures own { IfSome result (λ claim. (claim.home.actor ≡ 0) × (claim.home.given ≡ given_to claim)) }
     ensures begun { IfSome result (λ claim. (taken_with claim ≡ []) × (recorded_by claim ≡ [])) }
@@ -25,9 +25,9 @@ pub fn attempt(gates: &Gates<TestHome>, pass: &mut Pass<TestHome>) -> Option<Cla
 
 /// Gets a claim.
 pub fn got<R: Abort>(rt: &R, gates: &Gates<TestHome>, pass: &mut Pass<TestHome>) -> Claim<TestHome>
-    requires ours { pass_id pass.old ≡ gates_id gates.now }
-    requires there { 0 < actors_of gates.now }
-    ensures ours { pass_id pass.new ≡ pass_id pass.old }
+    requires same_gates { pass_id pass.old ≡ gates_id gates.now }
+    requires present { 0 < actors_of gates.now }
+    ensures same_gates { pass_id pass.new ≡ pass_id pass.old }
     ensures got { (claim_id result ≡ gates_id gates.now) × (held_actor result ≡ 0) }
     ensures own { (result.home.actor ≡ 0) × (result.home.given ≡ given_to result) }
     ensures begun { (taken_with result ≡ []) × (recorded_by result ≡ []) }
@@ -41,11 +41,11 @@ pub fn got<R: Abort>(rt: &R, gates: &Gates<TestHome>, pass: &mut Pass<TestHome>)
 /// Gives the claim back with the status that it has.
 #[tactic(auto, using(mb_gate::proofs::SentSystemLemmas::nothing_since))]
 pub fn give(gates: &Gates<TestHome>, mut claim: Claim<TestHome>, pass: &mut Pass<TestHome>)
-    requires ours { (claim_id claim ≡ gates_id gates.now) × (pass_id pass.old ≡ gates_id gates.now) }
-    requires there { held_actor claim < actors_of gates.now }
+    requires same_gates { (claim_id claim ≡ gates_id gates.now) × (pass_id pass.old ≡ gates_id gates.now) }
+    requires present { held_actor claim < actors_of gates.now }
     requires own { (claim.home.actor ≡ held_actor claim) × (claim.home.given ≡ given_to claim) }
     requires begun { (taken_with claim ≡ []) × (recorded_by claim ≡ []) }
-    ensures ours { pass_id pass.new ≡ pass_id pass.old }
+    ensures same_gates { pass_id pass.new ≡ pass_id pass.old }
 {
     claim.home.status = claim.status().idle();
     gates.release(claim, pass);
@@ -61,9 +61,9 @@ pub enum Miss {
 
 /// What a try answers that does not win. A claim that it gets is abandoned.
 pub fn missed(gates: &Gates<TestHome>, pass: &mut Pass<TestHome>) -> Option<Miss>
-    requires ours { pass_id pass.old ≡ gates_id gates.now }
-    requires there { 0 < actors_of gates.now }
-    ensures ours { pass_id pass.new ≡ pass_id pass.old }
+    requires same_gates { pass_id pass.old ≡ gates_id gates.now }
+    requires present { 0 < actors_of gates.now }
+    ensures same_gates { pass_id pass.new ≡ pass_id pass.old }
 {
     match gates.try_schedule(pass, GUARDIAN) {
         Tried::Already => Some(Miss::Already),
@@ -83,10 +83,10 @@ pub fn drain<R: Wait>(
     claim: &mut Claim<TestHome>,
     tally: &mut OrderCheck,
 )
-    requires ours { claim_id claim.old ≡ gates_id gates.now }
-    requires there { held_actor claim.old < actors_of gates.now }
+    requires same_gates { claim_id claim.old ≡ gates_id gates.now }
+    requires present { held_actor claim.old < actors_of gates.now }
     requires counts { claim.old.home.given ≡ given_to claim.old }
-    ensures ours { (claim_id claim.new ≡ claim_id claim.old) × (held_actor claim.new ≡ held_actor claim.old) }
+    ensures same_gates { (claim_id claim.new ≡ claim_id claim.old) × (held_actor claim.new ≡ held_actor claim.old) }
     ensures own { claim.new.home.actor ≡ claim.old.home.actor }
     ensures same { (taken_with claim.new ≡ taken_with claim.old) × (recorded_by claim.new ≡ recorded_by claim.old) }
     ensures counts { claim.new.home.given ≡ given_to claim.new }
@@ -103,10 +103,10 @@ pub fn close<R: Wait>(
     claim: &mut Claim<TestHome>,
     tally: &mut OrderCheck,
 )
-    requires ours { claim_id claim.old ≡ gates_id gates.now }
-    requires there { held_actor claim.old < actors_of gates.now }
+    requires same_gates { claim_id claim.old ≡ gates_id gates.now }
+    requires present { held_actor claim.old < actors_of gates.now }
     requires counts { claim.old.home.given ≡ given_to claim.old }
-    ensures ours { (claim_id claim.new ≡ claim_id claim.old) × (held_actor claim.new ≡ held_actor claim.old) }
+    ensures same_gates { (claim_id claim.new ≡ claim_id claim.old) × (held_actor claim.new ≡ held_actor claim.old) }
     ensures own { claim.new.home.actor ≡ claim.old.home.actor }
     ensures same { (taken_with claim.new ≡ taken_with claim.old) × (recorded_by claim.new ≡ recorded_by claim.old) }
     ensures counts { claim.new.home.given ≡ given_to claim.new }

@@ -7,7 +7,7 @@ use lib.ListN.{get_elem?}
 pub record Debtor {V : Type 0} (Pays : V → Type 0) (vs : List V) : Type 0 where
   pub seat : ℕ
   pub view : V
-  pub there : get_elem? vs seat ≡ some view
+  pub present : get_elem? vs seat ≡ some view
   pub pays : Pays view
 
 abbrev pub Owed : {V : Type 0} → Type 0 → (V → Type 0) → List V → Type 0

@@ -80,10 +80,10 @@ fit-acts h gives e own lawful room =
     let both = split-lawful h.cell.who gives h.cell.journal e lawful.entries in
     let few = few-acts h.cell.who gives h.cell.journal e both.0 (above-zero h gives own both.1) (below-all h own) in
     record {
-      there =
+      present =
           All-weaker (IsThere h.cell.who.actors) (λ (t : AddressedBody). (0 < t.0.0) × (t.0.0 ≤ length h.sends))
-          (λ t there. (there.0, omega (arith, there.1, own.all_there, many-sends h own))) (tells (acts h.cell.who h.cell.journal e)) few.there;
-      room = omega (arith, few.few, room);
+          (λ t there. (there.0, omega (arith, there.1, own.all_there, many-sends h own))) (tells (acts h.cell.who h.cell.journal e)) few.present;
+      room = omega (arith, few.within_limit, room);
     }
 
 -- ---- an entry more
@@ -93,18 +93,18 @@ with_more h e take rest aside_dead = record h { cell = with_entry h.cell e; take
 
 -- two take passes of one queue, which take in one order
 abbrev pub SameQueue : TakePassView → TakePassView → Type 0
-SameQueue new old = (new.queue ≡ old.queue) × (new.turns ≡ old.turns)
+SameQueue new old = (new.queue ≡ old.queue) × (new.discipline ≡ old.discipline)
 
 enrolled-same : (h : Contents) (take : TakePassView) → SameQueue take h.take → IsOwn h →
-    slice_get h.directory h.cell.who.this.0 ≡ Some (record { who = h.cell.who; queue = take.queue; turns = take.turns })
-enrolled-same h take same own = own.enrolled ∙ (λ i. Some (record { who = h.cell.who; queue = sym same.0 i; turns = sym same.1 i }))
+    slice_get h.directory h.cell.who.this.0 ≡ Some (record { who = h.cell.who; queue = take.queue; discipline = take.discipline })
+enrolled-same h take same own = own.enrolled ∙ (λ i. Some (record { who = h.cell.who; queue = sym same.0 i; discipline = sym same.1 i }))
 
 own-more : (h : Contents) (e : Entry) (take : TakePassView) (rest : List (ℕ × SysMsg)) (aside_dead : ℕ) → SameQueue take h.take → IsOwn h →
     IsOwn (with_more h e take rest aside_dead)
 own-more h e take rest aside_dead same own = record {
   enrolled = enrolled-same h take same own;
   all_there = own.all_there;
-  few = own.few;
+  within_limit = own.within_limit;
   not_zero = own.not_zero;
   queues = own.queues;
   by = own.by;
@@ -126,7 +126,7 @@ settled-more h gives e take rest aside_dead s not_ended lawful room same taken c
       lawful = lawful;
       taken = taken ∙ sym (append-nil (begun (e ∷ h.cell.journal))) ∙ ap (λ l. begun (e ∷ h.cell.journal) ++ l) (sym none);
       open_keeps = λ _. none;
-      fit = record { there = fit.there; room = fit.room };
+      fit = record { present = fit.present; room = fit.room };
       posted = record {
         postings = s.posted.postings;
         told = told-more h.cell.who h.cell.journal e s.posted.postings s.posted.told;
@@ -147,7 +147,7 @@ settled-acts h gives pending left s = record {
   own = record {
     enrolled = s.own.enrolled;
     all_there = s.own.all_there;
-    few = s.own.few;
+    within_limit = s.own.within_limit;
     not_zero = s.own.not_zero;
     queues = s.own.queues;
     by = s.own.by;
@@ -158,7 +158,7 @@ settled-acts h gives pending left s = record {
   lawful = s.lawful;
   taken = s.taken;
   open_keeps = s.open_keeps;
-  fit = record { there = s.fit.there; room = s.fit.room };
+  fit = record { present = s.fit.present; room = s.fit.room };
   posted = record {
     postings = s.posted.postings;
     told = s.posted.told;
@@ -188,7 +188,7 @@ settled-dead h gives to body left why room s one_less reason =
       own = record {
         enrolled = s.own.enrolled;
         all_there = s.own.all_there;
-        few = s.own.few;
+        within_limit = s.own.within_limit;
         not_zero = s.own.not_zero;
         queues = s.own.queues;
         by = s.own.by;
@@ -200,7 +200,7 @@ settled-dead h gives to body left why room s one_less reason =
       taken = s.taken;
       open_keeps = s.open_keeps;
       fit = record {
-        there = All-tail (λ (t : AddressedBody). (0 < t.0.0) × (t.0.0 ≤ length h.sends)) (to, body) (tells left) s.fit.there;
+        present = All-tail (λ (t : AddressedBody). (0 < t.0.0) × (t.0.0 ≤ length h.sends)) (to, body) (tells left) s.fit.present;
         room = omega (arith, s.fit.room, one_less);
       };
       posted = record {
@@ -262,7 +262,7 @@ settled-pushed h gives to body left place pass s place_is was =
       own = record {
         enrolled = s.own.enrolled;
         all_there = s.own.all_there;
-        few = s.own.few;
+        within_limit = s.own.within_limit;
         not_zero = s.own.not_zero;
         queues = set-map (λ (p : SendPassView). p.queue) h.sends place pass (with_pushed e pass) was refl ∙ s.own.queues;
         by =
@@ -276,11 +276,11 @@ settled-pushed h gives to body left place pass s place_is was =
       taken = s.taken;
       open_keeps = s.open_keeps;
       fit = record {
-        there =
+        present =
             All-weaker (λ (t : AddressedBody). (0 < t.0.0) × (t.0.0 ≤ length h.sends))
             (λ (t : AddressedBody). (0 < t.0.0) × (t.0.0 ≤ length (slice_set h.sends place (with_pushed e pass))))
             (λ t there. (there.0, omega (arith, there.1, length-set h.sends place (with_pushed e pass)))) (tells left)
-            (All-tail (λ (t : AddressedBody). (0 < t.0.0) × (t.0.0 ≤ length h.sends)) (to, body) (tells left) s.fit.there);
+            (All-tail (λ (t : AddressedBody). (0 < t.0.0) × (t.0.0 ≤ length h.sends)) (to, body) (tells left) s.fit.present);
         room = omega (arith, s.fit.room);
       };
       posted = record {
@@ -334,7 +334,7 @@ pub bounded-to : (h : Contents) (to place most : ℕ) (pass : SendPassView) → 
     pass.queue.main.capacity ≡ Some most → IsBounded h.directory to
 bounded-to h to place most pass own place_is was capacity = record {
   queue = pass.queue;
-  there =
+  present =
       ap (slice_get (queues_of h.directory)) (place_is ∙ omega arith)
       ∙ sym (get-drop (queues_of h.directory) place)
       ∙ ap (λ l. slice_get l place) (sym own.queues)
@@ -352,7 +352,7 @@ settled-take h gives pending take s same taken = record {
   own = record {
     enrolled = enrolled-same h take same s.own;
     all_there = s.own.all_there;
-    few = s.own.few;
+    within_limit = s.own.within_limit;
     not_zero = s.own.not_zero;
     queues = s.own.queues;
     by = s.own.by;
@@ -363,7 +363,7 @@ settled-take h gives pending take s same taken = record {
   lawful = s.lawful;
   taken = taken ∙ s.taken;
   open_keeps = s.open_keeps;
-  fit = record { there = s.fit.there; room = s.fit.room };
+  fit = record { present = s.fit.present; room = s.fit.room };
   posted = record { postings = s.posted.postings; told = s.posted.told; sent = s.posted.sent; pushed = s.posted.pushed; dead = s.posted.dead };
   counted = record { rest = s.counted.rest; aside = s.counted.aside; none = s.counted.none };
   reasons = s.reasons;
@@ -378,7 +378,7 @@ settled-clean h gives pending take e s ended same taken = record {
   own = record {
     enrolled = enrolled-same h take same s.own;
     all_there = s.own.all_there;
-    few = s.own.few;
+    within_limit = s.own.within_limit;
     not_zero = s.own.not_zero;
     queues = s.own.queues;
     by = s.own.by;
@@ -389,7 +389,7 @@ settled-clean h gives pending take e s ended same taken = record {
   lawful = s.lawful;
   taken = taken ∙ ap (λ l. l ++ e ∷ []) s.taken ∙ append_assoc (begun h.cell.journal) h.cleaned (e ∷ []);
   open_keeps = λ not_ended. absurd (cc (ended, not_ended));
-  fit = record { there = s.fit.there; room = s.fit.room };
+  fit = record { present = s.fit.present; room = s.fit.room };
   posted = record { postings = s.posted.postings; told = s.posted.told; sent = s.posted.sent; pushed = s.posted.pushed; dead = s.posted.dead };
   counted = record { rest = s.counted.rest; aside = s.counted.aside; none = s.counted.none };
   reasons = s.reasons;
@@ -401,7 +401,7 @@ same-own : (h : Contents) (rest : List (ℕ × SysMsg)) (dropped : ℕ) → IsOw
 same-own h rest dropped own = record {
   enrolled = own.enrolled;
   all_there = own.all_there;
-  few = own.few;
+  within_limit = own.within_limit;
   not_zero = own.not_zero;
   queues = own.queues;
   by = own.by;
@@ -418,7 +418,7 @@ rest-changed h gives pending rest dropped s counted = record {
   lawful = s.lawful;
   taken = s.taken;
   open_keeps = s.open_keeps;
-  fit = record { there = s.fit.there; room = s.fit.room };
+  fit = record { present = s.fit.present; room = s.fit.room };
   posted = record { postings = s.posted.postings; told = s.posted.told; sent = s.posted.sent; pushed = s.posted.pushed; dead = s.posted.dead };
   counted = counted;
   reasons = s.reasons;

@@ -27,12 +27,12 @@ pub applied-leads : (h mid new : Contents) (own gives : Moment → Reply → Typ
 applied-leads h mid new own gives number m s same took lawful =
     let took' : TakesSystem h.cell new.cell number m =
     subst (λ (x : CellView). TakesSystem x new.cell number m) (ap (λ (x : Contents). x.cell) same) took in
-    entry-leads h.cell new.cell gives (System number m took'.outcome) s.own.few took'.adds lawful
+    entry-leads h.cell new.cell gives (System number m took'.outcome) s.own.within_limit took'.adds lawful
 
 -- an envelope that was begun
 pub begun-leads : (h new : Contents) (own gives : Moment → Reply → Type 0) (envelope : Envelope) (reading : ℕ) → AgreesWithJournal own [] h →
     TakesEnvelope h.cell new.cell envelope reading → IsLawful new.cell.who gives new.cell.journal → LeadsOn h new
-begun-leads h new own gives envelope reading s took lawful = entry-leads h.cell new.cell gives took.entry s.own.few took.adds lawful
+begun-leads h new own gives envelope reading s took lawful = entry-leads h.cell new.cell gives took.entry s.own.within_limit took.adds lawful
 
 -- ---- more room changes nothing else of the home
 
@@ -42,7 +42,7 @@ settled-ready h gives pending ready room s more = record {
   own = record {
     enrolled = s.own.enrolled;
     all_there = s.own.all_there;
-    few = s.own.few;
+    within_limit = s.own.within_limit;
     not_zero = s.own.not_zero;
     queues = s.own.queues;
     by = s.own.by;
@@ -53,7 +53,7 @@ settled-ready h gives pending ready room s more = record {
   lawful = s.lawful;
   taken = s.taken;
   open_keeps = s.open_keeps;
-  fit = record { there = s.fit.there; room = omega (arith, s.fit.room, more) };
+  fit = record { present = s.fit.present; room = omega (arith, s.fit.room, more) };
   posted = record {
     postings = s.posted.postings;
     told = s.posted.told;

@@ -240,7 +240,7 @@ module _ (who : Identity) (gives : Moment → Reply → Type 0) where
   there-given : (before : List Entry) (call : Option Call) (a : Option Answer) (effects : List Effect) → IsGiven who gives before call a effects →
       AreThere effects
   there-given before None a effects given = subst AreThere (sym given.1) refl
-  there-given before (Some call) a effects given = given.held.there
+  there-given before (Some call) a effects given = given.held.present
 
   -- the effects that last
   there-applied : (number : ℕ) (m : SysMsg) (a : Option Answer) (effects : List Effect) → AreThere effects →

@@ -37,7 +37,7 @@ module _ (who : Identity) (gives : Moment → Reply → Type 0) (not_zero : is_g
   few-tells_of_journal [] lawful = omega arith
   few-tells_of_journal (e ∷ before) lawful =
       let few = few-acts who gives before e lawful.0 (above-zero before lawful.1) there in
-      omega (arith, few.few, few-tells_of_journal before lawful.1, length-append (tells_of_journal who before) (tells (acts who before e)))
+      omega (arith, few.within_limit, few-tells_of_journal before lawful.1, length-append (tells_of_journal who before) (tells (acts who before e)))
 
 numbered-from : (by n : ℕ) (ts : List AddressedBody) → n + length ts ≤ 2 ^ 64 → NumbersCountUpFrom by n (envelopes_from by n ts)
 numbered-from by n [] few = tt
@@ -49,4 +49,4 @@ pub told-numbered : (gives : Moment → Reply → Type 0) (pending : List Act) (
 told-numbered gives pending h s =
     let there : h.cell.who.this.0 < h.cell.who.actors = omega (arith, slice_get_within h.directory h.cell.who.this.0 _ s.own.enrolled, s.own.all_there) in
     let few = few-tells_of_journal h.cell.who gives s.own.not_zero there h.cell.journal s.lawful.entries in
-    numbered-from h.cell.who.this.0 0 (tells_of_journal h.cell.who h.cell.journal) (omega (arith, few, s.lawful.within_limit, s.own.few))
+    numbered-from h.cell.who.this.0 0 (tells_of_journal h.cell.who h.cell.journal) (omega (arith, few, s.lawful.within_limit, s.own.within_limit))

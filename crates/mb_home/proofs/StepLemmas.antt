@@ -41,7 +41,7 @@ module _ (h : Contents) (gives : Moment → Reply → Type 0) (s : AgreesWithJou
   none_dropped = s.counted.none not_ended
 
   small : next_number h.cell.journal < 2 ^ 64
-  small = omega (arith, few-numbers h.cell.who gives h.cell.journal s.lawful.entries, s.lawful.within_limit, s.own.few)
+  small = omega (arith, few-numbers h.cell.who gives h.cell.journal s.lawful.entries, s.lawful.within_limit, s.own.within_limit)
 
   at_next : (next_number h.cell.journal + h.dropped) % 2 ^ 64 ≡ next_number h.cell.journal
   at_next =
@@ -177,7 +177,7 @@ settled-first gives cell take sends room directory untouched none_taken none_pus
   own = record {
     enrolled = own.enrolled;
     all_there = own.all_there;
-    few = own.few;
+    within_limit = own.within_limit;
     not_zero = own.not_zero;
     queues = own.queues;
     by = own.by;
@@ -188,7 +188,7 @@ settled-first gives cell take sends room directory untouched none_taken none_pus
   lawful = lawful;
   taken = none_taken ∙ ap (λ j. begun j ++ []) (sym untouched);
   open_keeps = λ _. refl;
-  fit = record { there = All-nil (λ (t : AddressedBody). (0 < t.0.0) × (t.0.0 ≤ length sends)); room = omega arith };
+  fit = record { present = All-nil (λ (t : AddressedBody). (0 < t.0.0) × (t.0.0 ≤ length sends)); room = omega arith };
   posted = record {
     postings = [];
     told = ap (λ j. told cell.who j) (sym untouched);

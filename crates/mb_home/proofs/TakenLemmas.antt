@@ -21,11 +21,11 @@ use Rattle.mb_home.proofs.TellSteps.{may-handle, settled-taken}
 -- by what the take pass says
 pub takes-out : (old : Contents) (take : TakePassView) (r : Option Envelope) → take.taken ≡ old.take.taken ++ option_to_list r → IsSamePass old.take take →
     IfSome r (λ e. Contains old.take.queue.senders e.by.0) → IfSome r (λ e. e.to.0 ≡ old.take.queue.to) →
-    IsTake old.take.turns old.take r take → IfSome r (λ e. TakesOut old (record old { take = take }) e)
-takes-out old take None taken same sender addressed turn = tt
-takes-out old take (Some e) taken same sender addressed turn = record {
+    IsTake old.take.discipline old.take r take → IfSome r (λ e. TakesOut old (record old { take = take }) e)
+takes-out old take None taken same sender addressed follows_discipline = tt
+takes-out old take (Some e) taken same sender addressed follows_discipline = record {
   took = taken;
-  turn = turn;
+  follows_discipline = follows_discipline;
   pass = same;
   sender = sender;
   addressed = addressed;
@@ -34,13 +34,13 @@ takes-out old take (Some e) taken same sender addressed turn = record {
 
 -- or none did
 pub finds-none : (old : Contents) (gives : Moment → Reply → Type 0) (take : TakePassView) (r : Option Envelope) →
-    take.taken ≡ old.take.taken ++ option_to_list r → IsSamePass old.take take → IsTake old.take.turns old.take r take →
+    take.taken ≡ old.take.taken ++ option_to_list r → IsSamePass old.take take → IsTake old.take.discipline old.take r take →
     AgreesWithJournal gives old.cell.acts old →
     IfNone r (FindsNone old (record old { take = take })) × IfNone r (AgreesWithJournal gives old.cell.acts (record old { take = take }))
-finds-none old gives take None taken same turn s =
+finds-none old gives take None taken same follows_discipline s =
     let none : take.taken ≡ old.take.taken = taken ∙ append-nil old.take.taken in
-    (record { took = none; turn = turn; pass = same; same = refl }, settled-take old gives old.cell.acts take s (same.0, same.1) none)
-finds-none old gives take (Some e) taken same turn s = (tt, tt)
+    (record { took = none; follows_discipline = follows_discipline; pass = same; same = refl }, settled-take old gives old.cell.acts take s (same.0, same.1) none)
+finds-none old gives take (Some e) taken same follows_discipline s = (tt, tt)
 
 -- what is known once it came out
 module _ (b h : Contents) (e : Envelope) (reading : ℕ) (t : TakesOut b h e) where
@@ -62,7 +62,7 @@ module _ (b h : Contents) (e : Envelope) (reading : ℕ) (t : TakesOut b h e) wh
       record {
         envelope = e;
         took = ap (λ (k : TakePassView). k.taken) take ∙ t.took;
-        turn = subst (λ (k : TakePassView). IsTake b.take.turns b.take (Some e) k) (sym take) t.turn;
+        follows_discipline = subst (λ (k : TakePassView). IsTake b.take.discipline b.take (Some e) k) (sym take) t.follows_discipline;
         pass = subst (IsSamePass b.take) (sym take) t.pass;
         taken = subst (λ (c : CellView). TakesEnvelope c new.cell e reading) same_cell took;
         same = is ∙ (ap (λ (x : Contents). record x { cell = new.cell }) t.same ∙ ap (λ (k : TakePassView). record b { cell = new.cell; take = k })

@@ -50,7 +50,7 @@ held-none who = (refl, omega arith)
 module _ (who : Identity) (gives : Moment → Reply → Type 0) (before : List Entry) where
   held-given : (call : Option Call) (a : Option Answer) (effects : List Effect) → IsGiven who gives before call a effects → IsHeld who effects
   held-given None a effects given = subst (λ es. IsHeld who es) (sym given.1) (held-none who)
-  held-given (Some call) a effects given = (given.held.there, given.held.few)
+  held-given (Some call) a effects given = (given.held.present, given.held.within_limit)
 
   abbrev Few : List Act → Type 0
   Few list = AreFew who.actors 17 list
@@ -70,7 +70,7 @@ module _ (who : Identity) (gives : Moment → Reply → Type 0) (before : List E
       (few-effects (tray_of who) who.this (watching who before) effects held.0) none)
 
   resumed : (list : List Act) → Few list → Few (ResumeSelf ∷ list)
-  resumed list few = record { there = few.there; few = few.few }
+  resumed list few = record { present = few.present; within_limit = few.within_limit }
 
   by_create : (a : Option Answer) (effects : List Effect) → IsHeld who effects → Few (create_acts who before a effects)
   by_create a effects held = by_test (is_guardian who)

@@ -35,35 +35,35 @@ IsThere actors t = (0 < t.0.0) × (t.0.0 < actors)
 
 -- what these acts tell is to actors, and so many at most
 pub record AreFew (actors most : ℕ) (acts : List Act) : Type 0 where
-  pub there : All (IsThere actors) (tells acts)
-  pub few : length (tells acts) ≤ most
+  pub present : All (IsThere actors) (tells acts)
+  pub within_limit : length (tells acts) ≤ most
 
 pub few-none : (actors : ℕ) → AreFew actors 0 []
-few-none actors = record { there = All-nil (IsThere actors); few = omega arith }
+few-none actors = record { present = All-nil (IsThere actors); within_limit = omega arith }
 
 -- acts that tell nothing
 pub few-silent : (actors : ℕ) (acts : List Act) → tells acts ≡ [] → AreFew actors 0 acts
 few-silent actors acts none = record {
-  there = All-same (IsThere actors) (tells acts) [] none (All-nil (IsThere actors));
-  few = omega (arith, ap length none);
+  present = All-same (IsThere actors) (tells acts) [] none (All-nil (IsThere actors));
+  within_limit = omega (arith, ap length none);
 }
 
 pub few-append : (actors m n : ℕ) (a b : List Act) → AreFew actors m a → AreFew actors n b → AreFew actors (m + n) (a ++ b)
 few-append actors m n a b x y = record {
-  there = All-same (IsThere actors) (tells (a ++ b)) (tells a ++ tells b) (tells-append a b) (All-append (IsThere actors) (tells a)
-      (tells b) x.there y.there);
-  few = omega (arith, ap length (tells-append a b), length-append (tells a) (tells b), x.few, y.few);
+  present = All-same (IsThere actors) (tells (a ++ b)) (tells a ++ tells b) (tells-append a b) (All-append (IsThere actors) (tells a)
+      (tells b) x.present y.present);
+  within_limit = omega (arith, ap length (tells-append a b), length-append (tells a) (tells b), x.within_limit, y.within_limit);
 }
 
 pub few-more : (actors m n : ℕ) (acts : List Act) → m ≤ n → AreFew actors m acts → AreFew actors n acts
-few-more actors m n acts more x = record { there = x.there; few = omega (arith, x.few) }
+few-more actors m n acts more x = record { present = x.present; within_limit = omega (arith, x.within_limit) }
 
 -- an act in front that tells nothing
 pub few-tell : (actors n : ℕ) (to : ActorId) (told : Body) (acts : List Act) → 0 < to.0 → to.0 < actors → AreFew actors n acts →
     AreFew actors (n + 1) (Tell to told ∷ acts)
 few-tell actors n to told acts some less x = record {
-  there = All-cons (IsThere actors) (to, told) (tells acts) (some, less) x.there;
-  few = omega (arith, x.few);
+  present = All-cons (IsThere actors) (to, told) (tells acts) (some, less) x.present;
+  within_limit = omega (arith, x.within_limit);
 }
 
 pub tells-to_each : (m : SysMsg) (list : List ActorId) → tells (to_each m list) ≡ []
@@ -111,7 +111,7 @@ module _ (tray : OutboxView) where
           AreFew tray.actors (length (effect.Watch x ∷ effects)) (if b then effect_acts this watched effects
           else Sys x (system.Watch this) ∷ effect_acts this (watched ++ x ∷ []) effects)
       by_test true same more = few-more tray.actors (length effects) (length (effect.Watch x ∷ effects)) _ (omega arith) same
-      by_test false same more = record { there = more.there; few = omega (arith, more.few) }
+      by_test false same more = record { present = more.present; within_limit = omega (arith, more.within_limit) }
   by_effect this watched (effect.Unwatch x ∷ effects) t =
       let both = both-true (is_actor tray x) (are_there tray effects) t in
       by_test (has watched x) (by_effect this watched effects both.1) (by_effect this (without watched x) effects both.1)
@@ -121,14 +121,14 @@ module _ (tray : OutboxView) where
           AreFew tray.actors (length (effect.Unwatch x ∷ effects)) (if b then Sys x (system.Unwatch this) ∷ effect_acts this
           (without watched x) effects
           else effect_acts this watched effects)
-      by_test true same less = record { there = less.there; few = omega (arith, less.few) }
+      by_test true same less = record { present = less.present; within_limit = omega (arith, less.within_limit) }
       by_test false same less = few-more tray.actors (length effects) (length (effect.Unwatch x ∷ effects)) _ (omega arith) same
   by_effect this watched (effect.Stop x ∷ effects) t =
       let rest = by_effect this watched effects (both-true (is_actor tray x) (are_there tray effects) t).1 in
-      record { there = rest.there; few = omega (arith, rest.few) }
+      record { present = rest.present; within_limit = omega (arith, rest.within_limit) }
   by_effect this watched (effect.Spawn x ∷ effects) t =
       let rest = by_effect this watched effects (both-true (is_actor tray x) (are_there tray effects) t).1 in
-      record { there = rest.there; few = omega (arith, rest.few) }
+      record { present = rest.present; within_limit = omega (arith, rest.within_limit) }
 
   by_stop : (effects : List Effect) → IsTrue (are_there tray effects) → AreFew tray.actors (length effects) (stop_acts effects)
   by_stop [] t = few-none tray.actors

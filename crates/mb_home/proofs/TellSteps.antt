@@ -31,7 +31,7 @@ module _ (h : Contents) (gives : Moment → Reply → Type 0) (to : ActorId) (to
     (Tell to told ∷ left) h) where
   -- the receiver has a queue
   pub told-there : (0 < to.0) × (to.0 ≤ length h.sends)
-  told-there = All-head (λ (t : AddressedBody). (0 < t.0.0) × (t.0.0 ≤ length h.sends)) (to, told) (tells left) s.fit.there
+  told-there = All-head (λ (t : AddressedBody). (0 < t.0.0) × (t.0.0 ≤ length h.sends)) (to, told) (tells left) s.fit.present
 
   pub has-room : 0 < h.room
   has-room = omega (arith, s.fit.room)
@@ -122,13 +122,13 @@ settled-pushes h new gives to told s d =
     (settled-pushed h (gives h.cell.who.this.0) to told h.cell.acts (to.0 - 1) d.pass s (place-is h
     (gives h.cell.who.this.0) to told h.cell.acts s) d.was)
 
-pub settled-buries : (h mid new : Contents) (gives : ℕ → Moment → Reply → Type 0) (to : ActorId) (told : Body) (refused : PushError) (e : Envelope)
+pub settled-dead_letter : (h mid new : Contents) (gives : ℕ → Moment → Reply → Type 0) (to : ActorId) (told : Body) (refused : PushError) (e : Envelope)
     (why : Why) →
     AgreesWithJournal (gives h.cell.who.this.0) (Tell to told ∷ h.cell.acts) h → mid ≡ h → RefusesPush h (to.0 - 1) refused → e ≡ next_envelope h to told →
     why ≡ reason_of refused →
     new ≡ record mid { dead = mid.dead ++ record { envelope = e; why = why } ∷ []; sent = (mid.sent + 1) % 2 ^ 64; room = new.room } →
     mid.room ≡ new.room + 1 → AgreesWithJournal (gives new.cell.who.this.0) new.cell.acts new
-settled-buries h mid new gives to told refused e why s same r e_is why_is is_dead_letter room =
+settled-dead_letter h mid new gives to told refused e why s same r e_is why_is is_dead_letter room =
     let at_h : new ≡ record h {
       dead = h.dead ++ record { envelope = next_envelope h to told; why = reason_of refused } ∷ [];
       sent =

@@ -21,12 +21,12 @@ use Rattle.mb_journal.specs.declared.sent_envelope.SentEnvelope.{SentEnvelope}
 use Rattle.mb_home.specs.Contents.{Contents}
 use Rattle.mb_home.specs.Directory.{DirectoryEntry, queues_of, IsBounded}
 
--- The home is of the actor that stands in the directory at the cell's number: the cell has its identity; the take pass is of its queue and takes in
--- its order; and the send passes push for it into the queues of the other actors, in order. Nobody pushes into the guardian's queue.
+-- The home is of the actor that stands in the directory at the cell's number: the cell has its identity; the take pass is of its queue and takes by
+-- its discipline; and the send passes push for it into the queues of the other actors, in order. Nobody pushes into the guardian's queue.
 pub record IsOwn (h : Contents) : Type 0 where
-  pub enrolled : slice_get h.directory h.cell.who.this.0 ≡ Some (record { who = h.cell.who; queue = h.take.queue; turns = h.take.turns })
+  pub enrolled : slice_get h.directory h.cell.who.this.0 ≡ Some (record { who = h.cell.who; queue = h.take.queue; discipline = h.take.discipline })
   pub all_there : h.cell.who.actors ≡ length h.directory
-  pub few : h.cell.who.limit < 2 ^ 32
+  pub within_limit : h.cell.who.limit < 2 ^ 32
   pub not_zero : is_guardian h.cell.who ≡ false → 0 < h.cell.who.this.0
   pub queues : map (λ (p : SendPassView). p.queue) h.sends ≡ drop 1 (queues_of h.directory)
   pub by : All (λ (p : SendPassView). p.by ≡ h.cell.who.this.0) h.sends
@@ -36,7 +36,7 @@ pub record IsOwn (h : Contents) : Type 0 where
 
 -- Each of what these acts tell goes to an actor that has a queue to push into, and there is room for all as dead letters.
 pub record IsFit (pending : List Act) (h : Contents) : Type 0 where
-  pub there : All (λ (t : AddressedBody). (0 < t.0.0) × (t.0.0 ≤ length h.sends)) (tells pending)
+  pub present : All (λ (t : AddressedBody). (0 < t.0.0) × (t.0.0 ≤ length h.sends)) (tells pending)
   pub room : length (tells pending) ≤ h.room
 
 -- What an actor told agrees with what is kept of it, while these acts are still to be carried out. What it was answered, in the order of the numbers,

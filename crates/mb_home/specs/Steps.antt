@@ -118,15 +118,15 @@ pub record Delivers (old new : Contents) (place : ℕ) (e : Envelope) : Type 0 w
   pub was : slice_get old.sends place ≡ Some pass
   pub same : new ≡ record old { sends = slice_set old.sends place (with_pushed e pass); sent = (old.sent + 1) % 2 ^ 64 }
 
--- The pass that takes is of the same queue, takes in the same order, and has the same accounts of senders.
+-- The pass that takes is of the same queue, takes by the same discipline, and has the same accounts of senders.
 abbrev pub IsSamePass : TakePassView → TakePassView → Type 0
-IsSamePass old new = (new.queue ≡ old.queue) × (new.turns ≡ old.turns) × (new.accounts ≡ old.accounts)
+IsSamePass old new = (new.queue ≡ old.queue) × (new.discipline ≡ old.discipline) × (new.accounts ≡ old.accounts)
 
 -- An envelope was taken, and the cell handled it at this reading of the status.
 pub record Begins (old new : Contents) (reading : ℕ) : Type 0 where
   pub envelope : Envelope
   pub took : new.take.taken ≡ old.take.taken ++ envelope ∷ []
-  pub turn : IsTake old.take.turns old.take (Some envelope) new.take
+  pub follows_discipline : IsTake old.take.discipline old.take (Some envelope) new.take
   pub pass : IsSamePass old.take new.take
   pub taken : TakesEnvelope old.cell new.cell envelope reading
   pub same : new ≡ record old { cell = new.cell; take = new.take }
@@ -134,7 +134,7 @@ pub record Begins (old new : Contents) (reading : ℕ) : Type 0 where
 -- No envelope was there at some moment. Nothing changed but what the pass holds back.
 pub record FindsNone (old new : Contents) : Type 0 where
   pub took : new.take.taken ≡ old.take.taken
-  pub turn : IsTake old.take.turns old.take None new.take
+  pub follows_discipline : IsTake old.take.discipline old.take None new.take
   pub pass : IsSamePass old.take new.take
   pub same : new ≡ record old { take = new.take }
 
@@ -142,6 +142,6 @@ pub record FindsNone (old new : Contents) : Type 0 where
 pub record Cleans (old new : Contents) : Type 0 where
   pub envelope : Envelope
   pub took : new.take.taken ≡ old.take.taken ++ envelope ∷ []
-  pub turn : IsTake old.take.turns old.take (Some envelope) new.take
+  pub follows_discipline : IsTake old.take.discipline old.take (Some envelope) new.take
   pub pass : IsSamePass old.take new.take
   pub same : new ≡ record old { take = new.take; cleaned = old.cleaned ++ envelope ∷ [] }

@@ -8,7 +8,7 @@ use Rattle.mb_home.specs.Steps.{IsSamePass}
 -- The envelope came out of the actor's queue. One of the queue's senders had sent it, to this actor.
 pub record TakesOut (old new : Contents) (envelope : Envelope) : Type 0 where
   pub took : new.take.taken ≡ old.take.taken ++ envelope ∷ []
-  pub turn : IsTake old.take.turns old.take (Some envelope) new.take
+  pub follows_discipline : IsTake old.take.discipline old.take (Some envelope) new.take
   pub pass : IsSamePass old.take new.take
   pub sender : Contains old.take.queue.senders envelope.by.0
   pub addressed : envelope.to.0 ≡ old.take.queue.to

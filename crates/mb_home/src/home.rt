@@ -72,7 +72,7 @@ impl<A: Actor, K: Behaviours> Model for Home<A, K> {
       aside_dead = h.aside_dead;
       dropped = h.dropped;
       room = vec_capacity h.dead - vec_len h.dead;
-      directory = map (λ n. record { who = n.cell.value.who; queue = n.take.value.queue; turns = n.take.value.turns }) h.directory.value.items;
+      directory = map (λ n. record { who = n.cell.value.who; queue = n.take.value.queue; discipline = n.take.value.discipline }) h.directory.value.items;
     } };
 
     ghost invariant = { λ h. (h.id ≡ h.cell.who.this) × (h.cell.who.limit < 2 ^ 32) };
@@ -113,9 +113,9 @@ impl<A: Actor, K: Behaviours> Home<A, K> {
         requires none_taken { take.taken ≡ [] }
         requires none_pushed { All (λ (p : SendPassView). p.pushed ≡ []) sends.items }
         requires own { IsOwn (at_first cell take sends.items 0
-            (map (λ n. record { who = n.cell.value.who; queue = n.take.value.queue; turns = n.take.value.turns }) directory.now.items)) }
+            (map (λ n. record { who = n.cell.value.who; queue = n.take.value.queue; discipline = n.take.value.discipline }) directory.now.items)) }
         ensures first { result ≡ at_first cell take sends.items result.room
-            (map (λ n. record { who = n.cell.value.who; queue = n.take.value.queue; turns = n.take.value.turns }) directory.now.items) }
+            (map (λ n. record { who = n.cell.value.who; queue = n.take.value.queue; discipline = n.take.value.discipline }) directory.now.items) }
         ensures settled { AgreesWithJournal (K.gives cell.who.this.0) [] result }
         ensures rested { HasNoBacklog result }
     {
@@ -134,9 +134,9 @@ impl<A: Actor, K: Behaviours> Home<A, K> {
         directory: &Vec<EntrySnapshot<A, K>>,
     ) -> Self
         requires number { id ≡ cell.who.this }
-        requires few { cell.who.limit < 2 ^ 32 }
+        requires within_limit { cell.who.limit < 2 ^ 32 }
         ensures { result ≡ at_first cell take sends.items result.room
-            (map (λ n. record { who = n.cell.value.who; queue = n.take.value.queue; turns = n.take.value.turns }) directory.now.items) }
+            (map (λ n. record { who = n.cell.value.who; queue = n.take.value.queue; discipline = n.take.value.discipline }) directory.now.items) }
     {
         Home {
             id,

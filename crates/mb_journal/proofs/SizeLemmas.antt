@@ -140,7 +140,7 @@ three_marks n a b c d e =
 module _ (who : Identity) (gives : Moment → Reply → Type 0) (before : List Entry) where
   few_given : (call : Option Call) (a : Option Answer) (effects : List Effect) → IsGiven who gives before call a effects → length effects ≤ 16
   few_given None a effects given = omega (arith, ap length given.1)
-  few_given (Some call) a effects given = given.held.few
+  few_given (Some call) a effects given = given.held.within_limit
 
   pub few_lasting : (e : Entry) → IsLawfulEntry who gives before e → length (lasting_effects e) ≤ 16
   few_lasting (Handled envelope reading (Applied a effects)) lawful = few_given (envelope_call envelope.body) a effects lawful.given

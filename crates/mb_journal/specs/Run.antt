@@ -25,10 +25,10 @@ IsOfEnvelope (Dropped envelope) = Unit {0}
 
 -- the second journal is the first with a block of system messages added, and then, this many times, an envelope and a
 -- block. Before an envelope no system message that was set aside is due
-pub data IsTurns (who : Identity) (from : List Entry) : ℕ → List Entry → Type 0 where
-  a_block : (to : List Entry) → IsBlock who from to → IsTurns who from 0 to
-  a_turn : (n : ℕ) (middle to : List Entry) (e : Entry) →
-      IsTurns who from n middle → next_front who middle ≡ None → IsOfEnvelope e → IsBlock who (e ∷ middle) to → IsTurns who from (suc n) to
+pub data AreBlocks (who : Identity) (from : List Entry) : ℕ → List Entry → Type 0 where
+  first_block : (to : List Entry) → IsBlock who from to → AreBlocks who from 0 to
+  next_block : (n : ℕ) (middle to : List Entry) (e : Entry) →
+      AreBlocks who from n middle → next_front who middle ≡ None → IsOfEnvelope e → IsBlock who (e ∷ middle) to → AreBlocks who from (suc n) to
 
 -- why a run stopped: the throughput was used up; the status word that was read was not open; the word that was read was
 -- open, but there was no envelope; the mailbox was closed; or there was no room for a message, in the journal or in memory
@@ -63,6 +63,6 @@ IsReason who throughput n to NoRoom = Unit {0}
 -- allows, each with a block after it; fewer only for a reason
 pub record IsRun (who : Identity) (throughput : ℕ) (from to : List Entry) (stopped : Stopped) : Type 0 where
   pub envelopes : ℕ
-  pub turns : IsTurns who from envelopes to
+  pub blocks : AreBlocks who from envelopes to
   pub at_most : envelopes ≤ most_envelopes throughput
   pub reason : IsReason who throughput envelopes to stopped

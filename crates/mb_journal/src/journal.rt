@@ -121,7 +121,7 @@ impl Journal {
         effects: &[Effect],
     )
         requires ready { IsTrue self.old.is_ready }
-        requires few { length effects.now ≤ most_effects }
+        requires within_limit { length effects.now ≤ most_effects }
         ensures added { self.new ≡ record self.old {
           entries = Handled envelope reading (Applied answer effects.now) ∷ self.old.entries;
           is_ready = false;
@@ -148,7 +148,7 @@ impl Journal {
         effects: &[Effect],
     )
         requires ready { IsTrue self.old.is_ready }
-        requires few { length effects.now ≤ most_effects }
+        requires within_limit { length effects.now ≤ most_effects }
         ensures added { self.new ≡ record self.old {
           entries = System number message (Applied answer effects.now) ∷ self.old.entries;
           is_ready = false;
@@ -187,7 +187,7 @@ impl Journal {
     #[inline(always)]
     fn push(&mut self, arrival: Received, effects: &[Effect])
         requires ready { IsTrue self.old.is_ready }
-        requires few { length effects.now ≤ most_effects }
+        requires within_limit { length effects.now ≤ most_effects }
         ensures added { self.new ≡ record self.old { entries = entry_with arrival effects.now ∷ self.old.entries; is_ready = false } }
         ensures within { length self.new.entries ≤ self.new.limit }
     {

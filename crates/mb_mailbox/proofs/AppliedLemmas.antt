@@ -19,7 +19,7 @@ use Rattle.mb_mailbox.specs.Running.{IsRunning, BacklogAgrees, KeepsJournal, Sam
 use Rattle.mb_mailbox.proofs.BacklogLemmas.{backlog-home, same-run-then}
 use Rattle.mb_mailbox.proofs.EmptiedLemmas.{err-then, takes-same}
 use Rattle.mb_mailbox.proofs.RunningSteps.{running-same}
-use Rattle.mb_mailbox.proofs.RunCountLemmas.{systems-few, turns-few}
+use Rattle.mb_mailbox.proofs.RunCountLemmas.{systems-few, blocks-few}
 
 -- a run that keeps the journal is the same run
 pub same-keeps : (a b c : RunState) → SameRun a b → KeepsJournal b c → SameRun a c
@@ -106,10 +106,10 @@ module _ (h : RunState) (new : Contents) (ready : Bool) (room : ℕ)
 pub systems-fit : (gives : ℕ → Moment → Reply → Type 0) (origin : Origin (Box Contents)) (seen : List Observation) (h : RunState) (pending : List Act)
     (turn : Turn) → IsRunning gives origin pending seen h → CountsRun h turn → turn.system < 2 ^ 32
 systems-fit gives origin seen h pending turn r t =
-    omega (arith, t.system, systems-few h.home.cell.journal, r.settled.lawful.within_limit, r.settled.own.few)
+    omega (arith, t.system, systems-few h.home.cell.journal, r.settled.lawful.within_limit, r.settled.own.within_limit)
 
 -- and so does a count of envelopes
 pub envelopes-fit : (gives : ℕ → Moment → Reply → Type 0) (origin : Origin (Box Contents)) (seen : List Observation) (h : RunState) (pending : List Act)
     (turn : Turn) → IsRunning gives origin pending seen h → CountsRun h turn → turn.envelopes < 2 ^ 32
 envelopes-fit gives origin seen h pending turn r t =
-    omega (arith, turns-few h.home.cell.who h.before h.home.cell.journal turn.envelopes t.turns, r.settled.lawful.within_limit, r.settled.own.few)
+    omega (arith, blocks-few h.home.cell.who h.before h.home.cell.journal turn.envelopes t.blocks, r.settled.lawful.within_limit, r.settled.own.within_limit)

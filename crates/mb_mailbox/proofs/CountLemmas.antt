@@ -12,9 +12,9 @@ use Rattle.mb_gate.specs.Waiting.{counted_off}
 use Rattle.mb_journal.specs.Entry.{Entry}
 use Rattle.mb_journal.specs.Entry.Entry.{Handled, System, Dropped}
 use Rattle.mb_journal.specs.Identity.{Identity}
-use Rattle.mb_journal.specs.Run.{IsBlock, IsTurns, IsOfEnvelope}
+use Rattle.mb_journal.specs.Run.{IsBlock, AreBlocks, IsOfEnvelope}
 use Rattle.mb_journal.specs.Run.IsBlock.{no_more, one_more}
-use Rattle.mb_journal.specs.Run.IsTurns.{a_block, a_turn}
+use Rattle.mb_journal.specs.Run.AreBlocks.{first_block, next_block}
 use Rattle.mb_register.specs.Caller.{TakesNothing, TakesOver}
 use Rattle.mb_mailbox.specs.OnlyDrained.{TakesOnlyDrained}
 use Rattle.mb_mailbox.specs.Ran.{taken_of}
@@ -44,12 +44,12 @@ begun-block : (who : Identity) (from to : List Entry) → IsBlock who from to �
 begun-block who from to no_more = refl
 begun-block who from to (one_more there number m outcome block front) = begun-block who from there block
 
-pub begun-turns : (who : Identity) (from to : List Entry) (n : ℕ) → IsTurns who from n to → length (begun to) ≡ length (begun from) + n
-begun-turns who from to n (a_block there block) = let same = begun-block who from to block in omega (arith, same)
-begun-turns who from to n (a_turn before middle there e turns none of_envelope block) =
+pub begun-blocks : (who : Identity) (from to : List Entry) (n : ℕ) → AreBlocks who from n to → length (begun to) ≡ length (begun from) + n
+begun-blocks who from to n (first_block there block) = let same = begun-block who from to block in omega (arith, same)
+begun-blocks who from to n (next_block before middle there e blocks none of_envelope block) =
     let last = begun-block who (e ∷ middle) to block in
     let one = begun-one e middle of_envelope in
-    let rest = begun-turns who from middle before turns in
+    let rest = begun-blocks who from middle before blocks in
     omega (arith, last, one, rest)
 
 -- and these are they
@@ -62,11 +62,11 @@ since-one (Handled envelope reading outcome) before of_it = (envelope, refl)
 since-one (System number m outcome) before of_it = absurd of_it
 since-one (Dropped envelope) before of_it = (envelope, refl)
 
-pub begun-since : (who : Identity) (from to : List Entry) (n : ℕ) → IsTurns who from n to
+pub begun-since : (who : Identity) (from to : List Entry) (n : ℕ) → AreBlocks who from n to
     → (started : List Envelope) × (begun to ≡ begun from ++ started)
-begun-since who from to n (a_block there block) = ([], since-block who from to block ∙ sym (append-nil (begun from)))
-begun-since who from to n (a_turn before middle there e turns none of_envelope block) =
-    let rest = begun-since who from middle before turns in
+begun-since who from to n (first_block there block) = ([], since-block who from to block ∙ sym (append-nil (begun from)))
+begun-since who from to n (next_block before middle there e blocks none of_envelope block) =
+    let rest = begun-since who from middle before blocks in
     let one = since-one e middle of_envelope in (
       rest.0 ++ one.0 ∷ [],
       since-block who (e ∷ middle) to block ∙ one.1 ∙ ap (λ l. l ++ one.0 ∷ []) rest.1 ∙ append_assoc (begun from) rest.0 (one.0 ∷ []),
@@ -76,10 +76,10 @@ begun-since who from to n (a_turn before middle there e turns none of_envelope b
 pub counted-all : (journal before : List Entry) (taken cleaned first : List Envelope) (none steps n : ℕ)
     → length taken + none ≡ length first + steps → none ≡ 0 → length first ≡ length (begun before) → taken ≡ begun journal ++ cleaned
     → length (begun journal) ≡ length (begun before) + n → steps ≡ n + length cleaned
-counted-all journal before taken cleaned first none steps n counted is first_is taken_is turns =
+counted-all journal before taken cleaned first none steps n counted is first_is taken_is blocks =
     let all : length taken ≡ length (begun journal) + length cleaned =
     ap (λ (l : List Envelope). length l) taken_is ∙ length-append (begun journal) cleaned in
-    omega (arith, counted, is, first_is, all, turns)
+    omega (arith, counted, is, first_is, all, blocks)
 
 -- ---- what its pass has taken over
 

@@ -72,13 +72,13 @@ and-both false b both = absurd (cc both)
 -- ---- what a home tells of its pass
 
 pub take-begun : (old new : Contents) (reading : ℕ) (b : Begins old new reading) → TakesOnce old.take (Some b.envelope) new.take
-take-begun old new reading b = record { gave = b.took; turn = b.turn; pass = b.pass }
+take-begun old new reading b = record { gave = b.took; follows_discipline = b.follows_discipline; pass = b.pass }
 
 pub take-cleaned : (old new : Contents) (c : Cleans old new) → TakesOnce old.take (Some c.envelope) new.take
-take-cleaned old new c = record { gave = c.took; turn = c.turn; pass = c.pass }
+take-cleaned old new c = record { gave = c.took; follows_discipline = c.follows_discipline; pass = c.pass }
 
 pub take-none : (old new : Contents) → FindsNone old new → TakesOnce old.take None new.take
-take-none old new f = record { gave = f.took ∙ sym (append-nil old.take.taken); turn = f.turn; pass = f.pass }
+take-none old new f = record { gave = f.took ∙ sym (append-nil old.take.taken); follows_discipline = f.follows_discipline; pass = f.pass }
 
 -- ---- a mailbox that was closed
 

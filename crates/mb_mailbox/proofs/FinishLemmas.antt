@@ -10,7 +10,7 @@ use Rattle.mb_core.specs.declared.debt.WakeObligation.{WakeObligation}
 use Rattle.mb_journal.specs.Entry.{Entry}
 use Rattle.mb_journal.specs.Identity.{Identity}
 use Rattle.mb_journal.specs.Life.{closed}
-use Rattle.mb_journal.specs.Run.{IsReason, IsTurns, Stopped, most_envelopes}
+use Rattle.mb_journal.specs.Run.{IsReason, AreBlocks, Stopped, most_envelopes}
 use Rattle.mb_journal.specs.Run.Stopped.{UsedUp, NotOpen, NoEnvelope, AtClosing, NoRoom}
 use Rattle.mb_queue.specs.Passes.{TakePassView}
 use Rattle.mb_ghost.specs.Summed.{total}
@@ -40,7 +40,7 @@ use Rattle.mb_mailbox.specs.Ran.{LastTakeFoundNone, LastTakeHadRoom, EndsDrained
 use Rattle.mb_mailbox.specs.Running.{IsRunning, BacklogAgrees, SameRun}
 use Rattle.mb_register.proofs.CallerLemmas.{account-then}
 use Rattle.mb_mailbox.proofs.CleanLemmas.{ended-closed}
-use Rattle.mb_mailbox.proofs.CountLemmas.{begun-since, begun-turns, counted-all, counts-over}
+use Rattle.mb_mailbox.proofs.CountLemmas.{begun-since, begun-blocks, counted-all, counts-over}
 use Rattle.mb_register.proofs.MoveLemmas.{looks-take-none}
 use Rattle.mb_mailbox.proofs.RestLemmas.{closed-front}
 use Rattle.mb_register.proofs.SendingLemmas.{looks-send-none, sends-append}
@@ -197,20 +197,20 @@ pub leaves-run : (throughput : ℕ) (first last : Claim (Box Contents)) (old pas
 leaves-run throughput first last old pass turn stopped taken same t few reason ends room only_drained saw part fresh at_first at_last keeps empty =
     let before : (run_state last).before ≡ first.home.value.cell.journal = same.before ∙ taken in
     let journal = last.home.value.cell.journal in
-    let turns : IsTurns first.home.value.cell.who first.home.value.cell.journal turn.envelopes journal =
-    subst (λ (x : Identity × List Entry). IsTurns x.0 x.1 turn.envelopes journal) (λ i. (same.who i, before i)) t.turns in
+    let blocks : AreBlocks first.home.value.cell.who first.home.value.cell.journal turn.envelopes journal =
+    subst (λ (x : Identity × List Entry). AreBlocks x.0 x.1 turn.envelopes journal) (λ i. (same.who i, before i)) t.blocks in
     let steps = (claim_view last).log in
-    let since = begun-since first.home.value.cell.who first.home.value.cell.journal journal turn.envelopes turns in
+    let since = begun-since first.home.value.cell.who first.home.value.cell.journal journal turn.envelopes blocks in
     let counted : total (counted_off (held_actor first)) steps ≡ turn.envelopes + length last.home.value.cleaned =
     ap (λ n. total (counted_off n) steps) (sym same.actor)
     ∙ counted-all journal first.home.value.cell.journal last.home.value.take.taken last.home.value.cleaned first.home.value.take.taken
     (total (counted_off (held_actor first)) (claim_view first).log) (total (counted_off (held_actor last)) steps) turn.envelopes same.counted
     (ap (total (counted_off (held_actor first))) fresh) (ap (λ (l : List Envelope). length l) at_first) at_last
-    (begun-turns first.home.value.cell.who first.home.value.cell.journal journal turn.envelopes turns) in
+    (begun-blocks first.home.value.cell.who first.home.value.cell.journal journal turn.envelopes blocks) in
     record {
       run = record {
         envelopes = turn.envelopes;
-        turns = turns;
+        blocks = blocks;
         at_most = few;
         reason = subst (λ (w : Identity). IsReason w throughput turn.envelopes journal stopped) same.who reason;
       };

@@ -5,9 +5,9 @@ use Rattle.std.specs.Global.{Box}
 use Rattle.mb_status.specs.Mailbox.{Mailbox}
 use Rattle.mb_actor.specs.Behaviour.{Moment, Reply}
 use Rattle.mb_journal.specs.Life.{closed}
-use Rattle.mb_journal.specs.Run.{IsTurns}
+use Rattle.mb_journal.specs.Run.{AreBlocks}
 use Rattle.mb_journal.specs.Run.IsBlock.{no_more}
-use Rattle.mb_journal.specs.Run.IsTurns.{a_block}
+use Rattle.mb_journal.specs.Run.AreBlocks.{first_block}
 use Rattle.mb_ghost.specs.Seen.{Each}
 use Rattle.mb_journal.specs.Fates.{begun}
 use Rattle.mb_gate.specs.Claims.{held_in}
@@ -81,7 +81,7 @@ module _ (gives : ℕ → Moment → Reply → Type 0) (origin : Origin (Box Con
         let h = c.home.value in
         let same = same-word (mailbox_at h.cell.who h.cell.journal) (status_of c) refl u.open_yet u.word in
         let open_yet : closed h.cell.who h.cell.journal ≡ false = sym (ap (λ (m : Mailbox). m.closed) same) ∙ u.open_yet in
-        u.ours.own.settled.taken ∙ ap (λ l. begun h.cell.journal ++ l) (u.ours.own.settled.open_keeps open_yet)
+        u.same_gates.own.settled.taken ∙ ap (λ l. begun h.cell.journal ++ l) (u.same_gates.own.settled.open_keeps open_yet)
         ∙ append-nil (begun h.cell.journal)
 
     pub running-fresh : (seen : List Observation) → length origin.first.value.directory ≡ origin.actors → IsRunning gives origin [] seen (run_state c)
@@ -89,19 +89,19 @@ module _ (gives : ℕ → Moment → Reply → Type 0) (origin : Origin (Box Con
         let h = c.home.value in
         subst (IsRunning gives origin [] seen) (sym hold-fresh)
         (record {
-          ours = u.ours.gates;
-          there = u.ours.there;
-          directory = u.ours.own.directory;
-          number = u.ours.own.number;
-          settled = u.ours.own.settled;
+          same_gates = u.same_gates.gates;
+          present = u.same_gates.present;
+          directory = u.same_gates.own.directory;
+          number = u.same_gates.own.number;
+          settled = u.same_gates.own.settled;
           leads = record {
             ends = same-word (mailbox_at h.cell.who h.cell.journal) (status_of c) refl u.open_yet u.word;
             counts = tt;
           };
           told = told-first h.cell.who (held_actor c) h.cell.journal (status_of c).closed;
-          shut = each-of (IsKnownClosedTo seen fresh_hold) (closed_receivers h.dead) (λ other among. inl among);
-          many = u.ours.own.settled.own.all_there ∙ ap (λ (l : List DirectoryEntry). length l) u.ours.own.directory ∙ many;
-          named = u.ours.own.named;
+          known_closed = each-of (IsKnownClosedTo seen fresh_hold) (closed_receivers h.dead) (λ other among. inl among);
+          same_count = u.same_gates.own.settled.own.all_there ∙ ap (λ (l : List DirectoryEntry). length l) u.same_gates.own.directory ∙ many;
+          named = u.same_gates.own.named;
           sends = tt;
           only_drained = tt;
           owes_nothing = refl;
@@ -121,9 +121,9 @@ module _ (gives : ℕ → Moment → Reply → Type 0) (origin : Origin (Box Con
     run_counts-fresh turn actor system envelopes =
         subst (λ (x : RunState). CountsRun x turn) (sym hold-fresh)
         (record {
-          turns =
-              subst (λ n. IsTurns c.home.value.cell.who c.home.value.cell.journal n c.home.value.cell.journal) (sym envelopes)
-              (a_block c.home.value.cell.journal no_more);
+          blocks =
+              subst (λ n. AreBlocks c.home.value.cell.who c.home.value.cell.journal n c.home.value.cell.journal) (sym envelopes)
+              (first_block c.home.value.cell.journal no_more);
           system = omega (arith, system);
           actor = actor;
         })

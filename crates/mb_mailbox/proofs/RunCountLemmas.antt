@@ -5,13 +5,13 @@ use Rattle.mb_journal.specs.Aside.{next_front}
 use Rattle.mb_journal.specs.Entry.{Entry}
 use Rattle.mb_journal.specs.Entry.Entry.{Handled, System, Dropped}
 use Rattle.mb_journal.specs.Identity.{Identity}
-use Rattle.mb_journal.specs.Run.{IsBlock, IsTurns}
+use Rattle.mb_journal.specs.Run.{IsBlock, AreBlocks}
 use Rattle.mb_journal.specs.Run.IsBlock.{no_more, one_more}
-use Rattle.mb_journal.specs.Run.IsTurns.{a_block, a_turn}
+use Rattle.mb_journal.specs.Run.AreBlocks.{first_block, next_block}
 use Rattle.mb_cell.specs.CellView.{CellView, IsOf}
 use Rattle.mb_home.specs.Contents.{Contents}
 use Rattle.mb_home.specs.Steps.{AppliesNext, Begins}
-use Rattle.mb_home.proofs.RunForms.{applied-turns, begun-turns}
+use Rattle.mb_home.proofs.RunForms.{applied-blocks, begun-blocks}
 use Rattle.mb_mailbox.specs.declared.turn.Turn.{Turn}
 use Rattle.mb_mailbox.specs.RunState.{RunState}
 use Rattle.mb_mailbox.specs.Ran.{CountsRun, systems_in}
@@ -30,31 +30,31 @@ block-few : (who : Identity) (from to : List Entry) → IsBlock who from to → 
 block-few who from to no_more = omega arith
 block-few who from to (one_more there number m outcome block front) = omega (arith, block-few who from there block)
 
-pub turns-few : (who : Identity) (from to : List Entry) (n : ℕ) → IsTurns who from n to → n ≤ length to
-turns-few who from to n (a_block there block) = omega arith
-turns-few who from to n (a_turn before middle there e turns none of_envelope block) =
-    omega (arith, turns-few who from middle before turns, block-few who (e ∷ middle) there block)
+pub blocks-few : (who : Identity) (from to : List Entry) (n : ℕ) → AreBlocks who from n to → n ≤ length to
+blocks-few who from to n (first_block there block) = omega arith
+blocks-few who from to n (next_block before middle there e blocks none of_envelope block) =
+    omega (arith, blocks-few who from middle before blocks, block-few who (e ∷ middle) there block)
 
 -- what keeps the journal keeps the count
 pub run_counts-keeps : (h new : RunState) (turn : Turn) → KeepsJournal h new → CountsRun h turn → CountsRun new turn
 run_counts-keeps h new turn k t = record {
-  turns =
-      subst (λ (x : Identity × List Entry × List Entry). IsTurns x.0 x.1 turn.envelopes x.2)
-      (λ i. (sym k.same.who i, sym k.same.before i, sym k.journal i)) t.turns;
+  blocks =
+      subst (λ (x : Identity × List Entry × List Entry). AreBlocks x.0 x.1 turn.envelopes x.2)
+      (λ i. (sym k.same.who i, sym k.same.before i, sym k.journal i)) t.blocks;
   system = ap (λ j. turn.system + systems_in j) k.same.before ∙ t.system ∙ ap systems_in (sym k.journal);
   actor = t.actor ∙ sym k.same.actor;
 }
 
 module _ (h : RunState) (new : Contents) (turn : Turn) (t : CountsRun h turn) where
-  with_who : (n : ℕ) → new.cell.who ≡ h.home.cell.who → IsTurns h.home.cell.who h.before n new.cell.journal →
-      IsTurns new.cell.who h.before n new.cell.journal
-  with_who n who turns = subst (λ (w : Identity). IsTurns w h.before n new.cell.journal) (sym who) turns
+  with_who : (n : ℕ) → new.cell.who ≡ h.home.cell.who → AreBlocks h.home.cell.who h.before n new.cell.journal →
+      AreBlocks new.cell.who h.before n new.cell.journal
+  with_who n who blocks = subst (λ (w : Identity). AreBlocks w h.before n new.cell.journal) (sym who) blocks
 
   -- a system message more
   pub run_counts-applied : AppliesNext h.home new → CountsRun (record h { home = new }) (record turn { system = turn.system + 1 })
   run_counts-applied a = record {
-    turns =
-        with_who turn.envelopes (ap (λ (c : CellView). c.who) a.taken.adds) (applied-turns h.before turn.envelopes h.home new a t.turns);
+    blocks =
+        with_who turn.envelopes (ap (λ (c : CellView). c.who) a.taken.adds) (applied-blocks h.before turn.envelopes h.home new a t.blocks);
     system =
         let more : systems_in new.cell.journal ≡ systems_in h.home.cell.journal + 1 = ap (λ (c : CellView). systems_in c.journal) a.taken.adds in
         omega (arith, t.system, more);
@@ -71,10 +71,10 @@ module _ (h : RunState) (new : Contents) (turn : Turn) (t : CountsRun h turn) wh
   pub run_counts-begun : (reading : ℕ) → Begins h.home new reading → next_front h.home.cell.who h.home.cell.journal ≡ None →
       CountsRun (record h { home = new }) (record turn { envelopes = turn.envelopes + 1 })
   run_counts-begun reading b none = record {
-    turns =
+    blocks =
         with_who (turn.envelopes + 1) (ap (λ (c : CellView). c.who) b.taken.adds)
-        (subst (λ n. IsTurns h.home.cell.who h.before n new.cell.journal) (let one : suc turn.envelopes ≡ turn.envelopes + 1 = omega arith in one)
-        (begun-turns h.before turn.envelopes h.home new reading b none t.turns));
+        (subst (λ n. AreBlocks h.home.cell.who h.before n new.cell.journal) (let one : suc turn.envelopes ≡ turn.envelopes + 1 = omega arith in one)
+        (begun-blocks h.before turn.envelopes h.home new reading b none t.blocks));
     system =
         t.system ∙ sym (ap (λ (c : CellView). systems_in c.journal) b.taken.adds ∙ of-envelope b.taken.entry b.envelope reading b.taken.of_it);
     actor = t.actor;

@@ -45,8 +45,8 @@ module _ (gives : ℕ → Moment → Reply → Type 0) (origin : Origin (Box Con
       new.directory ≡ h.home.directory → new.dead ≡ h.home.dead → NamesActors new × SendsBelow new.cell.who.actors new.cell.acts →
       IsRunning gives origin new.cell.acts seen (record h { home = new })
   running-entry e adds leads settled directory dead named = record {
-    ours = r.ours;
-    there = r.there;
+    same_gates = r.same_gates;
+    present = r.present;
     directory = directory ∙ r.directory;
     number = ap (λ (c : CellView). c.who.this.0) adds ∙ r.number;
     settled = settled;
@@ -54,10 +54,10 @@ module _ (gives : ℕ → Moment → Reply → Type 0) (origin : Origin (Box Con
     told =
         subst (λ (c : CellView). HasSentDueExcept c.who h.actor h.status.closed c.journal h.before c.acts h.recorded) (sym adds)
         (told-entry h.home.cell.who h.actor h.before h.status.closed h.home.cell.journal h.recorded e r.told);
-    shut = subst (λ d. Each (IsKnownClosedTo seen h) (closed_receivers d)) (sym dead) r.shut;
-    many = ap (λ (c : CellView). c.who.actors) adds ∙ r.many;
+    known_closed = subst (λ d. Each (IsKnownClosedTo seen h) (closed_receivers d)) (sym dead) r.known_closed;
+    same_count = ap (λ (c : CellView). c.who.actors) adds ∙ r.same_count;
     named = named.0;
-    sends = subst (λ n. SendsBelow n new.cell.acts) (ap (λ (c : CellView). c.who.actors) adds ∙ r.many) named.1;
+    sends = subst (λ n. SendsBelow n new.cell.acts) (ap (λ (c : CellView). c.who.actors) adds ∙ r.same_count) named.1;
     only_drained = r.only_drained;
     owes_nothing = r.owes_nothing;
     bare = r.bare;

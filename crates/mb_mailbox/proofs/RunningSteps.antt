@@ -45,15 +45,15 @@ module _ (gives : ℕ → Moment → Reply → Type 0) (origin : Origin (Box Con
   pub running-seen : (pending : List Act) (newer seen : List Observation) (h : RunState) → IsRunning gives origin pending seen h →
       IsRunning gives origin pending (newer ++ seen) h
   running-seen pending newer seen h r = record {
-    ours = r.ours;
-    there = r.there;
+    same_gates = r.same_gates;
+    present = r.present;
     directory = r.directory;
     number = r.number;
     settled = r.settled;
     leads = r.leads;
     told = r.told;
-    shut = shut-more newer seen h (closed_receivers h.home.dead) r.shut;
-    many = r.many;
+    known_closed = shut-more newer seen h (closed_receivers h.home.dead) r.known_closed;
+    same_count = r.same_count;
     named = r.named;
     sends = r.sends;
     only_drained = r.only_drained;
@@ -70,8 +70,8 @@ module _ (gives : ℕ → Moment → Reply → Type 0) (origin : Origin (Box Con
         Each (IsKnownClosedTo seen h) (closed_receivers new.dead) → SendsBelow origin.actors left → NamesActors new →
         IsRunning gives origin left seen (record h { home = new })
     running-home pending left new r who journal directory settled leads told shut sends named = record {
-      ours = r.ours;
-      there = r.there;
+      same_gates = r.same_gates;
+      present = r.present;
       directory = directory ∙ r.directory;
       number = ap (λ (w : Identity). w.this.0) who ∙ r.number;
       settled = settled;
@@ -79,8 +79,8 @@ module _ (gives : ℕ → Moment → Reply → Type 0) (origin : Origin (Box Con
       told =
           subst (λ (x : Identity × List Entry). HasSentDueExcept x.0 h.actor h.status.closed x.1 h.before left h.recorded)
           (λ i. (sym who i, sym journal i)) told;
-      shut = shut;
-      many = ap (λ (w : Identity). w.actors) who ∙ r.many;
+      known_closed = shut;
+      same_count = ap (λ (w : Identity). w.actors) who ∙ r.same_count;
       named = named;
       sends = sends;
       only_drained = r.only_drained;
@@ -94,7 +94,7 @@ module _ (gives : ℕ → Moment → Reply → Type 0) (origin : Origin (Box Con
         AgreesWithJournal (gives h.actor) pending new → IsRunning gives origin pending seen (record h { home = new })
     running-same pending new r who journal directory dead rest settled =
         running-home pending pending new r who journal directory settled r.leads r.told
-        (subst (λ d. Each (IsKnownClosedTo seen h) (closed_receivers d)) (sym dead) r.shut) r.sends
+        (subst (λ d. Each (IsKnownClosedTo seen h) (closed_receivers d)) (sym dead) r.known_closed) r.sends
         (named-as h.home new who journal (subst (EachNamesBelow h.home.cell.who.actors) (sym rest) r.named.rest) r.named)
 
     -- what was drained lies beside the cell
@@ -104,10 +104,10 @@ module _ (gives : ℕ → Moment → Reply → Type 0) (origin : Origin (Box Con
     running-kept pending new drained r is settled named =
         running-home pending pending new r (ap (λ (x : Contents). x.cell.who) is) (ap (λ (x : Contents). x.cell.journal) is)
         (ap (λ (x : Contents). x.directory) is) settled r.leads r.told
-        (subst (λ (x : Contents). Each (IsKnownClosedTo seen h) (closed_receivers x.dead)) (sym is) r.shut) r.sends
+        (subst (λ (x : Contents). Each (IsKnownClosedTo seen h) (closed_receivers x.dead)) (sym is) r.known_closed) r.sends
         (named-as h.home new (ap (λ (x : Contents). x.cell.who) is) (ap (λ (x : Contents). x.cell.journal) is)
         (subst (λ (x : Contents). EachNamesBelow h.home.cell.who.actors x.rest) (sym is)
-        (subst (λ n. EachNamesBelow n drained) (sym r.many) named)) r.named)
+        (subst (λ n. EachNamesBelow n drained) (sym r.same_count) named)) r.named)
 
     -- the first of what was drained is dropped
     pub running-dropped_first : (pending : List Act) (new : Contents) (number : ℕ) (m : SysMsg) → IsRunning gives origin pending seen h →
@@ -115,7 +115,7 @@ module _ (gives : ℕ → Moment → Reply → Type 0) (origin : Origin (Box Con
         AgreesWithJournal (gives h.actor) pending new → IsRunning gives origin pending seen (record h { home = new })
     running-dropped_first pending new number m r cell directory dead is settled =
         running-home pending pending new r (ap (λ (c : CellView). c.who) cell) (ap (λ (c : CellView). c.journal) cell) directory settled r.leads r.told
-        (subst (λ d. Each (IsKnownClosedTo seen h) (closed_receivers d)) (sym dead) r.shut) r.sends
+        (subst (λ d. Each (IsKnownClosedTo seen h) (closed_receivers d)) (sym dead) r.known_closed) r.sends
         (named-as h.home new (ap (λ (c : CellView). c.who) cell) (ap (λ (c : CellView). c.journal) cell)
         (named-others h.home.cell.who.actors number m new.rest (subst (EachNamesBelow h.home.cell.who.actors) is r.named.rest)) r.named)
 
@@ -136,15 +136,15 @@ module _ (gives : ℕ → Moment → Reply → Type 0) (origin : Origin (Box Con
         HasSentDueExcept h.home.cell.who h.actor status.closed h.home.cell.journal h.before left h.recorded → SendsBelow origin.actors left →
         IsRunning gives origin left seen (record h { status = status })
     running-status pending left status r settled leads told sends = record {
-      ours = r.ours;
-      there = r.there;
+      same_gates = r.same_gates;
+      present = r.present;
       directory = r.directory;
       number = r.number;
       settled = settled;
       leads = leads;
       told = told;
-      shut = r.shut;
-      many = r.many;
+      known_closed = r.known_closed;
+      same_count = r.same_count;
       named = r.named;
       sends = sends;
       only_drained = r.only_drained;
@@ -187,15 +187,15 @@ module _ (gives : ℕ → Moment → Reply → Type 0) (origin : Origin (Box Con
         HasSentDueExcept h.home.cell.who h.actor h.status.closed h.home.cell.journal h.before left recorded → SendsBelow origin.actors left →
         IsRunning gives origin left seen (record h { recorded = recorded })
     running-recorded pending left recorded r settled leads told sends = record {
-      ours = r.ours;
-      there = r.there;
+      same_gates = r.same_gates;
+      present = r.present;
       directory = r.directory;
       number = r.number;
       settled = settled;
       leads = leads;
       told = told;
-      shut = r.shut;
-      many = r.many;
+      known_closed = r.known_closed;
+      same_count = r.same_count;
       named = r.named;
       sends = sends;
       only_drained = r.only_drained;
@@ -250,15 +250,15 @@ module _ (gives : ℕ → Moment → Reply → Type 0) (origin : Origin (Box Con
     running-log : (pending : List Act) (gave : Bool) (given : ℕ) (s : Observation) → IsRunning gives origin pending seen h → TakesOnlyDrained h.actor (s ∷ h.log) →
         IsRunning gives origin pending seen (record h { gave = gave; given = given; log = s ∷ h.log })
     running-log pending gave given s r only_drained = record {
-      ours = r.ours;
-      there = r.there;
+      same_gates = r.same_gates;
+      present = r.present;
       directory = r.directory;
       number = r.number;
       settled = r.settled;
       leads = r.leads;
       told = r.told;
-      shut = shut-own (s ∷ []) seen h (record h { gave = gave; given = given; log = s ∷ h.log }) (closed_receivers h.home.dead) refl refl r.shut;
-      many = r.many;
+      known_closed = shut-own (s ∷ []) seen h (record h { gave = gave; given = given; log = s ∷ h.log }) (closed_receivers h.home.dead) refl refl r.known_closed;
+      same_count = r.same_count;
       named = r.named;
       sends = r.sends;
       only_drained = only_drained;

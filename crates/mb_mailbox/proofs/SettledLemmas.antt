@@ -15,7 +15,7 @@ settled-silent gives a b h same s = record {
   taken = s.taken;
   open_keeps = s.open_keeps;
   fit = record {
-    there = subst (λ (ts : List AddressedBody). All (λ (t : AddressedBody). (0 < t.0.0) × (t.0.0 ≤ length h.sends)) ts) same s.fit.there;
+    present = subst (λ (ts : List AddressedBody). All (λ (t : AddressedBody). (0 < t.0.0) × (t.0.0 ≤ length h.sends)) ts) same s.fit.present;
     room = subst (λ (ts : List AddressedBody). length ts ≤ h.room) same s.fit.room;
   };
   posted = record {

@@ -49,7 +49,7 @@ module _ (h : RunState) (after : Contents) (counted : Claim (Box Contents))
       CountsRun (record (run_state counted) { home = new }) (record turn { envelopes = turn.envelopes + 1 })
   run_counts-counted turn t none =
       subst (λ (x : RunState). CountsRun (record x { home = new }) (record turn { envelopes = turn.envelopes + 1 })) (sym one)
-      (run_counts-begun taken_hold new turn (record { turns = t.turns; system = t.system; actor = t.actor }) reading b none)
+      (run_counts-begun taken_hold new turn (record { blocks = t.blocks; system = t.system; actor = t.actor }) reading b none)
 
   module _ (gives : ℕ → Moment → Reply → Type 0) (origin : Origin (Box Contents)) (seen : List Observation) (r : IsRunning gives origin [] seen h)
       (last : DrainedLast h.actor h.log) where

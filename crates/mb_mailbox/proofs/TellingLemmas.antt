@@ -144,7 +144,7 @@ module _ (gives : ℕ → Moment → Reply → Type 0) (origin : Origin (Box Con
   pub told-below : to.0 < origin.actors
   told-below =
       let there = told-there h.home (gives h.actor) to body h.home.cell.acts r.settled in
-      omega (arith, there.0, there.1, many-sends h.home r.settled.own, r.settled.own.all_there, r.many)
+      omega (arith, there.0, there.1, many-sends h.home r.settled.own, r.settled.own.all_there, r.same_count)
 
   module _ (new : Contents) (settled : AgreesWithJournal (gives new.cell.who.this.0) new.cell.acts new) where
     -- the acts that are left, with what is dead known
@@ -159,7 +159,7 @@ module _ (gives : ℕ → Moment → Reply → Type 0) (origin : Origin (Box Con
     pub running-pushed : Pushes h.home new to body → IsRunning gives origin new.cell.acts seen (record h { home = new })
     running-pushed p =
         running-left (ap (λ (x : Contents). x.cell) p.same) (ap (λ (x : Contents). x.directory) p.same) (ap (λ (x : Contents). x.rest) p.same)
-        (subst (λ d. Each (IsKnownClosedTo seen h) (closed_receivers d)) (sym (ap (λ (x : Contents). x.dead) p.same)) r.shut)
+        (subst (λ d. Each (IsKnownClosedTo seen h) (closed_receivers d)) (sym (ap (λ (x : Contents). x.dead) p.same)) r.known_closed)
 
     -- it is a dead letter
     pub running-is_dead_letter : (why : Why) → RecordsDeadLetter h.home new to body why → Each (IsKnownClosedTo seen h) (receiver_if_closed why to.0) →
@@ -167,7 +167,7 @@ module _ (gives : ℕ → Moment → Reply → Type 0) (origin : Origin (Box Con
     running-is_dead_letter why b known =
         running-left (ap (λ (x : Contents). x.cell) b.same) (ap (λ (x : Contents). x.directory) b.same) (ap (λ (x : Contents). x.rest) b.same)
         (subst (λ d. Each (IsKnownClosedTo seen h) (closed_receivers d)) (sym (ap (λ (x : Contents). x.dead) b.same))
-        (shut-is_dead_letter seen h h.home.dead (record { envelope = next_envelope h.home to body; why = why }) r.shut known))
+        (shut-is_dead_letter seen h h.home.dead (record { envelope = next_envelope h.home to body; why = why }) r.known_closed known))
 
     none-known : (refused : PushError) → Each (IsKnownClosedTo seen h) (receiver_if_closed (reason_of refused) to.0)
     none-known (Full e) = tt

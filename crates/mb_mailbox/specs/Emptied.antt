@@ -6,10 +6,10 @@ use Rattle.mb_queue.specs.Takes.{IsTake}
 use Rattle.mb_home.specs.Steps.{IsSamePass}
 use Rattle.mb_mailbox.specs.RunState.{RunState}
 
--- One take, with this answer, in the order of the pass.
+-- One take, with this answer, by the discipline of the pass.
 pub record TakesOnce (old : TakePassView) (answer : Option Envelope) (new : TakePassView) : Type 0 where
   pub gave : new.taken ≡ old.taken ++ option_to_list answer
-  pub turn : IsTake old.turns old answer new
+  pub follows_discipline : IsTake old.discipline old answer new
   pub pass : IsSamePass old new
 
 -- TakesOnce one after another, with these answers.

@@ -19,23 +19,23 @@ use Rattle.mb_mailbox.specs.Running.{IsRunning, BacklogAgrees, SameRun}
 use Rattle.mb_mailbox.specs.declared.turn.Turn.{Turn}
 
 module _ {W : Type 0} where
-  -- A run between two messages: who runs it has a pass and a way of these gates; its claim is as it is between two steps, with what was drained;
-  -- no act of a message is left to be carried out; and the turn counts what the run did.
+  -- A run between two messages: its registrar has a pass and a port of the run queue, both of these gates; its claim is as it is between two steps,
+  -- with what was drained; no act of a message is left to be carried out; and the turn counts what the run did.
   pub record InRun (gives : ℕ → Moment → Reply → Type 0) (origin : W → Option (Origin (Box Contents))) (gates : Gates (Box Contents))
       (registrar : Registrar (Box Contents) W) (claim : Claim (Box Contents)) (turn : Turn) : Type 0 where
-    pub ours : IsRegistrarOf origin gates registrar
+    pub same_gates : IsRegistrarOf origin gates registrar
     pub running : IsRunning gives (origin_of gates) [] (pass_view registrar.pass).log (run_state claim)
     pub backlog : BacklogAgrees (run_state claim)
     pub carried_out : claim.home.value.cell.acts ≡ []
     pub run_counts : CountsRun (run_state claim) turn
 
-  -- A step of a run, whatever it answers: the run is the same still, and who runs it goes further. Where the step answers well and the mailbox
-  -- was closed in it, the mailbox's queue was emptied.
+  -- A step of a run, whatever it answers: the run is the same still, and its registrar advances as a caller. Where the step answers well and the
+  -- mailbox was closed in it, the mailbox's queue was emptied.
   pub record Advances {T E : Type 0} (pushed refused : W → List (Claim (Box Contents))) (result : Result T E)
-      (old_waker new_waker : Registrar (Box Contents) W) (old_claim new_claim : Claim (Box Contents)) : Type 0 where
+      (old_registrar new_registrar : Registrar (Box Contents) W) (old_claim new_claim : Claim (Box Contents)) : Type 0 where
     pub same : SameRun (run_state old_claim) (run_state new_claim)
     pub cleared : OnOk result (IsCleared (run_state old_claim) (run_state new_claim))
-    pub caller_advances : CallerAdvances (caller_of pushed refused old_waker) (caller_of pushed refused new_waker)
+    pub caller_advances : CallerAdvances (caller_of pushed refused old_registrar) (caller_of pushed refused new_registrar)
 
 -- A step that answers a fault stops the run: the journal is full, or memory can have been refused.
 pub record StopsRun {T : Type 0} (result : Result T ReadyError) (claim : Claim (Box Contents)) : Type 0 where

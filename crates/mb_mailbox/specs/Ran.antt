@@ -9,7 +9,7 @@ use Rattle.mb_journal.specs.Entry.Entry.{Handled, System, Dropped}
 use Rattle.mb_journal.specs.Identity.{Identity}
 use Rattle.mb_journal.specs.Life.{closed}
 use Rattle.mb_journal.specs.Reading.{IsOpen}
-use Rattle.mb_journal.specs.Run.{IsReason, IsRun, IsShut, IsTurns, Stopped}
+use Rattle.mb_journal.specs.Run.{IsReason, IsRun, IsShut, AreBlocks, Stopped}
 use Rattle.mb_journal.specs.Run.Stopped.{UsedUp, NotOpen, NoEnvelope, AtClosing, NoRoom}
 use Rattle.mb_queue.specs.Passes.{TakePassView}
 use Rattle.mb_journal.specs.Fates.{begun}
@@ -40,7 +40,7 @@ systems_in (Dropped envelope ∷ before) = systems_in before
 
 -- A run in progress: the journal was extended by blocks of system messages, with an envelope before each but the first, and the run counts both.
 pub record CountsRun (hold : RunState) (turn : Turn) : Type 0 where
-  pub turns : IsTurns hold.home.cell.who hold.before turn.envelopes hold.home.cell.journal
+  pub blocks : AreBlocks hold.home.cell.who hold.before turn.envelopes hold.home.cell.journal
   pub system : turn.system + systems_in hold.before ≡ systems_in hold.home.cell.journal
   pub actor : turn.actor.0 ≡ hold.actor
 

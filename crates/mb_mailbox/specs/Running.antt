@@ -30,15 +30,15 @@ IsKnownClosedTo seen hold other = IsAmong other hold.closed_to ⊎ IsAmong (Read
 -- Each envelope was taken when no system message was left to be drained. The claim's seat owes nothing, and has no share.
 pub record IsRunning (gives : ℕ → Moment → Reply → Type 0) (origin : Origin (Box Contents)) (pending : List Act) (seen : List Observation) (hold : RunState)
     : Type 0 where
-  pub ours : hold.gates ≡ origin.gates
-  pub there : hold.actor < origin.actors
+  pub same_gates : hold.gates ≡ origin.gates
+  pub present : hold.actor < origin.actors
   pub directory : hold.home.directory ≡ origin.first.value.directory
   pub number : hold.home.cell.who.this.0 ≡ hold.actor
   pub settled : AgreesWithJournal (gives hold.actor) pending hold.home
   pub leads : Leads hold.status pending (mailbox_at hold.home.cell.who hold.home.cell.journal)
   pub told : HasSentDueExcept hold.home.cell.who hold.actor hold.status.closed hold.home.cell.journal hold.before pending hold.recorded
-  pub shut : Each (IsKnownClosedTo seen hold) (closed_receivers hold.home.dead)
-  pub many : hold.home.cell.who.actors ≡ origin.actors
+  pub known_closed : Each (IsKnownClosedTo seen hold) (closed_receivers hold.home.dead)
+  pub same_count : hold.home.cell.who.actors ≡ origin.actors
   pub named : NamesActors hold.home
   pub sends : SendsBelow origin.actors pending
   pub only_drained : TakesOnlyDrained hold.actor hold.log

@@ -17,7 +17,7 @@ use Rattle.mb_register.specs.declared.hint.Hint.TheVariants as hint
 -- The receiver was read as closed, and what is told to it is a dead letter for that reason.
 pub record TellsClosed (to : ActorId) (body : Body) (old new : View) (home left : Contents) : Type 0 where
   pub word : ℕ
-  pub shut : (mailbox_of word).closed ≡ true
+  pub known_closed : (mailbox_of word).closed ≡ true
   pub did : Does to.0 (Read to.0 word ∷ []) [] old new
   pub is_dead_letter : RecordsDeadLetter home left to body Closed
 

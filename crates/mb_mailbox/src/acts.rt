@@ -31,10 +31,10 @@ pub(crate) fn carry_out<A: Actor, K: Behaviours, W: RunQueue<BoxedHome<A, K>>, R
     registrar: &mut Registrar<BoxedHome<A, K>, W>,
     claim: &mut Claim<BoxedHome<A, K>>,
 ) -> Result<(), ReadyError>
-    requires ours { IsRegistrarOf W.origin gates.now registrar.old }
+    requires same_gates { IsRegistrarOf W.origin gates.now registrar.old }
     requires running { IsRunning K.gives (origin_of gates.now) (claim.old.home.value.cell.acts) (pass_view registrar.old.pass).log (run_state claim.old) }
     requires backlog { BacklogAgrees (run_state claim.old) }
-    ensures ours { IsRegistrarOf W.origin gates.now registrar.new }
+    ensures same_gates { IsRegistrarOf W.origin gates.now registrar.new }
     ensures running { IsRunning K.gives (origin_of gates.now) [] (pass_view registrar.new.pass).log (run_state claim.new) }
     ensures backlog { BacklogAgrees (run_state claim.new) }
     ensures carried_out { claim.new.home.value.cell.acts ≡ [] }
@@ -70,11 +70,11 @@ fn carry<A: Actor, K: Behaviours, W: RunQueue<BoxedHome<A, K>>, R: Wait>(
     claim: &mut Claim<BoxedHome<A, K>>,
     act: Act,
 ) -> Result<(), AllocError>
-    requires ours { IsRegistrarOf W.origin gates.now registrar.old }
+    requires same_gates { IsRegistrarOf W.origin gates.now registrar.old }
     requires running { IsRunning K.gives (origin_of gates.now) (act_of act ∷ claim.old.home.value.cell.acts)
         (pass_view registrar.old.pass).log (run_state claim.old) }
     requires backlog { BacklogAgrees (run_state claim.old) }
-    ensures ours { IsRegistrarOf W.origin gates.now registrar.new }
+    ensures same_gates { IsRegistrarOf W.origin gates.now registrar.new }
     ensures running { IsRunning K.gives (origin_of gates.now) (claim.new.home.value.cell.acts) (pass_view registrar.new.pass).log (run_state claim.new) }
     ensures backlog { BacklogAgrees (run_state claim.new) }
     ensures left { claim.new.home.value.cell.acts ≡ claim.old.home.value.cell.acts }
@@ -111,11 +111,11 @@ fn close<A: Actor, K: Behaviours, W: RunQueue<BoxedHome<A, K>>, R: Wait>(
     registrar: &mut Registrar<BoxedHome<A, K>, W>,
     claim: &mut Claim<BoxedHome<A, K>>,
 ) -> Result<(), AllocError>
-    requires ours { IsRegistrarOf W.origin gates.now registrar.old }
+    requires same_gates { IsRegistrarOf W.origin gates.now registrar.old }
     requires running { IsRunning K.gives (origin_of gates.now) (CloseSelf ∷ claim.old.home.value.cell.acts)
         (pass_view registrar.old.pass).log (run_state claim.old) }
     requires backlog { BacklogAgrees (run_state claim.old) }
-    ensures ours { IsRegistrarOf W.origin gates.now registrar.new }
+    ensures same_gates { IsRegistrarOf W.origin gates.now registrar.new }
     ensures running { IsRunning K.gives (origin_of gates.now) (claim.new.home.value.cell.acts) (pass_view registrar.new.pass).log (run_state claim.new) }
     ensures backlog { BacklogAgrees (run_state claim.new) }
     ensures left { claim.new.home.value.cell.acts ≡ claim.old.home.value.cell.acts }

@@ -27,11 +27,11 @@ pub(crate) fn clean_up<A: Actor, K: Behaviours, W: RunQueue<BoxedHome<A, K>>, R:
     registrar: &mut Registrar<BoxedHome<A, K>, W>,
     claim: &mut Claim<BoxedHome<A, K>>,
 ) -> Result<(), AllocError>
-    requires ours { IsRegistrarOf W.origin gates.now registrar.old }
+    requires same_gates { IsRegistrarOf W.origin gates.now registrar.old }
     requires closed { (status_of claim.old).closed ≡ true }
     requires running { IsRunning K.gives (origin_of gates.now) (claim.old.home.value.cell.acts) (pass_view registrar.old.pass).log (run_state claim.old) }
     requires count { given_of claim.old.home.value ≡ given_to claim.old }
-    ensures ours { IsRegistrarOf W.origin gates.now registrar.new }
+    ensures same_gates { IsRegistrarOf W.origin gates.now registrar.new }
     ensures running { IsRunning K.gives (origin_of gates.now) (claim.new.home.value.cell.acts) (pass_view registrar.new.pass).log (run_state claim.new) }
     ensures backlog { BacklogAgrees (run_state claim.new) }
     ensures left { claim.new.home.value.cell ≡ claim.old.home.value.cell }
@@ -53,10 +53,10 @@ fn drop_systems<A: Actor, K: Behaviours, W: RunQueue<BoxedHome<A, K>>, R: Wait>(
     registrar: &mut Registrar<BoxedHome<A, K>, W>,
     claim: &mut Claim<BoxedHome<A, K>>,
 )
-    requires ours { IsRegistrarOf W.origin gates.now registrar.old }
+    requires same_gates { IsRegistrarOf W.origin gates.now registrar.old }
     requires closed { (status_of claim.old).closed ≡ true }
     requires running { IsRunning K.gives (origin_of gates.now) (claim.old.home.value.cell.acts) (pass_view registrar.old.pass).log (run_state claim.old) }
-    ensures ours { IsRegistrarOf W.origin gates.now registrar.new }
+    ensures same_gates { IsRegistrarOf W.origin gates.now registrar.new }
     ensures closed { (status_of claim.new).closed ≡ true }
     ensures running { IsRunning K.gives (origin_of gates.now) (claim.new.home.value.cell.acts) (pass_view registrar.new.pass).log (run_state claim.new) }
     ensures none { claim.new.home.value.rest ≡ [] }

@@ -31,7 +31,7 @@ pub(crate) fn apply_envelopes<A: Actor, K: Behaviours, W: RunQueue<BoxedHome<A, 
     ensures in_run { InRun K.gives W.origin gates.now registrar.new claim.new turn.new }
     ensures advances { Advances W.pushed W.refused result registrar.old registrar.new claim.old claim.new }
     ensures stops { StopsRun result claim.new }
-    ensures few { turn.new.envelopes ≤ most_envelopes throughput }
+    ensures within_limit { turn.new.envelopes ≤ most_envelopes throughput }
     ensures ended { IfOk result (λ _. HasStopped claim.old.home.value.take (run_state claim.new) throughput turn.new.envelopes) }
 {
     for _handled in 0..throughput.max(1) {
@@ -59,7 +59,7 @@ fn apply_envelope<A: Actor, K: Behaviours, W: RunQueue<BoxedHome<A, K>>, R: Wait
     ensures stops { StopsRun result claim.new }
     ensures took { IfOk result (λ took. MatchBool took (turn.new.envelopes ≡ turn.old.envelopes + 1)
         ((turn.new ≡ turn.old) × TakesNoMore claim.old.home.value.take (run_state claim.new))) }
-    ensures few { turn.new.envelopes ≤ turn.old.envelopes + 1 }
+    ensures within_limit { turn.new.envelopes ≤ turn.old.envelopes + 1 }
 {
     let status = claim.status();
     if !status.should_process() {

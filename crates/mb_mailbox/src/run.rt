@@ -36,10 +36,10 @@ pub fn run_mailbox<A: Actor, K: Behaviours, W: RunQueue<BoxedHome<A, K>>, R: Wai
     throughput: u32,
     claim: Claim<BoxedHome<A, K>>,
 ) -> Result<Turn, ReadyError>
-    requires ours { IsRegistrarOf W.origin gates.now registrar.old }
+    requires same_gates { IsRegistrarOf W.origin gates.now registrar.old }
     requires untouched { IsFreshClaim K.gives (Some (origin_of gates.now)) claim }
-    requires many { length (first_home gates.now).value.directory ≡ actors_of gates.now }
-    ensures ours { IsRegistrarOf W.origin gates.now registrar.new }
+    requires same_count { length (first_home gates.now).value.directory ≡ actors_of gates.now }
+    ensures same_gates { IsRegistrarOf W.origin gates.now registrar.new }
     ensures caller_advances { LeavesCaller (caller_of W.pushed W.refused registrar.old) (caller_of W.pushed W.refused registrar.new) }
     ensures discharged { IsDischargedOrOwed (held_actor claim) (caller_of W.pushed W.refused registrar.new) }
     ensures ran { (journal : List Entry) × MatchResult result
@@ -81,7 +81,7 @@ fn run_claim<A: Actor, K: Behaviours, W: RunQueue<BoxedHome<A, K>>, R: Wait>(
     ensures in_run { InRun K.gives W.origin gates.now registrar.new claim.new turn.new }
     ensures advances { Advances W.pushed W.refused result registrar.old registrar.new claim.old claim.new }
     ensures stops { StopsRun result claim.new }
-    ensures few { turn.new.envelopes ≤ most_envelopes throughput }
+    ensures within_limit { turn.new.envelopes ≤ most_envelopes throughput }
     ensures ended { IfOk result (λ _. HasStopped claim.old.home.value.take (run_state claim.new) throughput turn.new.envelopes) }
 {
     apply_systems(rt, gates, registrar, claim, turn)?;

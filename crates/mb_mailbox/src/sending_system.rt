@@ -29,11 +29,11 @@ pub(crate) fn send_system<A: Actor, K: Behaviours, W: RunQueue<BoxedHome<A, K>>,
     to: ActorId,
     node: Node,
 )
-    requires ours { IsRegistrarOf W.origin gates.now registrar.old }
+    requires same_gates { IsRegistrarOf W.origin gates.now registrar.old }
     requires running { IsRunning K.gives (origin_of gates.now) (Sys to node ∷ claim.old.home.value.cell.acts)
         (pass_view registrar.old.pass).log (run_state claim.old) }
     requires backlog { BacklogAgrees (run_state claim.old) }
-    ensures ours { IsRegistrarOf W.origin gates.now registrar.new }
+    ensures same_gates { IsRegistrarOf W.origin gates.now registrar.new }
     ensures running { IsRunning K.gives (origin_of gates.now) (claim.new.home.value.cell.acts) (pass_view registrar.new.pass).log (run_state claim.new) }
     ensures backlog { BacklogAgrees (run_state claim.new) }
     ensures left { claim.new.home ≡ claim.old.home }
@@ -63,11 +63,11 @@ pub(crate) fn answer<A: Actor, K: Behaviours, W: RunQueue<BoxedHome<A, K>>, R: W
     ended: ActorId,
     node: Node,
 )
-    requires ours { IsRegistrarOf W.origin gates.now registrar.old }
+    requires same_gates { IsRegistrarOf W.origin gates.now registrar.old }
     requires parent { IfSome parent (λ p. p.0 < actors_of gates.now) }
-    requires there { ended.0 < actors_of gates.now }
+    requires present { ended.0 < actors_of gates.now }
     requires named { NamesBelow (actors_of gates.now) node }
-    ensures ours { IsRegistrarOf W.origin gates.now registrar.new }
+    ensures same_gates { IsRegistrarOf W.origin gates.now registrar.new }
     ensures answered { IsAnswered (asker parent node) ended.0 claim.old claim.new }
     ensures caller_advances { CallerAdvances (caller_of W.pushed W.refused registrar.old) (caller_of W.pushed W.refused registrar.new) }
 {
@@ -105,9 +105,9 @@ fn notify<A: Actor, K: Behaviours, W: RunQueue<BoxedHome<A, K>>, R: Wait>(
     ended: ActorId,
     mut node: Node,
 )
-    requires ours { IsRegistrarOf W.origin gates.now registrar.old }
-    requires there { (whom.0 < actors_of gates.now) × (ended.0 < actors_of gates.now) }
-    ensures ours { IsRegistrarOf W.origin gates.now registrar.new }
+    requires same_gates { IsRegistrarOf W.origin gates.now registrar.old }
+    requires present { (whom.0 < actors_of gates.now) × (ended.0 < actors_of gates.now) }
+    ensures same_gates { IsRegistrarOf W.origin gates.now registrar.new }
     ensures told { IsNotified whom.0 ended.0 claim.old claim.new }
     ensures caller_advances { CallerAdvances (caller_of W.pushed W.refused registrar.old) (caller_of W.pushed W.refused registrar.new) }
 {

@@ -28,11 +28,11 @@ pub(crate) fn tell<A: Actor, K: Behaviours, W: RunQueue<BoxedHome<A, K>>, R: Wai
     to: ActorId,
     body: Body,
 )
-    requires ours { IsRegistrarOf W.origin gates.now registrar.old }
+    requires same_gates { IsRegistrarOf W.origin gates.now registrar.old }
     requires running { IsRunning K.gives (origin_of gates.now) (Tell to body ∷ claim.old.home.value.cell.acts)
         (pass_view registrar.old.pass).log (run_state claim.old) }
     requires backlog { BacklogAgrees (run_state claim.old) }
-    ensures ours { IsRegistrarOf W.origin gates.now registrar.new }
+    ensures same_gates { IsRegistrarOf W.origin gates.now registrar.new }
     ensures running { IsRunning K.gives (origin_of gates.now) (claim.new.home.value.cell.acts) (pass_view registrar.new.pass).log (run_state claim.new) }
     ensures backlog { BacklogAgrees (run_state claim.new) }
     ensures left { claim.new.home.value.cell ≡ claim.old.home.value.cell }
@@ -55,7 +55,7 @@ pub(crate) fn tell<A: Actor, K: Behaviours, W: RunQueue<BoxedHome<A, K>>, R: Wai
 ///
 /// A sender outside the actors counts its envelopes in the same way (`counts` of `mb_register`; `Sender::put` of `mb_send`). Those are
 /// two functions, since they know different things: a run reads the status right before it counts, and its actor's home numbers
-/// the envelope and keeps it; a sender outside goes by a ticket, which may be older, and its book numbers and keeps it.
+/// the envelope and keeps it; a sender outside goes by a ticket, which may be older, and its send log numbers and keeps it.
 fn send<A: Actor, K: Behaviours, R: Wait>(
     rt: &R,
     gates: &Gates<BoxedHome<A, K>>,
@@ -64,10 +64,10 @@ fn send<A: Actor, K: Behaviours, R: Wait>(
     to: ActorId,
     body: Body,
 ) -> Option<Hint>
-    requires ours { pass_id pass.old ≡ gates_id gates.now }
-    requires there { to.0 < actors_of gates.now }
+    requires same_gates { pass_id pass.old ≡ gates_id gates.now }
+    requires present { to.0 < actors_of gates.now }
     requires settled { AgreesWithJournal (K.gives home.old.value.cell.who.this.0) (Tell to body ∷ home.old.value.cell.acts) home.old.value }
-    ensures ours { pass_id pass.new ≡ pass_id pass.old }
+    ensures same_gates { pass_id pass.new ≡ pass_id pass.old }
     ensures settled { AgreesWithJournal (K.gives home.new.value.cell.who.this.0) home.new.value.cell.acts home.new.value }
     ensures same { home.new.value ≡ record home.old.value {
       sends = home.new.value.sends;

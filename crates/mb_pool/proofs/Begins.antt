@@ -75,16 +75,16 @@ deques_push first (s ∷ spots) spot h is = let e : first + suc (length spots) �
 
 module _ {H : Type 0} where
   pub new_none : (o : Origin H) (shares : ℕ) → AreNew o shares 0 []
-  new_none o shares = record { many = refl; unused = refl; deques = tt }
+  new_none o shares = record { same_count = refl; unused = refl; deques = tt }
 
   pub new_more : (o : Origin H) (shares count : ℕ) (owns : List (PoolPort H)) (own : PoolPort H) → AreNew o shares count owns → IsDeque count own.spot
       → own ≡ fresh o shares shares own.spot
       → AreNew o shares (count + 1) (owns ++ own ∷ [])
   new_more o shares count owns own new is e =
       let spots : spots_of (owns ++ own ∷ []) ≡ spots_of owns ++ own.spot ∷ [] = map_push (λ (l : PoolPort H). l.spot) owns own in
-      let there : count ≡ 0 + length (spots_of owns) = let l = length-map owns (λ (l : PoolPort H). l.spot) in let m = new.many in omega (arith, l, m) in
+      let there : count ≡ 0 + length (spots_of owns) = let l = length-map owns (λ (l : PoolPort H). l.spot) in let m = new.same_count in omega (arith, l, m) in
       record {
-        many = length_push owns own ∙ ap (λ n. n + 1) new.many;
+        same_count = length_push owns own ∙ ap (λ n. n + 1) new.same_count;
         unused = (λ k. new.unused k ++ e k ∷ []) ∙ sym (map_push (fresh o shares shares) (spots_of owns) own.spot)
             ∙ ap (map (fresh o shares shares)) (sym spots);
         deques = subst (AreDeques 0) (sym spots) (deques_push 0 (spots_of owns) own.spot new.deques (subst (λ n. IsDeque n own.spot) there is));
@@ -347,7 +347,7 @@ module _ {H : Type 0} where
   new_shares Stealing o count owns new =
       let P : PoolPort H → Type 0 = λ l. l.ledger.shares ≡ length owns in
       subst (All P) (sym new.unused) (All-map P (fresh o count count) (spots_of owns)
-      (all_const (count ≡ length owns) (spots_of owns) (λ _. sym new.many)))
+      (all_const (count ≡ length owns) (spots_of owns) (λ _. sym new.same_count)))
 
   -- the pool that is made of the port of the queue that all share and of deques
   module _ (o : Origin H) (kind : PoolKind) (workers feeds : ℕ) (owns : List (PoolPort H)) (shared_port : QueueInfo) (new : AreNewOf kind o workers owns)
@@ -360,15 +360,15 @@ module _ {H : Type 0} where
       where
         by_kind : (k : PoolKind) → AreNewOf k o workers owns → IsWhole made
         by_kind Shared e = let none : spots_of owns ≡ [] = ap spots_of e in
-            record { some = some; deques = subst (AreDeques 0) (sym none) tt; many = inl none }
-        by_kind Stealing n = record { some = some; deques = n.deques; many = inr (length-map owns (λ (l : PoolPort H). l.spot) ∙ n.many) }
+            record { some = some; deques = subst (AreDeques 0) (sym none) tt; same_count = inl none }
+        by_kind Stealing n = record { some = some; deques = n.deques; same_count = inr (length-map owns (λ (l : PoolPort H). l.spot) ∙ n.same_count) }
 
     pub made_kind : shared_port.capacity ≡ bound_of kind → IsOfKind kind made
     made_kind bound = by_kind kind new bound
       where
         by_kind : (k : PoolKind) → AreNewOf k o workers owns → shared_port.capacity ≡ bound_of k → IsOfKind k made
         by_kind Shared e b = (b, ap spots_of e)
-        by_kind Stealing n b = (b, length-map owns (λ (l : PoolPort H). l.spot) ∙ n.many, n.deques)
+        by_kind Stealing n b = (b, length-map owns (λ (l : PoolPort H). l.spot) ∙ n.same_count, n.deques)
 
     pub made_members : (ms : List (Option (EndDeques H))) → (owns ≡ [] → ms ≡ replicate workers None)
         → (0 < length owns → map (own_of {H = H}) ms ≡ map (λ (l : PoolPort H). with_shares 1 l ∷ []) owns)
@@ -377,8 +377,8 @@ module _ {H : Type 0} where
       where
         by_kind : (k : PoolKind) → AreNewOf k o workers owns → AreEndDeques made ms
         by_kind Shared e = members_none made ms (ap spots_of e) (none e)
-        by_kind Stealing n = let many = n.many in let there : 0 < length owns = omega (arith, many, some) in
-            members_some made ms owns n.unused n.many (own there) (next there)
+        by_kind Stealing n = let many = n.same_count in let there : 0 < length owns = omega (arith, many, some) in
+            members_some made ms owns n.unused n.same_count (own there) (next there)
 
     pub count_members : (ms : List (Option (EndDeques H))) → AreEndDeques made ms → length ms ≡ workers
     count_members ms m = sym (length-map ms (own_of {H = H})) ∙ ap length m.own ∙ length-map (numbers 0 workers) (own_at made ms m)

@@ -9,7 +9,7 @@ use Rattle.std.proofs.lemmas.List.Sorted.{IsPermutation-map}
 use Rattle.std.proofs.lemmas.List.Sums.{sum_by-cons, sum_by-append}
 use Rattle.mb_gate.specs.declared.claim.Claim.{Claim}
 use Rattle.mb_pool.specs.Ends.{Empties, TakesIn, joined}
-use Rattle.mb_pool.specs.Ledger.{IndexedClaim, claims_in, turn, turns}
+use Rattle.mb_pool.specs.Ledger.{IndexedClaim, claims_in, indexed_claim, indexed}
 use Rattle.mb_gate.specs.Untouched.{Origin}
 use Rattle.mb_pool.specs.Account.{Account}
 use Rattle.mb_pool.specs.Places.{PoolPort, pushed_at, taken_at}
@@ -101,7 +101,7 @@ module _ {H : Type 0} (IsFit : Option (Origin H) → Claim H → Type 0) where
         members = ap (λ (a : Account H). a.members) is ∙ e.members;
         shares = ap (λ (a : Account H). a.shares) is ∙ e.shares;
         pushed = ap (λ (a : Account H). a.pushed) is ∙ e.pushed;
-        taken = ap (λ (a : Account H). claims_in a.taken) is ∙ map_push (λ (x : IndexedClaim (Claim H)). x.claim) now.ledger.taken (turn (length m.gone) c)
+        taken = ap (λ (a : Account H). claims_in a.taken) is ∙ map_push (λ (x : IndexedClaim (Claim H)). x.claim) now.ledger.taken (indexed_claim (length m.gone) c)
             ∙ ap (λ l. l ++ c ∷ []) e.taken ∙ append_assoc (claims_in base.ledger.taken) e.more (c ∷ []);
       }
 
@@ -110,22 +110,22 @@ module _ {H : Type 0} (IsFit : Option (Origin H) → Claim H → Type 0) where
       → Moment IsFit now.ledger [] → Empties IsFit base.ledger.gates (base ∷ []) old left
   emptying_all base old now left e m =
       let Few : PoolPort H → Type 0 = HasFew in let All' : PoolPort H → Type 0 = HasAll in
-      let few = m.few in let shares = e.shares in let members = e.members in record {
+      let few = m.within_limit in let shares = e.shares in let members = e.members in record {
         more = e.more;
         added = e.added;
         fit = e.fit;
-        few = All-cons Few base [] (omega (arith, few, shares, members)) (All-nil Few);
+        within_limit = All-cons Few base [] (omega (arith, few, shares, members)) (All-nil Few);
         whole = λ all.
             let mine : base.ledger.shares ≡ base.ledger.members = All-head All' base [] all in
             let no = m.alone (omega (arith, mine, shares, members)) in
-            let went : IsPermutation now.ledger.taken (turns m.gone) =
-            from_left now.ledger.taken (now.ledger.taken ++ m.taken) (turns m.gone)
+            let went : IsPermutation now.ledger.taken (indexed m.gone) =
+            from_left now.ledger.taken (now.ledger.taken ++ m.taken) (indexed m.gone)
             (sym (ap (λ l. now.ledger.taken ++ l) no.1 ∙ append-nil now.ledger.taken)) m.went in
-            let came : IsPermutation now.ledger.pushed (turns (m.gone ++ [])) =
-            from_left now.ledger.pushed (now.ledger.pushed ++ m.pushed) (turns (m.gone ++ []))
+            let came : IsPermutation now.ledger.pushed (indexed (m.gone ++ [])) =
+            from_left now.ledger.pushed (now.ledger.pushed ++ m.pushed) (indexed (m.gone ++ []))
             (sym (ap (λ l. now.ledger.pushed ++ l) no.0 ∙ append-nil now.ledger.pushed)) m.came in
-            let same : IsPermutation now.ledger.taken now.ledger.pushed = IsPermutation-trans now.ledger.taken (turns m.gone) now.ledger.pushed went
-            (IsPermutation-sym now.ledger.pushed (turns m.gone) (subst (λ l. IsPermutation now.ledger.pushed (turns l))
+            let same : IsPermutation now.ledger.taken now.ledger.pushed = IsPermutation-trans now.ledger.taken (indexed m.gone) now.ledger.pushed went
+            (IsPermutation-sym now.ledger.pushed (indexed m.gone) (subst (λ l. IsPermutation now.ledger.pushed (indexed l))
             (append-nil m.gone) came)) in
             let claims : IsPermutation (claims_in now.ledger.taken) (claims_in now.ledger.pushed) =
             IsPermutation-map (λ (x : IndexedClaim (Claim H)). x.claim) now.ledger.taken now.ledger.pushed same in
@@ -142,7 +142,7 @@ module _ {H : Type 0} (IsFit : Option (Origin H) → Claim H → Type 0) where
     more = [];
     added = sym (append-nil old);
     fit = All-nil (IsFit g);
-    few = All-nil (HasFew {H = H});
+    within_limit = All-nil (HasFew {H = H});
     whole = λ _. IsPermutation-refl [];
   }
 
@@ -156,7 +156,7 @@ module _ {H : Type 0} (IsFit : Option (Origin H) → Claim H → Type 0) where
     more = p.more ++ q.more;
     added = q.added ∙ ap (λ l. l ++ q.more) p.added ∙ append_assoc a p.more q.more;
     fit = All-append (IsFit g) p.more q.more p.fit q.fit;
-    few = All-append (HasFew {H = H}) ps qs p.few q.few;
+    within_limit = All-append (HasFew {H = H}) ps qs p.within_limit q.within_limit;
     whole = λ all.
         let mine = p.whole (all_left (HasAll {H = H}) ps qs all) in let theirs = q.whole (all_right (HasAll {H = H}) ps qs all) in
         let taken : taken_at (ps ++ qs) ≡ taken_at ps ++ taken_at qs = flat_map-append (λ (l : PoolPort H). claims_in l.ledger.taken) ps qs in

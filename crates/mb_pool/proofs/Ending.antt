@@ -56,16 +56,16 @@ module _ {H : Type 0} where
 
   -- the ports of the next end were taken, which are of deques of these ends
   module _ (old now : List (PoolEndpoint H)) (k : ℕ) (d after : PoolEndpoint H) (given : List (PoolPort H)) (lt : k < length now) (g : Gathering old k now)
-      (ways : given ≡ (get_or now k d).next)
+      (nexts : given ≡ (get_or now k d).next)
       (rest : after ≡ record (get_or now k d) { next = [] }) where
     pub given_matched : AreMatched old → All (λ (l : PoolPort H). IsAmong (set now k after) (part_of l)) given
     given_matched h =
-        subst (λ (y : List (PoolPort H) × PoolEndpoint H). All (λ (l : PoolPort H). IsAmong (set now k y.1) (part_of l)) y.0) (λ i. (sym ways i, sym rest i))
+        subst (λ (y : List (PoolPort H) × PoolEndpoint H). All (λ (l : PoolPort H). IsAmong (set now k y.1) (part_of l)) y.0) (λ i. (sym nexts i, sym rest i))
         (still_matched old now k d lt g h)
 
     pub gathered_more : (new : List (PoolEndpoint H)) → Gathers (set now k after) given new → Gathering old (k + 1) new
     gathered_more new j =
-        gathering_more old now k d lt g new (subst (λ (y : List (PoolPort H) × PoolEndpoint H). Gathers (set now k y.1) y.0 new) (λ i. (ways i, rest i)) j)
+        gathering_more old now k d lt g new (subst (λ (y : List (PoolPort H) × PoolEndpoint H). Gathers (set now k y.1) y.0 new) (λ i. (nexts i, rest i)) j)
 
   -- the next end or feed has a port of the same queue
   pub alike_next : (base : PoolPort H) (all done rest : List (PoolEndpoint H)) (end : PoolEndpoint H) → done ++ end ∷ rest ≡ all

@@ -8,22 +8,22 @@ use Rattle.std.proofs.lemmas.List.Concat.{flat_map-append}
 use Rattle.std.proofs.lemmas.List.Elements.{All-nil, All-cons, All-head, All-tail, All-push}
 use mathlib.Core.Option.{some}
 use lib.ListN.{get_elem?}
-use Rattle.mb_pool.specs.Ledger.{IndexedClaim, turn, turns, indexed_from, Ledger, opened, unused, pushing, taking, lending, borrowing, joining, spent}
+use Rattle.mb_pool.specs.Ledger.{IndexedClaim, indexed_claim, indexed, indexed_from, Ledger, opened, unused, pushing, taking, lending, borrowing, joining, spent}
 use Rattle.mb_pool.specs.Rule.{all_pushed, all_taken, all_shares, Agrees, Kept, Moment, PutsLast, TakesFirst}
 use Rattle.mb_pool.proofs.Lists.{same_elements, from_left, behind, before, past, to_end, nothing_more, others, set_swap, get_other, pulls}
 use Rattle.mb_pool.proofs.Lists.{pulls_own, weighs, weighs_own, holds_at, holds_others, holds_set}
 
 module _ {C : Type 0} where
-  pub turns_push : (n : ℕ) (cs : List C) (c : C) → indexed_from n (cs ++ c ∷ []) ≡ indexed_from n cs ++ turn (n + length cs) c ∷ []
-  turns_push n [] c = ap (λ k. turn k c ∷ []) (omega arith)
-  turns_push n (x ∷ cs) c = ap (λ l. turn n x ∷ l) (turns_push (n + 1) cs c ∙ ap (λ k. indexed_from (n + 1) cs ++ turn k c ∷ []) (omega arith))
+  pub indexed_push : (n : ℕ) (cs : List C) (c : C) → indexed_from n (cs ++ c ∷ []) ≡ indexed_from n cs ++ indexed_claim (n + length cs) c ∷ []
+  indexed_push n [] c = ap (λ k. indexed_claim k c ∷ []) (omega arith)
+  indexed_push n (x ∷ cs) c = ap (λ l. indexed_claim n x ∷ l) (indexed_push (n + 1) cs c ∙ ap (λ k. indexed_from (n + 1) cs ++ indexed_claim k c ∷ []) (omega arith))
 
-  pub turns_end : (cs : List C) (c : C) → turns (cs ++ c ∷ []) ≡ turns cs ++ turn (length cs) c ∷ []
-  turns_end cs c = turns_push 0 cs c ∙ ap (λ k. turns cs ++ turn k c ∷ []) (omega arith)
+  pub indexed_end : (cs : List C) (c : C) → indexed (cs ++ c ∷ []) ≡ indexed cs ++ indexed_claim (length cs) c ∷ []
+  indexed_end cs c = indexed_push 0 cs c ∙ ap (λ k. indexed cs ++ indexed_claim k c ∷ []) (omega arith)
 
-  turns_none : (n : ℕ) (cs : List C) → indexed_from n cs ≡ [] → cs ≡ []
-  turns_none n [] e = refl
-  turns_none n (c ∷ cs) e = absurd (subst IsSome e tt)
+  indexed_none : (n : ℕ) (cs : List C) → indexed_from n cs ≡ [] → cs ≡ []
+  indexed_none n [] e = refl
+  indexed_none n (c ∷ cs) e = absurd (subst IsSome e tt)
     where
       IsSome : List (IndexedClaim C) → Type 0
       IsSome [] = ⊥
@@ -68,12 +68,12 @@ module _ {G C : Type 0} (IsFit : Option G → C → Type 0) (items : List C) (vi
   pub shares_are : v.shares + all_shares rest ≡ k.members
   shares_are = sym (weighs_own of_shares views port v at) ∙ k.whole
 
-  pub came_by : IsPermutation (v.pushed ++ all_pushed rest) (turns (k.gone ++ items))
-  came_by = IsPermutation-trans (v.pushed ++ all_pushed rest) (all_pushed views) (turns (k.gone ++ items))
+  pub came_by : IsPermutation (v.pushed ++ all_pushed rest) (indexed (k.gone ++ items))
+  came_by = IsPermutation-trans (v.pushed ++ all_pushed rest) (all_pushed views) (indexed (k.gone ++ items))
       (IsPermutation-sym (all_pushed views) (v.pushed ++ all_pushed rest) (pulls_own of_pushed views port v at)) k.came
 
-  pub pushed_through : IsPermutation (v.taken ++ all_taken rest) (turns k.gone)
-  pushed_through = IsPermutation-trans (v.taken ++ all_taken rest) (all_taken views) (turns k.gone)
+  pub pushed_through : IsPermutation (v.taken ++ all_taken rest) (indexed k.gone)
+  pushed_through = IsPermutation-trans (v.taken ++ all_taken rest) (all_taken views) (indexed k.gone)
       (IsPermutation-sym (all_taken views) (v.taken ++ all_taken rest) (pulls_own of_taken views port v at)) k.went
 
   abbrev pub moment : 0 < v.shares → Moment IsFit v items
@@ -84,7 +84,7 @@ module _ {G C : Type 0} (IsFit : Option G → C → Type 0) (items : List C) (vi
     fit = subst (λ g. All (IsFit g) (k.gone ++ items)) (sym same.0) k.fit;
     came = came_by;
     went = pushed_through;
-    few = let e = shares_are in let s = same.1 in omega (arith, e, s);
+    within_limit = let e = shares_are in let s = same.1 in omega (arith, e, s);
     alone = λ all. no_shares k.gates k.members rest (let e = shares_are in let s = same.1 in omega (arith, e, s, all))
         (holds_others (Agrees k.gates k.members) views port k.agree);
   }
@@ -92,7 +92,7 @@ module _ {G C : Type 0} (IsFit : Option G → C → Type 0) (items : List C) (vi
   -- a push
   pub puts : (c : C) → 0 < v.shares → IsFit v.gates c → (w : Ledger G C) × Kept IsFit (items ++ c ∷ []) (set views port w) × PutsLast IsFit v c w
   puts c share fit = let same = mine.same share in
-      let t : IndexedClaim C = turn (length (k.gone ++ items)) c in
+      let t : IndexedClaim C = indexed_claim (length (k.gone ++ items)) c in
       let w : Ledger G C = pushing v t in
       let more : k.gone ++ (items ++ c ∷ []) ≡ (k.gone ++ items) ++ c ∷ [] = sym (append_assoc k.gone items (c ∷ [])) in (
         w,
@@ -101,14 +101,14 @@ module _ {G C : Type 0} (IsFit : Option G → C → Type 0) (items : List C) (vi
           members = k.members;
           gone = k.gone;
           fit = subst (All (IsFit k.gates)) (sym more) (All-push (IsFit k.gates) (k.gone ++ items) c k.fit (subst (λ g. IsFit g c) same.0 fit));
-          came = subst (λ l. IsPermutation (all_pushed (set views port w)) (turns l)) (sym more)
-              (subst (IsPermutation (all_pushed (set views port w))) (sym (turns_end (k.gone ++ items) c))
-              (IsPermutation-trans (all_pushed (set views port w)) ((v.pushed ++ t ∷ []) ++ all_pushed rest) (turns (k.gone ++ items) ++ t ∷ [])
+          came = subst (λ l. IsPermutation (all_pushed (set views port w)) (indexed l)) (sym more)
+              (subst (IsPermutation (all_pushed (set views port w))) (sym (indexed_end (k.gone ++ items) c))
+              (IsPermutation-trans (all_pushed (set views port w)) ((v.pushed ++ t ∷ []) ++ all_pushed rest) (indexed (k.gone ++ items) ++ t ∷ [])
               (pulls of_pushed views port v w at)
               (IsPermutation-trans ((v.pushed ++ t ∷ []) ++ all_pushed rest) ((v.pushed ++ all_pushed rest) ++ t ∷ [])
-              (turns (k.gone ++ items) ++ t ∷ []) (to_end v.pushed (all_pushed rest) t)
-              (before (v.pushed ++ all_pushed rest) (turns (k.gone ++ items)) (t ∷ []) came_by))));
-          went = IsPermutation-trans (all_taken (set views port w)) (v.taken ++ all_taken rest) (turns k.gone)
+              (indexed (k.gone ++ items) ++ t ∷ []) (to_end v.pushed (all_pushed rest) t)
+              (before (v.pushed ++ all_pushed rest) (indexed (k.gone ++ items)) (t ∷ []) came_by))));
+          went = IsPermutation-trans (all_taken (set views port w)) (v.taken ++ all_taken rest) (indexed k.gone)
               (pulls of_taken views port v w at) pushed_through;
           whole = weighs of_shares views port v w at ∙ shares_are;
           agree = holds_set (Agrees k.gates k.members) views port w (record { same = λ _. same; idle = λ none. absurd (omega (arith, none, share)) })
@@ -126,8 +126,8 @@ module _ {G C : Type 0} (IsFit : Option G → C → Type 0) (items : List C) (vi
       let none : all_shares rest ≡ 0 = let s = shares_are in let m = same.1 in omega (arith, one, members, s, m) in
       let no = no_shares k.gates k.members rest none (holds_others (Agrees k.gates k.members) views port k.agree) in (
         none,
-        turns_none 0 (k.gone ++ items) (nothing_more (turns (k.gone ++ items))
-            (subst (λ l. IsPermutation l (turns (k.gone ++ items))) (ap (λ (l : Ledger G C). l.pushed ++ all_pushed rest) e ∙ no.0) came_by)),
+        indexed_none 0 (k.gone ++ items) (nothing_more (indexed (k.gone ++ items))
+            (subst (λ l. IsPermutation l (indexed (k.gone ++ items))) (ap (λ (l : Ledger G C). l.pushed ++ all_pushed rest) e ∙ no.0) came_by)),
         no.0,
         no.1,
       )
@@ -158,11 +158,11 @@ module _ {G C : Type 0} (IsFit : Option G → C → Type 0) (items : List C) (vi
     members = m;
     gone = k.gone;
     fit = subst (All (IsFit g)) (sym all.1) (All-nil (IsFit g));
-    came = IsPermutation-trans (all_pushed (set views port w ++ spent ∷ [])) (all_pushed rest) (turns (k.gone ++ items))
+    came = IsPermutation-trans (all_pushed (set views port w ++ spent ∷ [])) (all_pushed rest) (indexed (k.gone ++ items))
         (came_more of_pushed w spent refl)
-        (same_elements (all_pushed rest) (turns (k.gone ++ items)) (all.2 ∙ ap turns (sym all.1)));
-    went = IsPermutation-trans (all_taken (set views port w ++ spent ∷ [])) (all_taken rest) (turns k.gone) (came_more of_taken w spent refl)
-        (same_elements (all_taken rest) (turns k.gone) (all.3 ∙ ap turns (sym (none_of k.gone items all.1))));
+        (same_elements (all_pushed rest) (indexed (k.gone ++ items)) (all.2 ∙ ap indexed (sym all.1)));
+    went = IsPermutation-trans (all_taken (set views port w ++ spent ∷ [])) (all_taken rest) (indexed k.gone) (came_more of_taken w spent refl)
+        (same_elements (all_taken rest) (indexed k.gone) (all.3 ∙ ap indexed (sym (none_of k.gone items all.1))));
     whole = let s = shares_more w spent in let n = all.0 in omega (arith, s, n);
     agree = All-push (Agrees g m) (set views port w) spent
         (holds_set (Agrees g m) views port w (record { same = λ _. (refl, refl); idle = λ _. (refl, refl) })
@@ -176,9 +176,9 @@ module _ {G C : Type 0} (IsFit : Option G → C → Type 0) (items : List C) (vi
     members = k.members;
     gone = k.gone;
     fit = k.fit;
-    came = IsPermutation-trans (all_pushed (set views port w ++ n ∷ [])) (v.pushed ++ all_pushed rest) (turns (k.gone ++ items))
+    came = IsPermutation-trans (all_pushed (set views port w ++ n ∷ [])) (v.pushed ++ all_pushed rest) (indexed (k.gone ++ items))
         (came_more of_pushed w n refl) came_by;
-    went = IsPermutation-trans (all_taken (set views port w ++ n ∷ [])) (v.taken ++ all_taken rest) (turns k.gone)
+    went = IsPermutation-trans (all_taken (set views port w ++ n ∷ [])) (v.taken ++ all_taken rest) (indexed k.gone)
         (came_more of_taken w n refl) pushed_through;
     whole = let s = shares_more w n in let t = shares_are in omega (arith, s, t, shares);
     agree = All-push (Agrees k.gates k.members) (set views port w) n
@@ -192,7 +192,7 @@ module _ {G C : Type 0} (IsFit : Option G → C → Type 0) (c : C) (items : Lis
   -- a take
   pub takes : 0 < v.shares → (w : Ledger G C) × Kept IsFit items (set views port w) × TakesFirst IsFit v c w
   takes share = let same = (mine IsFit (c ∷ items) views port v k at).same share in
-      let t : IndexedClaim C = turn (length k.gone) c in
+      let t : IndexedClaim C = indexed_claim (length k.gone) c in
       let w : Ledger G C = taking v t in
       let left : List (Ledger G C) = others port views in
       let more : k.gone ++ (c ∷ items) ≡ (k.gone ++ c ∷ []) ++ items = sym (append_assoc k.gone (c ∷ []) items) in (
@@ -202,15 +202,15 @@ module _ {G C : Type 0} (IsFit : Option G → C → Type 0) (c : C) (items : Lis
           members = k.members;
           gone = k.gone ++ c ∷ [];
           fit = subst (All (IsFit k.gates)) more k.fit;
-          came = subst (λ l. IsPermutation (all_pushed (set views port w)) (turns l)) more
-              (IsPermutation-trans (all_pushed (set views port w)) (v.pushed ++ all_pushed left) (turns (k.gone ++ (c ∷ items)))
+          came = subst (λ l. IsPermutation (all_pushed (set views port w)) (indexed l)) more
+              (IsPermutation-trans (all_pushed (set views port w)) (v.pushed ++ all_pushed left) (indexed (k.gone ++ (c ∷ items)))
               (pulls of_pushed views port v w at) (came_by IsFit (c ∷ items) views port v k at));
-          went = subst (IsPermutation (all_taken (set views port w))) (sym (turns_end k.gone c))
-              (IsPermutation-trans (all_taken (set views port w)) ((v.taken ++ t ∷ []) ++ all_taken left) (turns k.gone ++ t ∷ [])
+          went = subst (IsPermutation (all_taken (set views port w))) (sym (indexed_end k.gone c))
+              (IsPermutation-trans (all_taken (set views port w)) ((v.taken ++ t ∷ []) ++ all_taken left) (indexed k.gone ++ t ∷ [])
               (pulls of_taken views port v w at)
-              (IsPermutation-trans ((v.taken ++ t ∷ []) ++ all_taken left) ((v.taken ++ all_taken left) ++ t ∷ []) (turns k.gone ++ t ∷ [])
+              (IsPermutation-trans ((v.taken ++ t ∷ []) ++ all_taken left) ((v.taken ++ all_taken left) ++ t ∷ []) (indexed k.gone ++ t ∷ [])
               (to_end v.taken (all_taken left) t)
-              (before (v.taken ++ all_taken left) (turns k.gone) (t ∷ []) (pushed_through IsFit (c ∷ items) views port v k at))));
+              (before (v.taken ++ all_taken left) (indexed k.gone) (t ∷ []) (pushed_through IsFit (c ∷ items) views port v k at))));
           whole = weighs of_shares views port v w at ∙ shares_are IsFit (c ∷ items) views port v k at;
           agree = holds_set (Agrees k.gates k.members) views port w (record { same = λ _. same; idle = λ none. absurd (omega (arith, none, share)) })
               (holds_others (Agrees k.gates k.members) views port k.agree);
@@ -265,9 +265,9 @@ module _ {G C : Type 0} (IsFit : Option G → C → Type 0) (items : List C) (vi
         members = k.members;
         gone = k.gone;
         fit = k.fit;
-        came = IsPermutation-trans (all_pushed (set without port both)) (all_pushed views) (turns (k.gone ++ items))
+        came = IsPermutation-trans (all_pushed (set without port both)) (all_pushed views) (indexed (k.gone ++ items))
             (gathers of_pushed refl refl) k.came;
-        went = IsPermutation-trans (all_taken (set without port both)) (all_taken views) (turns k.gone) (gathers of_taken refl refl) k.went;
+        went = IsPermutation-trans (all_taken (set without port both)) (all_taken views) (indexed k.gone) (gathers of_taken refl refl) k.went;
         whole = let a = weighs of_shares without port v both still in let b = weighs_own of_shares without port v still in
             let c = weighs of_shares views other u spent was in
             let d = weighs_own of_shares views other u was in let e = k.whole in omega (arith, a, b, c, d, e);

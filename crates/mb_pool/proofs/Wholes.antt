@@ -122,7 +122,7 @@ module _ {H : Type 0} where
       let ds : List QueueInfo = pool.deques in
       let Fits : QueueInfo → Type 0 = λ s. IsAmong ends (deque_part pool s) in
       let count = count_of pool ends e in
-      let all : All Fits ds = own_deques pool ends e [] ds refl (few w.many count) w.deques in
+      let all : All Fits ds = own_deques pool ends e [] ds refl (few w.same_count count) w.deques in
       flat ends (each_end pool ends e (λ (p : Parts H). All (IsAmong ends) p.next)
       (λ k. All-map (IsAmong ends) (deque_part pool) (drop (k + 1) ds ++ take k ds)
       (All-append Fits (drop (k + 1) ds) (take k ds) (All-drop Fits (k + 1) ds all) (All-take Fits k ds all))))
@@ -187,7 +187,7 @@ module _ {H : Type 0} where
       let ds : List QueueInfo = pool.deques in
       let at : ℕ → List (Part H) = λ k. deque_parts pool (take 1 (drop k ds)) in
       owns_flat ends ∙ ap (flat_map (λ (p : Parts H). p.own)) e ∙ flat_of (λ (p : Parts H). p.own) (map (end_parts pool) (numbers 0 pool.ends))
-      ∙ ap (flat_map (λ (l : List (Part H)). l)) (map_map (λ (p : Parts H). p.own) (end_parts pool) (numbers 0 pool.ends)) ∙ by_kind w.many
+      ∙ ap (flat_map (λ (l : List (Part H)). l)) (map_map (λ (p : Parts H). p.own) (end_parts pool) (numbers 0 pool.ends)) ∙ by_kind w.same_count
     where
       by_kind : (pool.deques ≡ []) ⊎ (length pool.deques ≡ pool.ends)
           → flat_map (λ (l : List (Part H)). l) (map (λ (k : ℕ). deque_parts pool (take 1 (drop k pool.deques)))
@@ -399,7 +399,7 @@ module _ {H : Type 0} (IsFit : Option (Origin H) → Claim H → Type 0) (pool :
       let all = empties_append IsFit (Some pool.gates) (owns_of now) (last ∷ []) [] mid left
       (subst (λ g. Empties IsFit g (owns_of now) [] mid) gates' p) (subst (λ g. Empties IsFit g (last ∷ []) mid left) gates q) in
       let is : all.more ≡ left = sym all.added in
-      let shares : All (HasAll {H = H}) ports = All-append (HasAll {H = H}) (owns_of now) (last ∷ []) (owns_whole p.few)
+      let shares : All (HasAll {H = H}) ports = All-append (HasAll {H = H}) (owns_of now) (last ∷ []) (owns_whole p.within_limit)
       (All-cons (HasAll {H = H}) last [] last_whole (All-nil (HasAll {H = H}))) in
       let taken : IsPermutation (taken_at ports) (taken_by (ends ++ feeds)) =
       ports_know (λ (l : PoolPort H). claims_in l.ledger.taken) gathered.taken (all_of_taken (shared_ports_of now) first is_first) is_last.taken in

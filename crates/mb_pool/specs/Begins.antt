@@ -40,7 +40,7 @@ borrowed l = record l { ledger = borrowing 1 l.ledger }
 
 -- ports of the own deques of this many ends, each with this many shares
 pub record AreNew {H : Type 0} (origin : Origin H) (shares count : ℕ) (owns : List (PoolPort H)) : Type 0 where
-  pub many : length owns ≡ count
+  pub same_count : length owns ≡ count
   pub unused : owns ≡ map (fresh origin shares shares) (spots_of owns)
   pub deques : AreDeques 0 (spots_of owns)
 

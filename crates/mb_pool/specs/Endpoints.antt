@@ -33,4 +33,4 @@ of_feed shared_port = record { own = []; shared_port = shared_port; next = [] }
 
 -- each of its ports has a share, and is of the same gates
 abbrev pub AreOpen : {H : Type 0} → PoolEndpoint H → Type 0
-AreOpen {H} way = All (λ (l : PoolPort H). IsOpen (gates_of way) (part_of l)) (looks way)
+AreOpen {H} endpoint = All (λ (l : PoolPort H). IsOpen (gates_of endpoint) (part_of l)) (looks endpoint)

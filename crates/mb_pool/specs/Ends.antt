@@ -21,7 +21,7 @@ joined_first (l ∷ ls) m = joined l m ∷ ls
 
 -- such a port may be joined by the owner of its deque, one of these ends
 abbrev pub IsAmong : {H : Type 0} → List (PoolEndpoint H) → Part H → Type 0
-IsAmong {H} ways p = (owner_of p.spot < length ways) × ((d : PoolEndpoint H) → MayJoin (get_or ways (owner_of p.spot) d).own p)
+IsAmong {H} ends p = (owner_of p.spot < length ends) × ((d : PoolEndpoint H) → MayJoin (get_or ends (owner_of p.spot) d).own p)
 
 -- of a port, what joining others does not change
 pub record Where (H : Type 0) : Type 0 where
@@ -69,7 +69,7 @@ pub record AreGathered {H : Type 0} (old new : List (PoolEndpoint H)) : Type 0 w
 
 -- each end's ports of other deques are of deques of these ends
 abbrev pub AreMatched : {H : Type 0} → List (PoolEndpoint H) → Type 0
-AreMatched {H} ways = All (λ (l : PoolPort H). IsAmong ways (part_of l)) (nexts_of ways)
+AreMatched {H} ends = All (λ (l : PoolPort H). IsAmong ends (part_of l)) (nexts_of ends)
 
 -- the port of a queue after others of it were joined, in this order
 pub record TakesIn {H : Type 0} (base : PoolPort H) (others : List (PoolPort H)) (new : PoolPort H) : Type 0 where
@@ -100,5 +100,5 @@ module _ {H : Type 0} (IsFit : Option (Origin H) → Claim H → Type 0) where
     pub more : List (Claim H)
     pub added : new ≡ old ++ more
     pub fit : All (IsFit gates) more
-    pub few : All (λ (l : PoolPort H). l.ledger.shares ≤ l.ledger.members) ports
+    pub within_limit : All (λ (l : PoolPort H). l.ledger.shares ≤ l.ledger.members) ports
     pub whole : All (λ (l : PoolPort H). l.ledger.shares ≡ l.ledger.members) ports → IsPermutation (taken_at ports ++ more) (pushed_at ports)

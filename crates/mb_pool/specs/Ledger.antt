@@ -2,30 +2,31 @@
 -- Akka's executors keep none).
 use Rattle.std.specs.Prelude.{ℕ, ◌+◌, ◌-◌, List, [], ◌∷◌, ◌++◌, map, Option, None}
 
--- a claim, and how many were pushed to its queue before it: its turn
+-- a claim, and its index: how many were pushed to its queue before it
 pub record IndexedClaim (C : Type 0) : Type 0 where
   pub number : ℕ
   pub claim : C
 
-abbrev pub turn : {C : Type 0} → ℕ → C → IndexedClaim C
-turn n c = record { number = n; claim = c }
+-- the claim with this index
+abbrev pub indexed_claim : {C : Type 0} → ℕ → C → IndexedClaim C
+indexed_claim n c = record { number = n; claim = c }
 
--- the claims with their turns, the first with this one
+-- the claims with their indices, the first with this one
 abbrev pub indexed_from : {C : Type 0} → ℕ → List C → List (IndexedClaim C)
 indexed_from n [] = []
-indexed_from n (c ∷ cs) = turn n c ∷ indexed_from (n + 1) cs
+indexed_from n (c ∷ cs) = indexed_claim n c ∷ indexed_from (n + 1) cs
 
--- the claims with their turns, in the order of the pushes
-abbrev pub turns : {C : Type 0} → List C → List (IndexedClaim C)
-turns = indexed_from 0
+-- the claims with their indices, in the order of the pushes
+abbrev pub indexed : {C : Type 0} → List C → List (IndexedClaim C)
+indexed = indexed_from 0
 
--- the claims without their turns
+-- the claims without their indices
 abbrev pub claims_in : {C : Type 0} → List (IndexedClaim C) → List C
 claims_in {C} = map (λ (t : IndexedClaim C). t.claim)
 
 -- What a port knows: whose gates' claims its queue is for, once that is fixed; how many shares the queue has in all, and
 -- how many of them the port has (none before it is given one and after it was joined to another); and what was pushed and
--- what was taken through it, with the turns.
+-- what was taken through it, with the indices.
 pub record Ledger (G C : Type 0) : Type 0 where
   pub gates : Option G
   pub members : ℕ
@@ -41,11 +42,11 @@ opened gates members shares = record { gates = gates; members = members; shares 
 abbrev pub unused : {G C : Type 0} → Ledger G C
 unused = opened None 1 1
 
--- after this port's push of a claim at this turn
+-- after this port's push of a claim with its index
 abbrev pub pushing : {G C : Type 0} → Ledger G C → IndexedClaim C → Ledger G C
 pushing l t = record l { pushed = l.pushed ++ t ∷ [] }
 
--- after this port's take of a claim at this turn
+-- after this port's take of a claim with its index
 abbrev pub taking : {G C : Type 0} → Ledger G C → IndexedClaim C → Ledger G C
 taking l t = record l { taken = l.taken ++ t ∷ [] }
 

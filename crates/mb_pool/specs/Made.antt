@@ -30,11 +30,11 @@ IsOfKind Stealing pool = (pool.shared_port.capacity ≡ None) × (length pool.de
 pub record IsWhole {H : Type 0} (pool : PoolView H) : Type 0 where
   pub some : 0 < pool.ends
   pub deques : AreDeques 0 pool.deques
-  pub many : (pool.deques ≡ []) ⊎ (length pool.deques ≡ pool.ends)
+  pub same_count : (pool.deques ≡ []) ⊎ (length pool.deques ≡ pool.ends)
 
 -- nothing was pushed or taken through these yet
 abbrev pub AreUnused : {H : Type 0} → List (PoolEndpoint H) → Type 0
-AreUnused ways = (pushed_by ways ≡ []) × (taken_by ways ≡ [])
+AreUnused endpoints = (pushed_by endpoints ≡ []) × (taken_by endpoints ≡ [])
 
 -- a new pool of this kind for the claims of these gates, with this many ends and feeds
 pub record IsBegun {H : Type 0} (origin : Origin H) (kind : PoolKind) (workers feeds : ℕ) (pool : PoolView H)
@@ -49,4 +49,4 @@ pub record IsBegun {H : Type 0} (origin : Origin H) (kind : PoolKind) (workers f
 
 -- what is left of a pool: what was taken, and what is left, is what was pushed, each claim once
 abbrev pub IsLeft : {H : Type 0} → List (PoolEndpoint H) → List (Claim H) → Type 0
-IsLeft ways left = IsPermutation (taken_by ways ++ left) (pushed_by ways)
+IsLeft endpoints left = IsPermutation (taken_by endpoints ++ left) (pushed_by endpoints)

@@ -14,4 +14,4 @@ pushed_first (look ∷ rest) = claims_in look.ledger.pushed
 
 -- the pool refused this claim of an end or a feed, for a reason of its own
 abbrev pub IsRefusedByPool : {H : Type 0} → (Option (Origin H) → Claim H → Type 0) → PoolEndpoint H → Claim H → Type 0
-IsRefusedByPool {H} IsFit way claim = (refused : ClaimRefused H) × (given_back refused ≡ claim) × IsRefusedBy IsFit way refused
+IsRefusedByPool {H} IsFit endpoint claim = (refused : ClaimRefused H) × (given_back refused ≡ claim) × IsRefusedBy IsFit endpoint refused

@@ -1,6 +1,6 @@
 -- The rule of a queue of the pool: what holds between any two steps of any threads (this project's own profile).
 use Rattle.std.specs.Prelude.{◌≡◌, ℕ, ◌<◌, ◌≤◌, List, [], ◌∷◌, ◌++◌, length, All, IsPermutation, flat_map, sum_by, Option}
-use Rattle.mb_pool.specs.Ledger.{IndexedClaim, turn, turns, Ledger, pushing, taking}
+use Rattle.mb_pool.specs.Ledger.{IndexedClaim, indexed_claim, indexed, Ledger, pushing, taking}
 
 module _ {G C : Type 0} where
   -- all that was pushed through these ports, and all that was taken
@@ -29,8 +29,8 @@ module _ {G C : Type 0} (IsFit : Option G → C → Type 0) where
     pub members : ℕ
     pub gone : List C
     pub fit : All (IsFit gates) (gone ++ items)
-    pub came : IsPermutation (all_pushed ledgers) (turns (gone ++ items))
-    pub went : IsPermutation (all_taken ledgers) (turns gone)
+    pub came : IsPermutation (all_pushed ledgers) (indexed (gone ++ items))
+    pub went : IsPermutation (all_taken ledgers) (indexed gone)
     pub whole : all_shares ledgers ≡ members
     pub agree : All (Agrees gates members) ledgers
 
@@ -41,15 +41,15 @@ module _ {G C : Type 0} (IsFit : Option G → C → Type 0) where
     pub pushed : List (IndexedClaim C)
     pub taken : List (IndexedClaim C)
     pub fit : All (IsFit l.gates) (gone ++ items)
-    pub came : IsPermutation (l.pushed ++ pushed) (turns (gone ++ items))
-    pub went : IsPermutation (l.taken ++ taken) (turns gone)
-    pub few : l.shares ≤ l.members
+    pub came : IsPermutation (l.pushed ++ pushed) (indexed (gone ++ items))
+    pub went : IsPermutation (l.taken ++ taken) (indexed gone)
+    pub within_limit : l.shares ≤ l.members
     pub alone : l.shares ≡ l.members → (pushed ≡ []) × (taken ≡ [])
 
   -- the claim was pushed behind all that the queue held
   abbrev pub PutsLast : Ledger G C → C → Ledger G C → Type 0
-  PutsLast old c new = (items : List C) × (m : Moment old items) × (new ≡ pushing old (turn (length (m.gone ++ items)) c))
+  PutsLast old c new = (items : List C) × (m : Moment old items) × (new ≡ pushing old (indexed_claim (length (m.gone ++ items)) c))
 
   -- the claim was the first that the queue held, so the one that was pushed first
   abbrev pub TakesFirst : Ledger G C → C → Ledger G C → Type 0
-  TakesFirst old c new = (rest : List C) × (m : Moment old (c ∷ rest)) × (new ≡ taking old (turn (length m.gone) c))
+  TakesFirst old c new = (rest : List C) × (m : Moment old (c ∷ rest)) × (new ≡ taking old (indexed_claim (length m.gone) c))

@@ -93,7 +93,7 @@ impl<H: MailboxState> Deque<H> {
         requires shares { 1 < (worker_view self.old.worker).shares }
         ensures same { (worker_deque self.new.worker ≡ worker_deque self.old.worker)
             × (worker_flavor self.new.worker ≡ worker_flavor self.old.worker) }
-        ensures theirs { IsPassOf (worker_deque self.old.worker) result }
+        ensures same_deque { IsPassOf (worker_deque self.old.worker) result }
         ensures lent { worker_view self.new.worker ≡ lending 1 (worker_view self.old.worker) }
         ensures borrowed { view result ≡ borrowing 1 (worker_view self.old.worker) }
     {
@@ -102,7 +102,7 @@ impl<H: MailboxState> Deque<H> {
 
     /// Joins another pass, with its shares and its account.
     pub fn join(&mut self, other: DequePass<H>)
-        requires theirs { IsPassOf (worker_deque self.old.worker) other }
+        requires same_deque { IsPassOf (worker_deque self.old.worker) other }
         requires shares { (0 < (worker_view self.old.worker).shares) × (0 < (view other).shares) }
         ensures same { (worker_deque self.new.worker ≡ worker_deque self.old.worker)
             × (worker_flavor self.new.worker ≡ worker_flavor self.old.worker) }

@@ -36,11 +36,11 @@ impl<H: MailboxState> RunQueue<H> for FeedPort<H> {
     ghost use Rattle.mb_pool.specs.Places.{gates_of, looks, parts_of};
     ghost use Rattle.mb_pool.specs.PoolPorts.{IsRefusedByPool, pushed_first};
 
-    ghost origin = { λ way. gates_of way.feed };
+    ghost origin = { λ port. gates_of port.feed };
 
-    ghost pushed = { λ way. pushed_first (looks way.feed) };
+    ghost pushed = { λ port. pushed_first (looks port.feed) };
 
-    ghost refused = { λ way. map (λ claim. claim.value) way.refused };
+    ghost refused = { λ port. map (λ claim. claim.value) port.refused };
 
     #[inline(always)]
     fn push<R: Wait>(&mut self, rt: &R, claim: Claim<H>) -> Result<(), RefusedClaim<H>>

@@ -99,7 +99,7 @@ impl<H: MailboxState> OwnDeque<H> {
     /// The same under a brand that stands for the gates and the number of ports.
     fn open_as<S: Scoped<H>>(&mut self, gates: &Gates<H>, members: usize)
         requires unused { self.old.ledger ≡ unused }
-        requires these { (S.gates ≡ Some (origin_of gates.now)) × (S.members ≡ members) }
+        requires same_origin { (S.gates ≡ Some (origin_of gates.now)) × (S.members ≡ members) }
         ensures { self.new ≡ record self.old { ledger = opened (Some (origin_of gates.now)) members members } }
     {
         // Only the contract uses them: `S` stands for them in it.

@@ -80,7 +80,7 @@ impl<H: MailboxState> SharedPort<H> {
     /// The same under a brand that stands for the gates and the number of ports.
     fn open_as<S: Scoped<H>>(&mut self, gates: &Gates<H>, members: usize)
         requires unused { (look_of self.old).ledger ≡ unused }
-        requires these { (S.gates ≡ Some (origin_of gates.now)) × (S.members ≡ members) }
+        requires same_origin { (S.gates ≡ Some (origin_of gates.now)) × (S.members ≡ members) }
         ensures { look_of self.new ≡ record (look_of self.old) { ledger = opened (Some (origin_of gates.now)) members members } }
     {
         // Only the contract uses them: `S` stands for them in it.

@@ -82,7 +82,7 @@ impl<H: MailboxState> Slots<H> {
         requires queue { IsPassOf self.now.queue pass.old }
         requires shares { 1 < (view pass.old).shares }
         ensures queue { (IsPassOf self.now.queue pass.new) × (pass.new.table_id ≡ pass.old.table_id) }
-        ensures theirs { (IsPassOf self.now.queue result) × (result.table_id ≡ pass.old.table_id) }
+        ensures same_deque { (IsPassOf self.now.queue result) × (result.table_id ≡ pass.old.table_id) }
         ensures lent { view pass.new ≡ lending 1 (view pass.old) }
         ensures borrowed { view result ≡ borrowing 1 (view pass.old) }
     {

@@ -42,9 +42,9 @@ pub fn are_of<H: MailboxState>(
     first: u32,
     end: u32,
 ) -> bool
-    requires ours { pass_id pass.old ≡ gates_id gates.now }
+    requires same_gates { pass_id pass.old ≡ gates_id gates.now }
     requires fit { All (IsUntouched H.is_of H.facts (Some (origin_of gates.now))) claims.items }
-    ensures ours { pass_id pass.new ≡ gates_id gates.now }
+    ensures same_gates { pass_id pass.new ≡ gates_id gates.now }
 {
     let mut are_those = true;
     let mut next = end;

@@ -23,8 +23,8 @@ pub struct TestPool<H: MailboxState> {
     pub pool: Pool<H>,
     pub ends: Vec<PoolEnd<H>>,
     pub feeds: Vec<Feed<H>>,
-    ghost ours: { pass_id pass ≡ gates_id gates },
-    ghost these: { pool.gates ≡ origin_of gates },
+    ghost same_gates: { pass_id pass ≡ gates_id gates },
+    ghost same_origin: { pool.gates ≡ origin_of gates },
     ghost are_ends: { AreEnds pool ends.items },
     ghost are_feeds: { AreFeeds pool feeds.items },
 }

@@ -55,12 +55,12 @@ fn all_work<R: Threads + Wait + Sync>(
     feeds: &mut Vec<Feed<StubHome>>,
     moved: &AtomicU64,
 ) -> Option<()>
-    requires ours { pass_id pass.old ≡ gates_id gates.now }
-    requires there { actors_of gates.now ≡ 80 }
-    requires these { pool.now.gates ≡ origin_of gates.now }
+    requires same_gates { pass_id pass.old ≡ gates_id gates.now }
+    requires present { actors_of gates.now ≡ 80 }
+    requires same_origin { pool.now.gates ≡ origin_of gates.now }
     requires are_ends { AreEnds pool.now ends.old.items }
     requires are_feeds { AreFeeds pool.now feeds.old.items }
-    ensures ours { pass_id pass.new ≡ gates_id gates.now }
+    ensures same_gates { pass_id pass.new ≡ gates_id gates.now }
     ensures are_ends { IfSome result (λ _. AreEnds pool.now ends.new.items) }
     ensures are_feeds { IfSome result (λ _. AreFeeds pool.now feeds.new.items) }
 {
@@ -93,13 +93,13 @@ fn four_work<R: Threads + Wait + Sync>(
     (PoolEnd<StubHome>, PoolEnd<StubHome>),
     (PoolEnd<StubHome>, Feed<StubHome>),
 )
-    requires ours { pass_id pass.old ≡ gates_id gates.now }
-    requires there { actors_of gates.now ≡ 80 }
+    requires same_gates { pass_id pass.old ≡ gates_id gates.now }
+    requires present { actors_of gates.now ≡ 80 }
     requires first { gates_of first ≡ Some (origin_of gates.now) }
     requires second { gates_of second ≡ Some (origin_of gates.now) }
     requires third { gates_of third ≡ Some (origin_of gates.now) }
     requires feed { gates_of feed ≡ Some (origin_of gates.now) }
-    ensures ours { pass_id pass.new ≡ gates_id gates.now }
+    ensures same_gates { pass_id pass.new ≡ gates_id gates.now }
     ensures first { parts_of result.0.0 ≡ parts_of first }
     ensures second { parts_of result.0.1 ≡ parts_of second }
     ensures third { parts_of result.1.0 ≡ parts_of third }
@@ -112,14 +112,14 @@ fn four_work<R: Threads + Wait + Sync>(
     join(
         rt,
         || -> (PoolEnd<StubHome>, PoolEnd<StubHome>)
-            requires ours { (pass_id a ≡ gates_id gates.now) × (pass_id b ≡ gates_id gates.now) }
-            requires these { (gates_of first ≡ Some (origin_of gates.now)) × (gates_of second ≡ Some (origin_of gates.now)) }
+            requires same_gates { (pass_id a ≡ gates_id gates.now) × (pass_id b ≡ gates_id gates.now) }
+            requires same_origin { (gates_of first ≡ Some (origin_of gates.now)) × (gates_of second ≡ Some (origin_of gates.now)) }
             ensures same { (parts_of result.0 ≡ parts_of first) × (parts_of result.1 ≡ parts_of second) }
         { two_work(rt, gates, (first, a), (second, b), moved) },
         || -> (PoolEnd<StubHome>, Feed<StubHome>)
-            requires ours { (pass_id c ≡ gates_id gates.now) × (pass_id d ≡ gates_id gates.now) }
-            requires there { actors_of gates.now ≡ 80 }
-            requires these { (gates_of third ≡ Some (origin_of gates.now)) × (gates_of feed ≡ Some (origin_of gates.now)) }
+            requires same_gates { (pass_id c ≡ gates_id gates.now) × (pass_id d ≡ gates_id gates.now) }
+            requires present { actors_of gates.now ≡ 80 }
+            requires same_origin { (gates_of third ≡ Some (origin_of gates.now)) × (gates_of feed ≡ Some (origin_of gates.now)) }
             ensures same { (parts_of result.0 ≡ parts_of third) × (parts_of result.1 ≡ parts_of feed) }
         { work_and_supply(rt, gates, (third, c), feed, d, moved) },
     )
@@ -132,8 +132,8 @@ fn two_work<R: Threads + Wait + Sync>(
     second: Worker,
     moved: &AtomicU64,
 ) -> (PoolEnd<StubHome>, PoolEnd<StubHome>)
-    requires ours { (pass_id first.1 ≡ gates_id gates.now) × (pass_id second.1 ≡ gates_id gates.now) }
-    requires these { (gates_of first.0 ≡ Some (origin_of gates.now)) × (gates_of second.0 ≡ Some (origin_of gates.now)) }
+    requires same_gates { (pass_id first.1 ≡ gates_id gates.now) × (pass_id second.1 ≡ gates_id gates.now) }
+    requires same_origin { (gates_of first.0 ≡ Some (origin_of gates.now)) × (gates_of second.0 ≡ Some (origin_of gates.now)) }
     ensures same { (parts_of result.0 ≡ parts_of first.0) × (parts_of result.1 ≡ parts_of second.0) }
 {
     let (end, pass) = first;
@@ -141,13 +141,13 @@ fn two_work<R: Threads + Wait + Sync>(
     join(
         rt,
         || -> PoolEnd<StubHome>
-            requires ours { pass_id pass ≡ gates_id gates.now }
-            requires these { gates_of end ≡ Some (origin_of gates.now) }
+            requires same_gates { pass_id pass ≡ gates_id gates.now }
+            requires same_origin { gates_of end ≡ Some (origin_of gates.now) }
             ensures same { parts_of result ≡ parts_of end }
         { work(rt, gates, pass, end, moved) },
         || -> PoolEnd<StubHome>
-            requires ours { pass_id of_other ≡ gates_id gates.now }
-            requires these { gates_of other ≡ Some (origin_of gates.now) }
+            requires same_gates { pass_id of_other ≡ gates_id gates.now }
+            requires same_origin { gates_of other ≡ Some (origin_of gates.now) }
             ensures same { parts_of result ≡ parts_of other }
         { work(rt, gates, of_other, other, moved) },
     )
@@ -161,23 +161,23 @@ fn work_and_supply<R: Threads + Wait + Sync>(
     supplier: Pass<StubHome>,
     moved: &AtomicU64,
 ) -> (PoolEnd<StubHome>, Feed<StubHome>)
-    requires ours { (pass_id worker.1 ≡ gates_id gates.now) × (pass_id supplier ≡ gates_id gates.now) }
-    requires there { actors_of gates.now ≡ 80 }
-    requires these { (gates_of worker.0 ≡ Some (origin_of gates.now)) × (gates_of feed ≡ Some (origin_of gates.now)) }
+    requires same_gates { (pass_id worker.1 ≡ gates_id gates.now) × (pass_id supplier ≡ gates_id gates.now) }
+    requires present { actors_of gates.now ≡ 80 }
+    requires same_origin { (gates_of worker.0 ≡ Some (origin_of gates.now)) × (gates_of feed ≡ Some (origin_of gates.now)) }
     ensures same { (parts_of result.0 ≡ parts_of worker.0) × (parts_of result.1 ≡ parts_of feed) }
 {
     let (end, pass) = worker;
     join(
         rt,
         || -> PoolEnd<StubHome>
-            requires ours { pass_id pass ≡ gates_id gates.now }
-            requires these { gates_of end ≡ Some (origin_of gates.now) }
+            requires same_gates { pass_id pass ≡ gates_id gates.now }
+            requires same_origin { gates_of end ≡ Some (origin_of gates.now) }
             ensures same { parts_of result ≡ parts_of end }
         { work(rt, gates, pass, end, moved) },
         || -> Feed<StubHome>
-            requires ours { pass_id supplier ≡ gates_id gates.now }
-            requires there { actors_of gates.now ≡ 80 }
-            requires these { gates_of feed ≡ Some (origin_of gates.now) }
+            requires same_gates { pass_id supplier ≡ gates_id gates.now }
+            requires present { actors_of gates.now ≡ 80 }
+            requires same_origin { gates_of feed ≡ Some (origin_of gates.now) }
             ensures same { parts_of result ≡ parts_of feed }
         { supply(rt, gates, supplier, feed, moved) },
     )
@@ -185,8 +185,8 @@ fn work_and_supply<R: Threads + Wait + Sync>(
 
 /// Whether each actor can be scheduled.
 fn are_home(gates: &Gates<StubHome>, pass: &mut Pass<StubHome>) -> bool
-    requires ours { pass_id pass.old ≡ gates_id gates.now }
-    requires there { actors_of gates.now ≡ 80 }
+    requires same_gates { pass_id pass.old ≡ gates_id gates.now }
+    requires present { actors_of gates.now ≡ 80 }
 {
     let mut are_home = true;
     for actor in 0..ACTORS {

@@ -28,8 +28,8 @@ pub fn work<H: MailboxState, R: Wait>(
     mut end: PoolEnd<H>,
     moved: &AtomicU64,
 ) -> PoolEnd<H>
-    requires ours { pass_id pass ≡ gates_id gates.now }
-    requires these { gates_of end ≡ Some (origin_of gates.now) }
+    requires same_gates { pass_id pass ≡ gates_id gates.now }
+    requires same_origin { gates_of end ≡ Some (origin_of gates.now) }
     ensures same { parts_of result ≡ parts_of end }
 {
     for _ in rt.forever() {
@@ -53,9 +53,9 @@ fn move_one<H: MailboxState, R: Wait>(
     pass: &mut Pass<H>,
     end: &mut PoolEnd<H>,
 ) -> bool
-    requires ours { pass_id pass.old ≡ gates_id gates.now }
-    requires these { gates_of end.old ≡ Some (origin_of gates.now) }
-    ensures ours { pass_id pass.new ≡ pass_id pass.old }
+    requires same_gates { pass_id pass.old ≡ gates_id gates.now }
+    requires same_origin { gates_of end.old ≡ Some (origin_of gates.now) }
+    ensures same_gates { pass_id pass.new ≡ pass_id pass.old }
     ensures same { parts_of end.new ≡ parts_of end.old }
 {
     let Some(claim) = end.take(rt) else {
@@ -79,9 +79,9 @@ pub fn supply<H: MailboxState, R: Wait>(
     mut feed: Feed<H>,
     moved: &AtomicU64,
 ) -> Feed<H>
-    requires ours { pass_id pass ≡ gates_id gates.now }
-    requires there { actors_of gates.now ≡ 80 }
-    requires these { gates_of feed ≡ Some (origin_of gates.now) }
+    requires same_gates { pass_id pass ≡ gates_id gates.now }
+    requires present { actors_of gates.now ≡ 80 }
+    requires same_origin { gates_of feed ≡ Some (origin_of gates.now) }
     ensures same { parts_of result ≡ parts_of feed }
 {
     for _ in rt.forever() {
@@ -104,10 +104,10 @@ fn supply_one<H: MailboxState, R: Wait>(
     feed: &mut Feed<H>,
     actor: ActorId,
 )
-    requires ours { pass_id pass.old ≡ gates_id gates.now }
-    requires there { actor.0 < actors_of gates.now }
-    requires these { gates_of feed.old ≡ Some (origin_of gates.now) }
-    ensures ours { pass_id pass.new ≡ pass_id pass.old }
+    requires same_gates { pass_id pass.old ≡ gates_id gates.now }
+    requires present { actor.0 < actors_of gates.now }
+    requires same_origin { gates_of feed.old ≡ Some (origin_of gates.now) }
+    ensures same_gates { pass_id pass.new ≡ pass_id pass.old }
     ensures same { parts_of feed.new ≡ parts_of feed.old }
 {
     if let Some(claim) = attempt(gates, pass, actor)

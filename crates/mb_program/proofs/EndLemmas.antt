@@ -22,7 +22,7 @@ use Rattle.mb_shutdown.proofs.Lists.{at-place, length-mapped, there, within}
 use Rattle.mb_report.specs.declared.report.Report.{Report}
 use Rattle.mb_build.specs.Planned.{IsDirectoryOf}
 use Rattle.mb_startup.specs.Begun.{IsBegun}
-use Rattle.mb_dispatch.specs.Orders.{addressed, said_to, stopped_by}
+use Rattle.mb_dispatch.specs.Orders.{addressed, addressed_system, terminates_of}
 use Rattle.mb_system.specs.declared.built.Built.{Built}
 use Rattle.mb_system.specs.declared.end.WorkerEnd.{WorkerEnd}
 use Rattle.mb_system.specs.declared.sender.Sender.{Sender}
@@ -62,8 +62,8 @@ module _ {A K : Type 0} (after : ℕ → List Message → ℤ) (gives : ℕ → 
   spoken log number s all part goes_on = record {
     told = ap (λ l. addressed (accepted l)) (all.sent.posted ∙ ap (λ l. l ++ all.sent.more) all.unused) ∙ all.sent.accepted_are;
     view = pass_view s.inner.registrar.pass;
-    said = all.sent.said ∙ ap (λ l. reverse (stopped_by (orders_of number sends)) ++ said_to l) all.silent
-        ∙ append-nil (reverse (stopped_by (orders_of number sends)));
+    said = all.sent.system_sent ∙ ap (λ l. reverse (terminates_of (orders_of number sends)) ++ addressed_system l) all.silent
+        ∙ append-nil (reverse (terminates_of (orders_of number sends)));
     among = (part, goes_on);
   }
 
@@ -71,7 +71,7 @@ module _ {A K : Type 0} (after : ℕ → List Message → ℤ) (gives : ℕ → 
       → slice_get ended.answers number ≡ Some postings → HasSentAsOrdered sends ended.log report number postings
   spoken-at ready ended number postings is =
       let lt = within ended.answers number postings is in
-      let count = ended.answered.length_is in let many = ready.many in
+      let count = ended.answered.length_is in let many = ready.same_count in
       let found = there built.senders.items number (omega (arith, lt, count, many)) in
       let s = found.0 in
       let all : HasSentAll built.system.gates number (orders_of number sends) s =
@@ -85,7 +85,7 @@ module _ {A K : Type 0} (after : ℕ → List Message → ℤ) (gives : ℕ → 
       subst (HasSentAsOrdered sends ended.log report number) same
       (spoken ended.log number s all
       (at-place (λ (s : Sender A K). IsPart (pass_view s.inner.registrar.pass).log ended.log) built.senders.items number s ended.all_seen.1 found.1)
-      (at-place (λ (s : Sender A K). ReportExtendsAll report (pass_view s.inner.registrar.pass)) built.senders.items number s ended.goes_on.1 found.1))
+      (at-place (λ (s : Sender A K). ReportExtendsAll report (pass_view s.inner.registrar.pass)) built.senders.items number s ended.continues.1 found.1))
 
   pub has-run : IsReady (λ number. orders_of number sends) built → IsDirectoryOf plan (first_home built.system.gates).value.directory
       → built.system.senders ≡ plan.senders → built.system.workers ≡ plan.workers → IsEnded after gives built report
@@ -96,7 +96,7 @@ module _ {A K : Type 0} (after : ℕ → List Message → ℤ) (gives : ℕ → 
         planned = planned;
         log = ended.log;
         outside = ended.answers;
-        many = ended.answered.length_is ∙ senders;
+        same_count = ended.answered.length_is ∙ senders;
         whole = ended.whole;
         homes = record {
           first = (first_home built.system.gates).value;
@@ -109,13 +109,13 @@ module _ {A K : Type 0} (after : ℕ → List Message → ℤ) (gives : ℕ → 
         sent = spoken-at ready ended;
         ends = map knew built.ends.items;
         all_ends = length-mapped knew built.ends.items ∙ many-ends (λ number. orders_of number sends) built ready ∙ workers;
-        seen = All-map (IsSeenIn ended.log report) knew built.ends.items (λ k d lt. (ended.all_seen.0 k d lt, ended.goes_on.0 k d lt));
+        seen = All-map (IsSeenIn ended.log report) knew built.ends.items (λ k d lt. (ended.all_seen.0 k d lt, ended.continues.0 k d lt));
       }
 
   -- the report has a line for each actor of the plan, and the guardian's
   pub as-many-lines : HasRun after gives plan sends report → length report.actors.items ≡ length plan.actors.items + 1
   as-many-lines ran =
-      ran.whole.many.0 ∙ sym (length-map ran.directory (λ (e : DirectoryEntry). e.who)) ∙ ap length ran.planned.who
+      ran.whole.same_count.0 ∙ sym (length-map ran.directory (λ (e : DirectoryEntry). e.who)) ∙ ap length ran.planned.who
       ∙ length-who plan.journal_limit plan.actors.items
 
 module _ {A K : Type 0} (after : ℕ → List Message → ℤ) (gives : ℕ → Moment → Reply → Type 0) (plan : Plan) (sends : List SenderOrder) (first : Built A K)

@@ -54,7 +54,7 @@ module _ {A K : Type 0} (orders : ℕ → List Order) where
     jobs-ours none number (x ∷ senders) [] are all = absurd are
     jobs-ours none number (x ∷ senders) (k ∷ jobs) are all =
         All-cons (λ (j : Job A K). IsSenderOf gates j.sender.inner) k jobs
-        (subst (λ (s : Sender A K). IsSenderOf gates s.inner) (sym are.0) all.0.ours) (jobs-ours none (number + 1) senders jobs are.2 all.1)
+        (subst (λ (s : Sender A K). IsSenderOf gates s.inner) (sym are.0) all.0.same_gates) (jobs-ours none (number + 1) senders jobs are.2 all.1)
 
     -- jobs that are done have sent what they were to send
     pub jobs-done : (number : ℕ) (senders : List (Sender A K)) (jobs done : List (Job A K)) → AreJobs orders number senders jobs

@@ -70,14 +70,14 @@ module _ {A K : Type 0} where
     once = subst (AllPairs (λ (a b : ℕ). a ≢ b)) (sym (numbers-of built.system.gates orders 0 built.senders.items ready.senders))
         (different (length built.senders.items));
     numbered = numbered built.system.gates orders 0 built.system.senders built.senders.items ready.senders
-        (let many = ready.many in omega (arith, many));
+        (let many = ready.same_count in omega (arith, many));
   }
 
   pub complete : (orders : ℕ → List Order) (built : Built A K) → IsReady orders built → IsComplete built
   complete orders built ready = (
     all-there built.system.workers (ends_numbers built.ends.items) ready.numbered,
     all-there built.system.senders (senders_numbers built.senders.items)
-        (numbers-of built.system.gates orders 0 built.senders.items ready.senders ∙ ap (numbers 0) ready.many),
+        (numbers-of built.system.gates orders 0 built.senders.items ready.senders ∙ ap (numbers 0) ready.same_count),
   )
 
   -- there are as many ends as workers; so there is one

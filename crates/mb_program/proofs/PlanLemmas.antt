@@ -34,7 +34,7 @@ module _ {A K : Type 0} (gives : ℕ → Moment → Reply → Type 0) (plan : Pl
   new-senders number (row ∷ rows) [] are = absurd are
   new-senders number (row ∷ rows) (s ∷ senders) are = (
     record {
-      ours = are.0.ours;
+      same_gates = are.0.same_gates;
       by = ap (λ b. b.0) are.0.by;
       first = s;
       unused = are.0.posted;
@@ -51,7 +51,7 @@ module _ {A K : Type 0} (gives : ℕ → Moment → Reply → Type 0) (plan : Pl
     ends = begun.together.ends;
     numbered = ends-there gives plan built begun ∙ ap (numbers 0) (sym begun.numbers.0);
     senders = new-senders 0 begun.outside built.senders.items begun.senders;
-    many = (senders-there gives plan built begun).0 ∙ sym begun.numbers.1;
+    same_count = (senders-there gives plan built begun).0 ∙ sym begun.numbers.1;
   }
 
   -- what can be sent to the plan's actors can be sent to the system's

@@ -120,7 +120,7 @@ of-document top plan none planned =
     let workers : plan.workers ≡ max 1 (workers_in top) = ap (λ (p : PlanData). p.workers) planned in
     let limit : plan.journal_limit ≡ number_or 4294967295 (get_member (codes "journal_limit") top) =
     ap (λ (p : PlanData). p.journal_limit) planned in
-    let few = is.few in
+    let few = is.within_limit in
     let most_senders = right.0 in
     let most_workers = is.workers in
     let least_limit = is.limit in

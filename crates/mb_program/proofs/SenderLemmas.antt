@@ -30,7 +30,7 @@ module _ {A K : Type 0} where
     pub all-then : (number : ℕ) (xs ys : List Order) (s t : Sender A K) → HasSentAll gates number xs s → HasSent ys s t → IsSenderOf gates t.inner
         → HasSentAll gates number (xs ++ ys) t
     all-then number xs ys s t all more ours = record {
-      ours = ours;
+      same_gates = ours;
       by = ap (λ b. b.0) more.by ∙ all.by;
       first = all.first;
       unused = all.unused;
@@ -79,7 +79,7 @@ module _ {A K : Type 0} where
         → All (λ (s : Sender A K). IsSenderOf gates s.inner) senders
     all-ours orders number [] all = All-nil (λ (s : Sender A K). IsSenderOf gates s.inner)
     all-ours orders number (s ∷ senders) all =
-        All-cons (λ (s : Sender A K). IsSenderOf gates s.inner) s senders all.0.ours (all-ours orders (number + 1) senders all.1)
+        All-cons (λ (s : Sender A K). IsSenderOf gates s.inner) s senders all.0.same_gates (all-ours orders (number + 1) senders all.1)
 
     -- the same where they are numbered from 0 on
     pub sender-here : (orders : ℕ → List Order) (senders : List (Sender A K)) (i : ℕ) (s : Sender A K) → HaveSentAll gates orders 0 senders

@@ -8,3 +8,4 @@ pub mod Broken
 pub mod Scripts
 pub mod Scenario
 pub mod Answer
+pub mod RunOf

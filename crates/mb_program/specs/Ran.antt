@@ -12,7 +12,7 @@ use Rattle.mb_msg.specs.declared.order.SenderOrder.{SenderOrder}
 use Rattle.mb_shutdown.specs.Seen.{ReportExtendsAll}
 use Rattle.mb_shutdown.specs.CompleteReport.{IsCompleteReport}
 use Rattle.mb_report.specs.declared.report.Report.{Report}
-use Rattle.mb_dispatch.specs.Orders.{addressed, said_to, stopped_by, told_by}
+use Rattle.mb_dispatch.specs.Orders.{addressed, addressed_system, terminates_of, envelopes_of}
 use Rattle.mb_build.specs.Planned.{IsDirectoryOf}
 use Rattle.mb_shutdown.specs.ReportedHomes.{IsOfHomes}
 use Rattle.mb_program.specs.Orders.{orders_of}
@@ -24,9 +24,9 @@ IsSeenIn log report view = IsPart view.log log × ReportExtendsAll report view
 -- The sender of this number was answered for the envelopes of all its sends, each as often as it says, in the order of the text, and for nothing
 -- else. It sent a Terminate for each of its stops, as often, in that order, and no other system message; these stand newest first.
 pub record HasSentAsOrdered (sends : List SenderOrder) (log : List Observation) (report : Report) (number : ℕ) (postings : List SentEnvelope) : Type 0 where
-  pub told : addressed (accepted postings) ≡ told_by (orders_of number sends)
+  pub told : addressed (accepted postings) ≡ envelopes_of (orders_of number sends)
   pub view : View
-  pub said : said_to view.said ≡ reverse (stopped_by (orders_of number sends))
+  pub said : addressed_system view.said ≡ reverse (terminates_of (orders_of number sends))
   pub among : IsSeenIn log report view
 
 -- The report of a run. It tells of all actors of this plan, each of which does what is said of its number, and of senders outside each of which sent
@@ -37,7 +37,7 @@ pub record HasRun (after : ℕ → List Message → ℤ) (gives : ℕ → Moment
   pub planned : IsDirectoryOf plan directory
   pub log : List Observation
   pub outside : List (List SentEnvelope)
-  pub many : length outside ≡ plan.senders
+  pub same_count : length outside ≡ plan.senders
   pub whole : IsCompleteReport after gives directory log outside report
   pub homes : IsOfHomes gives directory report
   pub sent : (number : ℕ) (postings : List SentEnvelope) → slice_get outside number ≡ Some postings → HasSentAsOrdered sends log report number postings

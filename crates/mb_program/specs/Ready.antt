@@ -24,7 +24,7 @@ module _ {A K : Type 0} where
     pub ends : AreEndsOf built.system.gates built.ends.items
     pub numbered : ends_numbers built.ends.items ≡ numbers 0 built.system.workers
     pub senders : HaveSentAll built.system.gates orders 0 built.senders.items
-    pub many : length built.senders.items ≡ built.system.senders
+    pub same_count : length built.senders.items ≡ built.system.senders
 
   -- The report tells of all actors of the system and of what its senders were answered. It is made of what the gates gave back, and extends what
   -- senders and ends saw.
@@ -35,5 +35,5 @@ module _ {A K : Type 0} where
     pub answered : AreAnswers built.system.senders built.senders.items answers
     pub whole : IsCompleteReport after gives (first_home built.system.gates).value.directory log answers report
     pub home : HasHomesReturned gives built report
-    pub goes_on : All (λ (e : WorkerEnd A K). ReportExtendsAll report (pass_view e.registrar.pass)) built.ends.items
+    pub continues : All (λ (e : WorkerEnd A K). ReportExtendsAll report (pass_view e.registrar.pass)) built.ends.items
         × All (λ (s : Sender A K). ReportExtendsAll report (pass_view s.inner.registrar.pass)) built.senders.items

@@ -14,7 +14,7 @@ use Rattle.mb_dispatch.specs.declared.job.Job.{Job}
 module _ {A K : Type 0} (gates : Gates (Box Contents)) where
   -- The sender of this number, counted from 0, had been answered for nothing and had sent no system message at first, and it sent these orders since.
   pub record HasSentAll (number : ℕ) (orders : List Order) (s : Sender A K) : Type 0 where
-    pub ours : IsSenderOf gates s.inner
+    pub same_gates : IsSenderOf gates s.inner
     pub by : s.inner.send_log.by.0 ≡ most_actors + number
     pub first : Sender A K
     pub unused : first.inner.send_log.posted ≡ []

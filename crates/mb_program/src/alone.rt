@@ -12,18 +12,18 @@ ghost use Rattle.mb_streams.specs.declared.fault.RunFault.TheVariants.{NoMemory}
 
 use crate::fault::of_run;
 use mb_actor::{Actor, Behaviours};
-use mb_dispatch::{run_quietly, send_all};
+use mb_dispatch::{Turn, run_quietly, send_all};
 use mb_msg::{Order, SenderOrder};
 use mb_streams::RunFault;
 use mb_system::{Built, Sender, System};
 use std::sync::Wait;
 
-/// Sends all, and runs what there is to run.
+/// Sends all, and runs what there is to run. It answers what each run of a mailbox did, in order.
 pub(crate) fn run_alone<A: Actor, K: Behaviours, R: Wait>(
     rt: &R,
     built: &mut Built<A, K>,
     sends: &[SenderOrder],
-) -> Result<(), RunFault>
+) -> Result<Vec<Turn>, RunFault>
     requires ready { IsReady (λ _. []) built.old }
     requires sendable { AreSendable built.old.system.senders (actors_of built.old.system.gates) sends.now }
     ensures system { built.new.system ≡ built.old.system }
@@ -31,10 +31,10 @@ pub(crate) fn run_alone<A: Actor, K: Behaviours, R: Wait>(
     ensures fault { IfErr result (IsBrokenOff K.gives built.old.system) }
 {
     send_in_turn(rt, &built.system, &mut built.senders, sends)?;
-    if let Err(error) = run_quietly(rt, &built.system, &mut built.ends[0]) {
-        return Err(of_run(error));
+    match run_quietly(rt, &built.system, &mut built.ends[0]) {
+        Ok(turns) => Ok(turns),
+        Err(error) => Err(of_run(error)),
     }
-    Ok(())
 }
 
 /// Has each sender send its own, in the order of the text.
@@ -46,7 +46,7 @@ fn send_in_turn<A: Actor, K: Behaviours, R: Wait>(
 ) -> Result<(), RunFault>
     requires unsent { HaveSentAll system.now.gates (λ _. []) 0 senders.old }
     requires sendable { AreSendable (length senders.old) (actors_of system.now.gates) sends.now }
-    ensures many { length senders.new ≡ length senders.old }
+    ensures same_count { length senders.new ≡ length senders.old }
     ensures sent { OnOk result (HaveSentAll system.now.gates (λ number. orders_of number sends.now) 0 senders.new) }
     ensures fault { IfErr result (λ fault. fault ≡ NoMemory) }
 {
@@ -64,9 +64,9 @@ fn send_one<A: Actor, K: Behaviours, R: Wait>(
     sender: &mut Sender<A, K>,
     order: Order,
 ) -> Result<(), RunFault>
-    requires ours { IsSenderOf system.now.gates sender.old.inner }
-    requires there { IsOrderable (actors_of system.now.gates) order }
-    ensures ours { IsSenderOf system.now.gates sender.new.inner }
+    requires same_gates { IsSenderOf system.now.gates sender.old.inner }
+    requires present { IsOrderable (actors_of system.now.gates) order }
+    ensures same_gates { IsSenderOf system.now.gates sender.new.inner }
     ensures sent { OnOk result (HasSent (order ∷ []) sender.old sender.new) }
     ensures fault { IfErr result (λ fault. fault ≡ NoMemory) }
 {

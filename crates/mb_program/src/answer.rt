@@ -2,13 +2,10 @@
 ghost use Rattle.std.specs.Prelude.{IfErr, IfOk, string_bytes};
 ghost use Rattle.mb_program.specs.Answer.{IsReport, IsRefused};
 
-use crate::running::run;
+use crate::scenario::{ScenarioRun, run_scenario};
 use mb_report::report_text;
-use mb_scenario::{Scenario, read};
-use mb_script::Script;
 use mb_streams::ProgramError;
 use std::alloc::Global;
-use std::marker::Brand;
 use std::sync::Wait;
 use std::thread::Threads;
 
@@ -21,13 +18,6 @@ pub fn answer<R: Threads + Wait + Sync>(
     ensures report { IfOk result (λ report. IsReport text.now (string_bytes report)) }
     ensures refused { IfErr result (IsRefused text.now) }
 {
-    let Scenario {
-        plan,
-        names,
-        scripts,
-        sends,
-        quiet,
-    } = read(alloc, text)?;
-    let report = run::<Script, Brand, R>(rt, alloc, plan, scripts, &sends, quiet)?;
-    Ok(report_text(alloc, &report, &names)?)
+    let ScenarioRun { names, run } = run_scenario(rt, alloc, text)?;
+    Ok(report_text(alloc, &run.report, &names)?)
 }

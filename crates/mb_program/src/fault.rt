@@ -8,7 +8,7 @@ use mb_system::RunError;
 
 /// Why a run was broken off whose orders name actors that there are.
 pub(crate) fn of_run(error: RunError) -> RunFault
-    requires there { error ≢ Fault.NoSuchActor }
+    requires present { error ≢ Fault.NoSuchActor }
     ensures { IsFaultOfRun error result }
 {
     match error {

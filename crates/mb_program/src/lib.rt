@@ -11,8 +11,10 @@ mod drive;
 mod fault;
 mod orders;
 mod running;
+mod scenario;
 mod together;
 
 pub use drive::run_program;
 pub use mb_streams::{RunFault, TrackedStream};
-pub use running::run;
+pub use running::{FinishedRun, run};
+pub use scenario::{ScenarioRun, run_scenario};

@@ -48,7 +48,7 @@ fn jobs_of<A: Actor, K: Behaviours>(
     senders: Vec<Sender<A, K>>,
     sends: &[SenderOrder],
 ) -> Result<Vec<Job<A, K>>, AllocError>
-    requires few { length senders.items ≤ 16 }
+    requires within_limit { length senders.items ≤ 16 }
     ensures { IfOk result (λ jobs. AreJobs (λ number. orders_of number sends.now) 0 senders.items jobs.items) }
 {
     let mut jobs = Vec::with_capacity(alloc, senders.len())?;

@@ -9,7 +9,7 @@ use Rattle.std.proofs.lemmas.List.Sums.{sum_by-append, sum_by-cons}
 use Rattle.mb_msg.specs.declared.envelope.Envelope.{Envelope}
 use Rattle.mb_queue.specs.declared.ledger.Account.{Account}
 use Rattle.mb_queue.specs.Ledger.{account, is_control, sent_by}
-use Rattle.mb_queue.specs.Port.{LanePort}
+use Rattle.mb_queue.specs.Port.{FifoPort}
 use Rattle.mb_queue.proofs.Lists.{sent_by-mine}
 use Rattle.mb_queue.specs.declared.priority_state.PriorityState.{PriorityState}
 use Rattle.mb_queue.specs.declared.take_order.TakeOrder.{TakeOrder}
@@ -21,7 +21,7 @@ use Rattle.mb_queue.specs.Steps.{Begins, IsStep, RankTakes}
 use Rattle.mb_queue.specs.Takes.{AllBegin, AllOut, IsSameBag}
 use Rattle.mb_queue.proofs.Bags.{count-filter, filter-swap}
 use Rattle.mb_queue.proofs.Taken.{filter-more}
-use Rattle.mb_queue.proofs.Takings.{came_all, given_known, rank_bag, turn_some}
+use Rattle.mb_queue.proofs.Takings.{came_all, given_known, rank_bag, take_some}
 
 -- one more, and some that follow
 count_more : (test : Envelope → Bool) (out rest : List Envelope) (e : Envelope) → test e ≡ true
@@ -60,9 +60,9 @@ module _ (sender : ℕ) (pushed taken : List Envelope) (bag : IsSameBag pushed (
 
   no_more_of_two : (accounts : List Account) (e : Envelope) → account accounts sender ≡ Some pushed → sender ≡ e.by.0 → (b : Bool) → is_control e ≡ b
       → MatchBool b (AllBegin controls accounts (taken ++ e ∷ [])) (AllOut controls accounts taken × AllBegin others accounts (taken ++ e ∷ [])) → ⊥
-  no_more_of_two accounts e is by true control turn = let next = turn sender pushed is in
+  no_more_of_two accounts e is by true control took = let next = took sender pushed is in
       no_more_of is_control e next.0 control by next.1
-  no_more_of_two accounts e is by false control turn = let next = turn.1 sender pushed is in
+  no_more_of_two accounts e is by false control took = let next = took.1 sender pushed is in
       no_more_of (λ x. not (is_control x)) e next.0 (ap not control) by next.1
 
   -- of all that came in, nor of what is held of it
@@ -81,9 +81,9 @@ pushed_of : (o : Option (List Envelope)) → IsSome o → (pushed : List Envelop
 pushed_of None is = absurd (false≢true is)
 pushed_of (Some pushed) is = (pushed, refl)
 
-module _ (main : LanePort) (taken : List Envelope) (accounts : List Account) (choice : PriorityState)
+module _ (main : FifoPort) (taken : List Envelope) (accounts : List Account) (choice : PriorityState)
     (kept : IsTaking main (ByRank choice) taken accounts) where
-  rank_emptied : (sender : ℕ) (pushed : List Envelope) (e : Envelope) (choice' : PriorityState) (main' : LanePort) → choice.waiting ≡ []
+  rank_emptied : (sender : ℕ) (pushed : List Envelope) (e : Envelope) (choice' : PriorityState) (main' : FifoPort) → choice.waiting ≡ []
       → IsSameBag pushed (sent_by sender taken) → account accounts sender ≡ Some pushed → sender ≡ e.by.0
       → RankTakes choice main (Some e) choice' main' → ⊥
   rank_emptied sender pushed e choice' main' none bag is by step =
@@ -101,27 +101,27 @@ module _ (main : LanePort) (taken : List Envelope) (accounts : List Account) (ch
       m.begins
 
 -- once nothing is left, no take gives an envelope
-pub emptied : (main : LanePort) (order : TakeOrder) (taken : List Envelope) (accounts : List Account) (e : Envelope) (main' : LanePort) (order' : TakeOrder)
+pub emptied : (main : FifoPort) (order : TakeOrder) (taken : List Envelope) (accounts : List Account) (e : Envelope) (main' : FifoPort) (order' : TakeOrder)
     → IsTaking main order taken accounts → IsStep main order (Some e) main' order' → NothingLeft (taking_of main order taken accounts) → ⊥
 emptied main FirstInFirstOut taken accounts e main' order' kept step nothing =
     let known = given_known main FirstInFirstOut taken accounts e main' order' kept step in
     let p = pushed_of (account accounts e.by.0) (nothing.0 e.by.0 known.0) in
-    let turn = turn_some main FirstInFirstOut taken accounts e main' order' kept step in
-    let next = turn.1 e.by.0 p.0 p.1 in
+    let took = take_some main FirstInFirstOut taken accounts e main' order' kept step in
+    let next = took.1 e.by.0 p.0 p.1 in
     no_more p.0 (sent_by e.by.0 taken) next.0 e (nothing.1 e.by.0 p.0 p.1)
     (next.1 ∙ ap (λ l. l ++ next.0) (sent_by-mine e.by.0 taken e refl))
 emptied main (ControlFirst control) taken accounts e main' order' kept step nothing =
     let known = given_known main (ControlFirst control) taken accounts e main' order' kept step in
     let p = pushed_of (account accounts e.by.0) (nothing.0 e.by.0 known.0) in
-    let turn = turn_some main (ControlFirst control) taken accounts e main' order' kept step in
-    no_more_of_two e.by.0 p.0 taken (nothing.1 e.by.0 p.0 p.1) accounts e p.1 refl (is_control e) refl turn.1
+    let took = take_some main (ControlFirst control) taken accounts e main' order' kept step in
+    no_more_of_two e.by.0 p.0 taken (nothing.1 e.by.0 p.0 p.1) accounts e p.1 refl (is_control e) refl took.1
 emptied main (ByRank choice) taken accounts e main' order' kept step nothing =
     let known = given_known main (ByRank choice) taken accounts e main' order' kept step in
     let p = pushed_of (account accounts e.by.0) (nothing.0 e.by.0 known.0) in
     rank_emptied main taken accounts choice kept e.by.0 p.0 e step.0 main' nothing.2 (nothing.1 e.by.0 p.0 p.1) p.1 refl step.2
 
 -- none is held after None
-pub none_held : (main : LanePort) (order : TakeOrder) (main' : LanePort) (order' : TakeOrder) → IsStep main order None main' order' → waiting_of order' ≡ []
+pub none_held : (main : FifoPort) (order : TakeOrder) (main' : FifoPort) (order' : TakeOrder) → IsStep main order None main' order' → waiting_of order' ≡ []
 none_held main FirstInFirstOut main' order' step = ap waiting_of step.0
 none_held main (ControlFirst control) main' order' step = ap waiting_of step.1
 none_held main (ByRank choice) main' order' step = ap waiting_of step.1 ∙ step.2.choice.1

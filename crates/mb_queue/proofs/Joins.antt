@@ -9,7 +9,7 @@ use Rattle.mb_queue.specs.declared.ledger.QueuePart.{QueuePart}
 use Rattle.mb_queue.specs.declared.ledger.QueuePart.TheVariants.{Whole, Controls, Others}
 use Rattle.mb_queue.specs.declared.ledger.Scope.{Scope}
 use Rattle.mb_queue.specs.Ledger.{home, joining}
-use Rattle.mb_queue.specs.Port.{LanePort}
+use Rattle.mb_queue.specs.Port.{FifoPort}
 use Rattle.mb_queue.specs.Rule.{Belongs}
 use Rattle.mb_queue.specs.declared.priority_state.PriorityState.{PriorityState}
 use Rattle.mb_queue.specs.declared.take_order.TakeOrder.TheVariants.{FirstInFirstOut, ControlFirst, ByRank}
@@ -18,10 +18,10 @@ use Rattle.mb_queue.specs.Parts.{accounts_of, controls, others}
 use Rattle.mb_queue.specs.Takes.{IsSameBag}
 use Rattle.mb_queue.proofs.Taken.{settled}
 
-abbrev pub joined : LanePort → LanePort → LanePort
+abbrev pub joined : FifoPort → FifoPort → FifoPort
 joined port own = record port { ledger = joining port.ledger own.ledger }
 
-joined_took : (scope scope' : Scope) (part : QueuePart) (out pushed : List Envelope) (accounts : List Account) (by : ℕ) (port own : LanePort)
+joined_took : (scope scope' : Scope) (part : QueuePart) (out pushed : List Envelope) (accounts : List Account) (by : ℕ) (port own : FifoPort)
     → Took port scope part out accounts → own.ledger ≡ Sender scope' by pushed
     → Took (joined port own) scope part out (accounts ++ home by pushed ∷ [])
 joined_took scope scope' part out pushed accounts by port own took sent i = joining (took i) (sent i)
@@ -31,7 +31,7 @@ joined_part : (part : List Envelope → List Envelope) (by : ℕ) (pushed : List
 joined_part part by pushed accounts = sym
     (map-append (λ (a : Account). record { by = a.by; pushed = option_map part a.pushed }) accounts (home by pushed ∷ []))
 
-module _ (main own : LanePort) (taken : List Envelope) (accounts : List Account) (by : ℕ) (pushed : List Envelope) where
+module _ (main own : FifoPort) (taken : List Envelope) (accounts : List Account) (by : ℕ) (pushed : List Envelope) where
   abbrev all : List Account
   all = accounts ++ home by pushed ∷ []
 
@@ -41,7 +41,7 @@ module _ (main own : LanePort) (taken : List Envelope) (accounts : List Account)
       settled (scope_in main.ledger) Whole taken all (joined main own)
       (joined_took (scope_in main.ledger) _ Whole taken pushed accounts by main own kept sent)
 
-  pub control_joined : (control his : LanePort) → IsTaking main (ControlFirst control) taken accounts → IsSending by own (Some his) pushed
+  pub control_joined : (control his : FifoPort) → IsTaking main (ControlFirst control) taken accounts → IsSending by own (Some his) pushed
       → IsTaking (joined main own) (ControlFirst (joined control his)) taken all
   control_joined control his kept sent =
       let scope = scope_in main.ledger in

@@ -15,65 +15,65 @@ use Rattle.mb_queue.specs.declared.waiting.Arrival.{Arrival}
 use Rattle.mb_queue.specs.WaitingHeap.{IsKept, LiesIn, same_slot, rank_heap_cmp}
 use Rattle.mb_queue.proofs.Slots.{comes, comes_apart, goes, goes_apart, stays_apart}
 
-abbrev Turns : Type 0
-Turns = BinaryHeap (Reverse RankKey) Global
+abbrev Keys : Type 0
+Keys = BinaryHeap (Reverse RankKey) Global
 
-pub nothing : (turns : Turns) (envelopes : Slab Envelope) → heap_items turns ≡ [] → IsHeap rank_heap_cmp (heap_items turns)
-    → 1024 ≤ heap_capacity turns → envelopes.slots ≡ [] → 1024 ≤ envelopes.capacity → IsKept turns envelopes
-nothing turns envelopes none ordered room vacant slots =
-    let empty : length (heap_items turns) ≡ 0 = ap length none in
+pub nothing : (keys : Keys) (envelopes : Slab Envelope) → heap_items keys ≡ [] → IsHeap rank_heap_cmp (heap_items keys)
+    → 1024 ≤ heap_capacity keys → envelopes.slots ≡ [] → 1024 ≤ envelopes.capacity → IsKept keys envelopes
+nothing keys envelopes none ordered room vacant slots =
+    let empty : length (heap_items keys) ≡ 0 = ap length none in
     record {
       ordered = ordered;
       room = room;
       slots = slots;
-      few = omega (arith, empty);
+      within_limit = omega (arith, empty);
       counted = ap (count_by is_some) vacant ∙ sym empty;
       lie = λ k d few. absurd (omega (arith, few, empty));
-      apart = IsDistinct-from_apart same_slot (heap_items turns) (λ i j d before few. absurd (omega (arith, few, empty)));
+      apart = IsDistinct-from_apart same_slot (heap_items keys) (λ i j d before few. absurd (omega (arith, few, empty)));
     }
 
-module _ (turns turns' : Turns) (envelopes envelopes' : Slab Envelope) (x : Reverse RankKey) (kept : IsKept turns envelopes) where
-  pub one_more : length (heap_items turns) < 1024 → (envelope : Envelope) → x.0.envelope.value ≡ envelope
+module _ (keys keys' : Keys) (envelopes envelopes' : Slab Envelope) (x : Reverse RankKey) (kept : IsKept keys envelopes) where
+  pub one_more : length (heap_items keys) < 1024 → (envelope : Envelope) → x.0.envelope.value ≡ envelope
       → get envelopes x.0.slot ≡ None → Updates envelopes envelopes' x.0.slot (Some envelope) → slab_len envelopes' ≡ slab_len envelopes + 1
-      → envelopes'.capacity ≡ envelopes.capacity → IsPermutation (x ∷ heap_items turns) (heap_items turns')
-      → IsHeap rank_heap_cmp (heap_items turns') → heap_capacity turns ≤ heap_capacity turns' → IsKept turns' envelopes'
+      → envelopes'.capacity ≡ envelopes.capacity → IsPermutation (x ∷ heap_items keys) (heap_items keys')
+      → IsHeap rank_heap_cmp (heap_items keys') → heap_capacity keys ≤ heap_capacity keys' → IsKept keys' envelopes'
   one_more few envelope is vacant updates counted slots same ordered room =
-      let long = length_permutation (x ∷ heap_items turns) (heap_items turns') same in
+      let long = length_permutation (x ∷ heap_items keys) (heap_items keys') same in
       let put = subst (λ e. Updates envelopes envelopes' x.0.slot (Some e)) (sym is) updates in
       record {
         ordered = ordered;
         room = omega (arith, kept.room, room);
         slots = omega (arith, kept.slots, slots);
-        few = omega (arith, few, long);
+        within_limit = omega (arith, few, long);
         counted = omega (arith, counted, long, kept.counted);
-        lie = comes envelopes envelopes' x (heap_items turns) (heap_items turns') vacant put same kept.lie;
-        apart = comes_apart envelopes envelopes' x (heap_items turns) (heap_items turns') vacant same kept.lie kept.apart;
+        lie = comes envelopes envelopes' x (heap_items keys) (heap_items keys') vacant put same kept.lie;
+        apart = comes_apart envelopes envelopes' x (heap_items keys) (heap_items keys') vacant same kept.lie kept.apart;
       }
 
-  pub one_less : IsPermutation (heap_items turns) (x ∷ heap_items turns') → IsHeap rank_heap_cmp (heap_items turns')
-      → heap_capacity turns' ≡ heap_capacity turns → Updates envelopes envelopes' x.0.slot None → slab_len envelopes' + 1 ≡ slab_len envelopes
-      → envelopes'.capacity ≡ envelopes.capacity → IsKept turns' envelopes'
+  pub one_less : IsPermutation (heap_items keys) (x ∷ heap_items keys') → IsHeap rank_heap_cmp (heap_items keys')
+      → heap_capacity keys' ≡ heap_capacity keys → Updates envelopes envelopes' x.0.slot None → slab_len envelopes' + 1 ≡ slab_len envelopes
+      → envelopes'.capacity ≡ envelopes.capacity → IsKept keys' envelopes'
   one_less same ordered room updates counted slots =
-      let long = length_permutation (heap_items turns) (x ∷ heap_items turns') same in
-      let distinct = goes_apart x (heap_items turns') (heap_items turns) same kept.apart in
+      let long = length_permutation (heap_items keys) (x ∷ heap_items keys') same in
+      let distinct = goes_apart x (heap_items keys') (heap_items keys) same kept.apart in
       record {
         ordered = ordered;
         room = omega (arith, kept.room, room);
         slots = omega (arith, kept.slots, slots);
-        few = omega (arith, kept.few, long);
+        within_limit = omega (arith, kept.within_limit, long);
         counted = omega (arith, counted, long, kept.counted);
-        lie = goes envelopes envelopes' x (heap_items turns') updates distinct
-            (All-permutation (LiesIn envelopes) (heap_items turns) (x ∷ heap_items turns') same kept.lie);
-        apart = stays_apart x (heap_items turns') distinct;
+        lie = goes envelopes envelopes' x (heap_items keys') updates distinct
+            (All-permutation (LiesIn envelopes) (heap_items keys) (x ∷ heap_items keys') same kept.lie);
+        apart = stays_apart x (heap_items keys') distinct;
       }
 
 -- the envelope that is found in the slot of the first is its own
-pub found : (turns turns' : Turns) (envelopes : Slab Envelope) (x : Reverse RankKey) → IsKept turns envelopes
-    → IsPermutation (heap_items turns) (x ∷ heap_items turns') → (envelope : Envelope) → get envelopes x.0.slot ≡ Some envelope
+pub found : (keys keys' : Keys) (envelopes : Slab Envelope) (x : Reverse RankKey) → IsKept keys envelopes
+    → IsPermutation (heap_items keys) (x ∷ heap_items keys') → (envelope : Envelope) → get envelopes x.0.slot ≡ Some envelope
     → x.0.envelope.value ≡ envelope
-found turns turns' envelopes x kept same envelope got =
-    let lies = All-head (LiesIn envelopes) x (heap_items turns')
-    (All-permutation (LiesIn envelopes) (heap_items turns) (x ∷ heap_items turns') same kept.lie) in
+found keys keys' envelopes x kept same envelope got =
+    let lies = All-head (LiesIn envelopes) x (heap_items keys')
+    (All-permutation (LiesIn envelopes) (heap_items keys) (x ∷ heap_items keys') same kept.lie) in
     let both = sym lies ∙ got in cc
 
 abbrev pub arriving : ℕ → ℕ → Envelope → Arrival

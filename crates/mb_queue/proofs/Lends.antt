@@ -9,7 +9,7 @@ use Rattle.mb_queue.specs.declared.ledger.QueuePart.{QueuePart}
 use Rattle.mb_queue.specs.declared.ledger.Scope.{Scope}
 use Rattle.mb_queue.specs.declared.ledger.QueuePart.TheVariants.{Whole, Controls, Others}
 use Rattle.mb_queue.specs.Ledger.{MayLend, account, borrowing, lending, lent}
-use Rattle.mb_queue.specs.Port.{LanePort}
+use Rattle.mb_queue.specs.Port.{FifoPort}
 use Rattle.mb_queue.specs.Rule.{Belongs}
 use Rattle.mb_queue.specs.declared.take_order.TakeOrder.{TakeOrder}
 use Rattle.mb_queue.specs.declared.take_order.TakeOrder.TheVariants.{FirstInFirstOut, ControlFirst, ByRank}
@@ -20,13 +20,13 @@ use Rattle.mb_queue.specs.Parts.{accounts_of, controls, others}
 use Rattle.mb_queue.specs.Takes.{IsSameBag}
 use Rattle.mb_queue.proofs.Taken.{part_of_account}
 
-abbrev pub main_lent : ℕ → LanePort → LanePort
+abbrev pub main_lent : ℕ → FifoPort → FifoPort
 main_lent s main = record main { ledger = lending s main.ledger }
 
-abbrev pub own_lent : ℕ → LanePort → LanePort
+abbrev pub own_lent : ℕ → FifoPort → FifoPort
 own_lent s main = record main { ledger = borrowing s main.ledger }
 
-module _ (s : ℕ) (scope : Scope) (part : QueuePart) (out : List Envelope) (accounts : List Account) (port : LanePort)
+module _ (s : ℕ) (scope : Scope) (part : QueuePart) (out : List Envelope) (accounts : List Account) (port : FifoPort)
     (took : Took port scope part out accounts) where
   may : Contains scope.senders s → account accounts s ≡ Some [] → MayLend s port.ledger
   may known home = subst (MayLend s) (sym took) (known, home)
@@ -50,7 +50,7 @@ lent_part : (part : List Envelope → List Envelope) (s : ℕ) (accounts : List 
     → accounts_of part (accounts ++ lent s ∷ []) ≡ accounts_of part accounts ++ lent s ∷ []
 lent_part part s accounts = map-append (λ (a : Account). record { by = a.by; pushed = option_map part a.pushed }) accounts (lent s ∷ [])
 
-pub main_may : (s : ℕ) (main : LanePort) (order : TakeOrder) (taken : List Envelope) (accounts : List Account) → IsTaking main order taken accounts
+pub main_may : (s : ℕ) (main : FifoPort) (order : TakeOrder) (taken : List Envelope) (accounts : List Account) → IsTaking main order taken accounts
     → Contains (scope_in main.ledger).senders s → account accounts s ≡ Some []
     → MayLend s main.ledger
 main_may s main FirstInFirstOut taken accounts kept known home = may s (scope_in main.ledger) Whole taken accounts main kept known home
@@ -60,7 +60,7 @@ main_may s main (ControlFirst control) taken accounts kept known home =
 main_may s main (ByRank choice) taken accounts kept known home =
     may s (scope_in main.ledger) Whole (gone_of main.ledger) accounts main kept.0 known home
 
-pub control_may : (s : ℕ) (main : LanePort) (order : TakeOrder) (taken : List Envelope) (accounts : List Account) → IsTaking main order taken accounts
+pub control_may : (s : ℕ) (main : FifoPort) (order : TakeOrder) (taken : List Envelope) (accounts : List Account) → IsTaking main order taken accounts
     → Contains (scope_in main.ledger).senders s → account accounts s ≡ Some []
     → MayLendControl s order
 control_may s main FirstInFirstOut taken accounts kept known home = tt
@@ -69,7 +69,7 @@ control_may s main (ControlFirst control) taken accounts kept known home =
     (part_of_account controls refl accounts s [] home)
 control_may s main (ByRank choice) taken accounts kept known home = tt
 
-pub take_kept : (s : ℕ) (main : LanePort) (order : TakeOrder) (taken : List Envelope) (accounts : List Account) → IsTaking main order taken accounts
+pub take_kept : (s : ℕ) (main : FifoPort) (order : TakeOrder) (taken : List Envelope) (accounts : List Account) → IsTaking main order taken accounts
     → IsTaking (main_lent s main) (order_lent s order) taken (accounts ++ lent s ∷ [])
 take_kept s main FirstInFirstOut taken accounts kept =
     let ss = scope_in main.ledger in
@@ -96,7 +96,7 @@ take_kept s main (ByRank choice) taken accounts kept =
       subst (λ l. All (Belongs l) (envelopes_of choice.waiting)) same kept.3,
     )
 
-pub send_kept : (s : ℕ) (main : LanePort) (order : TakeOrder) (taken : List Envelope) (accounts : List Account) → IsTaking main order taken accounts
+pub send_kept : (s : ℕ) (main : FifoPort) (order : TakeOrder) (taken : List Envelope) (accounts : List Account) → IsTaking main order taken accounts
     → IsSending s (own_lent s main) (port_lent s order) []
 send_kept s main FirstInFirstOut taken accounts kept =
     let ss = scope_in main.ledger in
@@ -113,7 +113,7 @@ send_kept s main (ByRank choice) taken accounts kept =
     own_ledger s ss Whole gone accounts main kept.0 ∙ ap (λ l. Sender (parted l Whole) s []) (sym (own_scope s ss Whole gone accounts main kept.0))
 
 -- as contracts see it
-pub take_is : (s : ℕ) (main : LanePort) (order : TakeOrder) (taken : List Envelope) (accounts : List Account) → IsTaking main order taken accounts
+pub take_is : (s : ℕ) (main : FifoPort) (order : TakeOrder) (taken : List Envelope) (accounts : List Account) → IsTaking main order taken accounts
     → taking_of (main_lent s main) (order_lent s order) taken (accounts ++ lent s ∷ [])
     ≡ record (taking_of main order taken accounts) { accounts = accounts ++ lent s ∷ [] }
 take_is s main FirstInFirstOut taken accounts kept =
@@ -138,7 +138,7 @@ take_is s main (ByRank choice) taken accounts kept =
       arrived = lent_gone s ss Whole gone accounts main kept.0 i;
     }
 
-pub send_is : (s : ℕ) (main : LanePort) (order : TakeOrder) (taken : List Envelope) (accounts : List Account) → IsTaking main order taken accounts
+pub send_is : (s : ℕ) (main : FifoPort) (order : TakeOrder) (taken : List Envelope) (accounts : List Account) → IsTaking main order taken accounts
     → sending s (own_lent s main) (port_lent s order) [] ≡ unused (queue_of main (control_of order)) s
 send_is s main FirstInFirstOut taken accounts kept =
     ap (λ l. unused (record (queue_of main None) { senders = l.senders; to = l.to }) s)

@@ -1,4 +1,4 @@
--- Each step of a lane keeps its rule.
+-- Each step of a fifo keeps its rule.
 use Rattle.std.proofs.Common.{◌≡◌, ◌≢◌, ℕ, ◌+◌, ◌==◌, Bool, true, cond, List, [], ◌∷◌, ◌++◌, length, set, sym, refl, ap, ◌∙◌, subst, ⊎_elim, ◌⊎◌}
 use Rattle.std.proofs.Common.{append_assoc, arith, Option, Some, None}
 use Rattle.std.specs.List.{All, Contains}
@@ -16,7 +16,7 @@ use Rattle.mb_queue.specs.declared.ledger.Scope.{Scope}
 use Rattle.mb_queue.specs.declared.ledger.Ledger.TheVariants.{Sender, Taker, Spent}
 use Rattle.mb_queue.specs.Ledger.{sent_by, account, lent, home, IsOfPart, IsSender, IsTaker, MayLend, MayPush, unsettled, pushing, taking, lending}
 use Rattle.mb_queue.specs.Ledger.{borrowing, joining}
-use Rattle.mb_queue.specs.Rule.{Belongs, Fits, LaneHolds, FoundFull, FoundEmpty, FoundNext, LaneAllOut}
+use Rattle.mb_queue.specs.Rule.{Belongs, Fits, FifoHolds, FoundFull, FoundEmpty, FoundNext, FifoAllOut}
 use Rattle.mb_queue.proofs.Lists.{Each, each_set, each_more, at_end, handed, handed-same, handed-other, sent_by-mine, sent_by-other, account-cases}
 use Rattle.mb_queue.proofs.Lists.{none_known, none_within}
 
@@ -59,7 +59,7 @@ no_items : (items : List Envelope) → length items ≡ 0 → items ≡ []
 no_items [] none = refl
 no_items (x ∷ items) none = absurd (omega arith)
 
-pub begins : LaneHolds [] (Taker unsettled [] [] ∷ [])
+pub begins : FifoHolds [] (Taker unsettled [] [] ∷ [])
 begins = record {
   scope = unsettled;
   holder = λ _. 0;
@@ -71,7 +71,7 @@ begins = record {
       (refl, refl, refl, λ s l is. (refl, let q : Some [] ≡ Some l = is in cc))) (at_end [] (Taker unsettled [] []) u port e);
 }
 
-pub pushes : (n port : ℕ) (v : Ledger) (x : Envelope) → MayPush x v → Pushes LaneHolds n port v x (λ w. w ≡ pushing v x)
+pub pushes : (n port : ℕ) (v : Ledger) (x : Envelope) → MayPush x v → Pushes FifoHolds n port v x (λ w. w ≡ pushing v x)
 pushes n port (Sender ours by pushed) x may = λ items views room h at.
     let mine = h.fits port (Sender ours by pushed) at in
     let all : List Envelope = h.taken ++ items in
@@ -99,7 +99,7 @@ pushes n port (Sender ours by pushed) x may = λ items views room h at.
 pushes n port (Taker ours gone accounts) x may = absurd may
 pushes n port Spent x may = absurd may
 
-pub takes : (port : ℕ) (v : Ledger) → IsTaker v → Pops LaneHolds port v (λ x w. (w ≡ taking v x) × FoundNext v x)
+pub takes : (port : ℕ) (v : Ledger) → IsTaker v → Pops FifoHolds port v (λ x w. (w ≡ taking v x) × FoundNext v x)
 takes port (Sender ours by pushed) is = absurd is
 takes port (Taker ours gone accounts) is = λ x items views h at.
     let mine = h.fits port (Taker ours gone accounts) at in
@@ -134,7 +134,7 @@ takes port (Taker ours gone accounts) is = λ x items views h at.
     )
 takes port Spent is = absurd is
 
-pub opens : (scope : Scope) (port : ℕ) (v : Ledger) → v ≡ Taker unsettled [] [] → Forks LaneHolds port v (Taker scope [] []) Spent
+pub opens : (scope : Scope) (port : ℕ) (v : Ledger) → v ≡ Taker unsettled [] [] → Forks FifoHolds port v (Taker scope [] []) Spent
 opens scope port v is items views h at' =
     let at : get_elem? views port ≡ some (Taker unsettled [] []) = subst (λ (y : Ledger). get_elem? views port ≡ some y) is at' in
     let mine = h.fits port (Taker unsettled [] []) at in let none : h.scope.senders ≡ [] = ap (λ (l : Scope). l.senders) (sym mine.0) in
@@ -150,7 +150,7 @@ opens scope port v is items views h at' =
           (λ j u ne e. open_else scope h.scope h.holder h.taker h.taken all port j u none mine.1 ne (h.fits j u e))) tt;
     }
 
-pub lends : (s port : ℕ) (v : Ledger) → MayLend s v → Forks LaneHolds port v (lending s v) (borrowing s v)
+pub lends : (s port : ℕ) (v : Ledger) → MayLend s v → Forks FifoHolds port v (lending s v) (borrowing s v)
 lends s port (Sender ours by pushed) may = absurd may
 lends s port (Taker ours gone accounts) may = λ items views h at.
     let mine = h.fits port (Taker ours gone accounts) at in let had = mine.3 s [] may.1 in
@@ -175,7 +175,7 @@ lends s port (Taker ours gone accounts) may = λ items views h at.
     }
 lends s port Spent may = absurd may
 
-pub joins : (port : ℕ) (v : Ledger) (other : ℕ) (w : Ledger) → IsTaker v → IsSender w → Merges LaneHolds port v other w (joining v w) Spent
+pub joins : (port : ℕ) (v : Ledger) (other : ℕ) (w : Ledger) → IsTaker v → IsSender w → Merges FifoHolds port v other w (joining v w) Spent
 joins port (Sender ours by pushed) other w is by_s = absurd is
 joins port (Taker ours gone accounts) other (Sender ours' by pushed) is by_s = λ items views h at two at'.
     let both : Ledger = Taker ours gone (accounts ++ home by pushed ∷ []) in
@@ -208,13 +208,13 @@ joins port (Taker ours gone accounts) other (Taker ours' gone' accounts') is by_
 joins port (Taker ours gone accounts) other Spent is by_s = absurd by_s
 joins port Spent other w is by_s = absurd is
 
-pub full : (port : ℕ) (v : Ledger) (x : Envelope) → MayPush x v → Learns LaneHolds port v (λ items. FoundFull (length items) v)
+pub full : (port : ℕ) (v : Ledger) (x : Envelope) → MayPush x v → Learns FifoHolds port v (λ items. FoundFull (length items) v)
 full port (Sender ours by pushed) x may = λ items views h at. let mine = h.fits port (Sender ours by pushed) at in
     (h.taken, items, refl, subst (λ l. All (Belongs l) (h.taken ++ items)) (sym mine.0) h.known, mine.3)
 full port (Taker ours gone accounts) x may = absurd may
 full port Spent x may = absurd may
 
-pub empty : (port : ℕ) (v : Ledger) → IsTaker v → Learns LaneHolds port v (λ items. length items ≡ 0 → FoundEmpty v)
+pub empty : (port : ℕ) (v : Ledger) → IsTaker v → Learns FifoHolds port v (λ items. length items ≡ 0 → FoundEmpty v)
 empty port (Sender ours by pushed) is = absurd is
 empty port (Taker ours gone accounts) is = λ items views h at none s l its. let mine = h.fits port (Taker ours gone accounts) at in
     (mine.3 s l its).1 ∙ ap (λ y. sent_by s (h.taken ++ y)) (no_items items none) ∙ ap (sent_by s) (append-nil h.taken ∙ sym mine.2)

@@ -8,7 +8,7 @@ use Rattle.mb_queue.specs.declared.ledger.Ledger.{Ledger}
 use Rattle.mb_queue.specs.declared.ledger.Ledger.TheVariants.{Sender, Taker, Spent}
 use Rattle.mb_queue.specs.declared.ledger.Scope.{Scope}
 use Rattle.mb_queue.specs.Ledger.{joining, lending, taking}
-use Rattle.mb_queue.specs.Port.{LanePort}
+use Rattle.mb_queue.specs.Port.{FifoPort}
 use Rattle.mb_queue.specs.declared.take_order.TakeOrder.{TakeOrder}
 use Rattle.mb_queue.specs.declared.take_order.TakeOrder.TheVariants.{FirstInFirstOut, ControlFirst, ByRank}
 use Rattle.mb_queue.specs.Representation.{IsTaking, IsTakePass, control_of, queue_of, scope_in}
@@ -39,28 +39,28 @@ scope-joining (Taker scope taken accounts) (Taker scope' taken' accounts') = ref
 scope-joining (Taker scope taken accounts) Spent = refl
 scope-joining Spent own = refl
 
-scope-some : (main : LanePort) (order : TakeOrder) (e : Envelope) (main' : LanePort) (order' : TakeOrder) → IsStep main order (Some e) main' order' →
+scope-some : (main : FifoPort) (order : TakeOrder) (e : Envelope) (main' : FifoPort) (order' : TakeOrder) → IsStep main order (Some e) main' order' →
     scope_in main'.ledger ≡ scope_in main.ledger
-scope-some main FirstInFirstOut e main' order' step = ap (λ (p : LanePort). scope_in p.ledger) step.1.0 ∙ scope-taking main.ledger e
+scope-some main FirstInFirstOut e main' order' step = ap (λ (p : FifoPort). scope_in p.ledger) step.1.0 ∙ scope-taking main.ledger e
 scope-some main (ControlFirst control) e main' order' step =
-    ⊎_elim (λ h. ap (λ (p : LanePort). scope_in p.ledger) h.1)
-    (λ h. ap (λ (p : LanePort). scope_in p.ledger) h.1.0 ∙ scope-taking main.ledger e) step.2
+    ⊎_elim (λ h. ap (λ (p : FifoPort). scope_in p.ledger) h.1)
+    (λ h. ap (λ (p : FifoPort). scope_in p.ledger) h.1.0 ∙ scope-taking main.ledger e) step.2
 scope-some main (ByRank choice) e main' order' step = let more = step.2.taken_in.more in
-    ap (λ (p : LanePort). scope_in p.ledger) more.came ∙ scope_all main.ledger more.fresh
+    ap (λ (p : FifoPort). scope_in p.ledger) more.came ∙ scope_all main.ledger more.fresh
 
-scope-none : (main : LanePort) (order : TakeOrder) (main' : LanePort) (order' : TakeOrder) → IsStep main order None main' order' →
+scope-none : (main : FifoPort) (order : TakeOrder) (main' : FifoPort) (order' : TakeOrder) → IsStep main order None main' order' →
     scope_in main'.ledger ≡ scope_in main.ledger
-scope-none main FirstInFirstOut main' order' step = ap (λ (p : LanePort). scope_in p.ledger) step.1.0
-scope-none main (ControlFirst control) main' order' step = ap (λ (p : LanePort). scope_in p.ledger) step.2.1.0
+scope-none main FirstInFirstOut main' order' step = ap (λ (p : FifoPort). scope_in p.ledger) step.1.0
+scope-none main (ControlFirst control) main' order' step = ap (λ (p : FifoPort). scope_in p.ledger) step.2.1.0
 scope-none main (ByRank choice) main' order' step = let more = step.2.taken_in.more in
-    ap (λ (p : LanePort). scope_in p.ledger) more.came ∙ scope_all main.ledger more.fresh
+    ap (λ (p : FifoPort). scope_in p.ledger) more.came ∙ scope_all main.ledger more.fresh
 
 -- nothing was given yet
-pub pass-first : (main : LanePort) (order : TakeOrder) → IsTaking main order [] [] → IsTakePass main order [] []
+pub pass-first : (main : FifoPort) (order : TakeOrder) → IsTaking main order [] [] → IsTakePass main order [] []
 pass-first main order kept = (kept, All-nil (IsOfQueue (queue_of main (control_of order))))
 
 -- one was given, or none
-pub pass-some : (main : LanePort) (order : TakeOrder) (taken : List Envelope) (accounts : List Account) (e : Envelope) (main' : LanePort) (order' : TakeOrder)
+pub pass-some : (main : FifoPort) (order : TakeOrder) (taken : List Envelope) (accounts : List Account) (e : Envelope) (main' : FifoPort) (order' : TakeOrder)
     → IsTakePass main order taken accounts → IsStep main order (Some e) main' order' → IsTakePass main' order' (taken ++ e ∷ []) accounts
 pass-some main order taken accounts e main' order' kept step = (
   kept_some main order taken accounts e main' order' kept.0 step,
@@ -69,7 +69,7 @@ pass-some main order taken accounts e main' order' kept step = (
       (given_known main order taken accounts e main' order' kept.0 step)),
 )
 
-pub pass-none : (main : LanePort) (order : TakeOrder) (taken : List Envelope) (accounts : List Account) (main' : LanePort) (order' : TakeOrder)
+pub pass-none : (main : FifoPort) (order : TakeOrder) (taken : List Envelope) (accounts : List Account) (main' : FifoPort) (order' : TakeOrder)
     → IsTakePass main order taken accounts → IsStep main order None main' order' → IsTakePass main' order' taken accounts
 pass-none main order taken accounts main' order' kept step = (
   kept_none main order taken accounts main' order' kept.0 step,
@@ -77,10 +77,10 @@ pass-none main order taken accounts main' order' kept step = (
 )
 
 -- another port was joined, or an account lent
-pub ours-joined : (main own : LanePort) (order order' : TakeOrder) (taken : List Envelope) → All (IsOfQueue (queue_of main (control_of order))) taken →
+pub ours-joined : (main own : FifoPort) (order order' : TakeOrder) (taken : List Envelope) → All (IsOfQueue (queue_of main (control_of order))) taken →
     All (IsOfQueue (queue_of (record main { ledger = joining main.ledger own.ledger }) (control_of order'))) taken
 ours-joined main own order order' taken ours = subst (λ (s : Scope). AllOurs s taken) (sym (scope-joining main.ledger own.ledger)) ours
 
-pub ours-lent : (s : ℕ) (main : LanePort) (order order' : TakeOrder) (taken : List Envelope) → All (IsOfQueue (queue_of main (control_of order))) taken →
+pub ours-lent : (s : ℕ) (main : FifoPort) (order order' : TakeOrder) (taken : List Envelope) → All (IsOfQueue (queue_of main (control_of order))) taken →
     All (IsOfQueue (queue_of (record main { ledger = lending s main.ledger }) (control_of order'))) taken
 ours-lent s main order order' taken ours = subst (λ (l : Scope). AllOurs l taken) (sym (scope-lending main.ledger s)) ours

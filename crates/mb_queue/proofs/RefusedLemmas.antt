@@ -1,20 +1,20 @@
--- A refusal of the lane is one of the queue.
+-- A refusal of the fifo is one of the queue.
 use Rattle.std.proofs.Common.{◌≡◌, ℕ, List, Option, Some, None, subst, sym, ◌∙◌}
 use Rattle.mb_msg.specs.declared.envelope.Envelope.{Envelope}
 use Rattle.mb_queue.specs.declared.refused.PushError.{PushError}
 use Rattle.mb_queue.specs.declared.refused.PushError.TheVariants.{Full, NoMemory}
-use Rattle.mb_queue.specs.Port.{LanePort}
-use Rattle.mb_queue.specs.Rule as lane
+use Rattle.mb_queue.specs.Port.{FifoPort}
+use Rattle.mb_queue.specs.Rule as fifo
 use Rattle.mb_queue.specs.Representation.{sending, IsSending}
 use Rattle.mb_queue.specs.Pushes.{IsRefusal, WasFull}
 
-was_full : (most by : ℕ) (main : LanePort) (pushed : List Envelope) → IsSending by main None pushed → lane.FoundFull most main.ledger
+was_full : (most by : ℕ) (main : FifoPort) (pushed : List Envelope) → IsSending by main None pushed → fifo.FoundFull most main.ledger
     → WasFull most (sending by main None pushed)
-was_full most by main pushed kept found = let f = subst (lane.FoundFull most) kept found in
+was_full most by main pushed kept found = let f = subst (fifo.FoundFull most) kept found in
     (f.0, f.1, f.2, (λ k d lt. let b = f.3 k d lt in (b.0, b.1)), f.4)
 
-pub refused : (by : ℕ) (main : LanePort) (control : Option LanePort) (pushed : List Envelope) (e : PushError) → IsSending by main control pushed
-    → lane.IsLaneRefusal main.lane.capacity main.ledger (lane.reason_of e)
+pub refused : (by : ℕ) (main : FifoPort) (control : Option FifoPort) (pushed : List Envelope) (e : PushError) → IsSending by main control pushed
+    → fifo.IsFifoRefusal main.fifo.capacity main.ledger (fifo.reason_of e)
     → IsRefusal (sending by main control pushed) e
 refused by main None pushed (Full e) kept r = (r.0, r.1, was_full r.0 by main pushed kept r.2)
 refused by main None pushed (NoMemory e) kept r = r

@@ -19,42 +19,42 @@ either_way x y = grind (arith, nat_tests)
 abbrev Elsewhere : Reverse RankKey → List (Reverse RankKey) → Type 0
 Elsewhere x = All (λ (y : Reverse RankKey). y.0.slot ≢ x.0.slot)
 
-differ : (x : Reverse RankKey) (turns : List (Reverse RankKey)) → Elsewhere x turns → AllByRecursion (λ y. same_slot x y ≡ false) turns
+differ : (x : Reverse RankKey) (keys : List (Reverse RankKey)) → Elsewhere x keys → AllByRecursion (λ y. same_slot x y ≡ false) keys
 differ x [] elsewhere = tt
 differ x (y ∷ ys) elsewhere =
     let ne = All-head (λ (z : Reverse RankKey). z.0.slot ≢ x.0.slot) y ys elsewhere in
     (grind (arith, nat_tests), differ x ys (All-tail (λ (z : Reverse RankKey). z.0.slot ≢ x.0.slot) y ys elsewhere))
 
-module _ (old new : Slab Envelope) (x : Reverse RankKey) (turns : List (Reverse RankKey)) where
-  stay : (slot : Option Envelope) → Updates old new x.0.slot slot → Elsewhere x turns → All (LiesIn old) turns → All (LiesIn new) turns
-  stay slot updates elsewhere lie = λ k d few. updates.others (get_or turns k d).0.slot (elsewhere k d few) ∙ lie k d few
+module _ (old new : Slab Envelope) (x : Reverse RankKey) (keys : List (Reverse RankKey)) where
+  stay : (slot : Option Envelope) → Updates old new x.0.slot slot → Elsewhere x keys → All (LiesIn old) keys → All (LiesIn new) keys
+  stay slot updates elsewhere lie = λ k d few. updates.others (get_or keys k d).0.slot (elsewhere k d few) ∙ lie k d few
 
-  vacant_elsewhere : get old x.0.slot ≡ None → All (LiesIn old) turns → Elsewhere x turns
+  vacant_elsewhere : get old x.0.slot ≡ None → All (LiesIn old) keys → Elsewhere x keys
   vacant_elsewhere vacant lie = λ k d few same. (let no = sym (ap (get old) same ∙ vacant) ∙ lie k d few in cc)
 
-  distinct_elsewhere : IsDistinct same_slot (x ∷ turns) → Elsewhere x turns
+  distinct_elsewhere : IsDistinct same_slot (x ∷ keys) → Elsewhere x keys
   distinct_elsewhere distinct = λ k d few same.
-      (let no = apart_from_distinct same_slot (x ∷ turns) 0 (suc k) d distinct (omega arith) (omega (arith, few)) in
-      let f : false ≡ true = sym no ∙ (Decides-eqb x.0.slot (get_or turns k d).0.slot).1 (sym same) in cc)
+      (let no = apart_from_distinct same_slot (x ∷ keys) 0 (suc k) d distinct (omega arith) (omega (arith, few)) in
+      let f : false ≡ true = sym no ∙ (Decides-eqb x.0.slot (get_or keys k d).0.slot).1 (sym same) in cc)
 
   -- one comes, into a slot that was vacant
-  pub comes : (turns' : List (Reverse RankKey)) → get old x.0.slot ≡ None → Updates old new x.0.slot (Some x.0.envelope.value)
-      → IsPermutation (x ∷ turns) turns' → All (LiesIn old) turns → All (LiesIn new) turns'
-  comes turns' vacant updates same lie = All-permutation (LiesIn new) (x ∷ turns) turns' same
-      (All-cons (LiesIn new) x turns updates.changed (stay (Some x.0.envelope.value) updates (vacant_elsewhere vacant lie) lie))
+  pub comes : (keys' : List (Reverse RankKey)) → get old x.0.slot ≡ None → Updates old new x.0.slot (Some x.0.envelope.value)
+      → IsPermutation (x ∷ keys) keys' → All (LiesIn old) keys → All (LiesIn new) keys'
+  comes keys' vacant updates same lie = All-permutation (LiesIn new) (x ∷ keys) keys' same
+      (All-cons (LiesIn new) x keys updates.changed (stay (Some x.0.envelope.value) updates (vacant_elsewhere vacant lie) lie))
 
-  pub comes_apart : (turns' : List (Reverse RankKey)) → get old x.0.slot ≡ None → IsPermutation (x ∷ turns) turns' → All (LiesIn old) turns
-      → IsDistinct same_slot turns → IsDistinct same_slot turns'
-  comes_apart turns' vacant same lie distinct = IsDistinct-IsPermutation same_slot either_way (x ∷ turns) turns' same
-      (IsDistinct-cons same_slot x turns (differ x turns (vacant_elsewhere vacant lie)) distinct)
+  pub comes_apart : (keys' : List (Reverse RankKey)) → get old x.0.slot ≡ None → IsPermutation (x ∷ keys) keys' → All (LiesIn old) keys
+      → IsDistinct same_slot keys → IsDistinct same_slot keys'
+  comes_apart keys' vacant same lie distinct = IsDistinct-IsPermutation same_slot either_way (x ∷ keys) keys' same
+      (IsDistinct-cons same_slot x keys (differ x keys (vacant_elsewhere vacant lie)) distinct)
 
   -- one goes
-  pub goes : Updates old new x.0.slot None → IsDistinct same_slot (x ∷ turns) → All (LiesIn old) (x ∷ turns) → All (LiesIn new) turns
-  goes updates distinct lie = stay None updates (distinct_elsewhere distinct) (All-tail (LiesIn old) x turns lie)
+  pub goes : Updates old new x.0.slot None → IsDistinct same_slot (x ∷ keys) → All (LiesIn old) (x ∷ keys) → All (LiesIn new) keys
+  goes updates distinct lie = stay None updates (distinct_elsewhere distinct) (All-tail (LiesIn old) x keys lie)
 
-pub goes_apart : (x : Reverse RankKey) (turns before : List (Reverse RankKey)) → IsPermutation before (x ∷ turns) → IsDistinct same_slot before
-    → IsDistinct same_slot (x ∷ turns)
-goes_apart x turns before same distinct = IsDistinct-IsPermutation same_slot either_way before (x ∷ turns) same distinct
+pub goes_apart : (x : Reverse RankKey) (keys before : List (Reverse RankKey)) → IsPermutation before (x ∷ keys) → IsDistinct same_slot before
+    → IsDistinct same_slot (x ∷ keys)
+goes_apart x keys before same distinct = IsDistinct-IsPermutation same_slot either_way before (x ∷ keys) same distinct
 
-pub stays_apart : (x : Reverse RankKey) (turns : List (Reverse RankKey)) → IsDistinct same_slot (x ∷ turns) → IsDistinct same_slot turns
-stays_apart x turns distinct = IsDistinct-tail same_slot x turns distinct
+pub stays_apart : (x : Reverse RankKey) (keys : List (Reverse RankKey)) → IsDistinct same_slot (x ∷ keys) → IsDistinct same_slot keys
+stays_apart x keys distinct = IsDistinct-tail same_slot x keys distinct

@@ -1,4 +1,4 @@
--- TakePassView envelopes from the lane, one after another, to be held.
+-- TakePassView envelopes from the fifo, one after another, to be held.
 use Rattle.std.proofs.Common.{◌≡◌, ℕ, ◌+◌, List, [], ◌∷◌, ◌++◌, length, refl, sym, ap, ◌∙◌, subst, inl, inr, append_assoc, arith}
 use Rattle.std.proofs.Common.{length-append, IsPermutation}
 use Rattle.std.proofs.lemmas.List.{append-nil}
@@ -8,8 +8,8 @@ use Rattle.mb_msg.specs.declared.envelope.Envelope.{Envelope}
 use Rattle.mb_queue.specs.declared.ledger.Ledger.{Ledger}
 use Rattle.mb_queue.specs.declared.ledger.Ledger.TheVariants.{Sender, Taker, Spent}
 use Rattle.mb_queue.specs.Ledger.{taking, IsTaker}
-use Rattle.mb_queue.specs.Port.{LanePort}
-use Rattle.mb_queue.specs.Rule as lane
+use Rattle.mb_queue.specs.Port.{FifoPort}
+use Rattle.mb_queue.specs.Rule as fifo
 use Rattle.mb_msg.specs.declared.mailbox_type.RankRow.{RankRow}
 use Rattle.mb_queue.specs.declared.waiting.Arrival.{Arrival}
 use Rattle.mb_queue.specs.Rank.{rank_of}
@@ -38,13 +38,13 @@ arrivals_from-more rows other number (x ∷ es) e = let n : (number + 1) + lengt
     (arrivals_from-more rows other (number + 1) es e
     ∙ ap (λ k. arrivals_from rows other (number + 1) es ++ record { rank = rank_of rows other e.body; number = k; envelope = e } ∷ []) n)
 
-begins_next : (l : Ledger) (e : Envelope) → lane.FoundNext l e → Begins (taking l e)
+begins_next : (l : Ledger) (e : Envelope) → fifo.FoundNext l e → Begins (taking l e)
 begins_next (Sender scope by pushed) e found = found
 begins_next (Taker scope taken accounts) e found = found.1
 begins_next Spent e found = found
 
--- the next envelope is of the lane's scope
-found_known : (l : Ledger) (e : Envelope) → lane.FoundNext l e → lane.Belongs (scope_in l) e
+-- the next envelope is of the fifo's scope
+found_known : (l : Ledger) (e : Envelope) → fifo.FoundNext l e → fifo.Belongs (scope_in l) e
 found_known (Sender scope by pushed) e found = absurd found
 found_known (Taker scope taken accounts) e found = found.0
 found_known Spent e found = absurd found
@@ -59,23 +59,23 @@ still_taker (Sender scope by pushed) e is = is
 still_taker (Taker scope taken accounts) e is = is
 still_taker Spent e is = is
 
-pub starts : (c : PriorityState) (port : LanePort) → TakesMore c port c port
+pub starts : (c : PriorityState) (port : FifoPort) → TakesMore c port c port
 starts c port = record {
   fresh = [];
   ranks = refl;
   other = refl;
   next = omega arith;
-  came = ap (λ l. record { lane = port.lane; ledger = l }) (sym (taking_all-none port.ledger));
+  came = ap (λ l. record { fifo = port.fifo; ledger = l }) (sym (taking_all-none port.ledger));
   begins = inl refl;
-  known = All-nil (lane.Belongs (scope_in port.ledger));
+  known = All-nil (fifo.Belongs (scope_in port.ledger));
   held = subst (λ l. IsPermutation l c.waiting) (sym (append-nil c.waiting)) (IsPermutation-refl c.waiting);
 }
 
-pub one_more : (old : PriorityState) (port : LanePort) (mid : PriorityState) (port' : LanePort) (new : PriorityState) (port'' : LanePort) → TakesMore old port mid port'
+pub one_more : (old : PriorityState) (port : FifoPort) (mid : PriorityState) (port' : FifoPort) (new : PriorityState) (port'' : FifoPort) → TakesMore old port mid port'
     → OneMore mid port' new port'' → TakesMore old port new port''
 one_more old port mid port' new port'' m o =
-    let led : port'.ledger ≡ taking_all port.ledger m.fresh = ap (λ (p : LanePort). p.ledger) m.came in
-    let lan : port'.lane ≡ port.lane = ap (λ (p : LanePort). p.lane) m.came in
+    let led : port'.ledger ≡ taking_all port.ledger m.fresh = ap (λ (p : FifoPort). p.ledger) m.came in
+    let lan : port'.fifo ≡ port.fifo = ap (λ (p : FifoPort). p.fifo) m.came in
     let e : Envelope = o.envelope in let es : List Envelope = m.fresh in
     let item : Arrival = record { rank = rank_of old.ranks old.other e.body; number = old.next + length es; envelope = e } in
     let same : record { rank = rank_of mid.ranks mid.other e.body; number = mid.next; envelope = e } ≡ item
@@ -84,10 +84,10 @@ one_more old port mid port' new port'' m o =
       ranks = o.ranks ∙ m.ranks;
       other = o.other ∙ m.other;
       next = omega (arith, o.next, m.next, length-append es (e ∷ []));
-      came = o.came.0 ∙ (λ i. record { lane = lan i; ledger = (ap (λ l. taking l e) led ∙ taking_all-more port.ledger es e) i });
-      begins = inr (subst (λ (p : LanePort). Begins p.ledger) (sym o.came.0) (begins_next port'.ledger e o.came.1));
-      known = All-push (lane.Belongs (scope_in port.ledger)) es e m.known
-          (subst (λ l. lane.Belongs l e) (ap scope_in led ∙ scope_all port.ledger es) (found_known port'.ledger e o.came.1));
+      came = o.came.0 ∙ (λ i. record { fifo = lan i; ledger = (ap (λ l. taking l e) led ∙ taking_all-more port.ledger es e) i });
+      begins = inr (subst (λ (p : FifoPort). Begins p.ledger) (sym o.came.0) (begins_next port'.ledger e o.came.1));
+      known = All-push (fifo.Belongs (scope_in port.ledger)) es e m.known
+          (subst (λ l. fifo.Belongs l e) (ap scope_in led ∙ scope_all port.ledger es) (found_known port'.ledger e o.came.1));
       held = subst (λ l. IsPermutation (old.waiting ++ l) new.waiting) (sym (arrivals_from-more old.ranks old.other old.next es e))
           (subst (λ l. IsPermutation l new.waiting) (append_assoc old.waiting (arrivals_from old.ranks old.other old.next es) (item ∷ []))
           (IsPermutation-push_more _ mid.waiting new.waiting item m.held (subst (λ x. IsPermutation (x ∷ mid.waiting) new.waiting) same o.held)));

@@ -4,7 +4,7 @@ use Rattle.crossbeam_queue.specs.SegTies.{IsSegPassOf}
 use Rattle.crossbeam_queue.specs.Passes.{view, IsPassOf, ruled_capacity}
 use Rattle.mb_queue.specs.declared.port.End.{End}
 use Rattle.mb_queue.specs.declared.port.End.TheVariants.{Unbounded, Bounded}
-use Rattle.mb_queue.specs.Port.{Lane, LanePort, blocks_at, slots_at}
+use Rattle.mb_queue.specs.Port.{Fifo, FifoPort, blocks_at, slots_at}
 
 -- the pass is of the queue beside it
 abbrev pub IsTied : End → Type 0
@@ -12,10 +12,10 @@ IsTied (Unbounded blocks pass) = IsSegPassOf blocks.value.queue pass
 IsTied (Bounded slots pass) = IsPassOf slots.value.queue pass
 
 -- a port as contracts see it
-abbrev pub known : End → LanePort
-known (Unbounded blocks pass) = record { lane = record { place = blocks_at pass.web; capacity = None }; ledger = pass.me.view.client }
+abbrev pub known : End → FifoPort
+known (Unbounded blocks pass) = record { fifo = record { place = blocks_at pass.web; capacity = None }; ledger = pass.me.view.client }
 known (Bounded slots pass) = record {
-  lane = record { place = slots_at pass.table_id; capacity = Some (ruled_capacity slots.value.queue) };
+  fifo = record { place = slots_at pass.table_id; capacity = Some (ruled_capacity slots.value.queue) };
   ledger =
       view pass;
 }

@@ -1,4 +1,4 @@
--- What a port of a lane knows, and how its own steps change that. Accounts are this project's own profile: Akka's queues
+-- What a port of a fifo knows, and how its own steps change that. Accounts are this project's own profile: Akka's queues
 -- (`akka.dispatch.MessageQueue`) keep none.
 use Rattle.std.specs.Prelude.{◌≡◌, ℕ, ◌==◌, cond, List, [], ◌∷◌, ◌++◌, filter, map, Option, Some, None, Contains, Bool, true, false}
 use Rattle.mb_msg.specs.declared.envelope.Envelope.{Envelope}
@@ -29,7 +29,7 @@ IsOfPart Whole e = Unit {0}
 IsOfPart Controls e = is_control e ≡ true
 IsOfPart Others e = is_control e ≡ false
 
--- the scope of a lane before it is fixed: no envelopes
+-- the scope of a fifo before it is fixed: no envelopes
 abbrev pub unsettled : Scope
 unsettled = record { senders = []; to = 0; part = Whole }
 
@@ -58,7 +58,7 @@ account_after before (a ∷ accounts) sender = account_after (cond (a.by == send
 abbrev pub account : List Account → ℕ → Option (List Envelope)
 account = account_after (Some [])
 
--- the port pushes for the sender of this envelope, which is to the lane's actor and of its part
+-- the port pushes for the sender of this envelope, which is to the fifo's actor and of its part
 abbrev pub MayPush : Envelope → Ledger → Type 0
 MayPush e (Sender scope by pushed) = (by ≡ e.by.0) × (e.to.0 ≡ scope.to) × IsOfPart scope.part e
 MayPush e (Taker scope taken accounts) = ⊥

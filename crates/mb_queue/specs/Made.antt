@@ -4,7 +4,7 @@ use Rattle.mb_msg.specs.declared.id.SenderId.{SenderId}
 use Rattle.mb_queue.specs.Ledger.{lent}
 use Rattle.mb_msg.specs.declared.mailbox_type.MailboxType.{MailboxType}
 use Rattle.mb_msg.specs.declared.mailbox_type.MailboxType.TheVariants.{Unbounded, Bounded, Priority, Control}
-use Rattle.mb_queue.specs.Passes.{Queue, SendPassView, TakePassView, Turns, first_in_first_out, control_first, by_rank}
+use Rattle.mb_queue.specs.Passes.{Queue, SendPassView, TakePassView, Discipline, first_in_first_out, control_first, by_rank}
 
 -- the numbers of senders
 abbrev pub numbers_of : List SenderId → List ℕ
@@ -17,12 +17,12 @@ IsMakeable (Bounded capacity) = 0 < capacity
 IsMakeable (Priority rows other) = Unit {0}
 IsMakeable Control = Unit {0}
 
--- the order in which a queue of this kind gives
-abbrev pub turns_in : MailboxType → Turns
-turns_in Unbounded = first_in_first_out
-turns_in (Bounded capacity) = first_in_first_out
-turns_in (Priority rows other) = by_rank rows.items other
-turns_in Control = control_first
+-- the discipline of a queue of this kind
+abbrev pub discipline_of : MailboxType → Discipline
+discipline_of Unbounded = first_in_first_out
+discipline_of (Bounded capacity) = first_in_first_out
+discipline_of (Priority rows other) = by_rank rows.items other
+discipline_of Control = control_first
 
 -- how much a queue of this kind holds at most
 abbrev pub bound_of : MailboxType → Option ℕ
@@ -35,7 +35,7 @@ bound_of Control = None
 pub record IsEmpty (kind : MailboxType) (to : ℕ) (senders : List ℕ) (t : TakePassView) : Type 0 where
   pub senders_are : t.queue.senders ≡ senders
   pub actor : t.queue.to ≡ to
-  pub turns : t.turns ≡ turns_in kind
+  pub discipline : t.discipline ≡ discipline_of kind
   pub bound : t.queue.main.capacity ≡ bound_of kind
   pub arrived : t.arrived ≡ []
   pub waiting : t.waiting ≡ []

@@ -4,17 +4,17 @@ use Rattle.atomic_blocks.specs.Laid.{WebId}
 use Rattle.atomic_table.specs.Seated.{TableId}
 use Rattle.mb_queue.specs.declared.ledger.Ledger.{Ledger}
 
--- which lane it is, by where it is in memory
-pub data LaneId : Type 0 where
-  blocks_at : WebId → LaneId
-  slots_at : TableId → LaneId
+-- which fifo it is, by where it is in memory
+pub data FifoId : Type 0 where
+  blocks_at : WebId → FifoId
+  slots_at : TableId → FifoId
 
--- a lane: which one it is, and how much it holds at most
-pub record Lane : Type 0 where
-  pub place : LaneId
+-- a fifo: which one it is, and how much it holds at most
+pub record Fifo : Type 0 where
+  pub place : FifoId
   pub capacity : Option ℕ
 
--- a port: its lane, and what it knows
-pub record LanePort : Type 0 where
-  pub lane : Lane
+-- a port: its fifo, and what it knows
+pub record FifoPort : Type 0 where
+  pub fifo : Fifo
   pub ledger : Ledger

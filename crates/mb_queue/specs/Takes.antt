@@ -9,7 +9,7 @@ use Rattle.mb_queue.specs.declared.waiting.Arrival.{Arrival}
 use Rattle.mb_queue.specs.Arrival.{IsBehind}
 use Rattle.mb_queue.specs.Rank.{rank_of}
 use Rattle.mb_queue.specs.Parts.{controls, others, whole}
-use Rattle.mb_queue.specs.Passes.{TakePassView, Turns, first_in_first_out, control_first, by_rank}
+use Rattle.mb_queue.specs.Passes.{TakePassView, Discipline, first_in_first_out, control_first, by_rank}
 
 -- of each sender whose account came back, all of this part was taken, in its order: nothing of it is left
 abbrev pub AllOut : (List Envelope → List Envelope) → List Account → List Envelope → Type 0
@@ -52,7 +52,7 @@ abbrev pub Chooses : List Arrival → Option Envelope → List Arrival → Type 
 Chooses held None rest = (held ≡ []) × (rest ≡ [])
 Chooses held (Some e) rest = (first : Arrival) × (first.envelope ≡ e) × IsPermutation held (first ∷ rest) × All (IsBehind first) rest
 
--- By rank. Arrivals are taken from the lane, in their order, until 1,024 are held (never more) or the lane was empty at a
+-- By rank. Arrivals are taken from the fifo, in their order, until 1,024 are held (never more) or the fifo was empty at a
 -- moment. Of those held the first by rank, and then by arrival, is given: all that stay are behind it. None only if none is
 -- held.
 pub record TakesByRank (rows : List RankRow) (other : ℕ) (old : TakePassView) (result : Option Envelope) (new : TakePassView) : Type 0 where
@@ -65,12 +65,12 @@ pub record TakesByRank (rows : List RankRow) (other : ℕ) (old : TakePassView) 
   pub next : (fresh ≡ []) ⊎ AllBegin whole old.accounts new.arrived
   pub choice : Chooses held result new.waiting
 
--- the kinds that hold nothing: all that was taken from the lanes was given
+-- the kinds that hold nothing: all that was taken from the fifos was given
 abbrev pub HoldsNothing : TakePassView → Type 0
 HoldsNothing t = (t.arrived ≡ t.taken) × (t.waiting ≡ [])
 
--- one take by the order of the queue
-abbrev pub IsTake : Turns → TakePassView → Option Envelope → TakePassView → Type 0
+-- one take by the discipline of the queue
+abbrev pub IsTake : Discipline → TakePassView → Option Envelope → TakePassView → Type 0
 IsTake first_in_first_out old result new = HoldsNothing new × TakesFirst old result new
 IsTake control_first old result new = HoldsNothing new × TakesControlFirst old result new
 IsTake (by_rank rows other) old result new = TakesByRank rows other old result new

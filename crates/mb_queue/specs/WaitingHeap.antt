@@ -21,7 +21,7 @@ arrival_of x = record { rank = x.0.rank; number = x.0.number; envelope = x.0.env
 
 -- what is held, by the entries of the heap
 abbrev pub arrivals : BinaryHeap (Reverse RankKey) Global → List Arrival
-arrivals turns = map arrival_of (heap_items turns)
+arrivals keys = map arrival_of (heap_items keys)
 
 -- the key's envelope is in its slot
 abbrev pub LiesIn : Slab Envelope → Reverse RankKey → Type 0
@@ -31,11 +31,11 @@ abbrev pub same_slot : Reverse RankKey → Reverse RankKey → Bool
 same_slot x y = x.0.slot == y.0.slot
 
 -- it is a heap, each envelope is in a slot of its own, and there is room for all that may be held
-pub record IsKept (turns : BinaryHeap (Reverse RankKey) Global) (envelopes : Slab Envelope) : Type 0 where
-  pub ordered : IsHeap rank_heap_cmp (heap_items turns)
-  pub room : 1024 ≤ heap_capacity turns
+pub record IsKept (keys : BinaryHeap (Reverse RankKey) Global) (envelopes : Slab Envelope) : Type 0 where
+  pub ordered : IsHeap rank_heap_cmp (heap_items keys)
+  pub room : 1024 ≤ heap_capacity keys
   pub slots : 1024 ≤ envelopes.capacity
-  pub few : length (heap_items turns) ≤ 1024
-  pub counted : slab_len envelopes ≡ length (heap_items turns)
-  pub lie : All (LiesIn envelopes) (heap_items turns)
-  pub apart : IsDistinct same_slot (heap_items turns)
+  pub within_limit : length (heap_items keys) ≤ 1024
+  pub counted : slab_len envelopes ≡ length (heap_items keys)
+  pub lie : All (LiesIn envelopes) (heap_items keys)
+  pub apart : IsDistinct same_slot (heap_items keys)

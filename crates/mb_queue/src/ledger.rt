@@ -1,4 +1,4 @@
-//! What a port of a lane knows, in the words of the lane's rule. Ghost data: no value of `Ledger` is made.
+//! What a port of a fifo knows, in the words of the fifo's rule. Ghost data: no value of `Ledger` is made.
 use mb_ghost::Log;
 use mb_msg::Envelope;
 use std::collections::LinkedList;
@@ -12,7 +12,7 @@ pub struct Account {
     pub pushed: Option<Log<Envelope>>,
 }
 
-/// Which kind of envelopes a lane is for.
+/// Which kind of envelopes a fifo is for.
 #[derive(Clone, Copy, Debug, PartialEq, Eq)]
 pub enum QueuePart {
     /// All.
@@ -23,7 +23,7 @@ pub enum QueuePart {
     Others,
 }
 
-/// Which envelopes a lane is for.
+/// Which envelopes a fifo is for.
 pub struct Scope {
     /// By which senders.
     pub senders: LinkedList<u32>,
@@ -33,11 +33,11 @@ pub struct Scope {
     pub part: QueuePart,
 }
 
-/// What a port knows of its lane.
+/// What a port knows of its fifo.
 pub enum Ledger {
-    /// A port that pushes for one sender: which envelopes the lane is for, the sender's number, and what it pushed.
+    /// A port that pushes for one sender: which envelopes the fifo is for, the sender's number, and what it pushed.
     Sender(Scope, u32, LinkedList<Envelope>),
-    /// The port that takes: which envelopes the lane is for, what was taken, and the accounts of senders, the newest
+    /// The port that takes: which envelopes the fifo is for, what was taken, and the accounts of senders, the newest
     /// last.
     Taker(Scope, LinkedList<Envelope>, LinkedList<Account>),
     /// A port that was joined to another.

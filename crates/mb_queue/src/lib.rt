@@ -6,14 +6,14 @@
 //!
 //! The order of a priority mailbox: the rank of each envelope, and which of those held is next.
 //!
-//! One lane of an envelope queue: a first-in-first-out queue for many senders and one taker, with an account of what
+//! One fifo of an envelope queue: a first-in-first-out queue for many senders and one taker, with an account of what
 //! each sender pushed.
 //!
-//! What a sender's port pushed is taken at the taker's port once and in the sender's order, or is still in the lane.
-//! That is the lane's rule. It holds between any two steps of any threads of the lock-free queues below.
+//! What a sender's port pushed is taken at the taker's port once and in the sender's order, or is still in the fifo.
+//! That is the fifo's rule. It holds between any two steps of any threads of the lock-free queues below.
 #![tactic(auto)]
 
-mod bounded_lane;
+mod bounded_fifo;
 mod ledger;
 mod make;
 mod port;
@@ -25,7 +25,7 @@ mod rule;
 mod send_pass;
 mod take_order;
 mod take_pass;
-mod unbounded_lane;
+mod unbounded_fifo;
 mod waiting;
 
 pub use ledger::{Account, Ledger, QueuePart, Scope};

@@ -58,7 +58,7 @@ fn open(
 {
     match kind {
         MailboxType::Unbounded => {
-            let main = open_lane(alloc, to, senders, QueuePart::Whole)?;
+            let main = open_fifo(alloc, to, senders, QueuePart::Whole)?;
             Ok(begin(main, TakeOrder::FirstInFirstOut))
         }
         MailboxType::Bounded(capacity) => {
@@ -67,26 +67,26 @@ fn open(
             Ok(begin(main, TakeOrder::FirstInFirstOut))
         }
         MailboxType::Priority { rows, other } => {
-            let main = open_lane(alloc, to, senders, QueuePart::Whole)?;
+            let main = open_fifo(alloc, to, senders, QueuePart::Whole)?;
             let choice = PriorityState::new(alloc, Ranks::new(rows), other)?;
             Ok(begin(main, TakeOrder::ByRank(choice)))
         }
         MailboxType::Control => {
-            let main = open_lane(alloc, to, senders, QueuePart::Others)?;
-            let control = open_lane(alloc, to, senders, QueuePart::Controls)?;
+            let main = open_fifo(alloc, to, senders, QueuePart::Others)?;
+            let control = open_fifo(alloc, to, senders, QueuePart::Controls)?;
             Ok(begin(main, TakeOrder::ControlFirst(control)))
         }
     }
 }
 
-/// An empty lane without a bound.
-fn open_lane(
+/// An empty fifo without a bound.
+fn open_fifo(
     alloc: Global,
     to: ActorId,
     senders: &[SenderId],
     part: QueuePart,
 ) -> Result<Port, AllocError>
-    ensures { IfOk result (λ port. (port.lane.capacity ≡ None) × (port.ledger ≡ Taker (scope_of senders.now to.0 part) [] [])) }
+    ensures { IfOk result (λ port. (port.fifo.capacity ≡ None) × (port.ledger ≡ Taker (scope_of senders.now to.0 part) [] [])) }
 {
     let mut port = Port::unbounded(alloc)?;
     port.open(senders, to, part);
@@ -139,7 +139,7 @@ fn lend(take: TakePass, by: SenderId) -> Result<(TakePass, SendPass), AllocError
     Ok((take, send))
 }
 
-/// The same for the lane of control messages, where there is one.
+/// The same for the fifo of control messages, where there is one.
 fn lend_control(order: &mut TakeOrder, by: SenderId) -> Result<Option<Port>, AllocError>
     requires { MayLendControl by.0 order.old }
     ensures { IfOk result (LendsControl by.0 order.old order.new) }

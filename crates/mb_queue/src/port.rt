@@ -1,29 +1,29 @@
-//! A port of a lane: it pushes for one sender, or it takes.
+//! A port of a fifo: it pushes for one sender, or it takes.
 ghost use Rattle.std.specs.Prelude.{◌≡◌, ◌<◌, [], Some, None, IfOk, MatchOption, MatchResult, IfErr};
 ghost use Rattle.mb_queue.specs.declared.ledger.Ledger.TheVariants.{Taker};
 ghost use Rattle.mb_queue.specs.Ledger.{IsSender, IsTaker, IsUnused, MayLend, MayPush, pushing, scope_of, taking, lending, borrowing, joining};
-ghost use Rattle.mb_queue.specs.Rule.{FoundEmpty, FoundNext, IsLaneRefusal};
+ghost use Rattle.mb_queue.specs.Rule.{FoundEmpty, FoundNext, IsFifoRefusal};
 
-use crate::bounded_lane::{BoundedLane, BoundedLanePass};
+use crate::bounded_fifo::{BoundedFifo, BoundedFifoPass};
 use crate::ledger::QueuePart;
 use crate::refused::Refusal;
-use crate::rule::{LaneScope, LaneSender};
-use crate::unbounded_lane::{UnboundedLane, UnboundedLanePass};
+use crate::rule::{FifoScope, FifoSender};
+use crate::unbounded_fifo::{UnboundedFifo, UnboundedFifoPass};
 use mb_msg::{ActorId, Envelope, SenderId};
 use std::alloc::{AllocError, Global};
 use std::marker::{Brand, Model};
 use std::sync::{Arc, Wait};
 
-/// The queue, which all ports of the lane share, and what this port knows of it.
+/// The queue, which all ports of the fifo share, and what this port knows of it.
 #[derive(Drop)]
 enum End {
-    /// Of a lane without a bound.
-    Unbounded(Arc<UnboundedLane, Global>, UnboundedLanePass),
-    /// Of a lane with a bound.
-    Bounded(Arc<BoundedLane, Global>, BoundedLanePass),
+    /// Of a fifo without a bound.
+    Unbounded(Arc<UnboundedFifo, Global>, UnboundedFifoPass),
+    /// Of a fifo with a bound.
+    Bounded(Arc<BoundedFifo, Global>, BoundedFifoPass),
 }
 
-/// A port of a lane. Contracts see which lane it is of, and what it knows.
+/// A port of a fifo. Contracts see which fifo it is of, and what it knows.
 pub struct Port {
     end: End,
 }
@@ -36,9 +36,9 @@ impl Drop for Port {
 }
 
 impl Model for Port {
-    ghost use Rattle.mb_queue.specs.Port.{LanePort};
+    ghost use Rattle.mb_queue.specs.Port.{FifoPort};
 
-    ghost Value = { LanePort };
+    ghost Value = { FifoPort };
 
     ghost use Rattle.mb_queue.specs.Ends.{known, IsTied};
 
@@ -48,27 +48,27 @@ impl Model for Port {
 }
 
 impl Port {
-    ghost use Rattle.mb_queue.specs.Port.{LanePort};
+    ghost use Rattle.mb_queue.specs.Port.{FifoPort};
 
-    /// The taker's port of a new lane without a bound. Which envelopes the lane is for is not fixed yet. The only
+    /// The taker's port of a new fifo without a bound. Which envelopes the fifo is for is not fixed yet. The only
     /// error: memory was refused.
     pub fn unbounded(alloc: Global) -> Result<Port, AllocError>
-        ensures { IfOk result (λ port. (port.lane.capacity ≡ None) × IsUnused port.ledger) }
+        ensures { IfOk result (λ port. (port.fifo.capacity ≡ None) × IsUnused port.ledger) }
     {
-        let (blocks, pass) = UnboundedLane::new(alloc)?;
+        let (blocks, pass) = UnboundedFifo::new(alloc)?;
         let blocks = Arc::new(alloc, blocks)?;
         Ok(Port {
             end: End::Unbounded(blocks, pass),
         })
     }
 
-    /// The taker's port of a new lane that holds at most `capacity` envelopes. Which envelopes the lane is for is not
+    /// The taker's port of a new fifo that holds at most `capacity` envelopes. Which envelopes the fifo is for is not
     /// fixed yet. The only error: memory was refused.
     pub fn bounded(alloc: Global, capacity: usize) -> Result<Port, AllocError>
         requires { 0 < capacity }
-        ensures { IfOk result (λ port. (port.lane.capacity ≡ Some capacity) × IsUnused port.ledger) }
+        ensures { IfOk result (λ port. (port.fifo.capacity ≡ Some capacity) × IsUnused port.ledger) }
     {
-        let (slots, pass) = BoundedLane::new(alloc, capacity)?;
+        let (slots, pass) = BoundedFifo::new(alloc, capacity)?;
         let slots = Arc::new(alloc, slots)?;
         Ok(Port {
             end: End::Bounded(slots, pass),
@@ -82,7 +82,7 @@ impl Port {
         requires { MayPush envelope self.old.ledger }
         ensures pushed { MatchResult result (λ _. self.new ≡ record self.old { ledger = pushing self.old.ledger envelope })
             (λ _. self.new ≡ self.old) }
-        ensures refused { IfErr result (IsLaneRefusal self.old.lane.capacity self.old.ledger) }
+        ensures refused { IfErr result (IsFifoRefusal self.old.fifo.capacity self.old.ledger) }
     {
         match &mut self.end {
             End::Unbounded(blocks, pass) => blocks.push(rt, pass, envelope),
@@ -90,7 +90,7 @@ impl Port {
         }
     }
 
-    /// Takes the first envelope. `None` only if the lane was empty at a moment of the call.
+    /// Takes the first envelope. `None` only if the fifo was empty at a moment of the call.
     // Inlined: each call that is saved is one copy of an envelope less.
     #[inline(always)]
     pub fn take<R: Wait>(&mut self, rt: &R) -> Option<Envelope>
@@ -104,7 +104,7 @@ impl Port {
         }
     }
 
-    /// Fixes which envelopes the lane is for: those by these senders, to this actor, and of this part. The taker has
+    /// Fixes which envelopes the fifo is for: those by these senders, to this actor, and of this part. The taker has
     /// the accounts of all these senders, each empty.
     pub fn open(&mut self, senders: &[SenderId], to: ActorId, part: QueuePart)
         requires { IsUnused self.old.ledger }
@@ -114,9 +114,9 @@ impl Port {
     }
 
     /// The same under a brand that knows the senders, the actor and the part.
-    fn open_as<S: LaneScope>(&mut self, senders: &[SenderId], to: ActorId, part: QueuePart)
+    fn open_as<S: FifoScope>(&mut self, senders: &[SenderId], to: ActorId, part: QueuePart)
         requires unused { IsUnused self.old.ledger }
-        requires these { S.scope ≡ scope_of senders.now to.0 part }
+        requires same_origin { S.scope ≡ scope_of senders.now to.0 part }
         ensures { self.new ≡ record self.old { ledger = Taker (scope_of senders.now to.0 part) [] [] } }
     {
         // Only the contract uses them: `S` stands for them in it.
@@ -141,7 +141,7 @@ impl Port {
     }
 
     /// The same under a brand that knows the sender.
-    fn lend_as<N: LaneSender>(&mut self, by: SenderId) -> Result<Port, AllocError>
+    fn lend_as<N: FifoSender>(&mut self, by: SenderId) -> Result<Port, AllocError>
         requires may { MayLend by.0 self.old.ledger }
         requires this { N.by ≡ by.0 }
         ensures { MatchResult result
@@ -164,9 +164,9 @@ impl Port {
         Ok(Port { end })
     }
 
-    /// Takes back a sender's port of the same lane, with its account.
+    /// Takes back a sender's port of the same fifo, with its account.
     pub fn join(&mut self, other: Port)
-        requires lane { other.lane ≡ self.old.lane }
+        requires fifo { other.fifo ≡ self.old.fifo }
         requires taker { IsTaker self.old.ledger }
         requires sender { IsSender other.ledger }
         ensures { self.new ≡ record self.old { ledger = joining self.old.ledger other.ledger } }

@@ -1,4 +1,4 @@
-//! The taker's side of a priority queue: it takes envelopes from the lane before it chooses among them.
+//! The taker's side of a priority queue: it takes envelopes from the fifo before it chooses among them.
 ghost use Rattle.std.specs.Prelude.{◌≡◌, ◌+◌, ◌<◌, [], ◌∷◌, length, IfOk, IsPermutation, MatchBool};
 ghost use Rattle.mb_queue.specs.Ledger.{IsTaker};
 ghost use Rattle.mb_queue.specs.Steps.{OneMore, NoMore, RankTakes, TakenIn};
@@ -38,7 +38,7 @@ impl PriorityState {
     }
 }
 
-/// Takes envelopes from the lane until `HELD_AT_MOST` are held or the lane was empty. Then gives the first of those
+/// Takes envelopes from the fifo until `HELD_AT_MOST` are held or the fifo was empty. Then gives the first of those
 /// held, by rank and then by arrival.
 #[inline(never)]
 pub fn take_first<R: Wait>(rt: &R, choice: &mut PriorityState, main: &mut Port) -> Option<Envelope>
@@ -64,7 +64,7 @@ fn take_in<R: Wait>(rt: &R, choice: &mut PriorityState, main: &mut Port)
     }
 }
 
-/// Takes one envelope from the lane; whether there was one.
+/// Takes one envelope from the fifo; whether there was one.
 fn take_one_in<R: Wait>(rt: &R, choice: &mut PriorityState, main: &mut Port) -> bool
     requires taker { IsTaker main.old.ledger }
     requires room { length choice.old.waiting < 1024 }

@@ -1,35 +1,35 @@
-//! The lane's rule and its steps, in the form that the queues of `crossbeam_queue` are generic in.
+//! The fifo's rule and its steps, in the form that the queues of `crossbeam_queue` are generic in.
 use crate::ledger::Ledger;
 use crossbeam_queue::protocol::{Join, Lesson, Outcome, Protocol, Split};
 use mb_msg::Envelope;
 use std::marker::{Brand, PhantomData};
 
-/// The rule: what each port knows is true of what the lane holds.
-pub struct LaneRule;
+/// The rule: what each port knows is true of what the fifo holds.
+pub struct FifoRule;
 
-impl Protocol<Envelope, Ledger> for LaneRule {
+impl Protocol<Envelope, Ledger> for FifoRule {
     ghost use Rattle.std.specs.Prelude.{[]};
     ghost use Rattle.mb_queue.specs.declared.ledger.Ledger.TheVariants.{Taker};
     ghost use Rattle.mb_queue.specs.Ledger.{unsettled};
-    ghost use Rattle.mb_queue.specs.Rule.{LaneHolds};
+    ghost use Rattle.mb_queue.specs.Rule.{FifoHolds};
 
-    ghost holds = { LaneHolds };
+    ghost holds = { FifoHolds };
 
     ghost first = { Taker unsettled [] [] };
 }
 
 /// A push.
-pub struct LanePush;
+pub struct FifoPush;
 
-impl Outcome<Envelope, Ledger> for LanePush {
+impl Outcome<Envelope, Ledger> for FifoPush {
     ghost use Rattle.std.specs.Prelude.{◌≡◌};
     ghost use Rattle.mb_queue.specs.Ledger.{pushing};
 
     ghost then = { λ ledger e new. new ≡ pushing ledger e };
 }
 
-/// What a push learns of a lane that it found full.
-impl Lesson<Envelope, Ledger> for LanePush {
+/// What a push learns of a fifo that it found full.
+impl Lesson<Envelope, Ledger> for FifoPush {
     ghost use Rattle.std.specs.Prelude.{length};
     ghost use Rattle.mb_queue.specs.Rule.{FoundFull};
 
@@ -37,9 +37,9 @@ impl Lesson<Envelope, Ledger> for LanePush {
 }
 
 /// A take of the next envelope.
-pub struct LaneTake;
+pub struct FifoTake;
 
-impl Outcome<Envelope, Ledger> for LaneTake {
+impl Outcome<Envelope, Ledger> for FifoTake {
     ghost use Rattle.std.specs.Prelude.{◌≡◌};
     ghost use Rattle.mb_queue.specs.Ledger.{taking};
     ghost use Rattle.mb_queue.specs.Rule.{FoundNext};
@@ -47,31 +47,31 @@ impl Outcome<Envelope, Ledger> for LaneTake {
     ghost then = { λ ledger e new. (new ≡ taking ledger e) × FoundNext ledger e };
 }
 
-/// What a take learns of a lane that it found empty.
-impl Lesson<Envelope, Ledger> for LaneTake {
+/// What a take learns of a fifo that it found empty.
+impl Lesson<Envelope, Ledger> for FifoTake {
     ghost use Rattle.std.specs.Prelude.{◌≡◌, length};
     ghost use Rattle.mb_queue.specs.Rule.{FoundEmpty};
 
     ghost fact = { λ ledger items. length items ≡ 0 → FoundEmpty ledger };
 }
 
-/// Which envelopes a lane is for. The caller chooses it.
-pub trait LaneScope {
+/// Which envelopes a fifo is for. The caller chooses it.
+pub trait FifoScope {
     ghost use Rattle.mb_queue.specs.declared.ledger.Scope.{Scope};
 
     ghost scope: { Scope };
 }
 
-impl LaneScope for Brand {
+impl FifoScope for Brand {
     ghost use Rattle.mb_queue.specs.Ledger.{unsettled};
 
     ghost scope = { unsettled };
 }
 
-/// The first step: it fixes which envelopes the lane is for.
-pub struct OpenLane<S>(PhantomData<S>);
+/// The first step: it fixes which envelopes the fifo is for.
+pub struct OpenFifo<S>(PhantomData<S>);
 
-impl<S: LaneScope> Split<Ledger> for OpenLane<S> {
+impl<S: FifoScope> Split<Ledger> for OpenFifo<S> {
     ghost use Rattle.std.specs.Prelude.{[]};
     ghost use Rattle.mb_queue.specs.declared.ledger.Ledger.TheVariants.{Taker, Spent};
 
@@ -81,20 +81,20 @@ impl<S: LaneScope> Split<Ledger> for OpenLane<S> {
 }
 
 /// Whose account it is. The caller chooses it.
-pub trait LaneSender {
+pub trait FifoSender {
     ghost use Rattle.std.specs.Prelude.{ℕ};
 
     ghost by: { ℕ };
 }
 
-impl LaneSender for Brand {
+impl FifoSender for Brand {
     ghost by = { 0 };
 }
 
 /// The account of one sender goes to a port of its own.
 pub struct LendAccount<N>(PhantomData<N>);
 
-impl<N: LaneSender> Split<Ledger> for LendAccount<N> {
+impl<N: FifoSender> Split<Ledger> for LendAccount<N> {
     ghost use Rattle.mb_queue.specs.Ledger.{lending, borrowing};
 
     ghost left = { λ ledger. lending N.by ledger };

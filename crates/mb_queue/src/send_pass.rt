@@ -16,9 +16,9 @@ use std::sync::Wait;
 pub struct SendPass {
     /// The sender for which it pushes.
     pub(crate) by: SenderId,
-    /// Its port of the one lane, or of the lane of all but control messages.
+    /// Its port of the one fifo, or of the fifo of all but control messages.
     pub(crate) main: Port,
-    /// Its port of the lane of control messages, where there is one.
+    /// Its port of the fifo of control messages, where there is one.
     pub(crate) control: Option<Port>,
     /// What it pushed, for proofs alone.
     pub(crate) pushed: Log<Envelope>,

@@ -8,11 +8,11 @@ use crate::priority_state::{PriorityState, take_first};
 use mb_msg::Envelope;
 use std::sync::Wait;
 
-/// The order of a queue, with what a take needs for it beside the port of the main lane.
+/// The order of a queue, with what a take needs for it beside the port of the main fifo.
 #[derive(Drop)]
 pub enum TakeOrder {
     FirstInFirstOut,
-    /// The port of the lane of control messages; the main lane then has the others.
+    /// The port of the fifo of control messages; the main fifo then has the others.
     ControlFirst(Port),
     ByRank(PriorityState),
 }

@@ -14,11 +14,11 @@ use mb_msg::Envelope;
 use std::marker::Model;
 use std::sync::Wait;
 
-/// Takes for the mailbox. Contracts see its queue, what it took from the lanes, what it holds of that, what it gave,
+/// Takes for the mailbox. Contracts see its queue, what it took from the fifos, what it holds of that, what it gave,
 /// and the accounts of the senders whose passes were joined.
 #[derive(Drop)]
 pub struct TakePass {
-    /// The taker's port of the one lane, or of the lane of all but control messages.
+    /// The taker's port of the one fifo, or of the fifo of all but control messages.
     pub(crate) main: Port,
     /// The order, with what it needs: another port, or the envelopes that are held.
     pub(crate) order: TakeOrder,
@@ -44,19 +44,19 @@ impl TakePass {
     ghost use Rattle.mb_queue.specs.Passes.{TakePassView};
 
     /// Takes the next envelope in the order of the queue's kind. `None` only if the queue was empty at a moment of the
-    /// call (each lane of a control-aware queue, at a moment of its own). Then all that a joined pass pushed was given,
+    /// call (each fifo of a control-aware queue, at a moment of its own). Then all that a joined pass pushed was given,
     /// and where all passes are joined each later take gives `None` too. All that was ever given is by senders of the
     /// queue and to its actor.
     #[inline(always)]
     pub fn take<R: Wait>(&mut self, rt: &R) -> Option<Envelope>
         ensures taken { self.new.taken ≡ self.old.taken ++ option_to_list result }
-        ensures same { (self.new.queue ≡ self.old.queue) × (self.new.turns ≡ self.old.turns) × (self.new.accounts ≡ self.old.accounts) }
+        ensures same { (self.new.queue ≡ self.old.queue) × (self.new.discipline ≡ self.old.discipline) × (self.new.accounts ≡ self.old.accounts) }
         ensures sender { IfSome result (λ e. Contains self.old.queue.senders e.by.0) }
         ensures addressed { IfSome result (λ e. e.to.0 ≡ self.old.queue.to) }
         ensures known { All (IsOfQueue self.new.queue) self.new.taken }
-        ensures turn { IsTake self.old.turns self.old result self.new }
+        ensures follows_discipline { IsTake self.old.discipline self.old result self.new }
         ensures each_once { IfNone result (EachOnce self.new) }
-        ensures in_order { IfNone result (self.old.turns ≡ first_in_first_out → InOrder self.new) }
+        ensures in_order { IfNone result (self.old.discipline ≡ first_in_first_out → InOrder self.new) }
         ensures emptied { IfNone result (AllJoined self.new → NothingLeft self.new) }
         ensures ended { NothingLeft self.old → result ≡ None }
     {

@@ -1,4 +1,4 @@
-//! The envelopes that a priority mailbox has taken from its lane and not yet given.
+//! The envelopes that a priority mailbox has taken from its fifo and not yet given.
 ghost use Rattle.std.specs.Prelude.{◌≡◌, ◌<◌, ◌≤◌, ◌↔◌, [], ◌∷◌, length, All, IfOk, IsTrue, IsPermutation, MatchOption};
 ghost use Rattle.mb_queue.specs.Arrival.{IsBehind};
 
@@ -28,7 +28,7 @@ pub struct Arrival {
 /// The envelopes that are held: a heap of keys, and each envelope in a slot. Contracts see them as a list in no
 /// particular order.
 pub struct Waiting {
-    turns: BinaryHeap<Reverse<RankKey>>,
+    keys: BinaryHeap<Reverse<RankKey>>,
     envelopes: Slab<Envelope>,
 }
 
@@ -36,7 +36,7 @@ pub struct Waiting {
 impl Drop for Waiting {
     fn drop(self) {
         let Waiting {
-            turns: _,
+            keys: _,
             envelopes: _,
         } = self;
     }
@@ -50,9 +50,9 @@ impl Model for Waiting {
 
     ghost use Rattle.mb_queue.specs.WaitingHeap.{arrivals, IsKept};
 
-    ghost view = { λ w. arrivals w.turns };
+    ghost view = { λ w. arrivals w.keys };
 
-    ghost invariant = { λ w. IsKept w.turns w.envelopes };
+    ghost invariant = { λ w. IsKept w.keys w.envelopes };
 }
 
 impl Waiting {
@@ -60,9 +60,9 @@ impl Waiting {
     pub fn new(alloc: Global) -> Result<Waiting, AllocError>
         ensures { IfOk result (λ w. w ≡ []) }
     {
-        let turns = BinaryHeap::with_capacity(alloc, HELD_AT_MOST)?;
+        let keys = BinaryHeap::with_capacity(alloc, HELD_AT_MOST)?;
         let envelopes = Slab::with_capacity(alloc, HELD_AT_MOST)?;
-        Ok(Waiting { turns, envelopes })
+        Ok(Waiting { keys, envelopes })
     }
 
     /// Whether `HELD_AT_MOST` are held.
@@ -70,7 +70,7 @@ impl Waiting {
         ensures full { IsTrue result ↔ (length self.now ≡ 1024) }
         ensures most { length self.now ≤ 1024 }
     {
-        self.turns.len() == HELD_AT_MOST
+        self.keys.len() == HELD_AT_MOST
     }
 
     /// Holds one more. It takes no memory.
@@ -84,13 +84,13 @@ impl Waiting {
             envelope,
         } = arrival;
         let slot = self.envelopes.insert_reserved(envelope);
-        let turn = RankKey {
+        let key = RankKey {
             rank,
             number,
             slot,
             envelope: Snapshot::of(&envelope),
         };
-        let Ok(()) = self.turns.push(Reverse(turn)) else {
+        let Ok(()) = self.keys.push(Reverse(key)) else {
             unreachable!();
         };
     }
@@ -100,11 +100,11 @@ impl Waiting {
         ensures { MatchOption result ((self.old ≡ []) × (self.new ≡ []))
             (λ first. IsPermutation self.old (first ∷ self.new) × All (IsBehind first) self.new) }
     {
-        let Reverse(turn) = self.turns.pop()?;
-        let envelope = self.envelopes.remove(turn.slot);
+        let Reverse(key) = self.keys.pop()?;
+        let envelope = self.envelopes.remove(key.slot);
         Some(Arrival {
-            rank: turn.rank,
-            number: turn.number,
+            rank: key.rank,
+            number: key.number,
             envelope,
         })
     }

@@ -92,7 +92,7 @@ fn run_three<R: Threads + Wait + Sync>(
 /// sender's order.
 fn expect_all_taken(take: &TakePass)
     requires each_once { AllJoined take.now × EachOnce take.now }
-    requires in_order { take.now.turns ≡ first_in_first_out → InOrder take.now }
+    requires in_order { take.now.discipline ≡ first_in_first_out → InOrder take.now }
 {
     let _ = take;
 }
@@ -147,7 +147,7 @@ fn push_one<R: Wait>(rt: &R, pass: &mut SendPass, envelope: Envelope)
     requires { (envelope.by.0 ≡ pass.old.by) × (envelope.to.0 ≡ pass.old.queue.to) }
     ensures { (pass.new.queue ≡ pass.old.queue) × (pass.new.by ≡ pass.old.by) }
 {
-    for _turn in 0..TURNS {
+    for _round in 0..TURNS {
         if pushed(rt, pass, envelope, false) == Some(true) {
             return;
         }
@@ -162,7 +162,7 @@ fn take_all<R: Wait>(rt: &R, mut take: TakePass, parts: Parts) -> (TakePass, boo
     let mut due = if parts.are_two { [0, 1, 0, 1] } else { [0; 4] };
     let mut count = 0u64;
     let mut are_due = true;
-    for _turn in 0..TURNS {
+    for _round in 0..TURNS {
         if count >= 2 * EACH {
             break;
         }

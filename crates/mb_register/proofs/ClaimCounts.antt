@@ -12,42 +12,42 @@ use Rattle.mb_register.specs.declared.owed.Owed.{Owed}
 use Rattle.mb_register.specs.Views.{GotAndGaveBack}
 use Rattle.mb_register.specs.Registering.{QueueAccount, HandsClaimOn, LosesNoClaim, claims_of_actor}
 
-pub turns-none : (v : View) → GotAndGaveBack [] [] v v
-turns-none v = record { got = refl; returned = refl }
+pub claims-none : (v : View) → GotAndGaveBack [] [] v v
+claims-none v = record { got = refl; returned = refl }
 
-pub turns-then : (g b h r : List ℕ) (u v w : View) → GotAndGaveBack g b u v → GotAndGaveBack h r v w → GotAndGaveBack (h ++ g) (r ++ b) u w
-turns-then g b h r u v w x y = record {
+pub claims-then : (g b h r : List ℕ) (u v w : View) → GotAndGaveBack g b u v → GotAndGaveBack h r v w → GotAndGaveBack (h ++ g) (r ++ b) u w
+claims-then g b h r u v w x y = record {
   got = y.got ∙ ap (λ l. h ++ l) x.got ∙ sym (append_assoc h g u.got);
   returned = y.returned ∙ ap (λ l. r ++ l) x.returned ∙ sym (append_assoc r b u.returned);
 }
 
 module _ (id : ℕ) where
-  pub turns-read : (a : ℕ) (v w : View) → w ≡ reading id a v → GotAndGaveBack [] [] v w
-  turns-read a v w is = subst (GotAndGaveBack [] [] v) (sym is) (record { got = refl; returned = refl })
+  pub claims-read : (a : ℕ) (v w : View) → w ≡ reading id a v → GotAndGaveBack [] [] v w
+  claims-read a v w is = subst (GotAndGaveBack [] [] v) (sym is) (record { got = refl; returned = refl })
 
-  pub turns-read-twice : (a b : ℕ) (v w : View) → w ≡ reading id b (reading id a v) → GotAndGaveBack [] [] v w
-  turns-read-twice a b v w is = subst (GotAndGaveBack [] [] v) (sym is) (record { got = refl; returned = refl })
+  pub claims-read-twice : (a b : ℕ) (v w : View) → w ≡ reading id b (reading id a v) → GotAndGaveBack [] [] v w
+  claims-read-twice a b v w is = subst (GotAndGaveBack [] [] v) (sym is) (record { got = refl; returned = refl })
 
-  pub turns-read-won : (a : ℕ) (v w : View) → w ≡ winning id (reading id a v) → GotAndGaveBack (id ∷ []) [] v w
-  turns-read-won a v w is = subst (GotAndGaveBack (id ∷ []) [] v) (sym is) (record { got = refl; returned = refl })
+  pub claims-read-won : (a : ℕ) (v w : View) → w ≡ winning id (reading id a v) → GotAndGaveBack (id ∷ []) [] v w
+  claims-read-won a v w is = subst (GotAndGaveBack (id ∷ []) [] v) (sym is) (record { got = refl; returned = refl })
 
-  turns-if : (b : Bool) (u v w : View) → GotAndGaveBack [] [] u v → GotAndGaveBack [] [] u w → GotAndGaveBack [] [] u (if b then v else w)
-  turns-if true u v w a b = a
-  turns-if false u v w a b = b
+  claims-if : (b : Bool) (u v w : View) → GotAndGaveBack [] [] u v → GotAndGaveBack [] [] u w → GotAndGaveBack [] [] u (if b then v else w)
+  claims-if true u v w a b = a
+  claims-if false u v w a b = b
 
-  pub turns-counted : (n : ℕ) (v w : View) → w ≡ counting id n v → GotAndGaveBack [] [] v w
-  turns-counted n v w is =
+  pub claims-counted : (n : ℕ) (v w : View) → w ≡ counting id n v → GotAndGaveBack [] [] v w
+  claims-counted n v w is =
       subst (GotAndGaveBack [] [] v) (sym is)
-      (turns-if (n == 0) v _ _ (record { got = refl; returned = refl }) (record { got = refl; returned = refl }))
+      (claims-if (n == 0) v _ _ (record { got = refl; returned = refl }) (record { got = refl; returned = refl }))
 
-  pub turns-looked : (b : Bool) (v w : View) → w ≡ looking id b v → GotAndGaveBack [] [] v w
-  turns-looked true v w is = subst (GotAndGaveBack [] [] v) (sym is) (record { got = refl; returned = refl })
-  turns-looked false v w is = subst (GotAndGaveBack [] [] v) (sym is) (record { got = refl; returned = refl })
+  pub claims-looked : (b : Bool) (v w : View) → w ≡ looking id b v → GotAndGaveBack [] [] v w
+  claims-looked true v w is = subst (GotAndGaveBack [] [] v) (sym is) (record { got = refl; returned = refl })
+  claims-looked false v w is = subst (GotAndGaveBack [] [] v) (sym is) (record { got = refl; returned = refl })
 
 -- a claim that was just taken is given back
-pub turns-back : (id : ℕ) (j before : List Entry) (shut : List ℕ) (word : ℕ) (gave : Bool) (given : ℕ) (v c w : View) →
+pub claims-back : (id : ℕ) (j before : List Entry) (shut : List ℕ) (word : ℕ) (gave : Bool) (given : ℕ) (v c w : View) →
     c ≡ claimed id before shut word gave given → w ≡ idling id j (taking_in c v) → GotAndGaveBack [] (id ∷ []) v w
-turns-back id j before shut word gave given v c w is after =
+claims-back id j before shut word gave given v c w is after =
     subst (GotAndGaveBack [] (id ∷ []) v) (sym (after ∙ ap (λ (u : View). idling id j (taking_in u v)) is))
     (record { got = append-nil v.got; returned = ap (λ l. id ∷ l) (append-nil v.returned) })
 
@@ -84,9 +84,9 @@ module _ {H : Type 0} where
   -- after reading, which gets no claim
   pub hands-after : (id : ℕ) (old new : QueueAccount H) (u v w : View) (result : Bool) → GotAndGaveBack [] [] u v → HandsClaimOn id old new v w result →
       HandsClaimOn id old new u w result
-  hands-after id old new u v w true a b = (b.0, turns-then [] [] (id ∷ []) [] u v w a b.1)
-  hands-after id old new u v w false a (inl b) = inl (b.0, turns-then [] [] [] [] u v w a b.1)
-  hands-after id old new u v w false a (inr b) = inr (b.0, turns-then [] [] (id ∷ []) (id ∷ []) u v w a b.1)
+  hands-after id old new u v w true a b = (b.0, claims-then [] [] (id ∷ []) [] u v w a b.1)
+  hands-after id old new u v w false a (inl b) = inl (b.0, claims-then [] [] [] [] u v w a b.1)
+  hands-after id old new u v w false a (inr b) = inr (b.0, claims-then [] [] (id ∷ []) (id ∷ []) u v w a b.1)
 
   pub loses-none : (old : QueueAccount H) (v : View) → LosesNoClaim old old v v
   loses-none old v = record {

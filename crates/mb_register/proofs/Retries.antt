@@ -72,7 +72,7 @@ module _ (among : ℕ → Bool) where
       by_case (inl in_set) = among-then id u v w in_set a looks
       by_case (inr not_in) = subst (LooksAmong among u) (sym (out not_in)) a
 
--- all below this number are paid, and the others are owed what they were
+-- all below this number are discharged, and the others are owed what they were
 pub record IsPaidBelow (n : ℕ) (before now : Owed) (old new : View) : Type 0 where
   pub looks : LooksAmong (is_owed before) old new
   pub done : (id : ℕ) → id < n → is_owed now id ≡ false
@@ -123,7 +123,7 @@ module _ (n : ℕ) (before mid now : Owed) (u v w : View) (few : n < 64) (p : Is
 
   pub kept-on : (is_owed mid n ≡ true → (obligation_to n w ≡ nothing) ⊎ (is_owed now n ≡ true)) → (id : ℕ) → id < 64 → is_owed before id ≡ true
       → (obligation_to id w ≡ nothing) ⊎ (is_owed now id ≡ true)
-  kept-on pays id small owed = by_place (same_or_other id n)
+  kept-on discharges id small owed = by_place (same_or_other id n)
     where
       by_order : id ≢ n → (id < n) ⊎ (n ≤ id) → (obligation_to id w ≡ nothing) ⊎ (is_owed now id ≡ true)
       by_order other (inl below) = inl (looks.others id other ∙ p.discharged id below owed)
@@ -131,7 +131,7 @@ module _ (n : ℕ) (before mid now : Owed) (u v w : View) (few : n < 64) (p : Is
 
       by_place : (id ≡ n) ⊎ (id ≢ n) → (obligation_to id w ≡ nothing) ⊎ (is_owed now id ≡ true)
       by_place (inl same) =
-          subst (λ i. (obligation_to i w ≡ nothing) ⊎ (is_owed now i ≡ true)) (sym same) (pays (at ∙ ap (is_owed before) (sym same) ∙ owed))
+          subst (λ i. (obligation_to i w ≡ nothing) ⊎ (is_owed now i ≡ true)) (sym same) (discharges (at ∙ ap (is_owed before) (sym same) ∙ owed))
       by_place (inr other) = by_order other (cases_lt id n)
 
   pub stops : {H : Type 0} (pushed_before pushed_now refused_before refused_now : List (Claim H)) → (is_owed mid n ≡ true) × (is_owed now n ≡ true)
@@ -158,10 +158,10 @@ module _ (n : ℕ) (before mid now : Owed) (u v w : View) (few : n < 64) (p : Is
 
   pub discharged-next : is_owed now n ≡ false → (is_owed mid n ≡ true → (obligation_to n w ≡ nothing) ⊎ (is_owed now n ≡ true)) →
       IsPaidBelow (n + 1) before now u w
-  discharged-next gone pays = record {
+  discharged-next gone discharges = record {
     looks = looked-on;
     done = λ id below. done_at id below (same_or_other id n);
-    discharged = λ id below owed. paid_at id below owed (same_or_other id n);
+    discharged = λ id below owed. discharged_at id below owed (same_or_other id n);
     later = λ id from small. others id small (λ same. omega (arith, same, from)) ∙ p.later id (omega (arith, from)) small;
   }
     where
@@ -173,6 +173,6 @@ module _ (n : ℕ) (before mid now : Owed) (u v w : View) (few : n < 64) (p : Is
       settled (inl nothing_more) = nothing_more
       settled (inr still) = never-both (is_owed now n) still gone
 
-      paid_at : (id : ℕ) → id < n + 1 → is_owed before id ≡ true → (id ≡ n) ⊎ (id ≢ n) → obligation_to id w ≡ nothing
-      paid_at id below owed (inl same) = ap (λ i. obligation_to i w) same ∙ settled (pays (at ∙ ap (is_owed before) (sym same) ∙ owed))
-      paid_at id below owed (inr other) = looks.others id other ∙ p.discharged id (omega (arith, below, other)) owed
+      discharged_at : (id : ℕ) → id < n + 1 → is_owed before id ≡ true → (id ≡ n) ⊎ (id ≢ n) → obligation_to id w ≡ nothing
+      discharged_at id below owed (inl same) = ap (λ i. obligation_to i w) same ∙ settled (discharges (at ∙ ap (is_owed before) (sym same) ∙ owed))
+      discharged_at id below owed (inr other) = looks.others id other ∙ p.discharged id (omega (arith, below, other)) owed

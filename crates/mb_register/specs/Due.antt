@@ -7,10 +7,10 @@ use Rattle.mb_register.specs.Hint.{has_message_hint, has_system_message_hint}
 use Rattle.mb_register.specs.declared.hint.Hint.{Hint}
 
 -- It made this observation between the two views.
-pub record SawSince (sight : Observation) (old new : View) : Type 0 where
+pub record SawSince (observation : Observation) (old new : View) : Type 0 where
   pub later : List Observation
   pub earlier : List Observation
-  pub log : new.log ≡ later ++ (sight ∷ (earlier ++ old.log))
+  pub log : new.log ≡ later ++ (observation ∷ (earlier ++ old.log))
 
 -- It read that envelopes were counted as waiting for the actor.
 abbrev pub SawWaiting : ℕ → View → View → Type 0

@@ -13,5 +13,5 @@ IsNobody owed = (id : ℕ) → is_owed owed id ≡ false
 
 -- The actor is in the set, and none with a lower number is.
 pub record IsFirst (owed : Owed) (id : ℕ) : Type 0 where
-  pub there : is_owed owed id ≡ true
+  pub present : is_owed owed id ≡ true
   pub least : (other : ℕ) → other < id → is_owed owed other ≡ false

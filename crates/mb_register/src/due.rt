@@ -21,11 +21,11 @@ fn has_system<H: MailboxState>(
     id: ActorId,
     hint: Hint,
 ) -> bool
-    requires ours { pass_id pass.old ≡ gates_id gates.now }
-    requires there { id.0 < actors_of gates.now }
-    ensures ours { pass_id pass.new ≡ pass_id pass.old }
+    requires same_gates { pass_id pass.old ≡ gates_id gates.now }
+    requires present { id.0 < actors_of gates.now }
+    ensures same_gates { pass_id pass.new ≡ pass_id pass.old }
     ensures looks { LooksAfter id.0 (pass_view pass.old) (pass_view pass.new) }
-    ensures turns { GotAndGaveBack [] [] (pass_view pass.old) (pass_view pass.new) }
+    ensures claims { GotAndGaveBack [] [] (pass_view pass.old) (pass_view pass.new) }
     ensures some { result ≡ true → obligation_to id.0 (pass_view pass.new) ≡ obligation_to id.0 (pass_view pass.old) }
     ensures none { result ≡ false → obligation_to id.0 (pass_view pass.new) ≡ record (obligation_to id.0 (pass_view pass.old)) { system = false } }
     ensures seen { result ≡ true → (has_system_message_hint hint ≡ true) ⊎ SawListed id.0 (pass_view pass.old) (pass_view pass.new) }
@@ -44,11 +44,11 @@ fn has_messages<H: MailboxState>(
     id: ActorId,
     hint: Hint,
 ) -> bool
-    requires ours { pass_id pass.old ≡ gates_id gates.now }
-    requires there { id.0 < actors_of gates.now }
-    ensures ours { pass_id pass.new ≡ pass_id pass.old }
+    requires same_gates { pass_id pass.old ≡ gates_id gates.now }
+    requires present { id.0 < actors_of gates.now }
+    ensures same_gates { pass_id pass.new ≡ pass_id pass.old }
     ensures looks { LooksAfter id.0 (pass_view pass.old) (pass_view pass.new) }
-    ensures turns { GotAndGaveBack [] [] (pass_view pass.old) (pass_view pass.new) }
+    ensures claims { GotAndGaveBack [] [] (pass_view pass.old) (pass_view pass.new) }
     ensures some { result ≡ true → obligation_to id.0 (pass_view pass.new) ≡ obligation_to id.0 (pass_view pass.old) }
     ensures none { result ≡ false → obligation_to id.0 (pass_view pass.new) ≡ record (obligation_to id.0 (pass_view pass.old)) { message = false } }
     ensures seen { result ≡ true → (has_message_hint hint ≡ true) ⊎ SawWaiting id.0 (pass_view pass.old) (pass_view pass.new) }
@@ -71,11 +71,11 @@ pub(crate) fn is_due<H: MailboxState>(
     id: ActorId,
     hint: Hint,
 ) -> bool
-    requires ours { pass_id pass.old ≡ gates_id gates.now }
-    requires there { id.0 < actors_of gates.now }
-    ensures ours { pass_id pass.new ≡ pass_id pass.old }
+    requires same_gates { pass_id pass.old ≡ gates_id gates.now }
+    requires present { id.0 < actors_of gates.now }
+    ensures same_gates { pass_id pass.new ≡ pass_id pass.old }
     ensures looks { LooksAfter id.0 (pass_view pass.old) (pass_view pass.new) }
-    ensures turns { GotAndGaveBack [] [] (pass_view pass.old) (pass_view pass.new) }
+    ensures claims { GotAndGaveBack [] [] (pass_view pass.old) (pass_view pass.new) }
     ensures discharged { result ≡ false → obligation_to id.0 (pass_view pass.new) ≡ nothing }
     ensures due { result ≡ true → SawDue id.0 hint (pass_view pass.old) (pass_view pass.new) }
 {
@@ -100,11 +100,11 @@ pub(crate) fn take_due<H: MailboxState, R: Wait>(
     id: ActorId,
     hint: Hint,
 ) -> Option<Claim<H>>
-    requires ours { pass_id pass.old ≡ gates_id gates.now }
-    requires there { id.0 < actors_of gates.now }
-    ensures ours { pass_id pass.new ≡ pass_id pass.old }
+    requires same_gates { pass_id pass.old ≡ gates_id gates.now }
+    requires present { id.0 < actors_of gates.now }
+    ensures same_gates { pass_id pass.new ≡ pass_id pass.old }
     ensures looks { LooksAfter id.0 (pass_view pass.old) (pass_view pass.new) }
-    ensures turns { MatchOption result (GotAndGaveBack [] [] (pass_view pass.old) (pass_view pass.new))
+    ensures claims { MatchOption result (GotAndGaveBack [] [] (pass_view pass.old) (pass_view pass.new))
         (λ _. GotAndGaveBack (id.0 ∷ []) [] (pass_view pass.old) (pass_view pass.new)) }
     ensures discharged { obligation_to id.0 (pass_view pass.new) ≡ nothing }
     ensures claim { IfSome result (λ claim. (held_actor claim ≡ id.0)

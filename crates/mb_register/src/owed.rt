@@ -30,7 +30,7 @@ impl Owed {
     /// The actor of the least number in the set.
     pub fn first(self) -> Option<ActorId>
         ensures first { MatchOption result (IsNobody self) (λ id. IsFirst self id.0) }
-        ensures few { IfSome result (λ id. id.0 < 64) }
+        ensures within_limit { IfSome result (λ id. id.0 < 64) }
     {
         if self.bits == 0 {
             return None;

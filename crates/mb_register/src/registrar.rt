@@ -36,9 +36,9 @@ impl<H: MailboxState, W: RunQueue<H>> Registrar<H, W> {
     /// Where the run queue refuses the claim, the claim goes back, and a look is owed to the actor.
     #[inline(always)]
     pub fn register<R: Wait>(&mut self, rt: &R, gates: &Gates<H>, id: ActorId, hint: Hint) -> bool
-        requires ours { (pass_id self.old.pass ≡ gates_id gates.now) × (W.origin self.old.run_queue ≡ Some (origin_of gates.now)) }
-        requires there { (id.0 < actors_of gates.now) × (id.0 < 64) }
-        ensures ours { (pass_id self.new.pass ≡ pass_id self.old.pass) × (W.origin self.new.run_queue ≡ W.origin self.old.run_queue) }
+        requires same_gates { (pass_id self.old.pass ≡ gates_id gates.now) × (W.origin self.old.run_queue ≡ Some (origin_of gates.now)) }
+        requires present { (id.0 < actors_of gates.now) × (id.0 < 64) }
+        ensures same_gates { (pass_id self.new.pass ≡ pass_id self.old.pass) × (W.origin self.new.run_queue ≡ W.origin self.old.run_queue) }
         ensures looks { LooksAfter id.0 (pass_view self.old.pass) (pass_view self.new.pass) }
         ensures discharged { (obligation_to id.0 (pass_view self.new.pass) ≡ nothing) ⊎ (is_owed self.new.owed id.0 ≡ true) }
         ensures registered { IsRegistered id.0
@@ -59,9 +59,9 @@ impl<H: MailboxState, W: RunQueue<H>> Registrar<H, W> {
     // Gives the claim of an actor that is due to the run queue. It is a function of its own, so that where none is due nothing
     // is called that may wait.
     fn register_due<R: Wait>(&mut self, rt: &R, gates: &Gates<H>, id: ActorId, hint: Hint) -> bool
-        requires ours { (pass_id self.old.pass ≡ gates_id gates.now) × (W.origin self.old.run_queue ≡ Some (origin_of gates.now)) }
-        requires there { (id.0 < actors_of gates.now) × (id.0 < 64) }
-        ensures ours { (pass_id self.new.pass ≡ pass_id self.old.pass) × (W.origin self.new.run_queue ≡ W.origin self.old.run_queue) }
+        requires same_gates { (pass_id self.old.pass ≡ gates_id gates.now) × (W.origin self.old.run_queue ≡ Some (origin_of gates.now)) }
+        requires present { (id.0 < actors_of gates.now) × (id.0 < 64) }
+        ensures same_gates { (pass_id self.new.pass ≡ pass_id self.old.pass) × (W.origin self.new.run_queue ≡ W.origin self.old.run_queue) }
         ensures looks { LooksAfter id.0 (pass_view self.old.pass) (pass_view self.new.pass) }
         ensures discharged { (obligation_to id.0 (pass_view self.new.pass) ≡ nothing) ⊎ (is_owed self.new.owed id.0 ≡ true) }
         ensures registered { IsRegistered id.0

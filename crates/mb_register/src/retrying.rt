@@ -25,9 +25,9 @@ impl<H: MailboxState, W: RunQueue<H>> Registrar<H, W> {
     /// to which none was owed before. Whatever is answered, each actor to which a look was owed is owed nothing then, or is in
     /// the set still.
     pub fn retry_refused<R: Wait>(&mut self, rt: &R, gates: &Gates<H>) -> Result<(), StillRefused>
-        requires ours { (pass_id self.old.pass ≡ gates_id gates.now) × (W.origin self.old.run_queue ≡ Some (origin_of gates.now)) }
-        requires few { actors_of gates.now ≤ 64 }
-        ensures ours { (pass_id self.new.pass ≡ pass_id self.old.pass) × (W.origin self.new.run_queue ≡ W.origin self.old.run_queue) }
+        requires same_gates { (pass_id self.old.pass ≡ gates_id gates.now) × (W.origin self.old.run_queue ≡ Some (origin_of gates.now)) }
+        requires within_limit { actors_of gates.now ≤ 64 }
+        ensures same_gates { (pass_id self.new.pass ≡ pass_id self.old.pass) × (W.origin self.new.run_queue ≡ W.origin self.old.run_queue) }
         ensures looks { LooksAmong (is_owed self.old.owed) (pass_view self.old.pass) (pass_view self.new.pass) }
         ensures discharged { OnOk result ((id : ℕ) → id < actors_of gates.now → is_owed self.old.owed id ≡ true
             → obligation_to id (pass_view self.new.pass) ≡ nothing) }
@@ -61,9 +61,9 @@ impl<H: MailboxState, W: RunQueue<H>> Registrar<H, W> {
         gates: &Gates<H>,
         id: ActorId,
     ) -> Result<(), StillRefused>
-        requires ours { (pass_id self.old.pass ≡ gates_id gates.now) × (W.origin self.old.run_queue ≡ Some (origin_of gates.now)) }
-        requires there { (id.0 < actors_of gates.now) × (id.0 < 64) }
-        ensures ours { (pass_id self.new.pass ≡ pass_id self.old.pass) × (W.origin self.new.run_queue ≡ W.origin self.old.run_queue) }
+        requires same_gates { (pass_id self.old.pass ≡ gates_id gates.now) × (W.origin self.old.run_queue ≡ Some (origin_of gates.now)) }
+        requires present { (id.0 < actors_of gates.now) × (id.0 < 64) }
+        ensures same_gates { (pass_id self.new.pass ≡ pass_id self.old.pass) × (W.origin self.new.run_queue ≡ W.origin self.old.run_queue) }
         ensures looks { LooksAfter id.0 (pass_view self.old.pass) (pass_view self.new.pass) }
         ensures discharged { is_owed self.old.owed id.0 ≡ true →
             (obligation_to id.0 (pass_view self.new.pass) ≡ nothing) ⊎ (is_owed self.new.owed id.0 ≡ true) }

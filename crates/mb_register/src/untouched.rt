@@ -8,11 +8,11 @@ use mb_gate::{Claim, Gates, MailboxState, Pass};
 
 /// Gives a claim back as it was taken.
 pub(crate) fn give_home<H: MailboxState>(gates: &Gates<H>, pass: &mut Pass<H>, claim: Claim<H>)
-    requires ours { pass_id pass.old ≡ gates_id gates.now }
+    requires same_gates { pass_id pass.old ≡ gates_id gates.now }
     requires untouched { IsUntouched H.is_of H.facts (Some (origin_of gates.now)) claim }
-    ensures ours { pass_id pass.new ≡ pass_id pass.old }
+    ensures same_gates { pass_id pass.new ≡ pass_id pass.old }
     ensures looks { LooksAfter (held_actor claim) (pass_view pass.old) (pass_view pass.new) }
-    ensures turns { GotAndGaveBack [] (held_actor claim ∷ []) (pass_view pass.old) (pass_view pass.new) }
+    ensures claims { GotAndGaveBack [] (held_actor claim ∷ []) (pass_view pass.old) (pass_view pass.new) }
 {
     gates.release(claim, pass);
 }

@@ -51,7 +51,7 @@ fn line_of(
 ) -> Result<Line, AllocError>
     requires { length senders.now ≤ 80 }
     ensures line { IfOk result (λ line. kept line ≡ line_data senders.now id name.now actor.now) }
-    ensures small { IfOk result (λ line. line.dead < 2 ^ 72) }
+    ensures below_bound { IfOk result (λ line. line.dead < 2 ^ 72) }
 {
     let Counts { handled, restarts } = counts_of(&actor.journal);
     let dead = actor.cleaned.len() as u128 + refused_to(id, senders);

@@ -74,9 +74,9 @@ fn may_restart(message: SysMsg) -> bool
 
 /// How many envelopes to the actor of this number were refused.
 pub(crate) fn refused_to(id: usize, senders: &[SenderReport]) -> u128
-    requires few { length senders.now ≤ 80 }
+    requires within_limit { length senders.now ≤ 80 }
     ensures value { result ≡ refused_to id senders.now }
-    ensures small { result ≤ 80 * 2 ^ 64 }
+    ensures below_bound { result ≤ 80 * 2 ^ 64 }
 {
     let mut refused: u128 = 0;
     for sender in senders {

@@ -11,8 +11,8 @@ use std::fmt;
 pub(crate) struct Lines {
     /// One for each actor, by number.
     pub(crate) lines: Vec<Line>,
-    pub(crate) ghost few: { length lines.items ≤ 64 },
-    pub(crate) ghost small: { All (λ line. line.dead < 2 ^ 72) lines.items },
+    pub(crate) ghost within_limit: { length lines.items ≤ 64 },
+    pub(crate) ghost below_bound: { All (λ line. line.dead < 2 ^ 72) lines.items },
 }
 
 impl fmt::Display for Lines {

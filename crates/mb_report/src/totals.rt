@@ -16,8 +16,8 @@ struct Sums {
 }
 
 pub(crate) fn write_totals<W: fmt::Write>(f: &mut fmt::Formatter<W>, lines: &[Line]) -> fmt::Result
-    requires few { length lines.now ≤ 64 }
-    requires small { All (λ (line : LineType). line.dead < 2 ^ 72) lines.now }
+    requires within_limit { length lines.now ≤ 64 }
+    requires below_bound { All (λ (line : LineType). line.dead < 2 ^ 72) lines.now }
     ensures { WritesOnOk W.write_str_gives f.old result (totals_of (map kept lines.now)) f.new }
 {
     let Sums {
@@ -31,8 +31,8 @@ pub(crate) fn write_totals<W: fmt::Write>(f: &mut fmt::Formatter<W>, lines: &[Li
 }
 
 fn sums_of(lines: &[Line]) -> Sums
-    requires few { length lines.now ≤ 64 }
-    requires small { All (λ (line : LineType). line.dead < 2 ^ 72) lines.now }
+    requires within_limit { length lines.now ≤ 64 }
+    requires below_bound { All (λ (line : LineType). line.dead < 2 ^ 72) lines.now }
     ensures handled { result.handled ≡ sum_by (λ (line : LineData). line.handled) (map kept lines.now) }
     ensures left { result.left ≡ sum_by (λ (line : LineData). line.left) (map kept lines.now) }
     ensures dead { result.dead ≡ sum_by (λ (line : LineData). line.dead) (map kept lines.now) }

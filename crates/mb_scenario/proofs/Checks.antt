@@ -55,7 +55,7 @@ entry-none check before earlier (Some ms) none = (ms, refl, none)
 pub record IsFit (a : ContextData) (ms : Members) (key : KeyData) (d : Data) : Type 0 where
   pub stands : may_stand key.only ms ≡ true
   pub in_range : is_in_range key.form ms d ≡ true
-  pub few : is_few key.form d ≡ true
+  pub within_limit : is_few key.form d ≡ true
   pub known : is_known key.form a d ≡ true
 
 pub fit : (a : ContextData) (ms : Members) (key : KeyData) (d : Data) → value_reason a ms key d ≡ None → IsFit a ms key d
@@ -73,7 +73,7 @@ fit a ms key d none =
     record {
       stands = holds (may_stand key.only ms) (when-none (not (may_stand key.only ms)) NotAllowed p2.0);
       in_range = holds (is_in_range key.form ms d) (when-none (not (is_in_range key.form ms d)) OutOfRange p3.0);
-      few = holds (is_few key.form d) (when-none (not (is_few key.form d)) TooMany p4.0);
+      within_limit = holds (is_few key.form d) (when-none (not (is_few key.form d)) TooMany p4.0);
       known = holds (is_known key.form a d) (when-none (not (is_known key.form a d)) UnknownName p5.0);
     }
 

@@ -234,7 +234,7 @@ senders-all first (s ∷ sends) =
 
 -- a document that passes all checks
 pub record IsPassed (top : Members) : Type 0 where
-  pub few : item_count (items_in (get_member (codes "actor") top)) ≤ 63
+  pub within_limit : item_count (items_in (get_member (codes "actor") top)) ≤ 63
   pub actors : AreActorData 1 (map_items (planned_actor (actor_entries_of (items_in (get_member (codes "actor") top)))) (items_in (get_member (codes
       "actor") top)))
   pub sends : All (IsSendData (1 + item_count (items_in (get_member (codes "actor") top)))) (sends_in top)
@@ -245,7 +245,7 @@ few-tables : (a : ContextData) (ms : Members) (o : Option Data) → key_reason a
     → item_count (items_in o) ≤ 63
 few-tables a ms None none = omega arith
 few-tables a ms (Some d) none =
-    at-most (item_count (items_of d)) 63 (fit a ms (optional (codes "actor") Always (Tables 63)) d none).few
+    at-most (item_count (items_of d)) 63 (fit a ms (optional (codes "actor") Always (Tables 63)) d none).within_limit
 
 pub passed : (top : Members) → document_check top ≡ None → IsPassed top
 passed top none =
@@ -277,7 +277,7 @@ passed top none =
     let many : length kin ≡ item_count actors = length-kin actors in
     let names = named kin 0 actors (each-none (name_check kin) 0 actors p2.0) in
     record {
-      few = few;
+      within_limit = few;
       actors = actors-data kin names 0 actors (each-none (actor_check kin) 0 actors p3.0);
       sends = subst (λ n. All (IsSendData (1 + n)) (sends_in top)) many
           (sends-data kin (omega (arith, few, many)) 0 sends (each-none (send_check kin) 0 sends p4.0));

@@ -7,12 +7,12 @@ use Rattle.mb_msg.proofs.id.SenderId.TheSendSync as sender_id
 use Rattle.mb_msg.proofs.dead_letter.DeadLetter.TheSendSync as dead_letter
 use Rattle.mb_ghost.proofs.Crossing.{log_send}
 use Rattle.mb_queue.proofs.Crossing.{send_pass_send}
-use Rattle.mb_register.proofs.Crossing.{waker_send}
+use Rattle.mb_register.proofs.Crossing.{registrar_send}
 use Rattle.mb_send.specs.contracts.send_log.SendLog as send_log
 use Rattle.mb_send.specs.contracts.sender.GatesSender as sender
 
-book_send : IsSend send_log.the_row
-book_send = declared_send send_log.the_type (
+send_log_send : IsSend send_log.the_row
+send_log_send = declared_send send_log.the_type (
   search (sendable, sender_id.the_send) depth 20,
   (search sendable, (search (sendable, std_crosses, dead_letter.the_send) depth 20, (search (sendable, log_send) depth 20, tt))),
 )
@@ -20,4 +20,4 @@ book_send = declared_send send_log.the_type (
 module _ (H W : RattleType) (home : IsSend H) (run_queue : IsSend W) where
   pub sender_send : IsSend (sender.the_row H W)
   sender_send = declared_send (sender.the_type H W)
-      (waker_send H W home run_queue, (search (sendable, std_crosses, send_pass_send) depth 20, (book_send, (search (sendable, heap_send) depth 20, tt))))
+      (registrar_send H W home run_queue, (search (sendable, std_crosses, send_pass_send) depth 20, (send_log_send, (search (sendable, heap_send) depth 20, tt))))

@@ -26,11 +26,11 @@ module _ {H W : Type 0} (pushed refused : W → List (Claim H)) (id : ℕ) where
       λ i. make (run_queue i) (owed i)
 
   -- nobody was registered
-  pub wakes-nobody : (a b : Registrar H W) → b.run_queue ≡ a.run_queue → b.owed ≡ a.owed
+  pub registers-nobody : (a b : Registrar H W) → b.run_queue ≡ a.run_queue → b.owed ≡ a.owed
       → RegistersAtMost id (account_of pushed refused a) (account_of pushed refused b)
-  wakes-nobody a b run_queue owed = (false, inl (account-same a b run_queue owed))
+  registers-nobody a b run_queue owed = (false, inl (account-same a b run_queue owed))
 
   -- nobody was registered first
-  pub wakes-since : (a b : Registrar H W) (c : QueueAccount H) → b.run_queue ≡ a.run_queue → b.owed ≡ a.owed → RegistersAtMost id (account_of pushed refused b) c
+  pub registers-since : (a b : Registrar H W) (c : QueueAccount H) → b.run_queue ≡ a.run_queue → b.owed ≡ a.owed → RegistersAtMost id (account_of pushed refused b) c
       → RegistersAtMost id (account_of pushed refused a) c
-  wakes-since a b c run_queue owed = subst (λ (k : QueueAccount H). RegistersAtMost id k c) (account-same a b run_queue owed)
+  registers-since a b c run_queue owed = subst (λ (k : QueueAccount H). RegistersAtMost id k c) (account-same a b run_queue owed)

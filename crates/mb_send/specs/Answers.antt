@@ -56,7 +56,7 @@ module _ (by : SenderId) (number : ℕ) (to : ActorId) (body : Body) (posted pos
   -- sender's log, and is the answer.
   pub record IsSent (sends : List SendPassView) (old new : View) (put : Put) : Type 0 where
     pub pass : SendPassView
-    pub there : slice_get sends (to.0 - 1) ≡ Some pass
+    pub present : slice_get sends (to.0 - 1) ≡ Some pass
     pub refused : Option Why
     pub why : IsWhy pass refused
     pub answer : put ≡ put_of number refused

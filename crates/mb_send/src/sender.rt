@@ -58,7 +58,7 @@ impl<H: MailboxState, W: RunQueue<H>> GatesSender<H, W> {
     ///
     /// It answers `NoSuchActor` for the guardian and for a number that no actor has; nothing is read then.
     pub fn look(&mut self, gates: &Gates<H>, to: ActorId) -> Result<Look, SendError>
-        requires ours { pass_id self.old.registrar.pass ≡ gates_id gates.now }
+        requires same_gates { pass_id self.old.registrar.pass ≡ gates_id gates.now }
         requires all { vec_len self.old.sends + 1 ≡ actors_of gates.now }
         ensures refused { OnErr result ((self.new ≡ self.old) × IsErrOf result SendError.NoSuchActor × ((to.0 ≡ 0) ⊎ (actors_of gates.now ≤ to.0))) }
         ensures seen { IfOk result (λ look. (0 < to.0) × (to.0 < actors_of gates.now)

@@ -30,7 +30,7 @@ impl<H: MailboxState, W: RunQueue<H>> GatesSender<H, W> {
         gates: &Gates<H>,
         id: ActorId,
     ) -> Result<bool, SendError>
-        requires ours { (pass_id self.old.registrar.pass ≡ gates_id gates.now) × (W.origin self.old.registrar.run_queue ≡ Some (origin_of gates.now)) }
+        requires same_gates { (pass_id self.old.registrar.pass ≡ gates_id gates.now) × (W.origin self.old.registrar.run_queue ≡ Some (origin_of gates.now)) }
         requires all { (vec_len self.old.sends + 1 ≡ actors_of gates.now) × (actors_of gates.now ≤ 64) }
         ensures refused { OnErr result ((self.new ≡ self.old) × ((IsErrOf result SendError.NoSuchActor × (actors_of gates.now ≤ id.0))
             ⊎ (IsErrOf result SendError.NoMemory × (id.0 < actors_of gates.now)))) }
@@ -38,7 +38,7 @@ impl<H: MailboxState, W: RunQueue<H>> GatesSender<H, W> {
         ensures discharged { IfOk result (λ _. (obligation_to id.0 (pass_view self.new.registrar.pass) ≡ nothing) ⊎ (is_owed self.new.registrar.owed id.0 ≡ true)) }
         ensures still { (other : ℕ) → is_owed self.old.registrar.owed other ≡ true → is_owed self.new.registrar.owed other ≡ true }
         ensures registered { RegistersAtMost id.0 (account_of W.pushed W.refused self.old.registrar) (account_of W.pushed W.refused self.new.registrar) }
-        ensures ours { (pass_id self.new.registrar.pass ≡ pass_id self.old.registrar.pass) × (W.origin self.new.registrar.run_queue ≡ W.origin self.old.registrar.run_queue) }
+        ensures same_gates { (pass_id self.new.registrar.pass ≡ pass_id self.old.registrar.pass) × (W.origin self.new.registrar.run_queue ≡ W.origin self.old.registrar.run_queue) }
         ensures same { (self.new.send_log ≡ self.old.send_log) × (self.new.sends ≡ self.old.sends) }
     {
         if id.0 as usize > self.sends.len() {

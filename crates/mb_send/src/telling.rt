@@ -36,9 +36,9 @@ impl<H: MailboxState, W: RunQueue<H>> GatesSender<H, W> {
         ticket: Ticket,
         body: Body,
     ) -> Result<Put, SendError>
-        requires ours { (pass_id self.old.registrar.pass ≡ gates_id gates.now) × (W.origin self.old.registrar.run_queue ≡ Some (origin_of gates.now)) }
+        requires same_gates { (pass_id self.old.registrar.pass ≡ gates_id gates.now) × (W.origin self.old.registrar.run_queue ≡ Some (origin_of gates.now)) }
         requires all { vec_len self.old.sends + 1 ≡ actors_of gates.now }
-        requires there { (0 < ticket.to.0) × (ticket.to.0 < actors_of gates.now) × (ticket.to.0 < 64) }
+        requires present { (0 < ticket.to.0) × (ticket.to.0 < actors_of gates.now) × (ticket.to.0 < 64) }
         ensures refused { OnErr result (IsErrOf result SendError.NoMemory × (self.new.send_log.posted ≡ self.old.send_log.posted)
             × (self.new.registrar ≡ self.old.registrar)) }
         ensures unsent { OnErr result (IsSameSendLog self.old.send_log self.new.send_log × (self.new.sends ≡ self.old.sends)) }
@@ -48,7 +48,7 @@ impl<H: MailboxState, W: RunQueue<H>> GatesSender<H, W> {
             ≡ true)) }
         ensures still { (id : ℕ) → is_owed self.old.registrar.owed id ≡ true → is_owed self.new.registrar.owed id ≡ true }
         ensures registered { RegistersAtMost ticket.to.0 (account_of W.pushed W.refused self.old.registrar) (account_of W.pushed W.refused self.new.registrar) }
-        ensures ours { (pass_id self.new.registrar.pass ≡ pass_id self.old.registrar.pass) × (W.origin self.new.registrar.run_queue ≡ W.origin self.old.registrar.run_queue) }
+        ensures same_gates { (pass_id self.new.registrar.pass ≡ pass_id self.old.registrar.pass) × (W.origin self.new.registrar.run_queue ≡ W.origin self.old.registrar.run_queue) }
         ensures same { (self.new.send_log.by ≡ self.old.send_log.by) × (vec_len self.new.sends ≡ vec_len self.old.sends) }
         ensures queues { receiving_queues self.new.sends.items ≡ receiving_queues self.old.sends.items }
     {
@@ -88,20 +88,20 @@ impl<H: MailboxState, W: RunQueue<H>> GatesSender<H, W> {
         to: ActorId,
         body: Body,
     ) -> Result<Put, SendError>
-        requires ours { (pass_id self.old.registrar.pass ≡ gates_id gates.now) × (W.origin self.old.registrar.run_queue ≡ Some (origin_of gates.now)) }
+        requires same_gates { (pass_id self.old.registrar.pass ≡ gates_id gates.now) × (W.origin self.old.registrar.run_queue ≡ Some (origin_of gates.now)) }
         requires all { (vec_len self.old.sends + 1 ≡ actors_of gates.now) × (actors_of gates.now ≤ 64) }
         ensures refused { OnErr result ((self.new.send_log.posted ≡ self.old.send_log.posted)
             × ((IsErrOf result SendError.NoSuchActor × ((to.0 ≡ 0) ⊎ (actors_of gates.now ≤ to.0)))
             ⊎ (IsErrOf result SendError.NoMemory × (0 < to.0) × (to.0 < actors_of gates.now)))) }
         ensures unknown { IsErrOf result SendError.NoSuchActor → self.new ≡ self.old }
         ensures unsent { IsErrOf result SendError.NoMemory → OnlyLooked to self.old self.new }
-        ensures there { IfOk result (λ _. (0 < to.0) × (to.0 < actors_of gates.now)) }
+        ensures present { IfOk result (λ _. (0 < to.0) × (to.0 < actors_of gates.now)) }
         ensures told { IfOk result (IsTold self.old.send_log.by self.old.send_log.sent to body self.old.send_log.posted self.new.send_log.posted
             self.old.sends.items (pass_view self.old.registrar.pass) (pass_view self.new.registrar.pass)) }
         ensures discharged { IfOk result (λ _. (obligation_to to.0 (pass_view self.new.registrar.pass) ≡ nothing) ⊎ (is_owed self.new.registrar.owed to.0 ≡ true)) }
         ensures still { (id : ℕ) → is_owed self.old.registrar.owed id ≡ true → is_owed self.new.registrar.owed id ≡ true }
         ensures registered { RegistersAtMost to.0 (account_of W.pushed W.refused self.old.registrar) (account_of W.pushed W.refused self.new.registrar) }
-        ensures ours { (pass_id self.new.registrar.pass ≡ pass_id self.old.registrar.pass) × (W.origin self.new.registrar.run_queue ≡ W.origin self.old.registrar.run_queue) }
+        ensures same_gates { (pass_id self.new.registrar.pass ≡ pass_id self.old.registrar.pass) × (W.origin self.new.registrar.run_queue ≡ W.origin self.old.registrar.run_queue) }
         ensures same { (self.new.send_log.by ≡ self.old.send_log.by) × (vec_len self.new.sends ≡ vec_len self.old.sends) }
         ensures queues { receiving_queues self.new.sends.items ≡ receiving_queues self.old.sends.items }
     {
@@ -115,7 +115,7 @@ impl<H: MailboxState, W: RunQueue<H>> GatesSender<H, W> {
     // Makes the next envelope a dead letter, since its receiver was seen closed.
     fn record_dead_letter(&mut self, to: ActorId, body: Body) -> Result<Put, SendError>
         requires closed { has_seen_closed (pass_view self.old.registrar.pass).log to.0 ≡ true }
-        requires there { (0 < to.0) × (to.0 ≤ vec_len self.old.sends) }
+        requires present { (0 < to.0) × (to.0 ≤ vec_len self.old.sends) }
         ensures refused { OnErr result (IsErrOf result SendError.NoMemory × (self.new.send_log.posted ≡ self.old.send_log.posted)) }
         ensures unsent { OnErr result (IsSameSendLog self.old.send_log self.new.send_log) }
         ensures is_dead_letter { IfOk result (IsDeadLetter self.old.send_log.by self.old.send_log.sent to body self.old.send_log.posted self.new.send_log.posted) }

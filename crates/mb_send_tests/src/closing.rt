@@ -14,9 +14,9 @@ pub fn close<R: Wait>(
     pass: &mut Pass<OpenHome>,
     id: ActorId,
 ) -> bool
-    requires ours { pass_id pass.old ≡ gates_id gates.now }
-    requires there { id.0 < actors_of gates.now }
-    ensures ours { pass_id pass.new ≡ pass_id pass.old }
+    requires same_gates { pass_id pass.old ≡ gates_id gates.now }
+    requires present { id.0 < actors_of gates.now }
+    ensures same_gates { pass_id pass.new ≡ pass_id pass.old }
 {
     match gates.try_schedule(pass, id) {
         Tried::Got(mut claim) => {

@@ -28,7 +28,7 @@ pub enum Target {
 impl Target {
     /// Its number.
     pub fn id(self) -> ActorId
-        ensures there { result.0 < 3 }
+        ensures present { result.0 < 3 }
     {
         match self {
             Target::Guardian => GUARDIAN,

@@ -27,7 +27,7 @@ pub struct Outside {
     sender: GatesSender<OpenHome, OnePlace>,
     other: Pass<OpenHome>,
     ghost three: { actors_of gates ≡ 3 },
-    ghost ours: { (pass_id sender.registrar.pass ≡ gates_id gates) × (pass_id other ≡ gates_id gates) },
+    ghost same_gates: { (pass_id sender.registrar.pass ≡ gates_id gates) × (pass_id other ≡ gates_id gates) },
     ghost run_queue: { origin_of sender.registrar.run_queue.gates.value ≡ origin_of gates },
     ghost all: { vec_len sender.sends ≡ 2 },
 }

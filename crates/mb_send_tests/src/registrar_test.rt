@@ -18,7 +18,7 @@ pub struct RegistrarTest {
     gates: Gates<OpenHome>,
     registrar: Registrar<OpenHome, OnePlace>,
     ghost three: { actors_of gates ≡ 3 },
-    ghost ours: { pass_id registrar.pass ≡ gates_id gates },
+    ghost same_gates: { pass_id registrar.pass ≡ gates_id gates },
     ghost run_queue: { origin_of registrar.run_queue.gates.value ≡ origin_of gates },
 }
 
@@ -68,7 +68,7 @@ impl RegistrarTest {
     }
 
     fn register<R: Wait>(&mut self, rt: &R, id: ActorId, hint: Hint) -> bool
-        requires there { id.0 < 3 }
+        requires present { id.0 < 3 }
     {
         self.registrar.register(rt, &self.gates, id, hint)
     }

@@ -33,9 +33,9 @@ all-known t (p ∷ passes) different =
     (account-kept (joined t p) passes p.by different.0 ∙ account-same t.accounts (home p.by p.pushed) p.by refl)
     (all-known (joined t p) passes different.1)
 
-pub same-turns : (t : TakePassView) (passes : List SendPassView) → (joined_by t passes).turns ≡ t.turns
-same-turns t [] = refl
-same-turns t (p ∷ passes) = same-turns (joined t p) passes
+pub same-discipline : (t : TakePassView) (passes : List SendPassView) → (joined_by t passes).discipline ≡ t.discipline
+same-discipline t [] = refl
+same-discipline t (p ∷ passes) = same-discipline (joined t p) passes
 
 pub same-queue : (t : TakePassView) (passes : List SendPassView) → (joined_by t passes).queue ≡ t.queue
 same-queue t [] = refl
@@ -50,23 +50,23 @@ abbrev pub PartsOut : TakePassView → Type 0
 PartsOut t = AllOut controls t.accounts t.taken × AllOut others t.accounts t.taken
 
 -- so it is once a take found nothing
-pub parts-out : (old new : TakePassView) → IsTake old.turns old None new → new.taken ≡ old.taken ++ [] → new.turns ≡ old.turns
-    → new.accounts ≡ old.accounts → new.turns ≡ control_first → PartsOut new
-parts-out old new turn taken turns accounts kind =
-    let found : IsTake control_first old None new = subst (λ k. IsTake k old None new) (sym turns ∙ kind) turn in
+pub parts-out : (old new : TakePassView) → IsTake old.discipline old None new → new.taken ≡ old.taken ++ [] → new.discipline ≡ old.discipline
+    → new.accounts ≡ old.accounts → new.discipline ≡ control_first → PartsOut new
+parts-out old new follows_discipline taken discipline accounts kind =
+    let found : IsTake control_first old None new = subst (λ k. IsTake k old None new) (sym discipline ∙ kind) follows_discipline in
     let all : new.taken ≡ old.taken = taken ∙ append-nil old.taken in
     subst (λ (x : List Account × List Envelope). AllOut controls x.0 x.1 × AllOut others x.0 x.1) (λ i. (sym accounts i, sym all i)) found.1
 
 -- once a take found nothing, all that each pushed came
-pub all-came : (t : TakePassView) (passes : List SendPassView) → EachOnce t → (t.turns ≡ first_in_first_out → InOrder t)
-    → (t.turns ≡ control_first → PartsOut t) → All (IsKnownBy t) passes → All (AllArrived t.turns t.taken) passes
-all-came t [] once in_order parts known = All-nil (AllArrived t.turns t.taken)
+pub all-came : (t : TakePassView) (passes : List SendPassView) → EachOnce t → (t.discipline ≡ first_in_first_out → InOrder t)
+    → (t.discipline ≡ control_first → PartsOut t) → All (IsKnownBy t) passes → All (AllArrived t.discipline t.taken) passes
+all-came t [] once in_order parts known = All-nil (AllArrived t.discipline t.taken)
 all-came t (p ∷ passes) once in_order parts known =
     let mine = All-head (IsKnownBy t) p passes known in
-    All-cons (AllArrived t.turns t.taken) p passes
+    All-cons (AllArrived t.discipline t.taken) p passes
     (record {
       once = once p.by p.pushed mine;
-      in_order = λ turns. in_order turns p.by p.pushed mine;
-      parts_in_order = λ turns. let out = parts turns in (out.0 p.by p.pushed mine, out.1 p.by p.pushed mine);
+      in_order = λ discipline. in_order discipline p.by p.pushed mine;
+      parts_in_order = λ discipline. let out = parts discipline in (out.0 p.by p.pushed mine, out.1 p.by p.pushed mine);
     })
     (all-came t passes once in_order parts (All-tail (IsKnownBy t) p passes known))

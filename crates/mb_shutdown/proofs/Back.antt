@@ -102,7 +102,7 @@ module _ {A K : Type 0} where
         was = parts.1;
         is = parts.2 (record { number = first.number; registrar = record { pass = pass; run_queue = first.registrar.run_queue; owed = first.registrar.owed } });
         others = (refl, refl, refl);
-        ours = ours;
+        same_gates = ours;
         knew = refl;
         knows = refl;
       }
@@ -127,7 +127,7 @@ module _ {A K : Type 0} where
       let IsOurs = λ (e : WorkerEnd A K). IsEndOf old.system.gates e.registrar in
       let those = All-same IsOurs (back.first ∷ back.rest) old.ends.items (sym back.was) all in
       let one = All-head IsOurs back.first back.rest those in
-      let first : IsOurs back.first' = (back.ours ∙ one.0, ap (λ (way : WorkerPort (Box Contents)). gates_of way.end) back.others.1 ∙ one.1, one.2) in
+      let first : IsOurs back.first' = (back.same_gates ∙ one.0, ap (λ (port : WorkerPort (Box Contents)). gates_of port.end) back.others.1 ∙ one.1, one.2) in
       subst (λ (s : System A K). All (λ (e : WorkerEnd A K). IsEndOf s.gates e.registrar) new.ends.items) (sym back.system)
       (All-same IsOurs new.ends.items (back.first' ∷ back.rest) back.is
       (All-cons IsOurs back.first' back.rest first (All-tail IsOurs back.first back.rest those)))
@@ -177,7 +177,7 @@ module _ {A K : Type 0} where
           two.others.1 ∙ ap (λ (e : WorkerEnd A K). e.registrar.run_queue) (sym first) ∙ one.others.1,
           two.others.2 ∙ ap (λ (e : WorkerEnd A K). e.registrar.owed) (sym first) ∙ one.others.2,
         );
-        ours = two.ours ∙ ap (λ (e : WorkerEnd A K). pass_id e.registrar.pass) (sym first) ∙ one.ours;
+        same_gates = two.same_gates ∙ ap (λ (e : WorkerEnd A K). pass_id e.registrar.pass) (sym first) ∙ one.same_gates;
         knew = one.knew;
         knows = two.knows;
       }

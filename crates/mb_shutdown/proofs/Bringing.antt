@@ -155,10 +155,10 @@ module _ {A K : Type 0} where
   }
 
   -- and so are the passes of each
-  pub ways : (many : ℕ) (was now : List (Sender A K)) (outside : List FinishedSender) → length now ≡ many → IsPermutation now was
+  pub passes-in-place : (many : ℕ) (was now : List (Sender A K)) (outside : List FinishedSender) → length now ≡ many → IsPermutation now was
       → senders_numbers now ≡ numbers 0 (length now) → AreBrought now outside
       → AreSendPasses many was (map (λ (o : FinishedSender). o.sends.items) outside)
-  ways many was now outside count same numbered same_all = record {
+  passes-in-place many was now outside count same numbered same_all = record {
     length_is = brought-many (λ p. p.0) many was now outside count same numbered same_all;
     each = brought-each (λ p. p.0) many was now outside count same numbered same_all;
   }

@@ -26,7 +26,7 @@ use Rattle.mb_system.specs.declared.system.System.{System}
 use Rattle.mb_shutdown.specs.Belonging.{AreAnswers, AreSendPasses, HasAllSeen, HasRead, AllFoundIdle, brings, brought}
 use Rattle.mb_shutdown.specs.Refused.{FindsIdle, IsComplete}
 use Rattle.mb_shutdown.proofs.Back.{all-seen, was-settled}
-use Rattle.mb_shutdown.proofs.Bringing.{answers, known-senders, outsiders, ways}
+use Rattle.mb_shutdown.proofs.Bringing.{answers, known-senders, outsiders, passes-in-place}
 use Rattle.mb_shutdown.proofs.Gathered.{seen_by_end, seen_by_sender}
 use Rattle.mb_shutdown.proofs.Parts.{each-part}
 use Rattle.mb_shutdown.proofs.Places.{as-many-senders, outside-all}
@@ -93,8 +93,8 @@ module _ {A K : Type 0} (built : Built A K) (gates : Gates (Box Contents)) (log 
   pub came-answers : AreAnswers built.system.senders built.senders.items (map (λ (o : FinishedSender). o.send_log.posted) outside)
   came-answers = answers built.system.senders built.senders.items came.now outside now-many came.same in-places came.shown
 
-  pub came-ways : AreSendPasses built.system.senders built.senders.items (map (λ (o : FinishedSender). o.sends.items) outside)
-  came-ways = ways built.system.senders built.senders.items came.now outside now-many came.same in-places came.shown
+  pub came-passes : AreSendPasses built.system.senders built.senders.items (map (λ (o : FinishedSender). o.sends.items) outside)
+  came-passes = passes-in-place built.system.senders built.senders.items came.now outside now-many came.same in-places came.shown
 
   -- the report goes on from what each end and each sender saw
   pub goes-on : (report : Report) (v : View) → v.log ≡ log → ReportExtendsAll report v

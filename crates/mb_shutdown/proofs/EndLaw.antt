@@ -66,7 +66,7 @@ module _ {A K : Type 0} (gives : ℕ → Moment → Reply → Type 0) (first : C
       (λ i l e found is.
       let own = (stands-at i l found).own in
       ap (λ (x : DirectoryEntry). x.queue)
-      (same_Some (record { who = l.home.value.cell.who; queue = l.home.value.take.queue; turns = l.home.value.take.turns }) e
+      (same_Some (record { who = l.home.value.cell.who; queue = l.home.value.take.queue; discipline = l.home.value.take.discipline }) e
       (sym own.settled.own.enrolled ∙ (λ k. slice_get (own.directory k) (own.number k)) ∙ is)))
     where
       twice : (ls : List BoxedHome)
@@ -89,7 +89,7 @@ module _ {A K : Type 0} (gives : ℕ → Moment → Reply → Type 0) (first : C
     rows-queues = each-place (λ row. queues_pushed_into (items row) ≡ drop 1 (queues_of takes)) joined (λ i row found.
         let p = there g.parties i (let lt = within joined i row found in let m = many-rows in omega (arith, lt, m)) in
         ap queues_pushed_into (alike items (λ (p : Party). p.row) joined g.parties i row p.0 rows-same found p.1)
-        ∙ (g.each i p.0 p.1).ways ∙ ap (drop 1) (sym same-queues))
+        ∙ (g.each i p.0 p.1).send_passes ∙ ap (drop 1) (sym same-queues))
 
     pub rows-different : (place : ℕ) → AreOfDifferent (column place (map items joined))
     rows-different place =
@@ -124,7 +124,7 @@ module _ {A K : Type 0} (gives : ℕ → Moment → Reply → Type 0) (first : C
       report-whole =
           whole after gives first v.log lefts outs g stands-at done-at many-enrolled known envelopes
           (subst (λ (x : List TakePassView × List (List SendPassView)). AreTaken x.0 x.1 envelopes) (λ i. (apart.takes_are i, rows-same i)) taken) report
-          (shows.many ∙ many-ended ∙ sym many-lefts) shown
+          (shows.same_count ∙ many-ended ∙ sym many-lefts) shown
           (sents ∙ ap (λ l. l ++ map (λ (o : FinishedSender). (o.send_log.sent, o.send_log.dead.items)) outs) apart.senders_are ∙ sym g.sents)
 
       -- the journals go on from all that was seen
@@ -132,10 +132,10 @@ module _ {A K : Type 0} (gives : ℕ → Moment → Reply → Type 0) (first : C
           → ReportExtends report s
       goes-on (Saw actor journal) kept = λ a found.
           let lt : actor < length lefts
-          = let b = within report.actors.items actor a found in let c = shows.many in let d = many-ended in let m = many-lefts in
+          = let b = within report.actors.items actor a found in let c = shows.same_count in let d = many-ended in let m = many-lefts in
           omega (arith, b, c, d, m) in
           let l = there lefts actor lt in
-          let m = taken.many in let t = ap length apart.takes_are in let q = length-mapped (λ (l : BoxedHome). l.home.value.take) lefts in
+          let m = taken.same_count in let t = ap length apart.takes_are in let q = length-mapped (λ (l : BoxedHome). l.home.value.take) lefts in
           let es = there envelopes actor (omega (arith, lt, m, t, q)) in
           subst (λ j. Extends j journal) (sym (shown actor l.0 es.0 a l.1 es.1 found).0.journal_is) (kept actor l.0 l.1 refl)
       goes-on (Read actor word) kept = tt
@@ -161,11 +161,11 @@ module _ {A K : Type 0} (gives : ℕ → Moment → Reply → Type 0) (first : C
       pub report-counted : map (λ (a : ActorReport). length a.left.items) report.actors.items ≡ waiting
       report-counted =
           became (λ (a : ActorReport). length a.left.items) report.actors.items waiting
-          (shows.many ∙ many-ended ∙ sym counted)
+          (shows.same_count ∙ many-ended ∙ sym counted)
           (λ i a w found is.
-          let lt = within report.actors.items i a found in let c = shows.many in let d = many-ended in let m = many-lefts in
+          let lt = within report.actors.items i a found in let c = shows.same_count in let d = many-ended in let m = many-lefts in
           let e = there ended i (omega (arith, lt, c)) in
-          let q = taken.many in let t = ap length apart.takes_are in let k = length-mapped (λ (l : BoxedHome). l.home.value.take) lefts in
+          let q = taken.same_count in let t = ap length apart.takes_are in let k = length-mapped (λ (l : BoxedHome). l.home.value.take) lefts in
           let es = there envelopes i (omega (arith, lt, c, d, m, q, t, k)) in
           let one = shows.each i e.0 es.0 w a e.1 es.1 is found in
           ap length one.shows.left_is ∙ one.counted)
@@ -182,7 +182,7 @@ module _ {A K : Type 0} (gives : ℕ → Moment → Reply → Type 0) (first : C
             let x = from-mapped (λ (x : BoxedHome). Some x) lefts id (Some l) (ap (λ y. slice_get y id) (sym apart.are) ∙ is) in
             let here : slice_get lefts id ≡ Some l = x.1 ∙ x.2 in
             let b = within lefts id l here in let m = many-lefts in
-            let q = taken.many in let t = ap length apart.takes_are in let k = length-mapped (λ (l : BoxedHome). l.home.value.take) lefts in
+            let q = taken.same_count in let t = ap length apart.takes_are in let k = length-mapped (λ (l : BoxedHome). l.home.value.take) lefts in
             let es = there envelopes id (omega (arith, b, q, t, k)) in
             let done = done-at id l here in (
               done.1,
@@ -193,7 +193,7 @@ module _ {A K : Type 0} (gives : ℕ → Moment → Reply → Type 0) (first : C
             let x = from-mapped (λ (x : BoxedHome). Some x) lefts id (Some l) (ap (λ y. slice_get y id) (sym apart.are) ∙ is) in
             let here : slice_get lefts id ≡ Some l = x.1 ∙ x.2 in
             let b = within lefts id l here in
-            let q = taken.many in let t = ap length apart.takes_are in let k = length-mapped (λ (l : BoxedHome). l.home.value.take) lefts in
+            let q = taken.same_count in let t = ap length apart.takes_are in let k = length-mapped (λ (l : BoxedHome). l.home.value.take) lefts in
             let es = there envelopes id (omega (arith, b, q, t, k)) in
             (shown id l es.0 a here es.1 found).0.cleaned_is;
         dead = λ id l s is found.

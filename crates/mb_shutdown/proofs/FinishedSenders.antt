@@ -101,7 +101,7 @@ module _ (directory : List DirectoryEntry) (Shut : ℕ → Type 0) (log : List O
       let lt : to < length directory
       = let a = within (queues_of directory) to one.0 found in let b = length-mapped (λ (n : DirectoryEntry). n.queue) directory in omega (arith, a, b) in (
         λ closed. shut to lt (sym (ap (may_be_dead (has_seen_closed log to)) closed) ∙ seen),
-        λ full. record { queue = one.0; there = found; bounded = one.2 full },
+        λ full. record { queue = one.0; present = found; bounded = one.2 full },
       )
 
   pub outside-party : o.send_log.sent < 2 ^ 64
@@ -109,7 +109,7 @@ module _ (directory : List DirectoryEntry) (Shut : ℕ → Type 0) (log : List O
   outside-party small = record {
     numbered = subst (λ n. NumbersCountUpFrom n 0 (accepted o.send_log.posted)) is.number_is
         (names-numbered o.send_log.by.0 0 (accepted o.send_log.posted) o.send_log.numbered);
-    ways = is.queues;
+    send_passes = is.queues;
     by = each-place (λ (s : SendPassView). s.by ≡ number) o.sends.items (λ i s there. (is.routes i s there).sender ∙ is.number_is);
     pushed = λ i s there. (is.routes i s there).pushed
         ∙ ap (λ n. to_actor n (queued o.send_log.posted)) (let e : i + 1 ≡ suc i = omega arith in e);

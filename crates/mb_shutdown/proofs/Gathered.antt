@@ -36,7 +36,7 @@ module _ {A K : Type 0} where
 
   -- the pass is of the gates, and knows what the first of these ends and those that came have seen
   pub record HasEnds (gates : Gates (Box Contents)) (ends came rest : List (WorkerEnd A K)) (pass : Pass (Box Contents)) : Type 0 where
-    pub ours : pass_id pass ≡ gates_id gates
+    pub same_gates : pass_id pass ≡ gates_id gates
     pub first : WorkerEnd A K
     pub are : (first ∷ came) ++ rest ≡ ends
     pub seen : AllSeen seen_by_end (first ∷ came) (pass_view pass).log
@@ -45,7 +45,7 @@ module _ {A K : Type 0} where
       → e ∷ rest ≡ ends → pass ≡ e.registrar.pass → All (λ (w : WorkerEnd A K). IsEndOf gates w.registrar) ends → HasEnds gates ends [] rest pass
   ends-first gates ends rest e pass are is all =
       let one = of-next (λ (w : WorkerEnd A K). IsEndOf gates w.registrar) [] e rest ends are all in record {
-        ours = ap pass_id is ∙ one.0;
+        same_gates = ap pass_id is ∙ one.0;
         first = e;
         are = are;
         seen = All-cons (λ (w : WorkerEnd A K). IsPart (seen_by_end w) (pass_view pass).log) e []
@@ -68,7 +68,7 @@ module _ {A K : Type 0} where
       let log : (pass_view new).log ≡ seen_by_end e ++ (pass_view old).log =
       ap (λ (v : View). v.log) knows ∙ ap (λ (p : Pass (Box Contents)). (pass_view p).log ++ (pass_view old).log) is in
       record {
-        ours = same ∙ has.ours;
+        same_gates = same ∙ has.same_gates;
         first = has.first;
         are = next-came (has.first ∷ came) e rest ends (ap (λ l. (has.first ∷ came) ++ l) (sym next) ∙ has.are);
         seen = seen-more seen_by_end (has.first ∷ came) e (pass_view old).log (pass_view new).log log has.seen;
@@ -83,7 +83,7 @@ module _ {A K : Type 0} where
   -- the pass is of the gates, and knows what all ends and those senders that came have seen; these brought this
   pub record HasSenders (gates : Gates (Box Contents)) (ends : List (WorkerEnd A K)) (senders came rest : List (Sender A K))
       (pass : Pass (Box Contents)) (outside : List FinishedSender) : Type 0 where
-    pub ours : pass_id pass ≡ gates_id gates
+    pub same_gates : pass_id pass ≡ gates_id gates
     pub ends_seen : AllSeen seen_by_end ends (pass_view pass).log
     pub are : came ++ rest ≡ senders
     pub seen : AllSeen seen_by_sender came (pass_view pass).log
@@ -93,7 +93,7 @@ module _ {A K : Type 0} where
       (outside : List FinishedSender) → pass_id pass ≡ gates_id gates → AllSeen seen_by_end ends (pass_view pass).log → rest ≡ senders → outside ≡ []
       → HasSenders gates ends senders [] rest pass outside
   senders-first gates ends senders rest pass outside ours seen are none = record {
-    ours = ours;
+    same_gates = ours;
     ends_seen = seen;
     are = are;
     seen = All-nil (λ (s : Sender A K). IsPart (seen_by_sender s) (pass_view pass).log);
@@ -105,7 +105,7 @@ module _ {A K : Type 0} where
       → other ≡ s.inner.registrar.pass → All (λ (x : Sender A K). IsSenderOf gates x.inner) senders → pass_id other ≡ gates_id gates
   sender-ours gates ends senders came left rest s pass other outside has next is all =
       ap pass_id is
-      ∙ (of-next (λ (x : Sender A K). IsSenderOf gates x.inner) came s rest senders (ap (λ l. came ++ l) (sym next) ∙ has.are) all).ours.0
+      ∙ (of-next (λ (x : Sender A K). IsSenderOf gates x.inner) came s rest senders (ap (λ l. came ++ l) (sym next) ∙ has.are) all).same_gates.0
 
   pub senders-more : (gates : Gates (Box Contents)) (ends : List (WorkerEnd A K)) (senders came left rest : List (Sender A K)) (s : Sender A K)
       (old new other : Pass (Box Contents)) (outside outside' : List FinishedSender) (o : FinishedSender)
@@ -116,7 +116,7 @@ module _ {A K : Type 0} where
       let log : (pass_view new).log ≡ seen_by_sender s ++ (pass_view old).log =
       ap (λ (v : View). v.log) knows ∙ ap (λ (p : Pass (Box Contents)). (pass_view p).log ++ (pass_view old).log) is in
       record {
-        ours = same ∙ has.ours;
+        same_gates = same ∙ has.same_gates;
         ends_seen = seen-by seen_by_end ends (pass_view old).log (pass_view new).log
             (subst (IsPart (pass_view old).log) (sym log) (part-back (seen_by_sender s) (pass_view old).log)) has.ends_seen;
         are = next-came came s rest senders (ap (λ l. came ++ l) (sym next) ∙ has.are);

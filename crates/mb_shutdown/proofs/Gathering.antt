@@ -33,18 +33,18 @@ pub number-outside : (n i j : ℕ) → i ≡ n + j → sender_number n i ≡ 64 
 number-outside n i j is =
     ap (λ b. if b then i else 64 + (i - n)) (le-ltb i n (omega (arith, is))) ∙ (let e : 64 + (i - n) ≡ 64 + j = omega (arith, is) in e)
 
-either-way : (n i : ℕ) → (i < n) ⊎ ((j : ℕ) × (i ≡ n + j))
-either-way n zero = by_zero n
+below-or-beyond : (n i : ℕ) → (i < n) ⊎ ((j : ℕ) × (i ≡ n + j))
+below-or-beyond n zero = by_zero n
   where
     by_zero : (n : ℕ) → (zero < n) ⊎ ((j : ℕ) × (zero ≡ n + j))
     by_zero zero = inr (zero, omega arith)
     by_zero (suc n) = inl (omega arith)
-either-way zero (suc i) = inr (suc i, omega arith)
-either-way (suc n) (suc i) =
-    ⊎_elim (λ lt. inl (omega (arith, lt))) (λ past. inr (past.0, (let e = past.1 in omega (arith, e)))) (either-way n i)
+below-or-beyond zero (suc i) = inr (suc i, omega arith)
+below-or-beyond (suc n) (suc i) =
+    ⊎_elim (λ lt. inl (omega (arith, lt))) (λ past. inr (past.0, (let e = past.1 in omega (arith, e)))) (below-or-beyond n i)
 
 pub numbers-rise : (n : ℕ) → n ≤ 64 → (i j : ℕ) → i < j → sender_number n i < sender_number n j
-numbers-rise n few i j lt = by_sides (either-way n i) (either-way n j)
+numbers-rise n few i j lt = by_sides (below-or-beyond n i) (below-or-beyond n j)
   where
     by_sides : (i < n) ⊎ ((k : ℕ) × (i ≡ n + k)) → (j < n) ⊎ ((k : ℕ) × (j ≡ n + k)) → sender_number n i < sender_number n j
     by_sides (inl a) (inl b) = let x = number-inside n i a in let y = number-inside n j b in omega (arith, x, y, lt)
@@ -78,7 +78,7 @@ outside_of o = record { row = o.sends.items; postings = o.send_log.posted; sent 
 
 pub record Gathered (directory : List DirectoryEntry) (lefts : List BoxedHome) (outs : List FinishedSender) : Type 0 where
   pub parties : List Party
-  pub many : length parties ≡ length lefts + length outs
+  pub same_count : length parties ≡ length lefts + length outs
   pub each : (i : ℕ) (p : Party) → slice_get parties i ≡ Some p → IsParty directory (IsShut lefts) (sender_number (length lefts) i) p
   pub rows : map (λ (p : Party). p.row) parties
       ≡ map (λ (l : BoxedHome). l.home.value.sends) lefts ++ map (λ (o : FinishedSender). o.sends.items) outs
@@ -136,7 +136,7 @@ module _ (gives : ℕ → Moment → Reply → Type 0) (first : Contents) (log :
       let same_many : length ps ≡ n = inside.1 in
       record {
         parties = ps ++ map outside_of outs;
-        many = length-append ps (map outside_of outs) ∙ (λ i. same_many i + length-mapped outside_of outs i);
+        same_count = length-append ps (map outside_of outs) ∙ (λ i. same_many i + length-mapped outside_of outs i);
         each = λ i p found. ⊎_elim
             (λ a.
             let l = there lefts i (let lt = a.0 in omega (arith, lt, same_many)) in

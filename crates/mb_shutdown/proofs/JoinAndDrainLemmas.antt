@@ -6,7 +6,7 @@ use Rattle.std.specs.Prelude.{Vec, option_map, slice_get, Result, Ok, Err, IfErr
 use Rattle.std.proofs.lemmas.Option.{none-some, same_Some}
 use Rattle.mb_msg.specs.declared.envelope.Envelope.{Envelope}
 use Rattle.mb_queue.specs.Parts.{controls, others}
-use Rattle.mb_queue.specs.Passes.{IsOfQueue, Queue, SendPassView, TakePassView, Turns, first_in_first_out, control_first}
+use Rattle.mb_queue.specs.Passes.{IsOfQueue, Queue, SendPassView, TakePassView, Discipline, first_in_first_out, control_first}
 use Rattle.mb_journal.specs.Accepted.{NumbersCountUpFrom, accepted, queued, to_actor}
 use Rattle.mb_journal.specs.Pair.{FatesInSendOrder, AcceptedMatchFates, EachHasOneFate}
 use Rattle.mb_journal.specs.declared.sent_envelope.SentEnvelope.{SentEnvelope}
@@ -16,7 +16,7 @@ use Rattle.mb_shutdown.specs.AllArrived.{AllArrived}
 use Rattle.mb_shutdown.specs.Parts.{ArePartsInOrder, IsControlsFirst}
 use Rattle.mb_shutdown.specs.Joined.{AreOfAllSenders, AreOfDifferent, column, joined_by, joins_all}
 use Rattle.mb_shutdown.specs.Rest.{AreRests, IsOver, IsOverfull, IsRest}
-use Rattle.mb_shutdown.proofs.ArrivedLemmas.{same-queue, same-taken, same-turns}
+use Rattle.mb_shutdown.proofs.ArrivedLemmas.{same-queue, same-taken, same-discipline}
 use Rattle.mb_shutdown.proofs.LeftLemmas.{all-joined}
 use Rattle.mb_shutdown.proofs.QueuedLemmas.{queued-are}
 use Rattle.mb_shutdown.proofs.JoinLemmas.{length-joins_all, place-joins_all, refilled}
@@ -65,7 +65,7 @@ module _ (takes : List TakePassView) (rows : List (List SendPassView)) (lefts : 
       = place-joins_all takes rows place ∙ ap (option_map (λ t. joined_by t (column place rows))) there in
       rest-at (joins_all takes rows) lefts place (joined_by take (column place rows)) left rests now is
 
-  pub came-at : AreOfDifferent (column place rows) → All (AllArrived take.turns (take.taken ++ left)) (column place rows)
+  pub came-at : AreOfDifferent (column place rows) → All (AllArrived take.discipline (take.taken ++ left)) (column place rows)
   came-at different = rest-joined.came take (column place rows) refl different
 
   pub known-at : All (IsOfQueue take.queue) (take.taken ++ left)
@@ -73,35 +73,35 @@ module _ (takes : List TakePassView) (rows : List (List SendPassView)) (lefts : 
       subst (λ (x : Queue × List Envelope). All (IsOfQueue x.0) (x.1 ++ left))
       (λ i. (same-queue take (column place rows) i, same-taken take (column place rows) i)) rest-joined.known
 
-  pub ordered-at : AreOfDifferent (column place rows) → take.turns ≡ control_first → AreOfAllSenders take.queue (column place rows)
+  pub ordered-at : AreOfDifferent (column place rows) → take.discipline ≡ control_first → AreOfAllSenders take.queue (column place rows)
       → IsControlsFirst left
   ordered-at different kind all =
-      rest-joined.controls_first (same-turns take (column place rows) ∙ kind) (all-joined take (column place rows) different all)
+      rest-joined.controls_first (same-discipline take (column place rows) ∙ kind) (all-joined take (column place rows) different all)
 
 -- of receivers that took in all passes to them, one has no room for what was left
 module _ (takes : List TakePassView) (rows : List (List SendPassView)) (rooms : List (Vec Envelope Global)) (place : ℕ)
     (different : AreOfDifferent (column place rows)) (over : IsOver place (joins_all takes rows) rooms) where
-  abbrev ways : List SendPassView
-  ways = column place rows
+  abbrev send_passes : List SendPassView
+  send_passes = column place rows
 
-  now : (o : Option TakePassView) → slice_get takes place ≡ o → Some over.take ≡ option_map (λ t. joined_by t ways) o
-  now o is = sym over.there ∙ place-joins_all takes rows place ∙ ap (option_map (λ t. joined_by t ways)) is
+  now : (o : Option TakePassView) → slice_get takes place ≡ o → Some over.take ≡ option_map (λ t. joined_by t send_passes) o
+  now o is = sym over.present ∙ place-joins_all takes rows place ∙ ap (option_map (λ t. joined_by t send_passes)) is
 
   by_case : (o : Option TakePassView) → slice_get takes place ≡ o → IsOverfull takes rows rooms place
   by_case None is = absurd {A = IsOverfull takes rows rooms place} (let no = now None is in cc no)
   by_case (Some t) is =
-      let same : over.take ≡ joined_by t ways = same_Some over.take (joined_by t ways) (now (Some t) is) in let left = over.more.left in
+      let same : over.take ≡ joined_by t send_passes = same_Some over.take (joined_by t send_passes) (now (Some t) is) in let left = over.more.left in
       record {
         take = t;
         room = over.room;
         left = left;
-        there = is;
+        present = is;
         lies = over.lies;
         was = record {
           known = subst (λ (x : Queue × List Envelope). All (IsOfQueue x.0) (x.1 ++ left))
-              (λ i. ((ap (λ (y : TakePassView). y.queue) same ∙ same-queue t ways) i, (ap (λ (y : TakePassView). y.taken) same ∙ same-taken t ways) i))
+              (λ i. ((ap (λ (y : TakePassView). y.queue) same ∙ same-queue t send_passes) i, (ap (λ (y : TakePassView). y.taken) same ∙ same-taken t send_passes) i))
               over.more.rest.known;
-          came = over.more.rest.came t ways same different;
+          came = over.more.rest.came t send_passes same different;
         };
         over = over.more.over;
       }
@@ -109,18 +109,18 @@ module _ (takes : List TakePassView) (rows : List (List SendPassView)) (rooms : 
   pub overfull : IsOverfull takes rows rooms place
   overfull = by_case (slice_get takes place) refl
 
-module _ (to : ℕ) (postings : List SentEnvelope) (turns : Turns) (fates : List Envelope) (pass : SendPassView)
-    (pushed : pass.pushed ≡ to_actor to (queued postings)) (came : AllArrived turns fates pass) where
+module _ (to : ℕ) (postings : List SentEnvelope) (discipline : Discipline) (fates : List Envelope) (pass : SendPassView)
+    (pushed : pass.pushed ≡ to_actor to (queued postings)) (came : AllArrived discipline fates pass) where
   pub often : AcceptedMatchFates pass.by to postings fates
   often = stands-as-often pass.by to postings fates (λ test. ap (λ l. count_by test l) (sym pushed) ∙ came.once test)
 
   pub once : NumbersCountUpFrom pass.by 0 (accepted postings) → EachHasOneFate to postings fates
   once numbered = stands-once pass.by to postings fates numbered often
 
-  pub in_order : NumbersCountUpFrom pass.by 0 (accepted postings) → turns ≡ first_in_first_out → FatesInSendOrder pass.by to postings fates
+  pub in_order : NumbersCountUpFrom pass.by 0 (accepted postings) → discipline ≡ first_in_first_out → FatesInSendOrder pass.by to postings fates
   in_order numbered kind = kept-in-order pass.by to postings fates numbered (sym pushed ∙ came.in_order kind)
 
-  pub parts_in_order : NumbersCountUpFrom pass.by 0 (accepted postings) → turns ≡ control_first → ArePartsInOrder pass.by to postings fates
+  pub parts_in_order : NumbersCountUpFrom pass.by 0 (accepted postings) → discipline ≡ control_first → ArePartsInOrder pass.by to postings fates
   parts_in_order numbered kind =
       let both = came.parts_in_order kind in
       let all = pushed ∙ queued-are pass.by to postings numbered in

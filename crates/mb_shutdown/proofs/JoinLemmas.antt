@@ -46,10 +46,10 @@ queue-last (x ∷ takes) (q ∷ passes) p more t are was =
     queue-last takes passes p more t rest was
 
 -- one pass less
-pub ways-last : (passes : List SendPassView) (p : SendPassView) (more : List Queue)
+pub passes-last : (passes : List SendPassView) (p : SendPassView) (more : List Queue)
     → queues_pushed_into (passes ++ p ∷ []) ++ more ≡ queues_pushed_into passes ++ p.queue ∷ more
-ways-last [] p more = refl
-ways-last (q ∷ passes) p more = ap (λ l. q.queue ∷ l) (ways-last passes p more)
+passes-last [] p more = refl
+passes-last (q ∷ passes) p more = ap (λ l. q.queue ∷ l) (passes-last passes p more)
 
 -- the rows of the other senders are of the receivers' queues still
 pub all-rest : {R : Type 0} (items : R → List SendPassView) (queues queues' : List Queue) (row : R) (rest all : List R) → all ≡ row ∷ rest

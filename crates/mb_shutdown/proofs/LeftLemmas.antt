@@ -22,7 +22,7 @@ use Rattle.mb_shutdown.proofs.RestLemmas.{SameQueue}
 -- Of a control-aware queue, all of whose senders' passes were taken in: control messages came before all others, and once another came, no
 -- control message was there any more.
 abbrev pub ControlsCame : TakePassView → List Envelope → Type 0
-ControlsCame t left = t.turns ≡ control_first → AllJoined t
+ControlsCame t left = t.discipline ≡ control_first → AllJoined t
     → IsControlsFirst left × ((others left ≡ []) ⊎ AllOut controls t.accounts t.taken)
 
 pub none-came : (t : TakePassView) (left : List Envelope) → left ≡ [] → ControlsCame t left
@@ -85,21 +85,21 @@ module _ (old new : TakePassView) (left : List Envelope) (e : Envelope) (taken :
     by-part : (b : Bool) → is_control e ≡ b
         → MatchBool b (AllBegin controls old.accounts new.taken) (AllOut controls old.accounts old.taken × AllBegin others old.accounts new.taken)
         → IsControlsFirst left × ((others left ≡ []) ⊎ AllOut controls old.accounts old.taken) → IsSome (account old.accounts e.by.0) → Now
-    by-part true is turn before some =
-        ⊎_elim (λ none. control-more is before.0 none) (λ out. absurd (control-none is turn out some)) before.1
-    by-part false is turn before some = other-more is before.0 turn.0
+    by-part true is follows_discipline before some =
+        ⊎_elim (λ none. control-more is before.0 none) (λ out. absurd (control-none is follows_discipline out some)) before.1
+    by-part false is follows_discipline before some = other-more is before.0 follows_discipline.0
 
     -- one more came
-    pub one-came : SameQueue old new → IsTake old.turns old (Some e) new → Contains old.queue.senders e.by.0 → ControlsCame old left
+    pub one-came : SameQueue old new → IsTake old.discipline old (Some e) new → Contains old.queue.senders e.by.0 → ControlsCame old left
         → ControlsCame new (left ++ e ∷ [])
-    one-came same turn sender before kind joined =
-        let kind' : old.turns ≡ control_first = sym same.1 ∙ kind in
+    one-came same follows_discipline sender before kind joined =
+        let kind' : old.discipline ≡ control_first = sym same.1 ∙ kind in
         let joined' : AllJoined old = joined-same new old (sym same.0) (sym accounts) joined in
-        by-part (is_control e) refl (subst (λ k. IsTake k old (Some e) new) kind' turn).1 (before kind' joined') (joined' e.by.0 sender)
+        by-part (is_control e) refl (subst (λ k. IsTake k old (Some e) new) kind' follows_discipline).1 (before kind' joined') (joined' e.by.0 sender)
 
 -- what was taken out of the receiver's queue
 pub controls-left : (first t : TakePassView) (left : List Envelope) → SameQueue first t → t.accounts ≡ first.accounts → ControlsCame t left
-    → first.turns ≡ control_first → AllJoined first → IsControlsFirst left
+    → first.discipline ≡ control_first → AllJoined first → IsControlsFirst left
 controls-left first t left same accounts came kind joined = (came (same.1 ∙ kind) (joined-same first t same.0 accounts joined)).0
 
 known-senders : (t : TakePassView) (passes : List SendPassView) → All (IsKnownBy t) passes

@@ -61,7 +61,7 @@ out-if-held : (gives : ℕ → Moment → Reply → Type 0) (first : Contents) (
     (outside : List (List SendPassView)) (waiting : List ℕ) (what : Mismatch) → AreHomes gives first n v all
     → IsMismatch all outside waiting what → HasClaimOutIfHeld v what
 out-if-held gives first n v all outside waiting (Held w) left is = λ whole.
-    left.out whole w.0 (let lt = within all w.0 None is in let m = left.many in omega (arith, lt, m)) is
+    left.out whole w.0 (let lt = within all w.0 None is in let m = left.same_count in omega (arith, lt, m)) is
 out-if-held gives first n v all outside waiting (Listed w) left is = tt
 out-if-held gives first n v all outside waiting (Waiting w) left is = tt
 
@@ -85,7 +85,7 @@ zip-at (m ∷ ns) (r ∷ rooms) (suc i) n room all is found = zip-at ns rooms i 
 was-left : (takes : List TakePassView) (rows : List (List SendPassView)) (lefts : List (List Envelope)) (id : ℕ) (take : TakePassView) (left : List Envelope)
     → AreTaken takes rows lefts → slice_get takes id ≡ Some take → slice_get lefts id ≡ Some left → WasLeft take (passes_to id rows) left
 was-left takes rows lefts zero take left taken is found =
-    record { known = taken.known zero take left is found; came = All-nil (AllArrived take.turns (take.taken ++ left)) }
+    record { known = taken.known zero take left is found; came = All-nil (AllArrived take.discipline (take.taken ++ left)) }
 was-left takes rows lefts (suc k) take left taken is found =
     let e : k + 1 ≡ suc k = omega arith in
     record {
@@ -107,7 +107,7 @@ module _ (all : List (Option BoxedHome)) (lefts : List BoxedHome) (are : all ≡
   over-counted : (rooms : List (Vec Envelope Global)) (id : ℕ) → AllZip IsEmptyWithRoom waiting rooms → IsTooMuchFor takes rows rooms id
       → IsMiscounted all outside waiting id
   over-counted rooms id enough too =
-      let l = from-mapped (λ (l : BoxedHome). l.home.value.take) lefts id too.take (ap (λ x. slice_get x id) (sym takes_are) ∙ too.there) in
+      let l = from-mapped (λ (l : BoxedHome). l.home.value.take) lefts id too.take (ap (λ x. slice_get x id) (sym takes_are) ∙ too.present) in
       let n = there waiting id (let lt = within lefts id l.0 l.1 in omega (arith, lt, counted, many)) in
       record {
         lefts = lefts;
@@ -115,7 +115,7 @@ module _ (all : List (Option BoxedHome)) (lefts : List BoxedHome) (are : all ≡
         one = l.0;
         count = n.0;
         left = too.left;
-        there = l.1;
+        present = l.1;
         counted = n.1;
         was = back id too.take l.0 too.left l.2 too.was;
         differs = ⊎_elim (λ guardian. inr (guardian.1, inl guardian.0))
@@ -135,8 +135,8 @@ module _ (all : List (Option BoxedHome)) (lefts : List BoxedHome) (are : all ≡
       → DiffersFromCountFor ended envelopes waiting id → IsMiscounted all outside waiting id
   otherwise-for {A} {K} ended envelopes id ended_are taken other =
       let a = ap length ended_are in let b = length-mapped ended_of ended in let c = length-mapped (λ (l : BoxedHome). end_of l.home.value) lefts in
-      let l = there lefts id (let lt = within ended id other.end other.there in omega (arith, lt, a, b, c)) in
-      let same = alike ended_of (λ (l : BoxedHome). end_of l.home.value) ended lefts id other.end l.0 ended_are other.there l.1 in
+      let l = there lefts id (let lt = within ended id other.end other.present in omega (arith, lt, a, b, c)) in
+      let same = alike ended_of (λ (l : BoxedHome). end_of l.home.value) ended lefts id other.end l.0 ended_are other.present l.1 in
       let cell : other.end.cell ≡ l.0.home.value.cell = ap (λ (x : CellView × List Envelope × ℕ). x.0) same in
       let take : slice_get takes id ≡ Some l.0.home.value.take
       = ap (λ x. slice_get x id) takes_are ∙ mapped (λ (l : BoxedHome). l.home.value.take) lefts id l.0 l.1 in
@@ -146,7 +146,7 @@ module _ (all : List (Option BoxedHome)) (lefts : List BoxedHome) (are : all ≡
         one = l.0;
         count = other.count;
         left = other.left;
-        there = l.1;
+        present = l.1;
         counted = other.counted;
         was = back id l.0.home.value.take l.0 other.left refl (was-left takes rows envelopes id l.0.home.value.take other.left taken take other.lies);
         differs = ⊎_elim (λ differs. inl differs) (λ kept. inr (kept.0, inr (subst CanHandle cell kept.1))) other.differs;
@@ -164,7 +164,7 @@ whom-counted : (all : List (Option BoxedHome)) (outside : List (List SendPassVie
 whom-counted all outside waiting (Held w) is = within all w.0 None is
 whom-counted all outside waiting (Listed w) is = within all w.0 (Some is.0) is.1
 whom-counted all outside waiting (Waiting w) is =
-    let lt = within is.lefts w.0 is.one is.there in let a = ap length is.are in let b = length-mapped (λ (l : BoxedHome). Some l) is.lefts in
+    let lt = within is.lefts w.0 is.one is.present in let a = ap length is.are in let b = length-mapped (λ (l : BoxedHome). Some l) is.lefts in
     omega (arith, lt, a, b)
 
 pub otherwise-at : {A K : Type 0} (ended : List (Ended A K)) (lefts : List (Vec Envelope Global)) (waiting : List ℕ) (k : ℕ) (one : Ended A K)
@@ -175,7 +175,7 @@ otherwise-at ended lefts waiting k one left count is lies counted differs = reco
   end = one;
   left = left.items;
   count = count;
-  there = is;
+  present = is;
   lies = mapped (λ (l : Vec Envelope Global). l.items) lefts k left lies;
   counted = counted;
   differs = differs;
@@ -190,7 +190,7 @@ module _ (gives : ℕ → Moment → Reply → Type 0) (first : Contents) (n : �
 
   is-why : (what : Mismatch) → IsMismatch all outside waiting what → IsWhy what
   is-why what why =
-      let lt = whom-counted all outside waiting what why in let m = left.many in
+      let lt = whom-counted all outside waiting what why in let m = left.same_count in
       ((omega (arith, lt, m)), disagrees gives first n v all outside waiting what left why)
 
   pub why-not-come : (what : Mismatch) → IsNotReturned all what → IsWhy what
@@ -203,7 +203,7 @@ module _ (gives : ℕ → Moment → Reply → Type 0) (first : Contents) (n : �
     joined_are = joined ∙ ap (λ l. l ++ outside) rows_are
 
     as_many : length waiting ≡ length all
-    as_many = counted ∙ sym left.many
+    as_many = counted ∙ sym left.same_count
 
     pub why-too-much : (rooms : List (Vec Envelope Global)) (what : Mismatch) → AllZip IsEmptyWithRoom waiting rooms → IsTooMuch takes rows rooms what
         → IsWhy what

@@ -24,9 +24,9 @@ module _ {A K : Type 0} (plan : Plan) (built : Built A K) (planned : IsDirectory
     within = within;
     before = is.first.registrar;
     after = is.first'.registrar;
-    ours = All-head (λ (e : WorkerEnd A K). IsEndOf built.system.gates e.registrar) is.first is.rest
+    same_gates = All-head (λ (e : WorkerEnd A K). IsEndOf built.system.gates e.registrar) is.first is.rest
         (subst (λ l. All (λ (e : WorkerEnd A K). IsEndOf built.system.gates e.registrar) l) is.was ends);
-    same = is.ours;
+    same = is.same_gates;
     found = subst (λ (p : View × View). FindsBusy id p.0 p.1) (λ i. (sym is.knew i, sym is.knows i)) first_busy_of;
   }
 
@@ -37,7 +37,7 @@ module _ {A K : Type 0} (plan : Plan) (built : Built A K) (planned : IsDirectory
     planned = planned;
     view = at_end.view;
     outside = at_end.outside;
-    many = at_end.ways.length_is ∙ senders;
+    same_count = at_end.send_passes.length_is ∙ senders;
     waiting = at_end.waiting;
     counted = at_end.counted;
     disagrees = at_end.disagrees;

@@ -38,7 +38,7 @@ module _ (directory : List DirectoryEntry) (Shut : ℕ → Type 0) where
   -- it is the sender of this number
   pub record IsParty (number : ℕ) (p : Party) : Type 0 where
     pub numbered : NumbersCountUpFrom number 0 (accepted p.postings)
-    pub ways : queues_pushed_into p.row ≡ drop 1 (queues_of directory)
+    pub send_passes : queues_pushed_into p.row ≡ drop 1 (queues_of directory)
     pub by : All (λ (s : SendPassView). s.by ≡ number) p.row
     pub pushed : (i : ℕ) (s : SendPassView) → slice_get p.row i ≡ Some s → s.pushed ≡ to_actor (suc i) (queued p.postings)
     pub sent_is : p.sent.0 ≡ length p.postings % 2 ^ 64
@@ -77,7 +77,7 @@ module _ (directory : List DirectoryEntry) (Shut : ℕ → Type 0) where
           record {
             numbered = subst (λ n. NumbersCountUpFrom n 0 (accepted postings)) own.number
                 (subst (λ l. NumbersCountUpFrom h.cell.who.this.0 0 l) (sym told_are) (told-numbered gives [] h own.settled));
-            ways = own.settled.own.queues ∙ ap (λ (r : List DirectoryEntry). drop 1 (queues_of r)) own-directory;
+            send_passes = own.settled.own.queues ∙ ap (λ (r : List DirectoryEntry). drop 1 (queues_of r)) own-directory;
             by = All-weaker (λ (s : SendPassView). s.by ≡ h.cell.who.this.0) (λ (s : SendPassView). s.by ≡ actor) (λ s is. is ∙ own.number) h.sends
                 own.settled.own.by;
             pushed = λ i s there. posted.pushed i s there ∙ ap (λ n. to_actor n (queued postings)) (let e : i + 1 ≡ suc i = omega arith in e);

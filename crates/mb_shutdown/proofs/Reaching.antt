@@ -45,7 +45,7 @@ module _ (who : Identity) (gives : Moment → Reply → Type 0) (not_zero : is_g
   tells_of_journal-there [] lawful = All-nil (IsThere who.actors)
   tells_of_journal-there (e ∷ before) lawful =
       All-append (IsThere who.actors) (tells_of_journal who before) (tells (acts who before e)) (tells_of_journal-there before lawful.1)
-      (few-acts who gives before e lawful.0 (above-zero before lawful.1) there).there
+      (few-acts who gives before e lawful.0 (above-zero before lawful.1) there).present
 
 envelopes-there : (by number actors : ℕ) (ts : List AddressedBody) → All (IsThere actors) ts
     → All (λ (e : Envelope). e.to.0 < actors) (envelopes_from by number ts)
@@ -67,7 +67,7 @@ letters-too P (p ∷ postings) all =
     one (Some w) h =
         All-cons (λ (d : DeadLetter). P d.envelope) (record { envelope = p.envelope; why = w }) [] h (All-nil (λ (d : DeadLetter). P d.envelope))
 
--- the dead letters of a home are to actors on its roll
+-- the dead letters of a home are to actors in its directory
 pub dead-there : (gives : Moment → Reply → Type 0) (h : Contents) → AgreesWithJournal gives [] h
     → All (λ (d : DeadLetter). d.envelope.to.0 < length h.directory) h.dead
 dead-there gives h s =

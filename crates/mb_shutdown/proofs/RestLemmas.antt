@@ -6,37 +6,37 @@ use Rattle.std.proofs.lemmas.List.{get_or-take, length-append, length-take}
 use Rattle.std.proofs.lemmas.List.Elements.{All-nil, All-cons, All-get_or, All-head, All-tail}
 use Rattle.mb_msg.specs.declared.envelope.Envelope.{Envelope}
 use Rattle.mb_queue.specs.Fates.{AllJoined, InOrder}
-use Rattle.mb_queue.specs.Passes.{IsOfQueue, Queue, SendPassView, TakePassView, Turns, first_in_first_out, control_first}
+use Rattle.mb_queue.specs.Passes.{IsOfQueue, Queue, SendPassView, TakePassView, Discipline, first_in_first_out, control_first}
 use Rattle.mb_queue.specs.Takes.{EachOnce}
 use Rattle.mb_shutdown.specs.AllArrived.{AllArrived}
 use Rattle.mb_shutdown.specs.Joined.{AreOfDifferent, joined_by}
 use Rattle.mb_shutdown.specs.Parts.{IsControlsFirst}
 use Rattle.mb_shutdown.specs.Rest.{AreRests, IsRest}
-use Rattle.mb_shutdown.proofs.ArrivedLemmas.{IsKnownBy, PartsOut, all-came, all-known, same-taken, same-turns}
+use Rattle.mb_shutdown.proofs.ArrivedLemmas.{IsKnownBy, PartsOut, all-came, all-known, same-taken, same-discipline}
 
 -- the receiver takes from the same queue, and in the same order
 abbrev pub SameQueue : TakePassView → TakePassView → Type 0
-SameQueue first last = (last.queue ≡ first.queue) × (last.turns ≡ first.turns)
+SameQueue first last = (last.queue ≡ first.queue) × (last.discipline ≡ first.discipline)
 
 -- the receiver took this besides, and then found nothing
-came-first : (first last : TakePassView) (left : List Envelope) → last.taken ≡ first.taken ++ left → last.turns ≡ first.turns
-    → last.accounts ≡ first.accounts → EachOnce last → (last.turns ≡ first_in_first_out → InOrder last)
-    → (last.turns ≡ control_first → PartsOut last)
+came-first : (first last : TakePassView) (left : List Envelope) → last.taken ≡ first.taken ++ left → last.discipline ≡ first.discipline
+    → last.accounts ≡ first.accounts → EachOnce last → (last.discipline ≡ first_in_first_out → InOrder last)
+    → (last.discipline ≡ control_first → PartsOut last)
     → (before : TakePassView) (passes : List SendPassView) → first ≡ joined_by before passes → AreOfDifferent passes
-    → All (AllArrived before.turns (before.taken ++ left)) passes
-came-first first last left taken turns accounts once in_order parts before passes is different =
-    let kind : last.turns ≡ before.turns = turns ∙ ap (λ (t : TakePassView). t.turns) is ∙ same-turns before passes in
+    → All (AllArrived before.discipline (before.taken ++ left)) passes
+came-first first last left taken discipline accounts once in_order parts before passes is different =
+    let kind : last.discipline ≡ before.discipline = discipline ∙ ap (λ (t : TakePassView). t.discipline) is ∙ same-discipline before passes in
     let all : last.taken ≡ before.taken ++ left
     = taken ∙ ap (λ (t : TakePassView). t.taken ++ left) is ∙ ap (λ l. l ++ left) (same-taken before passes) in
     let known : All (IsKnownBy last) passes
     = subst (λ l. All (λ (p : SendPassView). IsKnownBy (record last { accounts = l }) p) passes)
     (sym (accounts ∙ ap (λ (t : TakePassView). t.accounts) is)) (all-known before passes different) in
-    subst (λ (x : Turns × List Envelope). All (AllArrived x.0 x.1) passes) (λ i. (kind i, all i)) (all-came last passes once in_order parts known)
+    subst (λ (x : Discipline × List Envelope). All (AllArrived x.0 x.1) passes) (λ i. (kind i, all i)) (all-came last passes once in_order parts known)
 
-pub is-rest : (first last : TakePassView) (left : List Envelope) → (first.turns ≡ control_first → AllJoined first → IsControlsFirst left)
+pub is-rest : (first last : TakePassView) (left : List Envelope) → (first.discipline ≡ control_first → AllJoined first → IsControlsFirst left)
     → last.taken ≡ first.taken ++ left → SameQueue first last
-    → last.accounts ≡ first.accounts → EachOnce last → (last.turns ≡ first_in_first_out → InOrder last)
-    → (last.turns ≡ control_first → PartsOut last) → All (IsOfQueue last.queue) last.taken → IsRest first left
+    → last.accounts ≡ first.accounts → EachOnce last → (last.discipline ≡ first_in_first_out → InOrder last)
+    → (last.discipline ≡ control_first → PartsOut last) → All (IsOfQueue last.queue) last.taken → IsRest first left
 is-rest first last left ordered taken same accounts once in_order parts known = record {
   known = subst (λ (x : Queue × List Envelope). All (IsOfQueue x.0) x.1) (λ i. (same.0 i, taken i)) known;
   came = came-first first last left taken same.1 accounts once in_order parts;

@@ -64,13 +64,13 @@ pub are-taken : (takes ts : List TakePassView) (guardian last : TakePassView) (r
     (es : List Envelope) → takes ≡ guardian ∷ ts → last.queue ≡ guardian.queue → last.taken ≡ guardian.taken
     → All (IsOfQueue last.queue) last.taken → lefts ≡ es ∷ lents → es ≡ [] → length lents ≡ length ts
     → ((place : ℕ) (take : TakePassView) (left : List Envelope) → slice_get ts place ≡ Some take → slice_get lents place ≡ Some left
-    → All (AllArrived take.turns (take.taken ++ left)) (column place rows))
+    → All (AllArrived take.discipline (take.taken ++ left)) (column place rows))
     → ((place : ℕ) (take : TakePassView) (left : List Envelope) → slice_get ts place ≡ Some take → slice_get lents place ≡ Some left
     → All (IsOfQueue take.queue) (take.taken ++ left))
     → ((place : ℕ) (take : TakePassView) (left : List Envelope) → slice_get ts place ≡ Some take → slice_get lents place ≡ Some left
-    → take.turns ≡ control_first → AreOfAllSenders take.queue (column place rows) → IsControlsFirst left) → AreTaken takes rows lefts
+    → take.discipline ≡ control_first → AreOfAllSenders take.queue (column place rows) → IsControlsFirst left) → AreTaken takes rows lefts
 are-taken takes ts guardian last rows lefts lents es takes_are queue taken own lefts_are empty many came known ordered = record {
-  many = ap length lefts_are ∙ ap suc many ∙ sym (ap length takes_are);
+  same_count = ap length lefts_are ∙ ap suc many ∙ sym (ap length takes_are);
   none_first = λ left is. same_Some left es (sym is ∙ ap (λ l. slice_get l 0) lefts_are) ∙ empty;
   known = λ place take left is found.
       known-at place take left (sym (ap (λ l. slice_get l place) takes_are) ∙ is) (sym (ap (λ l. slice_get l place) lefts_are) ∙ found);
@@ -113,10 +113,10 @@ pub guardian-given : (takes ts : List TakePassView) (guardian last : TakePassVie
 guardian-given takes ts guardian last rows rooms given takes_are queue taken own some = record {
   take = guardian;
   left = option_to_list given;
-  there = ap (λ l. slice_get l 0) takes_are;
+  present = ap (λ l. slice_get l 0) takes_are;
   was = record {
     known = subst (λ (x : Queue × List Envelope). All (IsOfQueue x.0) x.1) (λ i. (queue i, taken i)) own;
-    came = All-nil (AllArrived guardian.turns (guardian.taken ++ option_to_list given));
+    came = All-nil (AllArrived guardian.discipline (guardian.taken ++ option_to_list given));
   };
   over = inl (refl, some-listed given some);
 }
@@ -127,7 +127,7 @@ pub rest-over : (takes ts : List TakePassView) (guardian : TakePassView) (rows :
 rest-over takes ts guardian rows rooms lent_out place takes_are lent_are over = record {
   take = over.take;
   left = over.left;
-  there = ap (λ l. slice_get l (suc place)) takes_are ∙ over.there;
+  present = ap (λ l. slice_get l (suc place)) takes_are ∙ over.present;
   was = over.was;
   over = inr (over.room, dropped rooms place over.room (ap (λ l. slice_get l place) (sym lent_are) ∙ over.lies), over.over);
 }

@@ -67,7 +67,7 @@ module _ (gives : ℕ → Moment → Reply → Type 0) (first : Contents) where
     at actor l there = mapped-to (λ (x : BoxedHome). Some x) lefts all actor l (sym are) there
 
     pub many-left : length lefts ≡ actors
-    many-left = sym (ap length are ∙ length-mapped (λ (l : BoxedHome). Some l) lefts) ∙ left.many
+    many-left = sym (ap length are ∙ length-mapped (λ (l : BoxedHome). Some l) lefts) ∙ left.same_count
 
     inside : (actor : ℕ) (l : BoxedHome) → slice_get lefts actor ≡ Some l → actor < actors
     inside actor l there = let lt = within lefts actor l there in let m = many-left in omega (arith, lt, m)

@@ -178,7 +178,7 @@ module _ (after : ℕ → List Message → ℤ) (gives : ℕ → Moment → Repl
 
     left-at : (id : ℕ) → id < length lefts → (left : List Envelope) × (slice_get envelopes id ≡ Some left)
     left-at id lt =
-        there envelopes id (let a = taken.many in let b = length-mapped (λ (l : BoxedHome). l.home.value.take) lefts in omega (arith, lt, a, b))
+        there envelopes id (let a = taken.same_count in let b = length-mapped (λ (l : BoxedHome). l.home.value.take) lefts in omega (arith, lt, a, b))
 
     at-actor : (id : ℕ) (a : ActorReport) → slice_get report.actors.items id ≡ Some a → At id a
     at-actor id a found =
@@ -187,7 +187,7 @@ module _ (after : ℕ → List Message → ℤ) (gives : ℕ → Moment → Repl
         record { l = l.0; left = left.0; there_is = l.1; left_there = left.1; shows = s.0; kept = s.1 }
 
     abbrev enrolled_as : Contents → DirectoryEntry
-    enrolled_as h = record { who = h.cell.who; queue = h.take.queue; turns = h.take.turns }
+    enrolled_as h = record { who = h.cell.who; queue = h.take.queue; discipline = h.take.discipline }
 
     enrolled-at : (id : ℕ) (e : DirectoryEntry) (l : BoxedHome) → slice_get first.directory id ≡ Some e → slice_get lefts id ≡ Some l → e ≡ enrolled_as l.home.value
     enrolled-at id e l is found =
@@ -231,7 +231,7 @@ module _ (after : ℕ → List Message → ℤ) (gives : ℕ → Moment → Repl
         → accepted (answers id) ≡ told e.who a.journal.entries
     told-clause id e a is found =
         let x = at-actor id a found in
-        let p = there g.parties id (let lt = within lefts id x.l x.there_is in let m = g.many in omega (arith, lt, m)) in
+        let p = there g.parties id (let lt = within lefts id x.l x.there_is in let m = g.same_count in omega (arith, lt, m)) in
         ap accepted (answers-at id p.0 p.1) ∙ g.told_are id x.l p.0 x.there_is p.1
         ∙ (λ i. told ((sym (enrolled-at id e x.l is x.there_is) i).who) (sym x.shows.journal_is i))
 
@@ -302,7 +302,7 @@ module _ (after : ℕ → List Message → ℤ) (gives : ℕ → Moment → Repl
         → All (λ (d : DeadLetter). d.why ≢ why.Cleaned) (dead_letters (answers place))
     not-cleaned-clause place lt =
         let l = there lefts place (omega (arith, lt, many)) in
-        let p = there g.parties place (let m = g.many in omega (arith, lt, many, m)) in
+        let p = there g.parties place (let m = g.same_count in omega (arith, lt, many, m)) in
         let h = l.0.home.value in
         subst (λ ds. All (λ (d : DeadLetter). d.why ≢ why.Cleaned) ds)
         (letters-of place l.0 p.0 l.1 p.1 ∙ ap dead_letters (sym (answers-at place p.0 p.1)))
@@ -327,7 +327,7 @@ module _ (after : ℕ → List Message → ℤ) (gives : ℕ → Moment → Repl
 
       pass-there : (s : SendPassView) × (slice_get p.row k ≡ Some s)
       pass-there =
-          let a = length-mapped (λ (s : SendPassView). s.queue) p.row in let b = ap length party.ways in
+          let a = length-mapped (λ (s : SendPassView). s.queue) p.row in let b = ap length party.send_passes in
           let c = length-drop 1 (queues_of first.directory) in let d = length-mapped (λ (n : DirectoryEntry). n.queue) first.directory in
           let e = within lefts (suc k) x.l x.there_is in
           there p.row k (omega (arith, a, b, c, d, e, many))
@@ -335,10 +335,10 @@ module _ (after : ℕ → List Message → ℤ) (gives : ℕ → Moment → Repl
       abbrev s : SendPassView
       s = pass-there.0
 
-      came : AllArrived x.l.home.value.take.turns (x.l.home.value.take.taken ++ x.left) s
+      came : AllArrived x.l.home.value.take.discipline (x.l.home.value.take.taken ++ x.left) s
       came =
           let t = x.l.home.value.take in
-          in-column (AllArrived t.turns (t.taken ++ x.left)) k (map (λ (p : Party). p.row) g.parties) place p.row s
+          in-column (AllArrived t.discipline (t.taken ++ x.left)) k (map (λ (p : Party). p.row) g.parties) place p.row s
           (taken.came k t x.left (take-at k x.l x.there_is) (envelopes-at k x.left x.left_there))
           (mapped (λ (p : Party). p.row) g.parties place p p-there) pass-there.1
 
@@ -364,26 +364,26 @@ module _ (after : ℕ → List Message → ℤ) (gives : ℕ → Moment → Repl
       pair-once =
           let t = x.l.home.value.take in
           subst (λ (y : List SentEnvelope × List Envelope). EachHasOneFate (suc k) y.0 y.1) (λ i. (answers-back i, fates-back i))
-          (once (suc k) p.postings t.turns (t.taken ++ x.left) s pushed-is came numbered-by)
+          (once (suc k) p.postings t.discipline (t.taken ++ x.left) s pushed-is came numbered-by)
 
       pair-often : AcceptedMatchFates (number_at place) (suc k) (answers place) (fates_in a)
       pair-often =
           let t = x.l.home.value.take in
           subst (λ (y : ℕ × List SentEnvelope × List Envelope). AcceptedMatchFates y.0 (suc k) y.1 y.2) (λ i. (number-is i, answers-back i, fates-back i))
-          (often (suc k) p.postings t.turns (t.taken ++ x.left) s pushed-is came)
+          (often (suc k) p.postings t.discipline (t.taken ++ x.left) s pushed-is came)
 
-      pair-in-order : x.l.home.value.take.turns ≡ first_in_first_out → FatesInSendOrder (number_at place) (suc k) (answers place) (fates_in a)
+      pair-in-order : x.l.home.value.take.discipline ≡ first_in_first_out → FatesInSendOrder (number_at place) (suc k) (answers place) (fates_in a)
       pair-in-order kind =
           let t = x.l.home.value.take in
           subst (λ (y : ℕ × List SentEnvelope × List Envelope). FatesInSendOrder y.0 (suc k) y.1 y.2) (λ i. (number-is i, answers-back i, fates-back i))
-          (in_order (suc k) p.postings t.turns (t.taken ++ x.left) s pushed-is came numbered-by kind)
+          (in_order (suc k) p.postings t.discipline (t.taken ++ x.left) s pushed-is came numbered-by kind)
 
-      pair-parts-in-order : x.l.home.value.take.turns ≡ control_first → ArePartsInOrder (number_at place) (suc k) (answers place) (fates_in a)
+      pair-parts-in-order : x.l.home.value.take.discipline ≡ control_first → ArePartsInOrder (number_at place) (suc k) (answers place) (fates_in a)
       pair-parts-in-order kind =
           let t = x.l.home.value.take in
           subst (λ (y : ℕ × List SentEnvelope × List Envelope). ArePartsInOrder y.0 (suc k) y.1 y.2)
           (λ i. (number-is i, answers-back i, fates-back i))
-          (parts_in_order (suc k) p.postings t.turns (t.taken ++ x.left) s pushed-is came numbered-by kind)
+          (parts_in_order (suc k) p.postings t.discipline (t.taken ++ x.left) s pushed-is came numbered-by kind)
 
     once-clause : (place id : ℕ) (a : ActorReport) → place < length report.senders.items → 0 < id → slice_get report.actors.items id ≡ Some a
         → EachHasOneFate id (answers place) (fates_in a) × AcceptedMatchFates (number_at place) id (answers place) (fates_in a)
@@ -391,44 +391,44 @@ module _ (after : ℕ → List Message → ℤ) (gives : ℕ → Moment → Repl
     once-clause place (suc k) a lt above found = (pair-once place k a lt found, pair-often place k a lt found)
 
     order-clause : (place id : ℕ) (e : DirectoryEntry) (a : ActorReport) → place < length report.senders.items → 0 < id
-        → slice_get first.directory id ≡ Some e → slice_get report.actors.items id ≡ Some a → e.turns ≡ first_in_first_out
+        → slice_get first.directory id ≡ Some e → slice_get report.actors.items id ≡ Some a → e.discipline ≡ first_in_first_out
         → FatesInSendOrder (number_at place) id (answers place) (fates_in a)
     order-clause place zero e a lt above is found kind = absurd (omega (arith, above))
     order-clause place (suc k) e a lt above is found kind =
         let x = at-actor (suc k) a found in
-        pair-in-order place k a lt found (sym (ap (λ (n : DirectoryEntry). n.turns) (enrolled-at (suc k) e x.l is x.there_is)) ∙ kind)
+        pair-in-order place k a lt found (sym (ap (λ (n : DirectoryEntry). n.discipline) (enrolled-at (suc k) e x.l is x.there_is)) ∙ kind)
 
     parts-clause : (place id : ℕ) (e : DirectoryEntry) (a : ActorReport) → place < length report.senders.items → 0 < id
-        → slice_get first.directory id ≡ Some e → slice_get report.actors.items id ≡ Some a → e.turns ≡ control_first
+        → slice_get first.directory id ≡ Some e → slice_get report.actors.items id ≡ Some a → e.discipline ≡ control_first
         → ArePartsInOrder (number_at place) id (answers place) (fates_in a)
     parts-clause place zero e a lt above is found kind = absurd (omega (arith, above))
     parts-clause place (suc k) e a lt above is found kind =
         let x = at-actor (suc k) a found in
-        pair-parts-in-order place k a lt found (sym (ap (λ (n : DirectoryEntry). n.turns) (enrolled-at (suc k) e x.l is x.there_is)) ∙ kind)
+        pair-parts-in-order place k a lt found (sym (ap (λ (n : DirectoryEntry). n.discipline) (enrolled-at (suc k) e x.l is x.there_is)) ∙ kind)
 
     -- ---- control messages are left before all others
 
     module _ (k : ℕ) (a : ActorReport) (found : slice_get report.actors.items (suc k) ≡ Some a) where
-      abbrev ways : List SendPassView
-      ways = column k (map (λ (p : Party). p.row) g.parties)
+      abbrev send_passes : List SendPassView
+      send_passes = column k (map (λ (p : Party). p.row) g.parties)
 
       -- each sender that exists has a pass to the actor
-      way-of : (sender : ℕ) → IsSenderAmong (length first.directory) (length outs) sender → Contains (map (λ (s : SendPassView). s.by) ways) sender
-      way-of sender is =
+      pass-of : (sender : ℕ) → IsSenderAmong (length first.directory) (length outs) sender → Contains (map (λ (s : SendPassView). s.by) send_passes) sender
+      pass-of sender is =
           let among = is.within in
-          let lt : is.place < length report.senders.items = let m = many-senders in let n = g.many in omega (arith, among, m, n, many) in
+          let lt : is.place < length report.senders.items = let m = many-senders in let n = g.same_count in omega (arith, among, m, n, many) in
           let p = party-at is.place lt in let s = pass-there is.place k a lt found in
-          subst (λ n. Contains (map (λ (s : SendPassView). s.by) ways) n) (number-is is.place k a lt found ∙ sym is.number_is)
+          subst (λ n. Contains (map (λ (s : SendPassView). s.by) send_passes) n) (number-is is.place k a lt found ∙ sym is.number_is)
           (sender-in-column k (map (λ (p : Party). p.row) g.parties) is.place p.0.row s.0
           (mapped (λ (p : Party). p.row) g.parties is.place p.0 p.1) s.1)
 
-      ways-of-all : (queue : Queue) → All (IsSenderAmong (length first.directory) (length outs)) queue.senders → AreOfAllSenders queue ways
-      ways-of-all queue senders =
-          All-weaker (IsSenderAmong (length first.directory) (length outs)) (λ n. Contains (map (λ (s : SendPassView). s.by) ways) n) way-of queue.senders
+      passes-of-all : (queue : Queue) → All (IsSenderAmong (length first.directory) (length outs)) queue.senders → AreOfAllSenders queue send_passes
+      passes-of-all queue senders =
+          All-weaker (IsSenderAmong (length first.directory) (length outs)) (λ n. Contains (map (λ (s : SendPassView). s.by) send_passes) n) pass-of queue.senders
           senders
 
     left-clause : (id : ℕ) (e : DirectoryEntry) (a : ActorReport) → slice_get first.directory id ≡ Some e → slice_get report.actors.items id ≡ Some a
-        → e.turns ≡ control_first → IsControlsFirst a.left.items
+        → e.discipline ≡ control_first → IsControlsFirst a.left.items
     left-clause zero e a is found kind =
         let x = at-actor zero a found in
         subst IsControlsFirst (sym (x.shows.left_is ∙ taken.none_first x.left x.left_there)) refl
@@ -436,8 +436,8 @@ module _ (after : ℕ → List Message → ℤ) (gives : ℕ → Moment → Repl
         let x = at-actor (suc k) a found in let t = x.l.home.value.take in
         subst IsControlsFirst (sym x.shows.left_is)
         (taken.ordered k t x.left (take-at k x.l x.there_is) (envelopes-at k x.left x.left_there)
-        (sym (ap (λ (n : DirectoryEntry). n.turns) (enrolled-at (suc k) e x.l is x.there_is)) ∙ kind)
-        (ways-of-all k a found t.queue (senders-at (suc k) x.l x.there_is)))
+        (sym (ap (λ (n : DirectoryEntry). n.discipline) (enrolled-at (suc k) e x.l is x.there_is)) ∙ kind)
+        (passes-of-all k a found t.queue (senders-at (suc k) x.l x.there_is)))
 
     -- ---- nothing else
 
@@ -451,7 +451,7 @@ module _ (after : ℕ → List Message → ℤ) (gives : ℕ → Moment → Repl
         (λ (e : Envelope). (place : ℕ) × (place < length report.senders.items) × (e.by.0 ≡ number_at place))
         (λ e of.
         let one = All-contains (IsSenderAmong (length first.directory) (length outs)) t.queue.senders e.by.0 (senders-at id x.l x.there_is) of.0 in
-        let among = one.within in let m = many-senders in let n = g.many in
+        let among = one.within in let m = many-senders in let n = g.same_count in
         (one.place, omega (arith, among, m, n, many), one.number_is)) (t.taken ++ x.left)
         (taken.known id t x.left (mapped (λ (l : BoxedHome). l.home.value.take) lefts id x.l x.there_is) x.left_there))
 
@@ -465,9 +465,9 @@ module _ (after : ℕ → List Message → ℤ) (gives : ℕ → Moment → Repl
 
     pub whole : IsCompleteReport after gives first.directory log (map (λ (o : FinishedSender). o.send_log.posted) outs) report
     whole = record {
-      many = (
+      same_count = (
         many_actors ∙ many,
-        let a = many-senders in let b = g.many in let c = length-mapped (λ (o : FinishedSender). o.send_log.posted) outs in omega (arith, a, b, c, many),
+        let a = many-senders in let b = g.same_count in let c = length-mapped (λ (o : FinishedSender). o.send_log.posted) outs in omega (arith, a, b, c, many),
       );
       actors = actor-clause;
       answers = answers;

@@ -38,9 +38,9 @@ module _ {A K : Type 0} where
     pub each : All (λ (s : Sender A K). slice_get answers (s.inner.send_log.by.0 - most_actors) ≡ Some s.inner.send_log.posted) senders
 
   -- The passes of the senders, in the order of their numbers.
-  pub record AreSendPasses (many : ℕ) (senders : List (Sender A K)) (ways : List (List SendPassView)) : Type 0 where
-    pub length_is : length ways ≡ many
-    pub each : All (λ (s : Sender A K). slice_get ways (s.inner.send_log.by.0 - most_actors) ≡ Some s.inner.sends.items) senders
+  pub record AreSendPasses (many : ℕ) (senders : List (Sender A K)) (send_passes : List (List SendPassView)) : Type 0 where
+    pub length_is : length send_passes ≡ many
+    pub each : All (λ (s : Sender A K). slice_get send_passes (s.inner.send_log.by.0 - most_actors) ≡ Some s.inner.sends.items) senders
 
   -- All that workers' ends and senders saw is among this.
   abbrev pub HasAllSeen : Built A K → List Observation → Type 0
@@ -57,13 +57,13 @@ module _ {A K : Type 0} where
     pub was : old.ends.items ≡ (first ∷ rest)
     pub is : new.ends.items ≡ (first' ∷ rest)
     pub others : (first'.number ≡ first.number) × (first'.registrar.run_queue ≡ first.registrar.run_queue) × (first'.registrar.owed ≡ first.registrar.owed)
-    pub ours : pass_id first'.registrar.pass ≡ pass_id first.registrar.pass
+    pub same_gates : pass_id first'.registrar.pass ≡ pass_id first.registrar.pass
     pub knew : pass_view first.registrar.pass ≡ before
     pub knows : pass_view first'.registrar.pass ≡ after
 
-  -- The first end has read more, in this way, and all else is as it was.
+  -- The first end has read more, what its view was before and after it is so related, and all else is as it was.
   abbrev pub HasRead : (View → View → Type 0) → Built A K → Built A K → Type 0
-  HasRead way old new = (before : View) × (after : View) × OnlyFirstEndRead old new before after × way before after
+  HasRead Reads old new = (before : View) × (after : View) × OnlyFirstEndRead old new before after × Reads before after
 
   -- The first end read of each actor that it had nothing to run, and what it read is among this.
   pub record WasFoundIdle (built : Built A K) (log : List Observation) : Type 0 where

@@ -89,7 +89,7 @@ module _ (after : ℕ → List Message → ℤ) (gives : ℕ → Moment → Repl
   -- that order and so do all others, and control messages are left before all others. No envelope that an actor sent is dead as cleaned up. Each
   -- actor is what its journal says.
   pub record IsCompleteReport (report : Report) : Type 0 where
-    pub many : (length report.actors.items ≡ length directory) × (length report.senders.items ≡ length directory + length outside)
+    pub same_count : (length report.actors.items ≡ length directory) × (length report.senders.items ≡ length directory + length outside)
     pub actors : (id : ℕ) (e : DirectoryEntry) (a : ActorReport) → slice_get directory id ≡ Some e → slice_get report.actors.items id ≡ Some a
         → IsReportOf after gives e.who a × CountsSystems log e.who a
     -- What each sender was answered, by its place: an actor for all that its journal tells, a sender outside for all that it sent.
@@ -113,15 +113,15 @@ module _ (after : ℕ → List Message → ℤ) (gives : ℕ → Moment → Repl
     pub not_cleaned : (place : ℕ) → place < length directory → All (λ (d : DeadLetter). d.why ≢ why.Cleaned) (dead_letters (answers place))
     -- The sender's order where the receiver's mailbox is first in, first out.
     pub in_order : (place id : ℕ) (e : DirectoryEntry) (a : ActorReport) → place < length report.senders.items → 0 < id → slice_get directory id ≡ Some e
-        → slice_get report.actors.items id ≡ Some a → e.turns ≡ first_in_first_out
+        → slice_get report.actors.items id ≡ Some a → e.discipline ≡ first_in_first_out
         → FatesInSendOrder (sender_number (length directory) place) id (answers place) (fates_in a)
     -- The sender's order of control messages, and of all others, where the mailbox is control-aware.
     pub parts_in_order : (place id : ℕ) (e : DirectoryEntry) (a : ActorReport) → place < length report.senders.items → 0 < id → slice_get directory id ≡ Some e
-        → slice_get report.actors.items id ≡ Some a → e.turns ≡ control_first
+        → slice_get report.actors.items id ≡ Some a → e.discipline ≡ control_first
         → ArePartsInOrder (sender_number (length directory) place) id (answers place) (fates_in a)
     -- Of a control-aware mailbox control messages are left before all others.
     pub left_in_parts : (id : ℕ) (e : DirectoryEntry) (a : ActorReport) → slice_get directory id ≡ Some e → slice_get report.actors.items id ≡ Some a
-        → e.turns ≡ control_first → IsControlsFirst a.left.items
+        → e.discipline ≡ control_first → IsControlsFirst a.left.items
     -- Only the mailbox of an actor that ended is cleaned up, and envelopes are left only for an actor that ended or is suspended.
     pub cleaned : (id : ℕ) (a : ActorReport) → slice_get report.actors.items id ≡ Some a → a.cleaned.items ≢ [] → a.phase ≡ EndedPhase
     pub left : (id : ℕ) (a : ActorReport) → slice_get report.actors.items id ≡ Some a → a.left.items ≢ [] → (a.phase ≡ EndedPhase) ⊎ (0 < a.count)

@@ -53,7 +53,7 @@ passes_to (suc place) rows = column place rows
 pub record IsTooMuchFor (takes : List TakePassView) (rows : List (List SendPassView)) (rooms : List (Vec Envelope)) (id : ℕ) : Type 0 where
   pub take : TakePassView
   pub left : List Envelope
-  pub there : slice_get takes id ≡ Some take
+  pub present : slice_get takes id ≡ Some take
   pub was : WasLeft take (passes_to id rows) left
   pub over : ((id ≡ 0) × (left ≢ [])) ⊎ ((room : Vec Envelope) × (slice_get rooms id ≡ Some room) × (vec_capacity room < length left))
 
@@ -68,7 +68,7 @@ pub record DiffersFromCountFor {A K : Type 0} (ended : List (Ended A K)) (lefts 
   pub end : Ended A K
   pub left : List Envelope
   pub count : ℕ
-  pub there : slice_get ended id ≡ Some end
+  pub present : slice_get ended id ≡ Some end
   pub lies : slice_get lefts id ≡ Some left
   pub counted : slice_get waiting id ≡ Some count
   pub differs : (length left ≢ count) ⊎ ((left ≢ []) × CanHandle end.cell)
@@ -87,7 +87,7 @@ pub record IsMiscounted (all : List (Option (ReturnedActor (Box Contents)))) (ou
   pub one : ReturnedActor (Box Contents)
   pub count : ℕ
   pub left : List Envelope
-  pub there : slice_get lefts id ≡ Some one
+  pub present : slice_get lefts id ≡ Some one
   pub counted : slice_get waiting id ≡ Some count
   pub was : WasLeft one.home.value.take (passes_to id (map (λ (l : ReturnedActor (Box Contents)). l.home.value.sends) lefts ++ outside)) left
   pub differs : (length left ≢ count) ⊎ ((left ≢ []) × ((id ≡ 0) ⊎ CanHandle one.home.value.cell))

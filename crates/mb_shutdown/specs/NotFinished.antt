@@ -25,7 +25,7 @@ pub record HasWorkLeft (plan : Plan) (id : ℕ) : Type 0 where
   pub within : id < actors_of gates
   pub before : Registrar (Box Contents) (WorkerPort (Box Contents))
   pub after : Registrar (Box Contents) (WorkerPort (Box Contents))
-  pub ours : IsEndOf gates before
+  pub same_gates : IsEndOf gates before
   pub same : pass_id after.pass ≡ pass_id before.pass
   pub found : FindsBusy id (pass_view before.pass) (pass_view after.pass)
 
@@ -35,7 +35,7 @@ pub record DoesNotAgree (gives : ℕ → Moment → Reply → Type 0) (plan : Pl
   pub planned : IsDirectoryOf plan (first_home gates).value.directory
   pub view : View
   pub outside : List (List SendPassView)
-  pub many : length outside ≡ plan.senders
+  pub same_count : length outside ≡ plan.senders
   pub waiting : List ℕ
   pub counted : AreCounted view.log waiting
   pub disagrees : Disagrees gives (first_home gates).value (actors_of gates) view outside waiting what

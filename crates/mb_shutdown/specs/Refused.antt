@@ -61,7 +61,7 @@ module _ {A K : Type 0} where
     pub view : View
     pub seen : HasAllSeen built view.log
     pub outside : List (List SendPassView)
-    pub ways : AreSendPasses built.system.senders built.senders.items outside
+    pub send_passes : AreSendPasses built.system.senders built.senders.items outside
     pub waiting : List ℕ
     pub counted : AreCounted view.log waiting
     pub disagrees : Disagrees gives (first_home built.system.gates).value (actors_of built.system.gates) view outside waiting what

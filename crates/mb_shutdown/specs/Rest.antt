@@ -14,8 +14,8 @@ use Rattle.mb_shutdown.specs.Parts.{IsControlsFirst}
 pub record IsRest (take : TakePassView) (left : List Envelope) : Type 0 where
   pub known : All (IsOfQueue take.queue) (take.taken ++ left)
   pub came : (before : TakePassView) (passes : List SendPassView) → take ≡ joined_by before passes → AreOfDifferent passes
-      → All (AllArrived before.turns (before.taken ++ left)) passes
-  pub controls_first : take.turns ≡ control_first → AllJoined take → IsControlsFirst left
+      → All (AllArrived before.discipline (before.taken ++ left)) passes
+  pub controls_first : take.discipline ≡ control_first → AllJoined take → IsControlsFirst left
 
 -- This was left for each of these receivers.
 abbrev pub AreRests : List TakePassView → List (List Envelope) → Type 0
@@ -34,21 +34,21 @@ pub record IsMoreThan (take : TakePassView) (room : Vec Envelope) : Type 0 where
 pub record IsOver (place : ℕ) (takes : List TakePassView) (rooms : List (Vec Envelope)) : Type 0 where
   pub take : TakePassView
   pub room : Vec Envelope
-  pub there : slice_get takes place ≡ Some take
+  pub present : slice_get takes place ≡ Some take
   pub lies : slice_get rooms place ≡ Some room
   pub more : IsMoreThan take room
 
 -- This was left for a receiver. With what it took before it is of its queue alone, and all that these passes pushed is among it.
-pub record WasLeft (take : TakePassView) (ways : List SendPassView) (left : List Envelope) : Type 0 where
+pub record WasLeft (take : TakePassView) (send_passes : List SendPassView) (left : List Envelope) : Type 0 where
   pub known : All (IsOfQueue take.queue) (take.taken ++ left)
-  pub came : All (AllArrived take.turns (take.taken ++ left)) ways
+  pub came : All (AllArrived take.discipline (take.taken ++ left)) send_passes
 
 -- More was left for the receiver at this place, by the passes to it of all rows, than its room holds.
 pub record IsOverfull (takes : List TakePassView) (rows : List (List SendPassView)) (rooms : List (Vec Envelope)) (place : ℕ) : Type 0 where
   pub take : TakePassView
   pub room : Vec Envelope
   pub left : List Envelope
-  pub there : slice_get takes place ≡ Some take
+  pub present : slice_get takes place ≡ Some take
   pub lies : slice_get rooms place ≡ Some room
   pub was : WasLeft take (column place rows) left
   pub over : vec_capacity room < length left

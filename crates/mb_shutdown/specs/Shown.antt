@@ -33,6 +33,6 @@ pub record ShowsOne {A K : Type 0} (after : ℕ → List Message → ℤ) (e : E
 -- The report does so for each actor, for which this is left and so many envelopes were counted.
 pub record ShowsAll {A K : Type 0} (after : ℕ → List Message → ℤ) (ended : List (Ended A K)) (lefts : List (List Envelope)) (waiting : List ℕ) (actors : List
     ActorReport) : Type 0 where
-  pub many : length actors ≡ length ended
+  pub same_count : length actors ≡ length ended
   pub each : (place : ℕ) (e : Ended A K) (left : List Envelope) (n : ℕ) (a : ActorReport) → slice_get ended place ≡ Some e
       → slice_get lefts place ≡ Some left → slice_get waiting place ≡ Some n → slice_get actors place ≡ Some a → ShowsOne after e left n a

@@ -30,15 +30,15 @@ pub fn join_and_drain<R: Wait>(
 ) -> Result<(), TooMany>
     requires queues { All (λ row. queues_pushed_into row.items ≡ queues_of takes.items) senders.items }
     requires different { (place : ℕ) → AreOfDifferent (column place (map (λ row. row.items) senders.items)) }
-    requires many { length rooms.old ≡ length takes.items }
+    requires same_count { length rooms.old ≡ length takes.items }
     requires empty { All (λ room. room.items ≡ []) rooms.old }
     ensures came { IfOk result (λ _. (place : ℕ) (take : TakePassView) (left : List Envelope) → slice_get takes.items place ≡ Some take
         → slice_get (map (λ room. room.items) rooms.new) place ≡ Some left
-        → All (AllArrived take.turns (take.taken ++ left)) (column place (map (λ row. row.items) senders.items))) }
+        → All (AllArrived take.discipline (take.taken ++ left)) (column place (map (λ row. row.items) senders.items))) }
     ensures known { IfOk result (λ _. (place : ℕ) (take : TakePassView) (left : List Envelope) → slice_get takes.items place ≡ Some take
         → slice_get (map (λ room. room.items) rooms.new) place ≡ Some left → All (IsOfQueue take.queue) (take.taken ++ left)) }
     ensures ordered { IfOk result (λ _. (place : ℕ) (take : TakePassView) (left : List Envelope) → slice_get takes.items place ≡ Some take
-        → slice_get (map (λ room. room.items) rooms.new) place ≡ Some left → take.turns ≡ control_first
+        → slice_get (map (λ room. room.items) rooms.new) place ≡ Some left → take.discipline ≡ control_first
         → AreOfAllSenders take.queue (column place (map (λ row. row.items) senders.items)) → IsControlsFirst left) }
     ensures place { IfErr result (λ many. many.0 < length takes.items) }
     ensures over { IfErr result (λ many. IsOverfull takes.items (map (λ row. row.items) senders.items) rooms.old many.0) }

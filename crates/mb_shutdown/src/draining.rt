@@ -20,7 +20,7 @@ pub(crate) fn drain_queues<R: Wait>(
     takes: Vec<TakePass>,
     rooms: &mut [Vec<Envelope>],
 ) -> Result<(), TooMany>
-    requires many { length rooms.old ≡ length takes.items }
+    requires same_count { length rooms.old ≡ length takes.items }
     requires empty { All (λ room. room.items ≡ []) rooms.old }
     ensures rests { IfOk result (λ _. AreRests takes.items (map (λ room. room.items) rooms.new)) }
     ensures place { IfErr result (λ many. many.0 < length takes.items) }

@@ -83,7 +83,7 @@ pub fn finish<A: Actor, K: Behaviours, R: Wait>(
 
 // The least actor that is scheduled or has something to run.
 fn first_busy_of<A: Actor, K: Behaviours>(built: &mut Built<A, K>) -> Option<ActorId>
-    requires ours { All (λ e. IsEndOf built.old.system.gates e.registrar) built.old.ends.items }
+    requires same_gates { All (λ e. IsEndOf built.old.system.gates e.registrar) built.old.ends.items }
     requires some { 0 < length built.old.ends.items }
     ensures { MatchOption result (HasRead (WereReadIdle 0 (actors_of built.old.system.gates)) built.old built.new)
         (λ id. (id.0 < actors_of built.old.system.gates) × HasRead (FindsBusy id.0) built.old built.new) }
@@ -96,9 +96,9 @@ fn first_busy_of<A: Actor, K: Behaviours>(built: &mut Built<A, K>) -> Option<Act
 fn room_of<A: Actor, K: Behaviours>(
     built: &mut Built<A, K>,
 ) -> Option<(Room<A, K>, Vec<FinishedSender>)>
-    requires ours { All (λ e. IsEndOf built.old.system.gates e.registrar) built.old.ends.items }
+    requires same_gates { All (λ e. IsEndOf built.old.system.gates e.registrar) built.old.ends.items }
     requires some { 0 < length built.old.ends.items }
-    requires few { length built.old.senders.items ≤ 16 }
+    requires within_limit { length built.old.senders.items ≤ 16 }
     ensures read { HasRead HasOnlyCounted built.old built.new }
     ensures room { IfSome result (λ made. IsRoom (actors_of built.old.system.gates) (length built.old.senders.items) made.0
         × (made.1.items ≡ []) × (length built.old.senders.items ≤ vec_capacity made.1)) }

@@ -9,9 +9,9 @@ use mb_msg::ActorId;
 
 /// The least actor that is scheduled or has something to run.
 pub fn first_busy<H: MailboxState>(gates: &Gates<H>, pass: &mut Pass<H>) -> Option<ActorId>
-    requires ours { pass_id pass.old ≡ gates_id gates.now }
-    requires few { actors_of gates.now ≤ 64 }
-    ensures ours { pass_id pass.new ≡ pass_id pass.old }
+    requires same_gates { pass_id pass.old ≡ gates_id gates.now }
+    requires within_limit { actors_of gates.now ≤ 64 }
+    ensures same_gates { pass_id pass.new ≡ pass_id pass.old }
     ensures settled { MatchOption result (WereReadIdle 0 (actors_of gates.now) (pass_view pass.old) (pass_view pass.new))
         (λ id. (id.0 < actors_of gates.now) × ((between : View) × WereReadIdle 0 id.0 (pass_view pass.old) between
         × WasReadBusy id.0 between (pass_view pass.new))) }
@@ -28,9 +28,9 @@ pub fn first_busy<H: MailboxState>(gates: &Gates<H>, pass: &mut Pass<H>) -> Opti
 // Whether the actor has nothing to run: it is closed; or it is not scheduled, has no system work, and has no envelope that it
 // may handle.
 fn is_idle<H: MailboxState>(gates: &Gates<H>, pass: &mut Pass<H>, id: ActorId) -> bool
-    requires ours { pass_id pass.old ≡ gates_id gates.now }
-    requires there { id.0 < actors_of gates.now }
-    ensures ours { pass_id pass.new ≡ pass_id pass.old }
+    requires same_gates { pass_id pass.old ≡ gates_id gates.now }
+    requires present { id.0 < actors_of gates.now }
+    ensures same_gates { pass_id pass.new ≡ pass_id pass.old }
     ensures settled { MatchBool result (WasReadIdle id.0 (pass_view pass.old) (pass_view pass.new))
         (WasReadBusy id.0 (pass_view pass.old) (pass_view pass.new)) }
 {

@@ -28,7 +28,7 @@ fn join_each(takes: &mut [TakePass], passes: Vec<SendPass>)
 
 /// The receiver at this place takes in a pass of its queue.
 fn join_at(takes: &mut [TakePass], place: usize, pass: SendPass)
-    requires there { place < length takes.old }
+    requires present { place < length takes.old }
     requires queue { (t : TakePassView) → slice_get takes.old place ≡ Some t → pass.queue ≡ t.queue }
     ensures { JoinsAt takes.old takes.new place pass }
 {

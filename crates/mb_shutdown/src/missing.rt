@@ -28,8 +28,8 @@ fn place_of<T: Numbered>(all: &[T], number: u32) -> Option<usize>
 
 /// Sorts these by their numbers, all of which are there.
 pub(crate) fn sort_by_number<T: Numbered>(all: &mut [T])
-    requires few { length all.old ≤ 16 }
-    requires there { AreThere (length all.old) (map T.numbered all.old) }
+    requires within_limit { length all.old ≤ 16 }
+    requires present { AreThere (length all.old) (map T.numbered all.old) }
     ensures numbers { map T.numbered all.new ≡ numbers 0 (length all.old) }
     ensures same { IsPermutation all.new all.old }
 {

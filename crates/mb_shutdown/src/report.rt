@@ -31,8 +31,8 @@ pub fn build_report<A: Actor, K: Behaviours, R: Wait>(
     outside: Vec<FinishedSender>,
     room: Room<A, K>,
 ) -> Result<Report, Mismatch>
-    requires ours { pass_id pass ≡ gates_id gates }
-    requires few { (actors_of gates ≤ 64) × (length outside.items ≤ 16) }
+    requires same_gates { pass_id pass ≡ gates_id gates }
+    requires within_limit { (actors_of gates ≤ 64) × (length outside.items ≤ 16) }
     requires directory { length (first_home gates).value.directory ≡ actors_of gates }
     requires senders { HasKnownSenders (first_home gates).value.directory (length outside.items) }
     requires outside { AreFinishedSenders (first_home gates).value.directory (pass_view pass).log 64 outside.items }

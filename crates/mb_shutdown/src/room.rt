@@ -42,9 +42,9 @@ pub fn make_room<A: Actor, K: Behaviours>(
     pass: &mut Pass<BoxedHome<A, K>>,
     outside: usize,
 ) -> Result<Room<A, K>, AllocError>
-    requires ours { pass_id pass.old ≡ gates_id gates.now }
-    requires few { (actors_of gates.now ≤ 64) × (outside ≤ 16) }
-    ensures ours { pass_id pass.new ≡ pass_id pass.old }
+    requires same_gates { pass_id pass.old ≡ gates_id gates.now }
+    requires within_limit { (actors_of gates.now ≤ 64) × (outside ≤ 16) }
+    ensures same_gates { pass_id pass.new ≡ pass_id pass.old }
     ensures known { IsPart (pass_view pass.old).log (pass_view pass.new).log }
     ensures only { HasOnlyCounted (pass_view pass.old) (pass_view pass.new) }
     ensures room { IfOk result (IsRoom (actors_of gates.now) outside) }
@@ -63,7 +63,7 @@ fn room_around<A: Actor, K: Behaviours>(
     waiting: Vec<u64>,
     lefts: Vec<Vec<Envelope>>,
 ) -> Result<Room<A, K>, AllocError>
-    requires few { (actors ≤ 64) × (outside ≤ 16) }
+    requires within_limit { (actors ≤ 64) × (outside ≤ 16) }
     requires counted { length waiting.items ≡ actors }
     requires lefts { AllZip IsEmptyWithRoom waiting.items lefts.items }
     ensures { IfOk result (λ room. IsRoom actors outside room × (counted_in room ≡ waiting.items)) }
@@ -87,9 +87,9 @@ fn make_lefts<H: MailboxState>(
     gates: &Gates<H>,
     pass: &mut Pass<H>,
 ) -> Result<(Vec<u64>, Vec<Vec<Envelope>>), AllocError>
-    requires ours { pass_id pass.old ≡ gates_id gates.now }
-    requires few { actors_of gates.now ≤ 64 }
-    ensures ours { pass_id pass.new ≡ pass_id pass.old }
+    requires same_gates { pass_id pass.old ≡ gates_id gates.now }
+    requires within_limit { actors_of gates.now ≤ 64 }
+    ensures same_gates { pass_id pass.new ≡ pass_id pass.old }
     ensures known { IsPart (pass_view pass.old).log (pass_view pass.new).log }
     ensures only { HasOnlyCounted (pass_view pass.old) (pass_view pass.new) }
     ensures counted { IfOk result (λ made. length made.0.items ≡ actors_of gates.now) }

@@ -21,7 +21,7 @@ pub(crate) fn report_on<A: Actor, K: Behaviours>(
     room: Vec<ActorReport>,
     senders: Vec<SenderReport>,
 ) -> Result<Report, Mismatch>
-    requires many { (length lefts.items ≡ length ended.items) × (length waiting.now ≡ length ended.items) × (length ended.items ≤ 64) }
+    requires same_count { (length lefts.items ≡ length ended.items) × (length waiting.now ≡ length ended.items) × (length ended.items ≤ 64) }
     requires room { (room.items ≡ []) × (length ended.items ≤ vec_capacity room) }
     requires senders { length senders.items ≤ 80 }
     ensures shows { IfOk result (λ report. ShowsAll K.after ended.items (map (λ l. l.items) lefts.items) waiting.now report.actors.items

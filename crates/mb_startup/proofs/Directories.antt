@@ -13,7 +13,7 @@ use Rattle.mb_gate.specs.Accessors.{actors_of, first_home}
 use Rattle.mb_home.specs.Contents.{Contents}
 use Rattle.mb_home.specs.Directory.{DirectoryEntry}
 use Rattle.mb_build.specs.NewHomes.{AreAtFirst, AreNewHomes, directory_of}
-use Rattle.mb_build.specs.Kinds.{AreQueues, Queues}
+use Rattle.mb_build.specs.Kinds.{AreKindsOf, IsKindOf}
 use Rattle.mb_build.specs.Made.{AreEmpty}
 use Rattle.mb_build.specs.Numbers.{sender_numbers}
 use Rattle.mb_startup.specs.Begun.{IsBegun}
@@ -27,30 +27,29 @@ who-enrolled (who ∷ whos) [] many = absurd (omega (arith, many))
 who-enrolled (who ∷ whos) (t ∷ takes) many = ap (λ l. who ∷ l) (who-enrolled whos takes (omega (arith, many)))
 
 take-enrolled : (whos : List Identity) (takes : List TakePassView) (place : ℕ) (e : DirectoryEntry) → slice_get (directory_of whos takes) place ≡ Some e
-    → (t : TakePassView) × (slice_get takes place ≡ Some t) × (e.queue ≡ t.queue) × (e.turns ≡ t.turns)
+    → (t : TakePassView) × (slice_get takes place ≡ Some t) × (e.queue ≡ t.queue) × (e.discipline ≡ t.discipline)
 take-enrolled [] takes place e is = absurd (none-some e is)
 take-enrolled (who ∷ whos) [] place e is = absurd (none-some e is)
 take-enrolled (who ∷ whos) (t ∷ takes) zero e is =
-    let same = sym (same_Some (record { who = who; queue = t.queue; turns = t.turns }) e is) in
-    (t, refl, ap (λ (x : DirectoryEntry). x.queue) same, ap (λ (x : DirectoryEntry). x.turns) same)
+    let same = sym (same_Some (record { who = who; queue = t.queue; discipline = t.discipline }) e is) in
+    (t, refl, ap (λ (x : DirectoryEntry). x.queue) same, ap (λ (x : DirectoryEntry). x.discipline) same)
 take-enrolled (who ∷ whos) (t ∷ takes) (suc place) e is = take-enrolled whos takes place e is
 
 -- each actor's queue is of the kind of its mailbox
 mailbox-of : (plans : List ActorPlan) (kinds : List MailboxType) (to : ℕ) (senders : List ℕ) (takes : List TakePassView) (place : ℕ) (a : ActorPlan) (t : TakePassView)
-    (e : DirectoryEntry) → AreQueues plans kinds → AreEmpty kinds to senders takes → slice_get plans place ≡ Some a → slice_get takes place ≡ Some t
-    → e.queue ≡ t.queue → e.turns ≡ t.turns → HasMailbox a e
-mailbox-of [] kinds to senders takes place a t e queues empty is found same turns = absurd (none-some a is)
-mailbox-of (p ∷ plans) [] to senders takes place a t e queues empty is found same turns = absurd queues
-mailbox-of (p ∷ plans) (k ∷ kinds) to senders [] place a t e queues empty is found same turns = absurd empty
-mailbox-of (p ∷ plans) (k ∷ kinds) to senders (x ∷ takes) zero a t e queues empty is found same turns =
-    let plan = same_Some p a is in let take = same_Some x t found in record {
-      kind = k;
-      queues = subst (λ (b : ActorPlan). Queues b.mailbox k) plan queues.0;
-      turns = turns ∙ ap (λ (y : TakePassView). y.turns) (sym take) ∙ empty.0.0.turns;
-      bound = ap (λ q. q.main.capacity) same ∙ ap (λ (y : TakePassView). y.queue.main.capacity) (sym take) ∙ empty.0.0.bound;
+    (e : DirectoryEntry) → AreKindsOf plans kinds → AreEmpty kinds to senders takes → slice_get plans place ≡ Some a → slice_get takes place ≡ Some t
+    → e.queue ≡ t.queue → e.discipline ≡ t.discipline → HasMailbox a e
+mailbox-of [] kinds to senders takes place a t e queues empty is found same discipline = absurd (none-some a is)
+mailbox-of (p ∷ plans) [] to senders takes place a t e queues empty is found same discipline = absurd queues
+mailbox-of (p ∷ plans) (k ∷ kinds) to senders [] place a t e queues empty is found same discipline = absurd empty
+mailbox-of (p ∷ plans) (k ∷ kinds) to senders (x ∷ takes) zero a t e queues empty is found same discipline =
+    let plan = same_Some p a is in let take = same_Some x t found in
+    let planned : IsKindOf a.mailbox k = subst (λ (b : ActorPlan). IsKindOf b.mailbox k) plan queues.0 in record {
+      discipline = discipline ∙ ap (λ (y : TakePassView). y.discipline) (sym take) ∙ empty.0.0.discipline ∙ planned.0;
+      bound = ap (λ q. q.main.capacity) same ∙ ap (λ (y : TakePassView). y.queue.main.capacity) (sym take) ∙ empty.0.0.bound ∙ planned.1;
     }
-mailbox-of (p ∷ plans) (k ∷ kinds) to senders (x ∷ takes) (suc place) a t e queues empty is found same turns =
-    mailbox-of plans kinds (to + 1) senders takes place a t e queues.1 empty.1 is found same turns
+mailbox-of (p ∷ plans) (k ∷ kinds) to senders (x ∷ takes) (suc place) a t e queues empty is found same discipline =
+    mailbox-of plans kinds (to + 1) senders takes place a t e queues.1 empty.1 is found same discipline
 
 -- the new homes: there are as many as actors, and the first has the directory
 as-many : (directory : List DirectoryEntry) (others : List TakePassView) (number : ℕ) (whos : List Identity) (takes : List TakePassView) (homes : List (Box Contents))
@@ -74,7 +73,7 @@ directory-of directory others number (who ∷ whos) (t ∷ takes) (h ∷ homes) 
 
 -- the actors and the mailboxes of a plan
 housed-plan : (gives : ℕ → Moment → Reply → Type 0) (plan : Plan) (kinds : List MailboxType) (homes : List (Box Contents)) (outside : List (List SendPassView))
-    (first : Box Contents) → AreQueues plan.actors.items kinds → AreNewHomes gives (actors_in plan) kinds plan.senders homes outside
+    (first : Box Contents) → AreKindsOf plan.actors.items kinds → AreNewHomes gives (actors_in plan) kinds plan.senders homes outside
     → slice_get homes 0 ≡ Some first → IsDirectoryOf plan first.value.directory
 housed-plan gives plan kinds homes outside first queues housed is =
     let whos = actors_in plan in let takes = housed.guardian ∷ housed.takes in
@@ -92,11 +91,11 @@ housed-plan gives plan kinds homes outside first queues housed is =
 
 module _ {A K : Type 0} (gives : ℕ → Moment → Reply → Type 0) (plan : Plan) (built : Built A K) (begun : IsBegun gives plan built) where
   pub of-plan : IsDirectoryOf plan (first_home built.system.gates).value.directory
-  of-plan = housed-plan gives plan begun.kinds begun.homes begun.outside (first_home built.system.gates) begun.kinds_are begun.housed begun.first
+  of-plan = housed-plan gives plan begun.kinds begun.homes begun.outside (first_home built.system.gates) begun.kinds_are begun.homes_made begun.first
 
   pub actors-there : actors_of built.system.gates ≡ length (actors_in plan)
   actors-there =
-      let housed = begun.housed in let whos = actors_in plan in let takes = housed.guardian ∷ housed.takes in
+      let housed = begun.homes_made in let whos = actors_in plan in let takes = housed.guardian ∷ housed.takes in
       begun.actors ∙ (as-many (directory_of whos takes) housed.takes 0 whos takes begun.homes housed.first).1
 
 -- and so it is of a system that is still the one that began by the plan

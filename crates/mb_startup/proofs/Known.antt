@@ -72,9 +72,9 @@ known-first kinds outside guardian takes rows who whos made many few =
     (known-queues actors outside (sender_numbers actors outside) whos takes (all-known actors outside few)
     (all-for kinds 1 (sender_numbers actors outside) takes made.empty)))
 
-ways-of : (takes : List TakePassView) (sender : ℕ) → receiving_queues (passes_of takes sender) ≡ map (λ (t : TakePassView). t.queue) takes
-ways-of [] sender = refl
-ways-of (t ∷ takes) sender = ap (λ l. t.queue ∷ l) (ways-of takes sender)
+queues-of-passes : (takes : List TakePassView) (sender : ℕ) → receiving_queues (passes_of takes sender) ≡ map (λ (t : TakePassView). t.queue) takes
+queues-of-passes [] sender = refl
+queues-of-passes (t ∷ takes) sender = ap (λ l. t.queue ∷ l) (queues-of-passes takes sender)
 
 length-passes : (takes : List TakePassView) (sender : ℕ) → length (passes_of takes sender) ≡ length takes
 length-passes [] sender = refl
@@ -102,8 +102,8 @@ pub unused-outside : (kinds : List MailboxType) (senders : List ℕ) (guardian :
 unused-outside kinds senders guardian takes rows whos first zero made many = tt
 unused-outside kinds senders guardian takes rows whos first (suc count) made many = (
   record {
-    many = let length_is = length-passes takes first in omega (arith, length_is, many);
-    queues_are = ways-of takes first ∙ ap (drop 1) (sym (queues-enrolled whos (guardian ∷ takes) many));
+    same_count = let length_is = length-passes takes first in omega (arith, length_is, many);
+    queues_are = queues-of-passes takes first ∙ ap (drop 1) (sym (queues-enrolled whos (guardian ∷ takes) many));
     routes = λ i s there.
         let route = routes kinds 1 senders takes first i s made.empty there in let sum : 1 + i ≡ i + 1 = omega arith in
         record { sender = route.0; receiver = route.1 ∙ sum; pushed = route.2 };

@@ -19,19 +19,19 @@ module _ {A K : Type 0} (gates : Gates (Box Contents)) where
   pub all-led : (ends : List (WorkerEnd A K)) → AreFirstEnds gates ends → All (λ (e : WorkerEnd A K). IsEndOf gates e.registrar) ends
   all-led ends led =
       subst (All (λ (e : WorkerEnd A K). IsEndOf gates e.registrar)) (sym led.ends_are)
-      (All-cons (λ (e : WorkerEnd A K). IsEndOf gates e.registrar) led.end led.others led.ours (all-ends gates 1 led.others led.others_are))
+      (All-cons (λ (e : WorkerEnd A K). IsEndOf gates e.registrar) led.end led.others led.same_gates (all-ends gates 1 led.others led.others_are))
 
   -- the first of new ends takes over a pass
   pub first-ours : (ends : List (WorkerEnd A K)) (d e : WorkerEnd A K) → e ≡ get_or ends 0 d → 0 < length ends → AreNewEnds gates 0 ends
       → pass_id e.registrar.pass ≡ gates_id gates
   first-ours [] d e is some are = absurd (omega (arith, some))
-  first-ours (x ∷ others) d e is some are = ap (λ (w : WorkerEnd A K). pass_id w.registrar.pass) is ∙ are.0.ours.0
+  first-ours (x ∷ others) d e is some are = ap (λ (w : WorkerEnd A K). pass_id w.registrar.pass) is ∙ are.0.same_gates.0
 
-  -- by its own way into the pool
-  pub first-ways : (ends : List (WorkerEnd A K)) (d e : WorkerEnd A K) (p : Pass (Box Contents)) → e ≡ get_or ends 0 d
+  -- by its own port of the pool
+  pub first-ports : (ends : List (WorkerEnd A K)) (d e : WorkerEnd A K) (p : Pass (Box Contents)) → e ≡ get_or ends 0 d
       → pool_ends_of (set ends 0 (record e { registrar = record e.registrar { pass = p } })) ≡ pool_ends_of ends
-  first-ways [] d e p is = refl
-  first-ways (x ∷ others) d e p is = ap (λ (w : WorkerEnd A K). w.registrar.run_queue.end ∷ pool_ends_of others) is
+  first-ports [] d e p is = refl
+  first-ports (x ∷ others) d e p is = ap (λ (w : WorkerEnd A K). w.registrar.run_queue.end ∷ pool_ends_of others) is
 
   led-by : (x e : WorkerEnd A K) (others : List (WorkerEnd A K)) (p : Pass (Box Contents)) (v : View) → e ≡ x → IsNewEnd gates 0 x
       → AreNewEnds gates 1 others → pass_id p ≡ pass_id e.registrar.pass → IsCreated v × OwesFirstRun v
@@ -44,7 +44,7 @@ module _ {A K : Type 0} (gates : Gates (Box Contents)) where
         others = others;
         ends_are = refl;
         others_are = are;
-        ours = (id ∙ mine.ours.0, mine.ours.1, mine.ours.2);
+        same_gates = (id ∙ mine.same_gates.0, mine.same_gates.1, mine.same_gates.2);
         first_end = (mine.number_is, mine.nobody);
         created = (created.0.0, saw ∙ ap (λ l. v.log ++ l) mine.blank ∙ append-nil v.log ∙ created.0.1);
         settled = owes-over v (pass_view e.registrar.pass) (pass_view p) owed created.1 mine.settled;

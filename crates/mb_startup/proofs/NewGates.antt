@@ -18,7 +18,7 @@ use Rattle.mb_home.specs.Directory.{queues_of}
 use Rattle.mb_pool.specs.Places.{AreEnds, AreFeeds, Parts, PoolEndpoint, PoolView, end_parts, feed_parts, gates_of, numbers as pool_numbers, parts_of}
 use Rattle.mb_build.specs.Handed.{passes_of}
 use Rattle.mb_build.specs.NewHomes.{AreNewHomes, directory_of}
-use Rattle.mb_build.specs.Kinds.{AreQueues}
+use Rattle.mb_build.specs.Kinds.{AreKindsOf}
 use Rattle.mb_build.specs.Made.{AreMade}
 use Rattle.mb_build.specs.Numbers.{numbers, sender_numbers}
 use Rattle.mb_build.proofs.NewHomesLemmas.{length-who, who_of}
@@ -51,37 +51,37 @@ pub housed-many : (gives : ℕ → Moment → Reply → Type 0) (limit : ℕ) (p
     (homes : List (Box Contents)) (outside : List (List SendPassView)) → AreNewHomes gives (who_of limit plans) kinds senders homes outside
     → length homes ≡ length plans + 1
 housed-many gives limit plans kinds senders homes outside housed =
-    let whos = who_of limit plans in let ways = housed.guardian ∷ housed.takes in
-    as-many-homes (directory_of whos ways) housed.takes 0 whos ways homes housed.first ∙ length-who limit plans
+    let whos = who_of limit plans in let all_takes = housed.guardian ∷ housed.takes in
+    as-many-homes (directory_of whos all_takes) housed.takes 0 whos all_takes homes housed.first ∙ length-who limit plans
 
 -- what the gates are that begin with such homes
 pub founded : (gives : ℕ → Moment → Reply → Type 0) (limit : ℕ) (plans : List ActorPlan) (kinds : List MailboxType) (senders : ℕ)
-    (homes : List (Box Contents)) (outside : List (List SendPassView)) (gates : Gates (Box Contents)) → length plans < 64 → AreQueues plans kinds
+    (homes : List (Box Contents)) (outside : List (List SendPassView)) (gates : Gates (Box Contents)) → length plans < 64 → AreKindsOf plans kinds
     → AreNewHomes gives (who_of limit plans) kinds senders homes outside → slice_get homes 0 ≡ Some (first_home gates)
     → actors_of gates ≡ length homes → AreNewGates gates (length plans) senders outside
 founded gives limit plans kinds senders homes outside gates few queues housed first actors =
-    let whos = who_of limit plans in let ways = housed.guardian ∷ housed.takes in
+    let whos = who_of limit plans in let all_takes = housed.guardian ∷ housed.takes in
     let who : length whos ≡ length plans + 1 = length-who limit plans in
     let takes : length housed.takes ≡ length kinds = as-many kinds 1 (sender_numbers (length whos) senders) housed.takes housed.made.empty in
     let planned : length kinds ≡ length plans = length-queues plans kinds queues in
-    let both : length ways ≡ length whos = omega (arith, who, takes, planned) in
-    let homes_are : length homes ≡ length whos = as-many-homes (directory_of whos ways) housed.takes 0 whos ways homes housed.first in
+    let both : length all_takes ≡ length whos = omega (arith, who, takes, planned) in
+    let homes_are : length homes ≡ length whos = as-many-homes (directory_of whos all_takes) housed.takes 0 whos all_takes homes housed.first in
     let count : actors_of gates ≡ length whos = actors ∙ homes_are in
-    let directory : (first_home gates).value.directory ≡ directory_of whos ways =
-    first-directory (directory_of whos ways) housed.takes 0 whos ways homes (first_home gates) housed.first first in record {
+    let directory : (first_home gates).value.directory ≡ directory_of whos all_takes =
+    first-directory (directory_of whos all_takes) housed.takes 0 whos all_takes homes (first_home gates) housed.first first in record {
       actors = count ∙ who;
-      directory = ap length directory ∙ length-enrolled whos ways both ∙ sym count;
+      directory = ap length directory ∙ length-enrolled whos all_takes both ∙ sym count;
       known = subst (λ r. AreKnown r senders) (sym directory)
           (known-all kinds senders housed.guardian housed.takes housed.rows whos (length plans) housed.made both who (omega (arith, who, few)));
       unused = subst (λ n. AreUnused (drop 1 (queues_of (first_home gates).value.directory)) n most_actors outside) (sym count)
           (subst (λ r. AreUnused (drop 1 (queues_of r)) (length whos) most_actors outside) (sym directory)
-          (subst (AreUnused (drop 1 (queues_of (directory_of whos ways))) (length whos) most_actors) (sym housed.passes)
+          (subst (AreUnused (drop 1 (queues_of (directory_of whos all_takes))) (length whos) most_actors) (sym housed.passes)
           (unused-outside kinds (sender_numbers (length whos) senders) housed.guardian housed.takes housed.rows whos most_actors senders
           housed.made both)));
       rows = ap length housed.passes ∙ length-map (numbers most_actors senders) (passes_of housed.takes) ∙ length-numbers most_actors senders;
     }
 
--- the ways of a new pool are of its gates
+-- the ends and feeds of a new pool are of its gates
 module _ {H : Type 0} (pool : PoolView H) where
   length-pool : (first count : ℕ) → length (pool_numbers first count) ≡ count
   length-pool first zero = refl
@@ -124,7 +124,7 @@ module _ {A K : Type 0} (gates : Gates (Box Contents)) where
   pub all-ends : (number : ℕ) (ends : List (WorkerEnd A K)) → AreNewEnds gates number ends → All (λ (e : WorkerEnd A K). IsEndOf gates e.registrar) ends
   all-ends number [] are = All-nil (λ (e : WorkerEnd A K). IsEndOf gates e.registrar)
   all-ends number (e ∷ ends) are =
-      All-cons (λ (e : WorkerEnd A K). IsEndOf gates e.registrar) e ends are.0.ours (all-ends (number + 1) ends are.1)
+      All-cons (λ (e : WorkerEnd A K). IsEndOf gates e.registrar) e ends are.0.same_gates (all-ends (number + 1) ends are.1)
 
   pub all-senders : (number : ℕ) (rows : List (List SendPassView)) (senders : List (Sender A K)) → AreNewSenders gates number rows senders
       → All (λ (s : Sender A K). IsSenderOf gates s.inner) senders
@@ -132,7 +132,7 @@ module _ {A K : Type 0} (gates : Gates (Box Contents)) where
   all-senders number [] (s ∷ senders) are = absurd are
   all-senders number (row ∷ rows) [] are = absurd are
   all-senders number (row ∷ rows) (s ∷ senders) are =
-      All-cons (λ (s : Sender A K). IsSenderOf gates s.inner) s senders are.0.ours (all-senders (number + 1) rows senders are.1)
+      All-cons (λ (s : Sender A K). IsSenderOf gates s.inner) s senders are.0.same_gates (all-senders (number + 1) rows senders are.1)
 
   pub as-many-senders : (number : ℕ) (rows : List (List SendPassView)) (senders : List (Sender A K)) → AreNewSenders gates number rows senders
       → length senders ≡ length rows

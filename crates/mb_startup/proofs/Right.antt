@@ -32,7 +32,7 @@ same a b is = grind (arith, nat_tests)
 
 -- a system of the plan can be built with so many actors
 pub record IsRight (plan : Plan) (actors : ℕ) : Type 0 where
-  pub few : length plan.actors.items < 64
+  pub within_limit : length plan.actors.items < 64
   pub as_many : length plan.actors.items ≡ actors
   pub parents : bad_parents 1 plan.actors.items ≡ []
   pub bounds : bad_bounds 1 plan.actors.items ≡ []
@@ -55,7 +55,7 @@ right-plan plan actors none =
     let workers = both-hold (nat_le 1 plan.workers) (nat_le plan.workers 16)
     (holds (nat_le 1 plan.workers && nat_le plan.workers 16) Workers others.0) in
     record {
-      few = below (length all) 64 (holds (nat_lt (length all) 64) Actors count.0);
+      within_limit = below (length all) 64 (holds (nat_lt (length all) 64) Actors count.0);
       as_many = same (length all) actors (holds (length all == actors) Boxes boxes.0);
       parents = parents.0;
       bounds = bounds.0;

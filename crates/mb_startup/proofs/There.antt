@@ -51,7 +51,7 @@ module _ {A K : Type 0} (gives : ℕ → Moment → Reply → Type 0) (plan : Pl
   senders-there =
       let are = numbers-of-senders built.system.gates most_actors begun.outside built.senders.items (omega arith) begun.senders in
       let many : length built.senders.items ≡ plan.senders =
-      are.1 ∙ ap length begun.housed.passes ∙ length-map (numbers most_actors plan.senders) (passes_of begun.housed.takes)
+      are.1 ∙ ap length begun.homes_made.passes ∙ length-map (numbers most_actors plan.senders) (passes_of begun.homes_made.takes)
       ∙ length-numbers most_actors plan.senders in
       (many, are.0 ∙ ap (numbers 0) many)
 
@@ -61,7 +61,7 @@ module _ {A K : Type 0} (gives : ℕ → Moment → Reply → Type 0) (plan : Pl
       ap ends_numbers begun.ends_are
       ∙ (λ i. begun.first_end.0 i ∷ numbers-of-ends built.system.gates 1 begun.others begun.others_are i)
       ∙ ap (λ l. numbers 0 (length l)) (sym begun.ends_are) in
-      all ∙ ap (numbers 0) begun.many
+      all ∙ ap (numbers 0) begun.same_count
 
   pub some-end : built.ends.items ≢ []
   some-end none = let e = ap length (sym begun.ends_are ∙ none) in omega (arith, e)

@@ -17,7 +17,7 @@ use Rattle.mb_queue.specs.Passes.{Queue, SendPassView}
 use Rattle.mb_home.specs.Contents.{Contents}
 use Rattle.mb_build.specs.NewHomes.{AreNewHomes}
 use Rattle.mb_build.specs.Planned.{actors_in}
-use Rattle.mb_build.specs.Kinds.{AreQueues}
+use Rattle.mb_build.specs.Kinds.{AreKindsOf}
 use Rattle.mb_send.specs.Sends.{AreRoutes, receiving_queues}
 use Rattle.mb_register.specs.Owed.{IsNobody}
 use Rattle.mb_system.specs.Members.{IsEndOf, IsSenderOf, pool_ends_of, pool_feeds_of}
@@ -29,7 +29,7 @@ use Rattle.mb_system.specs.declared.sender.Sender.{Sender}
 
 -- A sender's passes: one into each of these queues, in order, for the sender of this number. Nothing was pushed by them.
 pub record IsUnused (queues : List Queue) (actors number : ℕ) (sends : List SendPassView) : Type 0 where
-  pub many : length sends + 1 ≡ actors
+  pub same_count : length sends + 1 ≡ actors
   pub queues_are : receiving_queues sends ≡ queues
   pub routes : AreRoutes number [] sends
 
@@ -54,7 +54,7 @@ module _ {A K : Type 0} (gates : Gates (Box Contents)) where
   -- A new sender of this number: it sent no envelope and no system message, was answered nothing, saw nothing, got no claim, owes nobody anything,
   -- and pushes by these passes.
   pub record IsNewSender (number : ℕ) (sends : List SendPassView) (s : Sender A K) : Type 0 where
-    pub ours : IsSenderOf gates s.inner
+    pub same_gates : IsSenderOf gates s.inner
     pub by : s.inner.send_log.by ≡ record { 0 = number }
     pub posted : s.inner.send_log.posted ≡ []
     pub sends_are : s.inner.sends.items ≡ sends
@@ -72,7 +72,7 @@ module _ {A K : Type 0} (gates : Gates (Box Contents)) where
 
   -- A new worker's end of this number, which saw nothing, got no claim and owes nobody anything.
   pub record IsNewEnd (number : ℕ) (e : WorkerEnd A K) : Type 0 where
-    pub ours : IsEndOf gates e.registrar
+    pub same_gates : IsEndOf gates e.registrar
     pub number_is : e.number ≡ number
     pub nobody : IsNobody e.registrar.owed
     pub settled : HasNoObligations (pass_view e.registrar.pass)
@@ -90,7 +90,7 @@ module _ {A K : Type 0} (gates : Gates (Box Contents)) where
     pub others : List (WorkerEnd A K)
     pub ends_are : ends ≡ (end ∷ others)
     pub others_are : AreNewEnds 1 others
-    pub ours : IsEndOf gates end.registrar
+    pub same_gates : IsEndOf gates end.registrar
     pub first_end : (end.number ≡ 0) × IsNobody end.registrar.owed
     pub created : IsCreated (pass_view end.registrar.pass)
     pub settled : OwesFirstRun (pass_view end.registrar.pass)
@@ -103,10 +103,10 @@ module _ {A K : Type 0} (gates : Gates (Box Contents)) where
 pub record IsBegun {A K : Type 0} (gives : ℕ → Moment → Reply → Type 0) (plan : Plan) (built : Built A K) : Type 0 where
   pub together : BelongsTogether built
   pub kinds : List MailboxType
-  pub kinds_are : AreQueues plan.actors.items kinds
+  pub kinds_are : AreKindsOf plan.actors.items kinds
   pub homes : List (Box Contents)
   pub outside : List (List SendPassView)
-  pub housed : AreNewHomes gives (actors_in plan) kinds plan.senders homes outside
+  pub homes_made : AreNewHomes gives (actors_in plan) kinds plan.senders homes outside
   pub first : slice_get homes 0 ≡ Some (first_home built.system.gates)
   pub actors : actors_of built.system.gates ≡ length homes
   pub senders : AreNewSenders built.system.gates most_actors outside built.senders.items
@@ -114,7 +114,7 @@ pub record IsBegun {A K : Type 0} (gives : ℕ → Moment → Reply → Type 0) 
   pub pool : IsOfKind plan.pool built.system.pool
   pub of_pool : AreEnds built.system.pool (pool_ends_of built.ends.items) × AreFeeds built.system.pool (pool_feeds_of built.senders.items)
   pub unused : AreUnusedWays (pool_ends_of built.ends.items ++ pool_feeds_of built.senders.items)
-  pub many : length built.ends.items ≡ plan.workers
+  pub same_count : length built.ends.items ≡ plan.workers
   pub end : WorkerEnd A K
   pub others : List (WorkerEnd A K)
   pub ends_are : built.ends.items ≡ (end ∷ others)

@@ -44,21 +44,21 @@ pub(crate) fn open<A: Actor, K: Behaviours, R: Wait>(
     feeds: Vec<Feed<BoxedHome<A, K>>>,
     outside: Vec<Vec<SendPass>>,
 ) -> Result<EndsAndSenders<A, K>, AllocError>
-    requires ours { pass_id pass ≡ gates_id gates.now }
+    requires same_gates { pass_id pass ≡ gates_id gates.now }
     requires blank { ((pass_view pass).log ≡ []) × ((pass_view pass).got ≡ []) × ((pass_view pass).obligations ≡ []) }
     requires whole { IsWhole (pass_view pass).share }
     requires actors { (0 < actors_of gates.now) × (actors_of gates.now ≤ 64) }
     requires some { (0 < length ends.items) × (length ends.items ≤ 16) }
     requires ends { All (λ e. gates_of e ≡ Some (origin_of gates.now)) ends.items }
     requires feeds { All (λ f. gates_of f ≡ Some (origin_of gates.now)) feeds.items }
-    requires many { (length feeds.items ≡ length outside.items) × (length feeds.items ≤ 16) }
+    requires same_count { (length feeds.items ≡ length outside.items) × (length feeds.items ≤ 16) }
     requires outside { AreUnused (drop 1 (queues_of (first_home gates.now).value.directory)) (actors_of gates.now) most_actors
         (map (λ row. row.items) outside.items) }
-    ensures many { IfOk result (λ opened. length opened.ends.items ≡ length ends.items) }
+    ensures same_count { IfOk result (λ opened. length opened.ends.items ≡ length ends.items) }
     ensures ends { IfOk result (λ opened. AreFirstEnds gates.now opened.ends.items) }
     ensures senders { IfOk result (λ opened. AreNewSenders gates.now most_actors (map (λ row. row.items) outside.items) opened.senders.items) }
     ensures whole { IfOk result (λ opened. IsWhole (shares_of_ends opened.ends.items ++ shares_of_senders opened.senders.items)) }
-    ensures ways { IfOk result (λ opened. (pool_ends_of opened.ends.items ≡ ends.items) × (pool_feeds_of opened.senders.items ≡ feeds.items)) }
+    ensures ports { IfOk result (λ opened. (pool_ends_of opened.ends.items ≡ ends.items) × (pool_feeds_of opened.senders.items ≡ feeds.items)) }
 {
     start(rt, alloc, gates, &mut pass)?;
     let senders = open_senders(alloc, gates, &mut pass, feeds, outside)?;
@@ -75,17 +75,17 @@ fn open_senders<A: Actor, K: Behaviours>(
     feeds: Vec<Feed<BoxedHome<A, K>>>,
     outside: Vec<Vec<SendPass>>,
 ) -> Result<Vec<Sender<A, K>>, AllocError>
-    requires ours { (pass_id pass.old ≡ gates_id gates.now) × (actors_of gates.now ≤ 64) }
+    requires same_gates { (pass_id pass.old ≡ gates_id gates.now) × (actors_of gates.now ≤ 64) }
     requires feeds { All (λ f. gates_of f ≡ Some (origin_of gates.now)) feeds.items }
-    requires many { (length feeds.items ≡ length outside.items) × (length feeds.items ≤ 16) }
+    requires same_count { (length feeds.items ≡ length outside.items) × (length feeds.items ≤ 16) }
     requires outside { AreUnused (drop 1 (queues_of (first_home gates.now).value.directory)) (actors_of gates.now) most_actors
         (map (λ row. row.items) outside.items) }
-    ensures ours { pass_id pass.new ≡ pass_id pass.old }
+    ensures same_gates { pass_id pass.new ≡ pass_id pass.old }
     ensures kept { ((pass_view pass.new).log ≡ (pass_view pass.old).log) × ((pass_view pass.new).got ≡ (pass_view pass.old).got)
         × ((pass_view pass.new).obligations ≡ (pass_view pass.old).obligations) }
     ensures shares { IfOk result (λ senders. KeepsWhole (pass_view pass.old).share (pass_view pass.new).share (shares_of_senders senders.items)) }
     ensures opened { IfOk result (λ senders. AreNewSenders gates.now most_actors (map (λ row. row.items) outside.items) senders.items) }
-    ensures ways { IfOk result (λ senders. pool_feeds_of senders.items ≡ feeds.items) }
+    ensures ports { IfOk result (λ senders. pool_feeds_of senders.items ≡ feeds.items) }
 {
     let mut senders = Vec::with_capacity(alloc, feeds.len())?;
     let mut outside = outside.into_iter();
@@ -112,15 +112,15 @@ fn open_ends<A: Actor, K: Behaviours>(
     pass: &mut Pass<BoxedHome<A, K>>,
     ends: Vec<mb_pool::PoolEnd<BoxedHome<A, K>>>,
 ) -> Result<Vec<WorkerEnd<A, K>>, AllocError>
-    requires ours { (pass_id pass.old ≡ gates_id gates.now) × (actors_of gates.now ≤ 64) }
+    requires same_gates { (pass_id pass.old ≡ gates_id gates.now) × (actors_of gates.now ≤ 64) }
     requires ends { All (λ e. gates_of e ≡ Some (origin_of gates.now)) ends.items }
-    requires few { length ends.items ≤ 16 }
-    ensures ours { pass_id pass.new ≡ pass_id pass.old }
+    requires within_limit { length ends.items ≤ 16 }
+    ensures same_gates { pass_id pass.new ≡ pass_id pass.old }
     ensures kept { ((pass_view pass.new).log ≡ (pass_view pass.old).log) × ((pass_view pass.new).got ≡ (pass_view pass.old).got)
         × ((pass_view pass.new).obligations ≡ (pass_view pass.old).obligations) }
     ensures shares { IfOk result (λ opened. KeepsWhole (pass_view pass.old).share (pass_view pass.new).share (shares_of_ends opened.items)) }
     ensures opened { IfOk result (λ opened. (length opened.items ≡ length ends.items) × AreNewEnds gates.now 0 opened.items) }
-    ensures ways { IfOk result (λ opened. pool_ends_of opened.items ≡ ends.items) }
+    ensures ports { IfOk result (λ opened. pool_ends_of opened.items ≡ ends.items) }
 {
     let mut opened = Vec::with_capacity(alloc, ends.len())?;
     for end in ends {
@@ -142,10 +142,10 @@ fn start<H: MailboxState, R: Wait>(
     gates: &Gates<H>,
     pass: &mut Pass<H>,
 ) -> Result<(), AllocError>
-    requires ours { (pass_id pass.old ≡ gates_id gates.now) × (0 < actors_of gates.now) }
+    requires same_gates { (pass_id pass.old ≡ gates_id gates.now) × (0 < actors_of gates.now) }
     requires blank { ((pass_view pass.old).log ≡ []) × ((pass_view pass.old).got ≡ []) × ((pass_view pass.old).obligations ≡ []) }
     requires whole { IsWhole (pass_view pass.old).share }
-    ensures ours { pass_id pass.new ≡ pass_id pass.old }
+    ensures same_gates { pass_id pass.new ≡ pass_id pass.old }
     ensures created { IfOk result (λ _. IsCreated (pass_view pass.new) × OwesFirstRun (pass_view pass.new)) }
     ensures kept { IfOk result (λ _. ((pass_view pass.new).got ≡ []) × IsWhole (pass_view pass.new).share) }
 {
@@ -162,15 +162,15 @@ fn give_first<A: Actor, K: Behaviours>(
     ends: &mut [WorkerEnd<A, K>],
     pass: Pass<BoxedHome<A, K>>,
 )
-    requires ours { pass_id pass ≡ gates_id gates.now }
+    requires same_gates { pass_id pass ≡ gates_id gates.now }
     requires created { IsCreated (pass_view pass) × OwesFirstRun (pass_view pass) }
     requires unclaimed { (pass_view pass).got ≡ [] }
     requires some { 0 < length ends.old }
     requires ends { AreNewEnds gates.now 0 ends.old }
-    ensures many { length ends.new ≡ length ends.old }
+    ensures same_count { length ends.new ≡ length ends.old }
     ensures first { AreFirstEnds gates.now ends.new }
     ensures shares { shares_of_ends ends.new ≡ (pass_view pass).share ++ shares_of_ends ends.old }
-    ensures ways { pool_ends_of ends.new ≡ pool_ends_of ends.old }
+    ensures ports { pool_ends_of ends.new ≡ pool_ends_of ends.old }
 {
     gates.absorb(&mut ends[0].registrar.pass, pass);
 }

@@ -8,7 +8,7 @@ ghost use Rattle.mb_home.specs.Contents.{Contents};
 ghost use Rattle.mb_build.specs.BehavesAsPlanned.{BehaveAsPlanned};
 ghost use Rattle.mb_build.specs.NewHomes.{AreNewHomes};
 ghost use Rattle.mb_build.specs.Identities.{identities};
-ghost use Rattle.mb_build.specs.Kinds.{AreQueues};
+ghost use Rattle.mb_build.specs.Kinds.{AreKindsOf};
 ghost use Rattle.mb_build.specs.Reasons.{bad_bounds, bad_parents};
 ghost use Rattle.mb_startup.specs.NewGates.{AreNewGates};
 
@@ -38,11 +38,11 @@ pub(crate) fn found<A: Actor, K: Behaviours>(
     senders: u32,
     journal_limit: u32,
 ) -> Result<NewGates<A, K>, AllocError>
-    requires few { (length plans.items < 64) × (senders ≤ 16) }
+    requires within_limit { (length plans.items < 64) × (senders ≤ 16) }
     requires right { (bad_parents 1 plans.items ≡ []) × (bad_bounds 1 plans.items ≡ []) }
-    requires many { length actors.items ≡ length plans.items }
+    requires same_count { length actors.items ≡ length plans.items }
     requires behaved { BehaveAsPlanned A.content A.after A.gives K.after K.gives 1 actors.items }
-    ensures housed { IfOk result (λ founded. (kinds : List MailboxType) × (homes : List (Box Contents)) × AreQueues plans.items kinds
+    ensures homes_made { IfOk result (λ founded. (kinds : List MailboxType) × (homes : List (Box Contents)) × AreKindsOf plans.items kinds
         × AreNewHomes K.gives (identities (length plans.items + 1) journal_limit (map (λ a. a.parent) plans.items) (map (λ a. a.strategy) plans.items))
         kinds senders homes (map (λ row. row.items) founded.outside.items)
         × (slice_get homes 0 ≡ Some (first_home founded.gates)) × (actors_of founded.gates ≡ length homes)) }

@@ -25,7 +25,7 @@ pub(crate) fn fail(
     acts: &mut ActQueue,
 )
     requires room { length children.now + 2 ≤ acts.old.room }
-    requires small { count.old < 2 ^ 60 }
+    requires below_bound { count.old < 2 ^ 60 }
     ensures count { count.new ≡ (if is_nobody failed.old then count.old + 1 else count.old) }
     ensures failed { failed.new ≡ (if is_nobody failed.old then by else failed.old) }
     ensures acts { acts.new.acts ≡ acts.old.acts ++ fail_acts (identity_of place.now 0) failed.old children.now cause except.now }
@@ -44,7 +44,7 @@ pub(crate) fn fail(
 fn suspend_all_but(except: &[ActorId], children: &[ActorId], acts: &mut ActQueue)
     requires room { length children.now ≤ acts.old.room }
     ensures acts { acts.new.acts ≡ acts.old.acts ++ to_each SysMsg.Suspend (filter (λ x. not (holds except.now x)) children.now) }
-    ensures few { acts.old.room ≤ acts.new.room + length children.now }
+    ensures within_limit { acts.old.room ≤ acts.new.room + length children.now }
 {
     for child in children {
         if !has(except, *child) {

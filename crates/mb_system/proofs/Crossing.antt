@@ -12,18 +12,18 @@ use Rattle.std.specs.contracts.boxed.Box as box
 use Rattle.std.specs.contracts.impls.GlobalAllocator.TheImpl as allocator
 use Rattle.mb_actor.specs.declared.actor.Actor as actor
 use Rattle.mb_actor.specs.declared.behaviours.Behaviours as behaviours
-use Rattle.mb_gate.specs.contracts.mailbox_state.BoxMailboxState.TheImpl as box_resident
-use Rattle.mb_gate.specs.declared.mailbox_state.MailboxState as resident
+use Rattle.mb_gate.specs.contracts.mailbox_state.BoxMailboxState.TheImpl as box_state
+use Rattle.mb_gate.specs.declared.mailbox_state.MailboxState as mailbox_state
 use Rattle.mb_gate.proofs.Crossing.{gates_sync}
 use Rattle.mb_home.specs.contracts.home.Home as home
-use Rattle.mb_home.specs.contracts.home.mailbox_state.HomeMailboxState.TheImpl as home_resident
+use Rattle.mb_home.specs.contracts.home.mailbox_state.HomeMailboxState.TheImpl as home_state
 use Rattle.mb_home.proofs.Crossing.{home_send}
-use Rattle.mb_register.proofs.Crossing.{waker_send}
+use Rattle.mb_register.proofs.Crossing.{registrar_send}
 use Rattle.mb_send.proofs.Crossing as send
 use Rattle.mb_pool.proofs.Crossing.{pool_sync}
-use Rattle.mb_pool.specs.contracts.worker_port.WorkerPort as end_way
-use Rattle.mb_pool.specs.contracts.feed_port.FeedPort as feed_way
-use Rattle.mb_pool.proofs.PoolPortCrossing.{end_way_send, feed_way_send}
+use Rattle.mb_pool.specs.contracts.worker_port.WorkerPort as worker_port
+use Rattle.mb_pool.specs.contracts.feed_port.FeedPort as feed_port
+use Rattle.mb_pool.proofs.PoolPortCrossing.{end_way_send as worker_port_send, feed_way_send as feed_port_send}
 use Rattle.mb_system.proofs.run_activity.RunActivity.TheSendSync as going
 use Rattle.mb_system.specs.contracts.end.WorkerEnd as end
 use Rattle.mb_system.specs.contracts.sender.Sender as sender
@@ -40,10 +40,10 @@ module _ (A K : RattleType) (gA : actor.Ghosts A.Denot) (gK : behaviours.Ghosts 
   abbrev pub ThePlace : RattleType
   ThePlace = box.the_row (home.the_row A K gA gK) heap.the_row allocator.ghosts
 
-  abbrev pub place_ghosts : resident.Ghosts ThePlace.Denot
+  abbrev pub place_ghosts : mailbox_state.Ghosts ThePlace.Denot
   place_ghosts =
-      let none = home_resident.no_dict in
-      box_resident.ghosts (home.the_row A K gA gK) (home_resident.ghosts A K gA none gK none none) none none
+      let none = home_state.no_dict in
+      box_state.ghosts (home.the_row A K gA gK) (home_state.ghosts A K gA none gK none none) none none
 
 module _ (A K : RattleType) (gA : actor.Ghosts A.Denot) (gK : behaviours.Ghosts K.Denot) (a : IsSend A) (k : IsSend K) where
   pub place_send : IsSend (ThePlace A K gA gK)
@@ -53,16 +53,16 @@ module _ (A K : RattleType) (gA : actor.Ghosts A.Denot) (gK : behaviours.Ghosts 
   end_send = declared_send (end.the_type A K gA gK) (
     search sendable,
     (
-      waker_send (ThePlace A K gA gK) (end_way.the_row (ThePlace A K gA gK) (place_ghosts A K gA gK)) place_send
-          (end_way_send (ThePlace A K gA gK) (place_ghosts A K gA gK) place_send),
+      registrar_send (ThePlace A K gA gK) (worker_port.the_row (ThePlace A K gA gK) (place_ghosts A K gA gK)) place_send
+          (worker_port_send (ThePlace A K gA gK) (place_ghosts A K gA gK) place_send),
       tt,
     ),
   )
 
   pub sender_send : IsSend (sender.the_row A K gA gK)
   sender_send = declared_send (sender.the_type A K gA gK) (
-    send.sender_send (ThePlace A K gA gK) (feed_way.the_row (ThePlace A K gA gK) (place_ghosts A K gA gK)) place_send
-        (feed_way_send (ThePlace A K gA gK) (place_ghosts A K gA gK) place_send),
+    send.sender_send (ThePlace A K gA gK) (feed_port.the_row (ThePlace A K gA gK) (place_ghosts A K gA gK)) place_send
+        (feed_port_send (ThePlace A K gA gK) (place_ghosts A K gA gK) place_send),
     tt,
   )
 

@@ -1,4 +1,5 @@
 pub mod Looking
 pub mod Obligations
 pub mod Crossing
+pub mod RunErrors
 pub mod Saw

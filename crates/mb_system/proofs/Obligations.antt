@@ -83,11 +83,11 @@ module _ {H : Type 0} (actors : ℕ) where
 
   -- and where it owes nobody a look, it owes nothing
   pub owes-nothing : (a : Caller H) → AreDischargedOrOwed actors a → ((id : ℕ) → id < actors → is_owed a.account.owed id ≡ false) → HasNoObligationTo actors a
-  owes-nothing a p nobody id lt = by_debt (p id lt)
+  owes-nothing a p nobody id lt = by_obligation (p id lt)
     where
-      by_debt : IsDischargedOrOwed id a → obligation_to id a.view ≡ nothing
-      by_debt (inl none) = none
-      by_debt (inr owed) = not-both (is_owed a.account.owed id) owed (nobody id lt)
+      by_obligation : IsDischargedOrOwed id a → obligation_to id a.view ≡ nothing
+      by_obligation (inl none) = none
+      by_obligation (inr owed) = not-both (is_owed a.account.owed id) owed (nobody id lt)
 
 -- one actor after another was looked after
 pub discharged-more : {H : Type 0} (many : ℕ) (a b : Caller H) → AreDischargedOrOwed many a → LeavesCaller a b → IsDischargedOrOwed many b → AreDischargedOrOwed (many + 1) b

@@ -2,3 +2,4 @@ pub mod KnownSenders
 pub mod Members
 pub mod Obligations
 pub mod Belonging
+pub mod RunErrors

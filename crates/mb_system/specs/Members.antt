@@ -26,7 +26,7 @@ IsEndOf gates registrar = IsRegistrarOf (λ (run_queue : WorkerPort (Box Content
 -- The sender's pass and its port of the run queue are of these gates; and it has a pass into the queue of each actor from number 1 on, in their
 -- order.
 pub record IsSenderOf (gates : Gates (Box Contents)) (sender : GatesSender (Box Contents) (FeedPort (Box Contents))) : Type 0 where
-  pub ours : IsRegistrarOf (λ (run_queue : FeedPort (Box Contents)). gates_of run_queue.feed) gates sender.registrar
+  pub same_gates : IsRegistrarOf (λ (run_queue : FeedPort (Box Contents)). gates_of run_queue.feed) gates sender.registrar
   pub all : vec_len sender.sends + 1 ≡ actors_of gates
   pub queues : receiving_queues sender.sends.items ≡ drop 1 (queues_of (first_home gates).value.directory)
 

@@ -14,7 +14,7 @@ ghost use Rattle.mb_register.specs.Registering.{IsRegistered, StopsAt};
 ghost use Rattle.mb_system.specs.Obligations.{AreDischargedOrOwed, KeepsObligations};
 ghost use Rattle.mb_system.specs.Members.{end_caller, IsEndOf};
 
-use crate::failure::{RunError, of_still_refused};
+use crate::failure::RunError;
 use crate::parting::pass_of;
 use crate::system::System;
 use mb_actor::{Actor, Behaviours};
@@ -68,9 +68,9 @@ impl<A: Actor, K: Behaviours> WorkerEnd<A, K> {
         id: ActorId,
         hint: Hint,
     ) -> bool
-        requires ours { IsEndOf system.now.gates self.old.registrar }
-        requires there { id.0 < actors_of system.now.gates }
-        ensures ours { IsEndOf system.now.gates self.new.registrar }
+        requires same_gates { IsEndOf system.now.gates self.old.registrar }
+        requires present { id.0 < actors_of system.now.gates }
+        ensures same_gates { IsEndOf system.now.gates self.new.registrar }
         ensures looks { LooksAfter id.0 (pass_view self.old.registrar.pass) (pass_view self.new.registrar.pass) }
         ensures discharged { IsDischargedOrOwed id.0 (end_caller self.new.registrar) }
         ensures registered { IsRegistered id.0 (end_caller self.old.registrar).account (end_caller self.new.registrar).account result }
@@ -82,12 +82,12 @@ impl<A: Actor, K: Behaviours> WorkerEnd<A, K> {
 
     /// Registers all actors, in the order of their numbers. Each is owed nothing then, or is in the set of owed looks.
     pub fn register_all<R: Wait>(&mut self, rt: &R, system: &System<A, K>)
-        requires ours { IsEndOf system.now.gates self.old.registrar }
-        ensures ours { IsEndOf system.now.gates self.new.registrar }
+        requires same_gates { IsEndOf system.now.gates self.old.registrar }
+        ensures same_gates { IsEndOf system.now.gates self.new.registrar }
         ensures leaves { LeavesCaller (end_caller self.old.registrar) (end_caller self.new.registrar) }
         ensures discharged { AreDischargedOrOwed (actors_of system.now.gates) (end_caller self.new.registrar) }
         ensures number { self.new.number ≡ self.old.number }
-        ensures saw { IsPart (pass_view self.old.registrar.pass).log (pass_view self.new.registrar.pass).log }
+        ensures log_kept { IsPart (pass_view self.old.registrar.pass).log (pass_view self.new.registrar.pass).log }
     {
         for number in 0..system.gates.actors() {
             self.register(rt, system, ActorId(number as u32), Hint::None);
@@ -113,8 +113,8 @@ impl<A: Actor, K: Behaviours> WorkerEnd<A, K> {
     /// It answers `NoMemory` only if the run queue refused a claim again: then a look is still owed to that actor and to those
     /// after it. Whatever is answered, nothing that was owed is forgotten.
     pub fn retry_refused<R: Wait>(&mut self, rt: &R, system: &System<A, K>) -> Result<(), RunError>
-        requires ours { IsEndOf system.now.gates self.old.registrar }
-        ensures ours { IsEndOf system.now.gates self.new.registrar }
+        requires same_gates { IsEndOf system.now.gates self.old.registrar }
+        ensures same_gates { IsEndOf system.now.gates self.new.registrar }
         ensures discharged { OnOk result ((id : ℕ) → id < actors_of system.now.gates → is_owed self.old.registrar.owed id ≡ true
             → obligation_to id (pass_view self.new.registrar.pass) ≡ nothing) }
         ensures done { OnOk result ((id : ℕ) → id < actors_of system.now.gates → is_owed self.new.registrar.owed id ≡ false) }
@@ -124,11 +124,9 @@ impl<A: Actor, K: Behaviours> WorkerEnd<A, K> {
             (λ _. StopsAt (end_caller self.old.registrar).account (end_caller self.new.registrar).account) }
         ensures refused { OnErr result (IsErrOf result RunError.NoMemory) }
         ensures number { self.new.number ≡ self.old.number }
-        ensures saw { IsPart (pass_view self.old.registrar.pass).log (pass_view self.new.registrar.pass).log }
+        ensures log_kept { IsPart (pass_view self.old.registrar.pass).log (pass_view self.new.registrar.pass).log }
     {
-        match self.registrar.retry_refused(rt, &system.gates) {
-            Ok(()) => Ok(()),
-            Err(error) => Err(of_still_refused(error)),
-        }
+        self.registrar.retry_refused(rt, &system.gates)?;
+        Ok(())
     }
 }

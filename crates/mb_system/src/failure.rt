@@ -1,7 +1,10 @@
 //! Why a run was broken off.
 ghost use Rattle.std.specs.Prelude.{◌≡◌};
+ghost use Rattle.mb_system.specs.RunErrors.{of_ready, of_refused, of_send};
 
+use mb_journal::ReadyError;
 use mb_register::StillRefused;
+use mb_send::SendError;
 
 /// Why a run was broken off.
 #[derive(Clone, Copy, Debug, PartialEq, Eq)]
@@ -14,9 +17,35 @@ pub enum RunError {
     NoSuchActor,
 }
 
-/// What is owed still could not be paid.
-pub fn of_still_refused(_error: StillRefused) -> RunError
-    ensures { result ≡ RunError.NoMemory }
-{
-    RunError::NoMemory
+/// `NoMemory`: the run queue refused a claim again.
+impl From<StillRefused> for RunError {
+    ghost from_gives = { λ refused error. error ≡ of_refused refused };
+
+    fn from(_refused: StillRefused) -> RunError {
+        RunError::NoMemory
+    }
+}
+
+/// The error of a run of a mailbox, by the same name.
+impl From<ReadyError> for RunError {
+    ghost from_gives = { λ ready error. error ≡ of_ready ready };
+
+    fn from(ready: ReadyError) -> RunError {
+        match ready {
+            ReadyError::NoMemory => RunError::NoMemory,
+            ReadyError::JournalFull => RunError::JournalFull,
+        }
+    }
+}
+
+/// The error of a sender, by the same name.
+impl From<SendError> for RunError {
+    ghost from_gives = { λ send error. error ≡ of_send send };
+
+    fn from(send: SendError) -> RunError {
+        match send {
+            SendError::NoMemory => RunError::NoMemory,
+            SendError::NoSuchActor => RunError::NoSuchActor,
+        }
+    }
 }

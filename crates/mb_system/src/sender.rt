@@ -13,7 +13,7 @@ ghost use Rattle.mb_register.specs.Registering.{StopsAt};
 ghost use Rattle.mb_system.specs.Obligations.{KeepsObligations, OwesNobody};
 ghost use Rattle.mb_system.specs.Members.{IsSenderOf, sender_caller};
 
-use crate::failure::{RunError, of_still_refused};
+use crate::failure::RunError;
 use crate::parting::parts_of;
 use crate::system::System;
 use mb_actor::{Actor, Behaviours};
@@ -52,8 +52,8 @@ impl<A: Actor, K: Behaviours> Sender<A, K> {
     ///
     /// It answers `NoSuchActor` for the guardian and for a number that no actor has; nothing is read then.
     pub fn look(&mut self, system: &System<A, K>, to: ActorId) -> Result<Look, SendError>
-        requires ours { IsSenderOf system.now.gates self.old.inner }
-        ensures ours { IsSenderOf system.now.gates self.new.inner }
+        requires same_gates { IsSenderOf system.now.gates self.old.inner }
+        ensures same_gates { IsSenderOf system.now.gates self.new.inner }
         ensures by { self.new.inner.send_log.by ≡ self.old.inner.send_log.by }
         ensures refused { OnErr result ((self.new ≡ self.old) × IsErrOf result Refusal.NoSuchActor
             × ((to.0 ≡ 0) ⊎ (actors_of system.now.gates ≤ to.0))) }
@@ -78,9 +78,9 @@ impl<A: Actor, K: Behaviours> Sender<A, K> {
         ticket: Ticket,
         body: Body,
     ) -> Result<Put, SendError>
-        requires ours { IsSenderOf system.now.gates self.old.inner }
-        requires there { (0 < ticket.to.0) × (ticket.to.0 < actors_of system.now.gates) }
-        ensures ours { IsSenderOf system.now.gates self.new.inner }
+        requires same_gates { IsSenderOf system.now.gates self.old.inner }
+        requires present { (0 < ticket.to.0) × (ticket.to.0 < actors_of system.now.gates) }
+        ensures same_gates { IsSenderOf system.now.gates self.new.inner }
         ensures by { self.new.inner.send_log.by ≡ self.old.inner.send_log.by }
         ensures refused { OnErr result (IsErrOf result Refusal.NoMemory × (self.new.inner.send_log.posted ≡ self.old.inner.send_log.posted)
             × (self.new.inner.registrar ≡ self.old.inner.registrar)) }
@@ -108,15 +108,15 @@ impl<A: Actor, K: Behaviours> Sender<A, K> {
         to: ActorId,
         body: Body,
     ) -> Result<Put, SendError>
-        requires ours { IsSenderOf system.now.gates self.old.inner }
-        ensures ours { IsSenderOf system.now.gates self.new.inner }
+        requires same_gates { IsSenderOf system.now.gates self.old.inner }
+        ensures same_gates { IsSenderOf system.now.gates self.new.inner }
         ensures by { self.new.inner.send_log.by ≡ self.old.inner.send_log.by }
         ensures refused { OnErr result ((self.new.inner.send_log.posted ≡ self.old.inner.send_log.posted)
             × ((IsErrOf result Refusal.NoSuchActor × ((to.0 ≡ 0) ⊎ (actors_of system.now.gates ≤ to.0)))
             ⊎ (IsErrOf result Refusal.NoMemory × (0 < to.0) × (to.0 < actors_of system.now.gates)))) }
         ensures unknown { IsErrOf result Refusal.NoSuchActor → self.new ≡ self.old }
         ensures unsent { IsErrOf result Refusal.NoMemory → OnlyLooked to self.old.inner self.new.inner }
-        ensures there { IfOk result (λ _. (0 < to.0) × (to.0 < actors_of system.now.gates)) }
+        ensures present { IfOk result (λ _. (0 < to.0) × (to.0 < actors_of system.now.gates)) }
         ensures told { IfOk result (IsTold self.old.inner.send_log.by self.old.inner.send_log.sent to body self.old.inner.send_log.posted
             self.new.inner.send_log.posted self.old.inner.sends.items (pass_view self.old.inner.registrar.pass) (pass_view self.new.inner.registrar.pass)) }
         ensures discharged { IfOk result (λ _. (obligation_to to.0 (pass_view self.new.inner.registrar.pass) ≡ nothing)
@@ -138,8 +138,8 @@ impl<A: Actor, K: Behaviours> Sender<A, K> {
         system: &System<A, K>,
         id: ActorId,
     ) -> Result<bool, SendError>
-        requires ours { IsSenderOf system.now.gates self.old.inner }
-        ensures ours { IsSenderOf system.now.gates self.new.inner }
+        requires same_gates { IsSenderOf system.now.gates self.old.inner }
+        ensures same_gates { IsSenderOf system.now.gates self.new.inner }
         ensures by { self.new.inner.send_log.by ≡ self.old.inner.send_log.by }
         ensures refused { OnErr result ((self.new ≡ self.old) × ((IsErrOf result Refusal.NoSuchActor × (actors_of system.now.gates ≤ id.0))
             ⊎ (IsErrOf result Refusal.NoMemory × (id.0 < actors_of system.now.gates)))) }
@@ -158,8 +158,8 @@ impl<A: Actor, K: Behaviours> Sender<A, K> {
     /// It answers `NoMemory` only if the run queue refused a claim again: then a look is still owed to that actor and to those
     /// after it. Whatever is answered, nothing that was owed is forgotten.
     pub fn retry_refused<R: Wait>(&mut self, rt: &R, system: &System<A, K>) -> Result<(), RunError>
-        requires ours { IsSenderOf system.now.gates self.old.inner }
-        ensures ours { IsSenderOf system.now.gates self.new.inner }
+        requires same_gates { IsSenderOf system.now.gates self.old.inner }
+        ensures same_gates { IsSenderOf system.now.gates self.new.inner }
         ensures by { self.new.inner.send_log.by ≡ self.old.inner.send_log.by }
         ensures discharged { OnOk result ((id : ℕ) → id < actors_of system.now.gates → is_owed self.old.inner.registrar.owed id ≡ true
             → obligation_to id (pass_view self.new.inner.registrar.pass) ≡ nothing) }
@@ -168,14 +168,12 @@ impl<A: Actor, K: Behaviours> Sender<A, K> {
         ensures stops { MatchResult result
             (λ _. (sender_caller self.new.inner.registrar).account.refused ≡ (sender_caller self.old.inner.registrar).account.refused)
             (λ _. StopsAt (sender_caller self.old.inner.registrar).account (sender_caller self.new.inner.registrar).account) }
-        ensures saw { IsPart (pass_view self.old.inner.registrar.pass).log (pass_view self.new.inner.registrar.pass).log }
+        ensures log_kept { IsPart (pass_view self.old.inner.registrar.pass).log (pass_view self.new.inner.registrar.pass).log }
         ensures refused { OnErr result (IsErrOf result RunError.NoMemory) }
         ensures same { ((pass_view self.new.inner.registrar.pass).said ≡ (pass_view self.old.inner.registrar.pass).said)
             × (self.new.inner.send_log ≡ self.old.inner.send_log) × (self.new.inner.sends ≡ self.old.inner.sends) }
     {
-        match self.inner.registrar.retry_refused(rt, &system.gates) {
-            Ok(()) => Ok(()),
-            Err(error) => Err(of_still_refused(error)),
-        }
+        self.inner.registrar.retry_refused(rt, &system.gates)?;
+        Ok(())
     }
 }

@@ -16,9 +16,9 @@ module _ {H : Type 0} (is_of : H → ℕ → H → Type 0) (facts : H → HomeFa
       → IsUntouched is_of facts (Some origin) claim
   untouched origin actor before after seen claim got ours there =
       let back : idle (status_of claim) ≡ seen = ap idle got.status ∙ (λ i. record seen { scheduled = sym got.found.free i }) in record {
-        ours = record {
+        same_gates = record {
           gates = ours;
-          there = subst (λ a. a < origin.actors) (sym got.of) there;
+          present = subst (λ a. a < origin.actors) (sym got.of) there;
           own = subst (λ a. is_of origin.first a claim.home) (sym got.of) got.own;
         };
         open_yet = ap (λ (m : Mailbox). m.closed) got.status ∙ got.found.open_yet;

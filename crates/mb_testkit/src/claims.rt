@@ -12,9 +12,9 @@ pub fn attempt<H: MailboxState>(
     pass: &mut Pass<H>,
     id: ActorId,
 ) -> Option<Claim<H>>
-    requires ours { pass_id pass.old ≡ gates_id gates.now }
-    requires there { id.0 < actors_of gates.now }
-    ensures ours { pass_id pass.new ≡ pass_id pass.old }
+    requires same_gates { pass_id pass.old ≡ gates_id gates.now }
+    requires present { id.0 < actors_of gates.now }
+    ensures same_gates { pass_id pass.new ≡ pass_id pass.old }
     ensures fit { IfSome result
         (IsUntouched H.is_of H.facts (Some (origin_of gates.now))) }
 {
@@ -26,9 +26,9 @@ pub fn attempt<H: MailboxState>(
 
 /// Releases the claim, with its home unchanged.
 pub fn give<H: MailboxState>(gates: &Gates<H>, claim: Claim<H>, pass: &mut Pass<H>)
-    requires ours { pass_id pass.old ≡ gates_id gates.now }
+    requires same_gates { pass_id pass.old ≡ gates_id gates.now }
     requires fit { IsUntouched H.is_of H.facts (Some (origin_of gates.now)) claim }
-    ensures ours { pass_id pass.new ≡ pass_id pass.old }
+    ensures same_gates { pass_id pass.new ≡ pass_id pass.old }
 {
     gates.release(claim, pass);
 }

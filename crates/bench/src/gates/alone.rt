@@ -37,9 +37,9 @@ pub fn measure<R: Clock + Wait + Print + Eprint>(
     what: &str,
     work: Work,
 ) -> io::Result<()>
-    requires ours { pass_id pass.old ≡ gates_id gates.now }
-    requires there { 1 < actors_of gates.now }
-    ensures ours { pass_id pass.new ≡ pass_id pass.old }
+    requires same_gates { pass_id pass.old ≡ gates_id gates.now }
+    requires present { 1 < actors_of gates.now }
+    ensures same_gates { pass_id pass.new ≡ pass_id pass.old }
 {
     let mut times = Times::new();
     let mut done = 0;
@@ -53,9 +53,9 @@ pub fn measure<R: Clock + Wait + Print + Eprint>(
 }
 
 fn often<R: Wait>(rt: &R, gates: &Gates<BenchHome>, pass: &mut Pass<BenchHome>, work: Work) -> u64
-    requires ours { pass_id pass.old ≡ gates_id gates.now }
-    requires there { 1 < actors_of gates.now }
-    ensures ours { pass_id pass.new ≡ pass_id pass.old }
+    requires same_gates { pass_id pass.old ≡ gates_id gates.now }
+    requires present { 1 < actors_of gates.now }
+    ensures same_gates { pass_id pass.new ≡ pass_id pass.old }
 {
     match work {
         Work::Load => load_often(gates, pass),
@@ -67,9 +67,9 @@ fn often<R: Wait>(rt: &R, gates: &Gates<BenchHome>, pass: &mut Pass<BenchHome>, 
 }
 
 fn load_often(gates: &Gates<BenchHome>, pass: &mut Pass<BenchHome>) -> u64
-    requires ours { pass_id pass.old ≡ gates_id gates.now }
-    requires there { 1 < actors_of gates.now }
-    ensures ours { pass_id pass.new ≡ pass_id pass.old }
+    requires same_gates { pass_id pass.old ≡ gates_id gates.now }
+    requires present { 1 < actors_of gates.now }
+    ensures same_gates { pass_id pass.new ≡ pass_id pass.old }
 {
     let mut done = 0u64;
     for _ in 0..TURNS {
@@ -82,9 +82,9 @@ fn load_often(gates: &Gates<BenchHome>, pass: &mut Pass<BenchHome>) -> u64
 
 /// How often scheduling the actor succeeded.
 pub fn turn_often(gates: &Gates<BenchHome>, pass: &mut Pass<BenchHome>, id: ActorId) -> u64
-    requires ours { pass_id pass.old ≡ gates_id gates.now }
-    requires there { id.0 < actors_of gates.now }
-    ensures ours { pass_id pass.new ≡ pass_id pass.old }
+    requires same_gates { pass_id pass.old ≡ gates_id gates.now }
+    requires present { id.0 < actors_of gates.now }
+    ensures same_gates { pass_id pass.new ≡ pass_id pass.old }
 {
     let mut done = 0u64;
     for _ in 0..TURNS {
@@ -101,9 +101,9 @@ pub fn turn_often(gates: &Gates<BenchHome>, pass: &mut Pass<BenchHome>, id: Acto
 
 /// How many envelopes are counted at the end.
 fn note_often(gates: &Gates<BenchHome>, pass: &mut Pass<BenchHome>) -> u64
-    requires ours { pass_id pass.old ≡ gates_id gates.now }
-    requires there { 1 < actors_of gates.now }
-    ensures ours { pass_id pass.new ≡ pass_id pass.old }
+    requires same_gates { pass_id pass.old ≡ gates_id gates.now }
+    requires present { 1 < actors_of gates.now }
+    ensures same_gates { pass_id pass.new ≡ pass_id pass.old }
 {
     for _ in 0..TURNS {
         gates.note_sent(pass, ACTOR);

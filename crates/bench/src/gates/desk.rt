@@ -73,9 +73,9 @@ pub fn attempt(
     pass: &mut Pass<BenchHome>,
     id: ActorId,
 ) -> Option<Claim<BenchHome>>
-    requires ours { pass_id pass.old ≡ gates_id gates.now }
-    requires there { id.0 < actors_of gates.now }
-    ensures ours { pass_id pass.new ≡ pass_id pass.old }
+    requires same_gates { pass_id pass.old ≡ gates_id gates.now }
+    requires present { id.0 < actors_of gates.now }
+    ensures same_gates { pass_id pass.new ≡ pass_id pass.old }
     ensures got { IfSome result (λ claim. (claim_id claim ≡ gates_id gates.now) × (held_actor claim ≡ id.0)) }
     ensures own { IfSome result (λ claim. (claim.home.actor ≡ id.0) × (claim.home.given ≡ given_to claim)) }
     ensures begun { IfSome result (λ claim. (taken_with claim ≡ []) × (recorded_by claim ≡ [])) }
@@ -89,11 +89,11 @@ pub fn attempt(
 /// Releases the claim with the status that it has.
 #[tactic(auto, using(mb_gate::proofs::SentSystemLemmas::nothing_since))]
 pub fn give(gates: &Gates<BenchHome>, mut claim: Claim<BenchHome>, pass: &mut Pass<BenchHome>)
-    requires ours { (claim_id claim ≡ gates_id gates.now) × (pass_id pass.old ≡ gates_id gates.now) }
-    requires there { held_actor claim < actors_of gates.now }
+    requires same_gates { (claim_id claim ≡ gates_id gates.now) × (pass_id pass.old ≡ gates_id gates.now) }
+    requires present { held_actor claim < actors_of gates.now }
     requires own { (claim.home.actor ≡ held_actor claim) × (claim.home.given ≡ given_to claim) }
     requires begun { (taken_with claim ≡ []) × (recorded_by claim ≡ []) }
-    ensures ours { pass_id pass.new ≡ pass_id pass.old }
+    ensures same_gates { pass_id pass.new ≡ pass_id pass.old }
 {
     claim.home.status = claim.status().idle();
     gates.release(claim, pass);

@@ -16,9 +16,9 @@ const NODES: u64 = 16;
 
 /// The holder drains an empty list again and again: how often nothing came.
 pub fn drains<R: Wait>(rt: &R, gates: &Gates<BenchHome>, pass: &mut Pass<BenchHome>) -> u64
-    requires ours { pass_id pass.old ≡ gates_id gates.now }
-    requires there { 1 < actors_of gates.now }
-    ensures ours { pass_id pass.new ≡ pass_id pass.old }
+    requires same_gates { pass_id pass.old ≡ gates_id gates.now }
+    requires present { 1 < actors_of gates.now }
+    ensures same_gates { pass_id pass.new ≡ pass_id pass.old }
 {
     let Some(mut claim) = attempt(gates, pass, ACTOR) else {
         return 0;
@@ -30,9 +30,9 @@ pub fn drains<R: Wait>(rt: &R, gates: &Gates<BenchHome>, pass: &mut Pass<BenchHo
 
 /// Nodes are drained from the list and pushed again through the pass: how many were.
 pub fn goes_round<R: Wait>(rt: &R, gates: &Gates<BenchHome>, pass: &mut Pass<BenchHome>) -> u64
-    requires ours { pass_id pass.old ≡ gates_id gates.now }
-    requires there { 1 < actors_of gates.now }
-    ensures ours { pass_id pass.new ≡ pass_id pass.old }
+    requires same_gates { pass_id pass.old ≡ gates_id gates.now }
+    requires present { 1 < actors_of gates.now }
+    ensures same_gates { pass_id pass.new ≡ pass_id pass.old }
 {
     let Some(mut claim) = attempt(gates, pass, ACTOR) else {
         return 0;
@@ -43,10 +43,10 @@ pub fn goes_round<R: Wait>(rt: &R, gates: &Gates<BenchHome>, pass: &mut Pass<Ben
 }
 
 fn drain_often<R: Wait>(rt: &R, gates: &Gates<BenchHome>, claim: &mut Claim<BenchHome>) -> u64
-    requires ours { claim_id claim.old ≡ gates_id gates.now }
-    requires there { held_actor claim.old < actors_of gates.now }
+    requires same_gates { claim_id claim.old ≡ gates_id gates.now }
+    requires present { held_actor claim.old < actors_of gates.now }
     requires counts { claim.old.home.given ≡ given_to claim.old }
-    ensures ours { (claim_id claim.new ≡ claim_id claim.old) × (held_actor claim.new ≡ held_actor claim.old) }
+    ensures same_gates { (claim_id claim.new ≡ claim_id claim.old) × (held_actor claim.new ≡ held_actor claim.old) }
     ensures counts { (claim.new.home.actor ≡ claim.old.home.actor) × (claim.new.home.given ≡ given_to claim.new) }
     ensures same { (taken_with claim.new ≡ taken_with claim.old) × (recorded_by claim.new ≡ recorded_by claim.old) }
 {
@@ -79,9 +79,9 @@ pub fn fill<R: Wait>(
     gates: &Gates<BenchHome>,
     pass: &mut Pass<BenchHome>,
 ) -> Option<()>
-    requires ours { pass_id pass.old ≡ gates_id gates.now }
-    requires there { 1 < actors_of gates.now }
-    ensures ours { pass_id pass.new ≡ pass_id pass.old }
+    requires same_gates { pass_id pass.old ≡ gates_id gates.now }
+    requires present { 1 < actors_of gates.now }
+    ensures same_gates { pass_id pass.new ≡ pass_id pass.old }
 {
     for _ in 0..NODES {
         let Ok(node) = Node::new(alloc, SysMsg::Suspend) else {
@@ -99,10 +99,10 @@ fn go_often<R: Wait>(
     pass: &mut Pass<BenchHome>,
     claim: &mut Claim<BenchHome>,
 ) -> u64
-    requires ours { (claim_id claim.old ≡ gates_id gates.now) × (pass_id pass.old ≡ gates_id gates.now) }
-    requires there { (held_actor claim.old < actors_of gates.now) × (1 < actors_of gates.now) }
+    requires same_gates { (claim_id claim.old ≡ gates_id gates.now) × (pass_id pass.old ≡ gates_id gates.now) }
+    requires present { (held_actor claim.old < actors_of gates.now) × (1 < actors_of gates.now) }
     requires counts { claim.old.home.given ≡ given_to claim.old }
-    ensures ours { (claim_id claim.new ≡ claim_id claim.old) × (held_actor claim.new ≡ held_actor claim.old)
+    ensures same_gates { (claim_id claim.new ≡ claim_id claim.old) × (held_actor claim.new ≡ held_actor claim.old)
         × (pass_id pass.new ≡ pass_id pass.old) }
     ensures counts { (claim.new.home.actor ≡ claim.old.home.actor) × (claim.new.home.given ≡ given_to claim.new) }
     ensures same { (taken_with claim.new ≡ taken_with claim.old) × (recorded_by claim.new ≡ recorded_by claim.old) }
@@ -124,9 +124,9 @@ fn put_back<R: Wait>(
     pass: &mut Pass<BenchHome>,
     mut chain: Chain,
 ) -> u64
-    requires ours { pass_id pass.old ≡ gates_id gates.now }
-    requires there { 1 < actors_of gates.now }
-    ensures ours { pass_id pass.new ≡ pass_id pass.old }
+    requires same_gates { pass_id pass.old ≡ gates_id gates.now }
+    requires present { 1 < actors_of gates.now }
+    ensures same_gates { pass_id pass.new ≡ pass_id pass.old }
     ensures count { result ≡ length chain % 2 ^ 64 }
 {
     let mut count = 0u64;

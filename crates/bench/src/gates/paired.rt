@@ -32,14 +32,14 @@ pub struct Paired {
 
 /// Each of two threads schedules its actor and releases the claim. Before each round the same threads do this one after
 /// the other, so that both are measured at the same speed of the machine.
-pub fn turns<R: Clock + Threads + Sync>(
+pub fn measure_paired<R: Clock + Threads + Sync>(
     rt: &R,
     gates: &Gates<BenchHome>,
     mut first: Pass<BenchHome>,
     mut second: Pass<BenchHome>,
 ) -> Paired
-    requires ours { (pass_id first ≡ gates_id gates.now) × (pass_id second ≡ gates_id gates.now) }
-    requires there { 1 < actors_of gates.now }
+    requires same_gates { (pass_id first ≡ gates_id gates.now) × (pass_id second ≡ gates_id gates.now) }
+    requires present { 1 < actors_of gates.now }
 {
     let mut times = Times::new();
     let mut gains = Times::new();
@@ -81,9 +81,9 @@ fn both<R: Threads + Sync>(
     laps: u64,
     second_laps: u64,
 ) -> (Turned, Turned)
-    requires ours { (pass_id first ≡ gates_id gates.now) × (pass_id second ≡ gates_id gates.now) }
-    requires there { 1 < actors_of gates.now }
-    ensures ours { (pass_id result.0.pass ≡ gates_id gates.now) × (pass_id result.1.pass ≡ gates_id gates.now) }
+    requires same_gates { (pass_id first ≡ gates_id gates.now) × (pass_id second ≡ gates_id gates.now) }
+    requires present { 1 < actors_of gates.now }
+    ensures same_gates { (pass_id result.0.pass ≡ gates_id gates.now) × (pass_id result.1.pass ≡ gates_id gates.now) }
 {
     thread::join(
         rt,
@@ -99,9 +99,9 @@ fn both<R: Threads + Sync>(
 }
 
 fn turn_all(gates: &Gates<BenchHome>, mut pass: Pass<BenchHome>, id: ActorId, laps: u64) -> Turned
-    requires ours { pass_id pass ≡ gates_id gates.now }
-    requires there { id.0 < actors_of gates.now }
-    ensures ours { pass_id result.pass ≡ gates_id gates.now }
+    requires same_gates { pass_id pass ≡ gates_id gates.now }
+    requires present { id.0 < actors_of gates.now }
+    ensures same_gates { pass_id result.pass ≡ gates_id gates.now }
 {
     let mut done = 0u64;
     for _ in 0..laps {

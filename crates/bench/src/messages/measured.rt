@@ -181,7 +181,7 @@ fn handle_all<A: Actor, K: Behaviours>(cell: &mut Cell<A, K>, count: u32) -> Res
     ensures entries { IfOk result (λ _. length cell.new.journal ≡ length cell.old.journal + count) }
     ensures room { OnOk result (0 < count → length cell.old.journal + count ≤ cell.old.who.limit) }
     ensures full { IsErrOf result ReadyError.JournalFull → cell.old.who.limit < length cell.old.journal + count }
-    ensures heard { IfOk result (λ _. messages cell.new.who cell.new.journal ≡ messages cell.old.who cell.old.journal ++ sends count) }
+    ensures messages_added { IfOk result (λ _. messages cell.new.who cell.new.journal ≡ messages cell.old.who cell.old.journal ++ sends count) }
 {
     let reading = open();
     let mut acts: u64 = 0;

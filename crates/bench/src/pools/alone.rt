@@ -11,7 +11,7 @@ use std::sync::Wait;
 use std::time::Clock;
 
 /// The last of these workers pushes a claim and takes it again.
-pub fn turns<R: Clock + Wait>(rt: &R, gates: &Gates<StubHome>, all: &mut Vec<Worker>) -> Made
+pub fn measure<R: Clock + Wait>(rt: &R, gates: &Gates<StubHome>, all: &mut Vec<Worker>) -> Made
     requires { All (IsReady gates.now) all.old.items }
 {
     let worker = all.pop()?;

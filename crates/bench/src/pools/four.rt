@@ -14,7 +14,7 @@ use std::time::Clock;
 type Pair = (Worker, Worker);
 
 /// Each of the last four of these workers pushes a claim and takes one.
-pub fn turns<R: Clock + Threads + Wait + Sync>(
+pub fn measure<R: Clock + Threads + Wait + Sync>(
     rt: &R,
     gates: &Gates<StubHome>,
     all: &mut Vec<Worker>,

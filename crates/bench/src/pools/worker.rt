@@ -36,8 +36,8 @@ pub fn workers(
     kind: PoolKind,
     count: u32,
 ) -> Option<Vec<Worker>>
-    requires ours { pass_id pass.old ≡ gates_id gates.now }
-    requires there { (0 < count) × (count ≤ actors_of gates.now) }
+    requires same_gates { pass_id pass.old ≡ gates_id gates.now }
+    requires present { (0 < count) × (count ≤ actors_of gates.now) }
     ensures { IfSome result (λ workers. All (IsReady gates.now) workers.items) }
 {
     let Ok((_pool, mut ends, _feeds)) = Pool::new(alloc, gates, kind, count as usize, 0) else {
@@ -54,9 +54,9 @@ fn workers_of(
     ends: &mut Vec<PoolEnd<StubHome>>,
     count: u32,
 ) -> Option<Vec<Worker>>
-    requires ours { pass_id pass.old ≡ gates_id gates.now }
-    requires there { count ≤ actors_of gates.now }
-    requires these { All (λ (w : PoolEndpoint StubHome). gates_of w ≡ Some (origin_of gates.now)) ends.old.items }
+    requires same_gates { pass_id pass.old ≡ gates_id gates.now }
+    requires present { count ≤ actors_of gates.now }
+    requires same_origin { All (λ (w : PoolEndpoint StubHome). gates_of w ≡ Some (origin_of gates.now)) ends.old.items }
     ensures { IfSome result (λ workers. All (IsReady gates.now) workers.items) }
 {
     let Ok(mut workers) = Vec::with_capacity(alloc, ends.len()) else {
@@ -80,10 +80,10 @@ fn worker_of(
     end: PoolEnd<StubHome>,
     actor: ActorId,
 ) -> Worker
-    requires ours { pass_id pass.old ≡ gates_id gates.now }
-    requires there { actor.0 < actors_of gates.now }
-    requires these { gates_of end ≡ Some (origin_of gates.now) }
-    ensures ours { pass_id pass.new ≡ gates_id gates.now }
+    requires same_gates { pass_id pass.old ≡ gates_id gates.now }
+    requires present { actor.0 < actors_of gates.now }
+    requires same_origin { gates_of end ≡ Some (origin_of gates.now) }
+    ensures same_gates { pass_id pass.new ≡ gates_id gates.now }
     ensures ready { IsReady gates.now result }
 {
     Worker {
@@ -113,11 +113,11 @@ fn turn_often<H: MailboxState, R: Wait>(
     end: &mut PoolEnd<H>,
     actor: ActorId,
 ) -> u64
-    requires ours { pass_id pass.old ≡ gates_id gates.now }
-    requires there { actor.0 < actors_of gates.now }
-    requires these { gates_of end.old ≡ Some (origin_of gates.now) }
-    ensures ours { pass_id pass.new ≡ pass_id pass.old }
-    ensures these { gates_of end.new ≡ Some (origin_of gates.now) }
+    requires same_gates { pass_id pass.old ≡ gates_id gates.now }
+    requires present { actor.0 < actors_of gates.now }
+    requires same_origin { gates_of end.old ≡ Some (origin_of gates.now) }
+    ensures same_gates { pass_id pass.new ≡ pass_id pass.old }
+    ensures same_origin { gates_of end.new ≡ Some (origin_of gates.now) }
 {
     let Some(mut claim) = attempt(gates, pass, actor) else {
         return 0;

@@ -14,7 +14,7 @@ impl<A: Actor, K: Behaviours> Cell<A, K> {
     /// `Died` that comes to an actor that was started, unless it is that of the last child of an actor that ends.
     pub(super) fn apply_died(&mut self, number: u64, id: ActorId)
         requires may_take { MayTake self.old number (SysMsg.Died id) }
-        requires off_fresh { phase_is (phase_of self.old.who self.old.journal) Fresh ≡ false }
+        requires not_fresh { phase_is (phase_of self.old.who self.old.journal) Fresh ≡ false }
         requires not_last { (phase_is (phase_of self.old.who self.old.journal) Ending
             && is_alone (children self.old.who self.old.journal) id) ≡ false }
         ensures taken { TakesSystem self.old self.new number (SysMsg.Died id) }

@@ -39,7 +39,7 @@ impl<A: Actor, K: Behaviours> Cell<A, K> {
     pub(super) fn apply_end(&mut self, number: u64)
         requires may_take { MayTake self.old number SysMsg.Terminate }
         requires applied { sets_aside self.old.who self.old.journal SysMsg.Terminate ≡ false }
-        requires off_ending { phase_is (phase_of self.old.who self.old.journal) Ending ≡ false }
+        requires not_ending { phase_is (phase_of self.old.who self.old.journal) Ending ≡ false }
         requires silent { (not (is_guardian self.old.who) && phase_is (phase_of self.old.who self.old.journal) Live) ≡ false }
         requires no_children { is_empty (children self.old.who self.old.journal) ≡ true }
         ensures taken { TakesSystem self.old self.new number SysMsg.Terminate }

@@ -14,7 +14,7 @@ impl<A: Actor, K: Behaviours> Cell<A, K> {
     /// The first `Terminate`, of an actor with children.
     pub(super) fn apply_ending(&mut self, number: u64)
         requires may_take { MayTake self.old number SysMsg.Terminate }
-        requires off_ending { phase_is (phase_of self.old.who self.old.journal) Ending ≡ false }
+        requires not_ending { phase_is (phase_of self.old.who self.old.journal) Ending ≡ false }
         requires has_children { is_empty (children self.old.who self.old.journal) ≡ false }
         ensures taken { TakesSystem self.old self.new number SysMsg.Terminate }
         ensures lawful { IsLawful self.new.who (K.gives self.new.who.this.0) self.new.journal }

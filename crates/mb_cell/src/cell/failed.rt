@@ -17,7 +17,7 @@ impl<A: Actor, K: Behaviours> Cell<A, K> {
     pub(super) fn apply_failed(&mut self, number: u64, child: ActorId, cause: Cause)
         requires may_take { MayTake self.old number (SysMsg.Failed child cause) }
         requires applied { sets_aside self.old.who self.old.journal (SysMsg.Failed child cause) ≡ false }
-        requires off_fresh { phase_is (phase_of self.old.who self.old.journal) Fresh ≡ false }
+        requires not_fresh { phase_is (phase_of self.old.who self.old.journal) Fresh ≡ false }
         requires of_child { has (children self.old.who self.old.journal) child ≡ true }
         ensures taken { TakesSystem self.old self.new number (SysMsg.Failed child cause) }
         ensures lawful { IsLawful self.new.who (K.gives self.new.who.this.0) self.new.journal }

@@ -18,8 +18,8 @@ impl<A: Actor, K: Behaviours> Cell<A, K> {
         requires may_take { MayTake self.old number (SysMsg.Recreate cause) }
         requires applied { sets_aside self.old.who self.old.journal (SysMsg.Recreate cause) ≡ false }
         requires an_actor { is_guardian self.old.who ≡ false }
-        requires off_fresh { phase_is (phase_of self.old.who self.old.journal) Fresh ≡ false }
-        requires off_ending { phase_is (phase_of self.old.who self.old.journal) Ending ≡ false }
+        requires not_fresh { phase_is (phase_of self.old.who self.old.journal) Fresh ≡ false }
+        requires not_ending { phase_is (phase_of self.old.who self.old.journal) Ending ≡ false }
         ensures taken { TakesSystem self.old self.new number (SysMsg.Recreate cause) }
         ensures lawful { IsLawful self.new.who (K.gives self.new.who.this.0) self.new.journal }
     {

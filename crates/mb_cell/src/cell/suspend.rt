@@ -16,7 +16,7 @@ impl<A: Actor, K: Behaviours> Cell<A, K> {
     pub(super) fn apply_suspend(&mut self, number: u64)
         requires may_take { MayTake self.old number SysMsg.Suspend }
         requires applied { sets_aside self.old.who self.old.journal SysMsg.Suspend ≡ false }
-        requires off_fresh { phase_is (phase_of self.old.who self.old.journal) Fresh ≡ false }
+        requires not_fresh { phase_is (phase_of self.old.who self.old.journal) Fresh ≡ false }
         ensures taken { TakesSystem self.old self.new number SysMsg.Suspend }
         ensures lawful { IsLawful self.new.who (K.gives self.new.who.this.0) self.new.journal }
     {

@@ -7,6 +7,7 @@ ghost use Rattle.mb_gate.specs.Accessors.{gates_id, pass_id, actors_of, first_ho
 
 use crate::gates::Gates;
 use crate::layout::{CELL, FLAG, GATE, LIST, STATUS};
+use crate::list_word::ListWord;
 use crate::mailbox_state::MailboxState;
 use crate::pass::Pass;
 use crate::returned_actor::ReturnedActor;
@@ -23,7 +24,7 @@ impl<H: MailboxState> Gates<H> {
         pass: Pass<H>,
         room: Vec<Option<ReturnedActor<H>>>,
     ) -> Vec<Option<ReturnedActor<H>>>
-        requires ours { pass_id pass ≡ gates_id self }
+        requires same_gates { pass_id pass ≡ gates_id self }
         requires empty { room.items ≡ [] }
         requires room { actors_of self ≤ vec_capacity room }
         ensures left { AreReturned (H.is_of (first_home self)) H.facts (actors_of self) (pass_view pass) result.items }
@@ -65,11 +66,11 @@ fn take_out<H: MailboxState>(
     let first = 16 * actor;
     let status = closed.word(first + STATUS);
     let flag = closed.word(first + FLAG);
-    let gate = closed.word(first + GATE);
+    let gate = ListWord::of(closed.word(first + GATE));
     let cell = closed.take(2 * actor + CELL);
     let list = closed.take(2 * actor + LIST);
-    // Scheduled, or closed without the flag: a claim has the cell. An odd gate: a seat has the list.
-    if status % 4 != 0 && flag != 1 || gate % 2 != 0 {
+    // Scheduled, or closed without the flag: a claim has the cell. A locked gate: a seat has the list.
+    if status % 4 != 0 && flag != 1 || gate.is_locked() {
         return None;
     }
     match (cell, list) {

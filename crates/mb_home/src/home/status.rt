@@ -34,7 +34,7 @@ fn has_ended(phase: Phase) -> bool
 /// The status of a mailbox that is closed or not, suspended so often, and not scheduled.
 #[tactic(auto, using(crate::proofs::StatusLemmas::word_valid, crate::proofs::StatusLemmas::word_open))]
 fn status_of(is_closed: bool, count: u64) -> Status
-    requires few { count ≤ most_suspensions }
+    requires within_limit { count ≤ most_suspensions }
     requires none { IsTrue is_closed → count ≡ 0 }
     ensures { result ≡ record { closed = is_closed; scheduled = false; count = count } }
 {

@@ -67,7 +67,7 @@ impl<A: Actor, K: Behaviours> Home<A, K> {
     /// Keeps what was drained, whose numbers go on from those that the list gave before. Nothing else may be left of a drain.
     pub fn keep(&mut self, drained: Chain)
         requires none_left { self.old.rest ≡ [] }
-        requires goes_on { IsNumberedFrom (given_of self.old) drained }
+        requires continues { IsNumberedFrom (given_of self.old) drained }
         requires settled { AgreesWithJournal (K.gives self.old.cell.who.this.0) self.old.cell.acts self.old }
         ensures kept { self.new ≡ record self.old { rest = drained } }
         ensures settled { AgreesWithJournal (K.gives self.new.cell.who.this.0) self.new.cell.acts self.new }
@@ -77,7 +77,7 @@ impl<A: Actor, K: Behaviours> Home<A, K> {
 
     /// Puts the drained messages beside the cell.
     fn set_backlog(&mut self, drained: Chain)
-        requires goes_on { drained ≡ numbered ((next_number self.old.cell.journal + self.old.dropped) % 2 ^ 64) (messages_of drained) }
+        requires continues { drained ≡ numbered ((next_number self.old.cell.journal + self.old.dropped) % 2 ^ 64) (messages_of drained) }
         requires settled { AgreesWithJournal (K.gives self.old.cell.who.this.0) self.old.cell.acts self.old }
         ensures kept { self.new ≡ record self.old { rest = drained } }
         ensures settled { AgreesWithJournal (K.gives self.new.cell.who.this.0) self.new.cell.acts self.new }

@@ -59,7 +59,7 @@ impl<A: Actor, K: Behaviours> Home<A, K> {
         place: usize,
         envelope: Envelope,
     ) -> Result<(), PushError>
-        requires there { place < length self.old.sends }
+        requires present { place < length self.old.sends }
         requires fits { (p : SendPassView) → slice_get self.old.sends place ≡ Some p → Fits envelope p }
         ensures delivered { MatchResult result (λ _. Delivers self.old self.new place envelope)
             (λ refused. (given_back refused ≡ envelope) × (self.new ≡ self.old) × RefusesPush self.old place refused) }
@@ -113,7 +113,7 @@ fn push_into<R: Wait>(
     place: usize,
     envelope: Envelope,
 ) -> Result<(), PushError>
-    requires there { place < length sends.old.items }
+    requires present { place < length sends.old.items }
     requires fits { (p : SendPassView) → slice_get sends.old.items place ≡ Some p → Fits envelope p }
     ensures pushed { MatchResult result (λ _. PushesInto sends.old.items sends.new.items place envelope)
         (λ refused. (given_back refused ≡ envelope) × (sends.new.items ≡ sends.old.items) × IsRefusedBy sends.old.items place refused) }

@@ -19,8 +19,8 @@ impl CellState {
     pub fn create(&mut self, place: &ActorIdentity, answer: Answer, effects: &[Effect], number: u64)
         requires ready { IsTrue self.old.is_ready }
         requires carried_out { self.old.acts ≡ [] }
-        requires small { self.old.count < 2 ^ 60 }
-        requires few { length effects.now ≤ most_effects }
+        requires below_bound { self.old.count < 2 ^ 60 }
+        requires within_limit { length effects.now ≤ most_effects }
         ensures { self.new ≡ created (identity_of place.now 0) (Some answer) effects.now number self.old }
     {
         forget(&mut self.aside, number);
@@ -56,7 +56,7 @@ impl CellState {
     pub fn create_guardian(&mut self, place: &ActorIdentity, number: u64)
         requires ready { IsTrue self.old.is_ready }
         requires carried_out { self.old.acts ≡ [] }
-        requires few { length place.now.prepared.items ≤ self.old.fanout }
+        requires within_limit { length place.now.prepared.items ≤ self.old.fanout }
         ensures { self.new ≡ created_guardian (identity_of place.now 0) number self.old }
     {
         forget(&mut self.aside, number);

@@ -35,7 +35,7 @@ impl CellState {
     pub fn died_last(&mut self, place: &ActorIdentity, id: ActorId, effects: &[Effect], number: u64)
         requires ready { IsTrue self.old.is_ready }
         requires carried_out { self.old.acts ≡ [] }
-        requires few { length effects.now ≤ most_effects }
+        requires within_limit { length effects.now ≤ most_effects }
         ensures { self.new ≡ ended (identity_of place.now 0) effects.now (told_of_death (identity_of place.now 0) id number self.old) }
     {
         self.ready = false;

@@ -21,7 +21,7 @@ impl CellState {
     pub fn supervise(&mut self, place: &ActorIdentity, child: ActorId, cause: Cause, number: u64)
         requires ready { IsTrue self.old.is_ready }
         requires carried_out { self.old.acts ≡ [] }
-        requires small { self.old.count < 2 ^ 60 }
+        requires below_bound { self.old.count < 2 ^ 60 }
         ensures { self.new ≡ supervised (identity_of place.now 0) child cause number self.old }
     {
         forget(&mut self.aside, number);

@@ -28,8 +28,8 @@ impl CellState {
     )
         requires ready { IsTrue self.old.is_ready }
         requires carried_out { self.old.acts ≡ [] }
-        requires small { self.old.count < 2 ^ 60 }
-        requires few { length effects.now ≤ most_effects }
+        requires below_bound { self.old.count < 2 ^ 60 }
+        requires within_limit { length effects.now ≤ most_effects }
         ensures { self.new ≡ handled (identity_of place.now 0) body answer effects.now self.old }
     {
         if uses_nothing(body, answer, effects) {
@@ -51,8 +51,8 @@ impl CellState {
     )
         requires ready { IsTrue self.old.is_ready }
         requires carried_out { self.old.acts ≡ [] }
-        requires small { self.old.count < 2 ^ 60 }
-        requires few { length effects.now ≤ most_effects }
+        requires below_bound { self.old.count < 2 ^ 60 }
+        requires within_limit { length effects.now ≤ most_effects }
         ensures { self.new ≡ handled (identity_of place.now 0) body answer effects.now self.old }
     {
         self.ready = false;

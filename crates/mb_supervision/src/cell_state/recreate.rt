@@ -27,8 +27,8 @@ impl CellState {
     )
         requires ready { IsTrue self.old.is_ready }
         requires carried_out { self.old.acts ≡ [] }
-        requires small { self.old.count < 2 ^ 60 }
-        requires few { length effects.now ≤ most_effects }
+        requires below_bound { self.old.count < 2 ^ 60 }
+        requires within_limit { length effects.now ≤ most_effects }
         ensures { self.new ≡ recreated (identity_of place.now 0) cause (Some answer) effects.now number self.old }
     {
         forget(&mut self.aside, number);

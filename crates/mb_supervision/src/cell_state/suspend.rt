@@ -12,7 +12,7 @@ impl CellState {
     pub fn suspend(&mut self, number: u64)
         requires ready { IsTrue self.old.is_ready }
         requires carried_out { self.old.acts ≡ [] }
-        requires small { self.old.count < 2 ^ 60 }
+        requires below_bound { self.old.count < 2 ^ 60 }
         ensures { self.new ≡ suspended number self.old }
     {
         forget(&mut self.aside, number);

@@ -18,7 +18,7 @@ impl CellState {
     pub fn terminate(&mut self, place: &ActorIdentity, number: u64)
         requires ready { IsTrue self.old.is_ready }
         requires carried_out { self.old.acts ≡ [] }
-        requires small { self.old.count < 2 ^ 60 }
+        requires below_bound { self.old.count < 2 ^ 60 }
         ensures { self.new ≡ ending (identity_of place.now 0) number self.old }
     {
         forget(&mut self.aside, number);
@@ -39,7 +39,7 @@ impl CellState {
     pub fn end_at_once(&mut self, place: &ActorIdentity, effects: &[Effect], number: u64)
         requires ready { IsTrue self.old.is_ready }
         requires carried_out { self.old.acts ≡ [] }
-        requires few { length effects.now ≤ most_effects }
+        requires within_limit { length effects.now ≤ most_effects }
         ensures { self.new ≡ ended_at_once (identity_of place.now 0) effects.now number self.old }
     {
         forget(&mut self.aside, number);

@@ -5,14 +5,14 @@ use Rattle.mb_actor.specs.Behaviour.{AllowsSame}
 use Rattle.mb_build.proofs.CellLemmas.{cell-is, children-below, children-few}
 use Rattle.mb_build.proofs.cells.add_cell.Goals as goal
 
-pub new-requires-clause-few : goal.new-requires-clause-few
-new-requires-clause-few g c =
-    let few = c.requires.few.1 in let some = children-few 1 c.len.result c.args.parents.now in let is = ap length c.in_ok-prepared.ensures in
+pub new-requires-clause-within_limit : goal.new-requires-clause-within_limit
+new-requires-clause-within_limit g c =
+    let few = c.requires.within_limit.1 in let some = children-few 1 c.len.result c.args.parents.now in let is = ap length c.in_ok-prepared.ensures in
     omega (arith, few, some, is)
 
 pub new-requires-clause-numbered : goal.new-requires-clause-numbered
 new-requires-clause-numbered g c =
-    let few = c.requires.few.1 in
+    let few = c.requires.within_limit.1 in
     subst (All (λ (x : ActorId). x.0 < 64)) (sym c.in_ok-prepared.ensures)
     (children-below 64 1 c.len.result c.args.parents.now (omega (arith, few)))
 

@@ -9,7 +9,7 @@ pub loop-actor-init : goal.loop-actor-init
 loop-actor-init g c =
     let parents = c.args.parents.now in let cells = c.args.cells.now.items in let limit = c.args.journal_limit in
     let plans = c.into_iter-plans.ensures.rest in let all = c.into_iter-actor-iterator.ensures.into_iter_gives.0 in
-    let one = c.requires.few.0 in let many = c.requires.many in let more = many.1 in let actors = ap length all in record {
+    let one = c.requires.within_limit.0 in let many = c.requires.same_count in let more = many.1 in let actors = ap length all in record {
       whole = ap (λ n. cells ++ cells_from (length parents + 1) limit parents n (into_iter_items c.into_iter-plans.result)) one
           ∙ ap (λ l. cells ++ cells_from (length parents + 1) limit parents 1 l) plans;
       as_many = ap length plans ∙ many.0 ∙ sym many.1 ∙ sym actors;
@@ -25,9 +25,9 @@ pub add_cell-requires : goal.add_cell-requires
 add_cell-requires g c =
     let at = c.loop-actor in let rest = into_iter_items c.next.new.self in
     let steps : into_iter_items at.actor-iterator ≡ c.in-Some.actor ∷ rest = c.in-Some.ensures.steps.0 in
-    let one = ap length steps in let left = at.invariant.left in let few = c.requires.few.1 in
+    let one = ap length steps in let left = at.invariant.left in let few = c.requires.within_limit.1 in
     let room = at.invariant.room in record {
-      few = (omega (arith, left, one, few), few);
+      within_limit = (omega (arith, left, one, few), few);
       room = omega (arith, left, one, room);
       behaved = (subst (BehaveAsPlanned g.A.Actor.content g.A.Actor.after g.A.Actor.gives g.K.Behaviours.after g.K.Behaviours.gives
           (length at.cells.items)) steps at.invariant.behaved).0;

@@ -7,16 +7,16 @@ pub first_cell-requires : goal.first_cell-requires
 first_cell-requires g c =
     let are = c.in_ok-parents.ensures ∙ ap (map (λ a. a.parent)) c.deref.ensures.value in
     let count = ap length (c.deref-2.ensures.value ∙ are) ∙ length-map c.args.plans.items (λ a. a.parent) in
-    let few = c.requires.few in omega (arith, count, few)
+    let few = c.requires.within_limit in omega (arith, count, few)
 
 pub add_cells-requires : goal.add_cells-requires
 add_cells-requires g c =
     let are = c.in_ok-parents.ensures ∙ ap (map (λ a. a.parent)) c.deref.ensures.value in
     let count = ap length (c.deref-3.ensures.value ∙ are) ∙ length-map c.args.plans.items (λ a. a.parent) in
-    let few = c.requires.few in record {
-      few = (ap length c.in_ok-cells.ensures.first, omega (arith, count, few));
+    let few = c.requires.within_limit in record {
+      within_limit = (ap length c.in_ok-cells.ensures.first, omega (arith, count, few));
       room = c.in_ok-cells.ensures.room ∙ ap (λ l. length l + 1) (c.deref-2.ensures.value ∙ sym c.deref-3.ensures.value);
-      many = (sym count, c.requires.many ∙ sym count);
+      same_count = (sym count, c.requires.same_count ∙ sym count);
       behaved = c.requires.behaved;
     }
 

@@ -4,8 +4,8 @@ use Rattle.mb_msg.specs.declared.id.ActorId.{ActorId}
 use Rattle.mb_build.proofs.CellLemmas.{children-below, children-few}
 use Rattle.mb_build.proofs.cells.guardian.Goals as goal
 
-pub new-requires-2-clause-few : goal.new-requires-2-clause-few
-new-requires-2-clause-few g c =
+pub new-requires-2-clause-within_limit : goal.new-requires-2-clause-within_limit
+new-requires-2-clause-within_limit g c =
     let few = c.requires in let some = children-few 1 0 c.args.parents.now in let is = ap length c.in_ok-prepared.ensures in
     omega (arith, few, some, is)
 

@@ -23,34 +23,34 @@ use Rattle.mb_build.proofs.homes.add_homes.Goals as goal
 
 pub loop-cell-init : goal.loop-cell-init
 loop-cell-init g c =
-    let none : c.args.homes.now.items ≡ [] = c.requires.none.0 in let ways = c.args.takes.items in
-    let directory = directory_of (whose c.args.cells.items) ways in record {
+    let none : c.args.homes.now.items ≡ [] = c.requires.none.0 in let all_takes = c.args.takes.items in
+    let directory = directory_of (whose c.args.cells.items) all_takes in record {
       cells = c.into_iter-cell-iterator.ensures.into_iter_gives.0;
       count = ap length none;
       room = c.requires.none.1;
-      takes = c.into_iter-takes.ensures.rest ∙ ap (λ (l : List (Box Contents)). drop (length l) ways) (sym none);
+      takes = c.into_iter-takes.ensures.rest ∙ ap (λ (l : List (Box Contents)). drop (length l) all_takes) (sym none);
       rows = ap (λ (l : List (Box Contents)). drop (length l) (into_iter_items c.args.rows.now)) (sym none);
-      first = subst (λ (l : List (Box Contents)). AreAtFirst directory (drop 1 ways) 0 [] (take (length l) ways) l) (sym none) tt;
+      first = subst (λ (l : List (Box Contents)). AreAtFirst directory (drop 1 all_takes) 0 [] (take (length l) all_takes) l) (sym none) tt;
       settled = subst (λ (l : List (Box Contents)). AreSettled g.K.Behaviours.gives 0 l) (sym none) tt;
     }
 
 pub unreachable-requires : goal.unreachable-requires
 unreachable-requires g c =
-    let at = c.loop-cell in let cells = c.args.cells.items in let made = c.requires.made in let ways = c.args.takes.items in
+    let at = c.loop-cell in let cells = c.args.cells.items in let made = c.requires.made in let all_takes = c.args.takes.items in
     let rows = map (λ row. row.items) (into_iter_items c.args.rows.now) in
     let cell = c.in-Some.cell in let rest = into_iter_items c.next.new.self in let place = length at.homes.items in
     let steps : into_iter_items at.cell-iterator ≡ cell ∷ rest = c.in-Some.ensures.steps.0 in
     let all = ap (λ l. at.yielded ++ l) (sym steps) ∙ at.invariant.cells in
-    let lt = here.place-in cells made.0 made.1 ways rows c.requires.cells.0 c.requires.cells.1 made.2 made.3
+    let lt = here.place-in cells made.0 made.1 all_takes rows c.requires.cells.0 c.requires.cells.1 made.2 made.3
     at.yielded cell rest place all at.invariant.count in
-    let count = here.passes-count cells made.0 made.1 ways rows c.requires.cells.0 c.requires.cells.1 made.2 made.3 in
+    let count = here.passes-count cells made.0 made.1 all_takes rows c.requires.cells.0 c.requires.cells.1 made.2 made.3 in
     let none : into_iter_items at.takes ≡ [] = nil_from_length (into_iter_items at.takes) (sym at.takes.rest.ok.0 ∙ c.in_default.ensures.cases.0) in
-    let left = length-drop place ways in let over = ap length (sym at.invariant.takes ∙ none) in
+    let left = length-drop place all_takes in let over = ap length (sym at.invariant.takes ∙ none) in
     omega (arith, lt, count, left, over)
 
 pub unreachable-requires-in_default-next : goal.unreachable-requires-in_default-next
 unreachable-requires-in_default-next g c =
-    let at = c.loop-cell in let cells = c.args.cells.items in let made = c.requires.made in let ways = c.args.takes.items in
+    let at = c.loop-cell in let cells = c.args.cells.items in let made = c.requires.made in let all_takes = c.args.takes.items in
     let rows = map (λ row. row.items) (into_iter_items c.args.rows.now) in
     let cell = c.in-Some.cell in let rest = into_iter_items c.next.new.self in let place = length at.homes.items in
     let steps : into_iter_items at.cell-iterator ≡ cell ∷ rest = c.in-Some.ensures.steps.0 in
@@ -58,61 +58,61 @@ unreachable-requires-in_default-next g c =
     let none : into_iter_items at.rows ≡ [] = nil_from_length (into_iter_items at.rows) (sym at.rows.rest.ok.0 ∙ c.in_default-next.ensures.cases.0) in
     let empty : drop place rows ≡ [] =
     drop-map (λ r. r.items) place (into_iter_items c.args.rows.now) ∙ ap (map (λ r. r.items)) (sym at.invariant.rows ∙ none) in
-    here.rows-left cells made.0 made.1 ways rows c.requires.cells.0 c.requires.cells.1 made.2 made.3
+    here.rows-left cells made.0 made.1 all_takes rows c.requires.cells.0 c.requires.cells.1 made.2 made.3
     at.yielded cell rest place all at.invariant.count empty
 
 pub overflow_cast-len : goal.overflow_cast-len
 overflow_cast-len g c =
-    let at = c.loop-cell in let cells = c.args.cells.items in let made = c.requires.made in let ways = c.args.takes.items in
+    let at = c.loop-cell in let cells = c.args.cells.items in let made = c.requires.made in let all_takes = c.args.takes.items in
     let rows = map (λ row. row.items) (into_iter_items c.args.rows.now) in
     let cell = c.in-Some.cell in let rest = into_iter_items c.next.new.self in let place = length at.homes.items in
     let steps : into_iter_items at.cell-iterator ≡ cell ∷ rest = c.in-Some.ensures.steps.0 in
     let all = ap (λ l. at.yielded ++ l) (sym steps) ∙ at.invariant.cells in
     let number : c.len.result ≡ place = search rules in
-    let lt = here.place-in cells made.0 made.1 ways rows c.requires.cells.0 c.requires.cells.1 made.2 made.3
+    let lt = here.place-in cells made.0 made.1 all_takes rows c.requires.cells.0 c.requires.cells.1 made.2 made.3
     at.yielded cell rest place all at.invariant.count in
-    let few = c.requires.few in omega (arith, number, lt, few)
+    let few = c.requires.within_limit in omega (arith, number, lt, few)
 
 pub new-home-requires-clause-number : goal.new-home-requires-clause-number
 new-home-requires-clause-number g c =
-    let at = c.loop-cell in let cells = c.args.cells.items in let made = c.requires.made in let ways = c.args.takes.items in
+    let at = c.loop-cell in let cells = c.args.cells.items in let made = c.requires.made in let all_takes = c.args.takes.items in
     let rows = map (λ row. row.items) (into_iter_items c.args.rows.now) in
     let cell = c.in-Some.cell in let rest = into_iter_items c.next.new.self in let place = length at.homes.items in
     let steps : into_iter_items at.cell-iterator ≡ cell ∷ rest = c.in-Some.ensures.steps.0 in
     let all = ap (λ l. at.yielded ++ l) (sym steps) ∙ at.invariant.cells in
     let number : c.len.result ≡ place = search rules in
-    let planned = here.planned-here cells made.0 made.1 ways rows c.requires.cells.0 c.requires.cells.1 made.2 made.3
+    let planned = here.planned-here cells made.0 made.1 all_takes rows c.requires.cells.0 c.requires.cells.1 made.2 made.3
     at.yielded cell rest place all at.invariant.count in
     ap id number ∙ sym planned.this
 
 pub new-home-requires-clause-untouched : goal.new-home-requires-clause-untouched
 new-home-requires-clause-untouched g c =
-    let at = c.loop-cell in let cells = c.args.cells.items in let made = c.requires.made in let ways = c.args.takes.items in
+    let at = c.loop-cell in let cells = c.args.cells.items in let made = c.requires.made in let all_takes = c.args.takes.items in
     let rows = map (λ row. row.items) (into_iter_items c.args.rows.now) in
     let cell = c.in-Some.cell in let rest = into_iter_items c.next.new.self in let place = length at.homes.items in
     let steps : into_iter_items at.cell-iterator ≡ cell ∷ rest = c.in-Some.ensures.steps.0 in
     let all = ap (λ l. at.yielded ++ l) (sym steps) ∙ at.invariant.cells in
-    let is = here.unstarted-there cells made.0 made.1 ways rows c.requires.cells.0 c.requires.cells.1 made.2 made.3
+    let is = here.unstarted-there cells made.0 made.1 all_takes rows c.requires.cells.0 c.requires.cells.1 made.2 made.3
     at.yielded cell rest place all at.invariant.count in
     (ap (λ (x : CellView). x.journal) is, ap (λ (x : CellView). x.acts) is)
 
 pub new-home-requires-clause-none_taken : goal.new-home-requires-clause-none_taken
 new-home-requires-clause-none_taken g c =
-    let at = c.loop-cell in let cells = c.args.cells.items in let made = c.requires.made in let ways = c.args.takes.items in
+    let at = c.loop-cell in let cells = c.args.cells.items in let made = c.requires.made in let all_takes = c.args.takes.items in
     let rows = map (λ row. row.items) (into_iter_items c.args.rows.now) in
     let cell = c.in-Some.cell in let rest = into_iter_items c.next.new.self in let place = length at.homes.items in
     let steps : into_iter_items at.cell-iterator ≡ cell ∷ rest = c.in-Some.ensures.steps.0 in
     let all = ap (λ l. at.yielded ++ l) (sym steps) ∙ at.invariant.cells in
     let take' = c.in-Some-next.take in
     let mine : into_iter_items at.takes ≡ take' ∷ into_iter_items c.next-in-loop-cell.new.self = c.in-Some-next.ensures.cases.0 in
-    let this : drop place ways ≡ take' ∷ into_iter_items c.next-in-loop-cell.new.self = sym at.invariant.takes ∙ mine in
-    let pass = here.pass-there cells made.0 made.1 ways rows c.requires.cells.0 c.requires.cells.1 made.2 made.3
+    let this : drop place all_takes ≡ take' ∷ into_iter_items c.next-in-loop-cell.new.self = sym at.invariant.takes ∙ mine in
+    let pass = here.pass-there cells made.0 made.1 all_takes rows c.requires.cells.0 c.requires.cells.1 made.2 made.3
     at.yielded cell rest place all at.invariant.count take' _ this in
     pass.taken
 
 pub new-home-requires-clause-none_pushed : goal.new-home-requires-clause-none_pushed
 new-home-requires-clause-none_pushed g c =
-    let at = c.loop-cell in let cells = c.args.cells.items in let made = c.requires.made in let ways = c.args.takes.items in
+    let at = c.loop-cell in let cells = c.args.cells.items in let made = c.requires.made in let all_takes = c.args.takes.items in
     let rows = map (λ row. row.items) (into_iter_items c.args.rows.now) in
     let cell = c.in-Some.cell in let rest = into_iter_items c.next.new.self in let place = length at.homes.items in
     let steps : into_iter_items at.cell-iterator ≡ cell ∷ rest = c.in-Some.ensures.steps.0 in
@@ -121,83 +121,83 @@ new-home-requires-clause-none_pushed g c =
     let lines : into_iter_items at.rows ≡ sends ∷ into_iter_items c.next-in-loop-cell-2.new.self = c.in-Some-next-2.ensures.cases.0 in
     let row : drop place rows ≡ sends.items ∷ map (λ r. r.items) (into_iter_items c.next-in-loop-cell-2.new.self) =
     drop-map (λ r. r.items) place (into_iter_items c.args.rows.now) ∙ ap (map (λ r. r.items)) (sym at.invariant.rows ∙ lines) in
-    let is = here.row-there cells made.0 made.1 ways rows c.requires.cells.0 c.requires.cells.1 made.2 made.3
+    let is = here.row-there cells made.0 made.1 all_takes rows c.requires.cells.0 c.requires.cells.1 made.2 made.3
     at.yielded cell rest place all at.invariant.count sends.items _ row in
-    subst (All (λ (p : SendPassView). p.pushed ≡ [])) (sym is) (all-unused (drop 1 ways) place)
+    subst (All (λ (p : SendPassView). p.pushed ≡ [])) (sym is) (all-unused (drop 1 all_takes) place)
 
 pub new-home-requires-clause-own : goal.new-home-requires-clause-own
 new-home-requires-clause-own g c =
-    let at = c.loop-cell in let cells = c.args.cells.items in let made = c.requires.made in let ways = c.args.takes.items in
+    let at = c.loop-cell in let cells = c.args.cells.items in let made = c.requires.made in let all_takes = c.args.takes.items in
     let rows = map (λ row. row.items) (into_iter_items c.args.rows.now) in
     let cell = c.in-Some.cell in let rest = into_iter_items c.next.new.self in let place = length at.homes.items in
     let steps : into_iter_items at.cell-iterator ≡ cell ∷ rest = c.in-Some.ensures.steps.0 in
     let all = ap (λ l. at.yielded ++ l) (sym steps) ∙ at.invariant.cells in
     let take' = c.in-Some-next.take in
     let mine : into_iter_items at.takes ≡ take' ∷ into_iter_items c.next-in-loop-cell.new.self = c.in-Some-next.ensures.cases.0 in
-    let this : drop place ways ≡ take' ∷ into_iter_items c.next-in-loop-cell.new.self = sym at.invariant.takes ∙ mine in
+    let this : drop place all_takes ≡ take' ∷ into_iter_items c.next-in-loop-cell.new.self = sym at.invariant.takes ∙ mine in
     let sends = c.in-Some-next-2.sends in
     let lines : into_iter_items at.rows ≡ sends ∷ into_iter_items c.next-in-loop-cell-2.new.self = c.in-Some-next-2.ensures.cases.0 in
     let row : drop place rows ≡ sends.items ∷ map (λ r. r.items) (into_iter_items c.next-in-loop-cell-2.new.self) =
     drop-map (λ r. r.items) place (into_iter_items c.args.rows.now) ∙ ap (map (λ r. r.items)) (sym at.invariant.rows ∙ lines) in
     subst (λ l. IsOwn (at_first cell take' sends.items 0 l)) (sym c.requires.directory)
-    (here.own-there cells made.0 made.1 ways rows c.requires.cells.0 c.requires.cells.1 made.2 made.3
+    (here.own-there cells made.0 made.1 all_takes rows c.requires.cells.0 c.requires.cells.1 made.2 made.3
     at.yielded cell rest place all at.invariant.count take' _ this sends.items _ row)
 
 pub add-requires : goal.add-requires
 add-requires g c =
-    let at = c.loop-cell in let cells = c.args.cells.items in let made = c.requires.made in let ways = c.args.takes.items in
+    let at = c.loop-cell in let cells = c.args.cells.items in let made = c.requires.made in let all_takes = c.args.takes.items in
     let rows = map (λ row. row.items) (into_iter_items c.args.rows.now) in
     let cell = c.in-Some.cell in let rest = into_iter_items c.next.new.self in let place = length at.homes.items in
     let steps : into_iter_items at.cell-iterator ≡ cell ∷ rest = c.in-Some.ensures.steps.0 in
     let all = ap (λ l. at.yielded ++ l) (sym steps) ∙ at.invariant.cells in
-    let lt = here.place-in cells made.0 made.1 ways rows c.requires.cells.0 c.requires.cells.1 made.2 made.3
+    let lt = here.place-in cells made.0 made.1 all_takes rows c.requires.cells.0 c.requires.cells.1 made.2 made.3
     at.yielded cell rest place all at.invariant.count in
     let room = at.invariant.room in omega (arith, lt, room)
 
 pub loop-cell-preserved : goal.loop-cell-preserved
 loop-cell-preserved g c =
-    let at = c.loop-cell in let cells = c.args.cells.items in let made = c.requires.made in let ways = c.args.takes.items in
+    let at = c.loop-cell in let cells = c.args.cells.items in let made = c.requires.made in let all_takes = c.args.takes.items in
     let rows = map (λ row. row.items) (into_iter_items c.args.rows.now) in
     let cell = c.in-Some.cell in let rest = into_iter_items c.next.new.self in let place = length at.homes.items in
     let steps : into_iter_items at.cell-iterator ≡ cell ∷ rest = c.in-Some.ensures.steps.0 in
     let all = ap (λ l. at.yielded ++ l) (sym steps) ∙ at.invariant.cells in
     let take' = c.in-Some-next.take in
     let mine : into_iter_items at.takes ≡ take' ∷ into_iter_items c.next-in-loop-cell.new.self = c.in-Some-next.ensures.cases.0 in
-    let this : drop place ways ≡ take' ∷ into_iter_items c.next-in-loop-cell.new.self = sym at.invariant.takes ∙ mine in
+    let this : drop place all_takes ≡ take' ∷ into_iter_items c.next-in-loop-cell.new.self = sym at.invariant.takes ∙ mine in
     let sends = c.in-Some-next-2.sends in
     let lines : into_iter_items at.rows ≡ sends ∷ into_iter_items c.next-in-loop-cell-2.new.self = c.in-Some-next-2.ensures.cases.0 in
     let row : drop place rows ≡ sends.items ∷ map (λ r. r.items) (into_iter_items c.next-in-loop-cell-2.new.self) =
     drop-map (λ r. r.items) place (into_iter_items c.args.rows.now) ∙ ap (map (λ r. r.items)) (sym at.invariant.rows ∙ lines) in
     let new = c.add.new.homes.items in let added = c.in_ok-add.ensures.added in let box = added.0 in let home = c.new-home.result in
-    let others = drop 1 ways in let directory = directory_of (whose cells) ways in
+    let others = drop 1 all_takes in let directory = directory_of (whose cells) all_takes in
     let pushed : new ≡ at.homes.items ++ box ∷ [] = added.2 in
     let longer : length new ≡ place + 1 = ap length pushed ∙ length_push at.homes.items box in
     let further : length (at.yielded ++ cell ∷ []) ≡ length at.yielded + 1 = length_push at.yielded cell in
     let count = at.invariant.count in
     let next : suc place ≡ length new = omega (arith, longer) in
-    let is = here.unstarted-there cells made.0 made.1 ways rows c.requires.cells.0 c.requires.cells.1 made.2 made.3
+    let is = here.unstarted-there cells made.0 made.1 all_takes rows c.requires.cells.0 c.requires.cells.1 made.2 made.3
     at.yielded cell rest place all at.invariant.count in
-    let passes = here.row-there cells made.0 made.1 ways rows c.requires.cells.0 c.requires.cells.1 made.2 made.3
+    let passes = here.row-there cells made.0 made.1 all_takes rows c.requires.cells.0 c.requires.cells.1 made.2 made.3
     at.yielded cell rest place all at.invariant.count sends.items _ row in
-    let planned = here.planned-here cells made.0 made.1 ways rows c.requires.cells.0 c.requires.cells.1 made.2 made.3
+    let planned = here.planned-here cells made.0 made.1 all_takes rows c.requires.cells.0 c.requires.cells.1 made.2 made.3
     at.yielded cell rest place all at.invariant.count in
     let sum : place ≡ 0 + place = omega arith in
     let same : box.value ≡ home = added.1 in
     let settled = subst (λ n. AgreesWithJournal (g.K.Behaviours.gives n) [] home) (ap (λ (x : ActorId). x.0) planned.this ∙ sum)
     c.new-home.ensures.settled in
-    let homes_first = first-more directory others 0 (whose at.yielded) cell.who (take place ways) take' at.homes.items box at.invariant.first
+    let homes_first = first-more directory others 0 (whose at.yielded) cell.who (take place all_takes) take' at.homes.items box at.invariant.first
     (as-made box.value home cell take' sends.items (passes_of others (0 + place)) _ directory cell.who same c.new-home.ensures.first is
     (passes ∙ ap (passes_of others) sum) c.requires.directory) in record {
       cells = append_assoc at.yielded (cell ∷ []) rest ∙ all;
       count = omega (arith, longer, further, count);
       room = let same = c.in_ok-add.ensures.room in let room = at.invariant.room in omega (arith, same, room);
-      takes = sym (drop-next place ways take' _ this) ∙ ap (λ n. drop n ways) next;
+      takes = sym (drop-next place all_takes take' _ this) ∙ ap (λ n. drop n all_takes) next;
       rows = sym (drop-next place (into_iter_items c.args.rows.now) sends _ (sym at.invariant.rows ∙ lines))
           ∙ ap (λ n. drop n (into_iter_items c.args.rows.now)) next;
-      first = subst (λ (l : List (Box Contents)). AreAtFirst directory others 0 (whose (at.yielded ++ cell ∷ [])) (take (length new) ways) l) (sym pushed)
+      first = subst (λ (l : List (Box Contents)). AreAtFirst directory others 0 (whose (at.yielded ++ cell ∷ [])) (take (length new) all_takes) l) (sym pushed)
           (subst (λ (l : List TakePassView). AreAtFirst directory others 0 (whose (at.yielded ++ cell ∷ [])) l (at.homes.items ++ box ∷ []))
-          (sym (take-next place ways take' _ this) ∙ ap (λ n. take n ways) next)
-          (subst (λ (l : List Identity). AreAtFirst directory others 0 l (take place ways ++ take' ∷ []) (at.homes.items ++ box ∷ []))
+          (sym (take-next place all_takes take' _ this) ∙ ap (λ n. take n all_takes) next)
+          (subst (λ (l : List Identity). AreAtFirst directory others 0 l (take place all_takes ++ take' ∷ []) (at.homes.items ++ box ∷ []))
           (sym (map_push (λ (x : CellView). x.who) at.yielded cell)) homes_first));
       settled = subst (λ (l : List (Box Contents)). AreSettled g.K.Behaviours.gives 0 l) (sym pushed)
           (settled-more g.K.Behaviours.gives 0 at.homes.items box at.invariant.settled
@@ -206,23 +206,23 @@ loop-cell-preserved g c =
 
 pub returns-clause-first : goal.returns-clause-first
 returns-clause-first g c =
-    let at = c.loop-cell in let cells = c.args.cells.items in let made = c.requires.made in let ways = c.args.takes.items in
+    let at = c.loop-cell in let cells = c.args.cells.items in let made = c.requires.made in let all_takes = c.args.takes.items in
     let rows = map (λ row. row.items) (into_iter_items c.args.rows.now) in
     let none : into_iter_items at.cell-iterator ≡ [] =
     nil_from_length (into_iter_items at.cell-iterator) (sym at.cell-iterator.rest.ok.0 ∙ c.in-None.ensures.steps.0) in
     let all : at.yielded ≡ cells = sym (append-nil at.yielded) ∙ ap (λ l. at.yielded ++ l) (sym none) ∙ at.invariant.cells in
-    let directory = directory_of (whose cells) ways in
-    let many = here.passes-count cells made.0 made.1 ways rows c.requires.cells.0 c.requires.cells.1 made.2 made.3 in
+    let directory = directory_of (whose cells) all_takes in
+    let many = here.passes-count cells made.0 made.1 all_takes rows c.requires.cells.0 c.requires.cells.1 made.2 made.3 in
     let whole = ap length all in let count = at.invariant.count in
-    subst (λ (l : List Identity). AreAtFirst directory (drop 1 ways) 0 l ways at.homes.items) (ap whose all)
-    (subst (λ (l : List TakePassView). AreAtFirst directory (drop 1 ways) 0 (whose at.yielded) l at.homes.items)
-    (take_all (length at.homes.items) ways (omega (arith, many, whole, count))) at.invariant.first)
+    subst (λ (l : List Identity). AreAtFirst directory (drop 1 all_takes) 0 l all_takes at.homes.items) (ap whose all)
+    (subst (λ (l : List TakePassView). AreAtFirst directory (drop 1 all_takes) 0 (whose at.yielded) l at.homes.items)
+    (take_all (length at.homes.items) all_takes (omega (arith, many, whole, count))) at.invariant.first)
 
 pub returns-clause-fresh : goal.returns-clause-fresh
 returns-clause-fresh g c =
-    let ways = c.args.takes.items in let cells = c.args.cells.items in let homes = c.loop-cell.homes.items in
-    let first : AreAtFirst (directory_of (whose cells) ways) (drop 1 ways) 0 (whose cells) ways homes = returns-clause-first g c in
-    all-fresh g.K.Behaviours.gives (directory_of (whose cells) ways) (drop 1 ways) (length cells) (whose cells) ways homes first
+    let all_takes = c.args.takes.items in let cells = c.args.cells.items in let homes = c.loop-cell.homes.items in
+    let first : AreAtFirst (directory_of (whose cells) all_takes) (drop 1 all_takes) 0 (whose cells) all_takes homes = returns-clause-first g c in
+    all-fresh g.K.Behaviours.gives (directory_of (whose cells) all_takes) (drop 1 all_takes) (length cells) (whose cells) all_takes homes first
     c.requires.cells.1 c.loop-cell.invariant.settled
 
 pub returns-clause-rest : goal.returns-clause-rest

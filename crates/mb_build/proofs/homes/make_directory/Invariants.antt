@@ -5,6 +5,6 @@ use Rattle.mb_build.proofs.homes.make_directory.Given as goal
 
 abbrev pub invariant-loop-number : goal.invariant-loop-number
 invariant-loop-number g l =
-    (map (λ n. record { who = n.cell.value.who; queue = n.take.value.queue; turns = n.take.value.turns }) l.directory.items
+    (map (λ n. record { who = n.cell.value.who; queue = n.take.value.queue; discipline = n.take.value.discipline }) l.directory.items
     ++ directory_of (whose (drop l.number l.cells)) (drop l.number l.takes) ≡ directory_of (whose l.cells) l.takes)
     × (length l.directory.items ≡ l.number) × (vec_capacity l.directory ≡ length l.cells)

@@ -1,6 +1,6 @@
 use Rattle.std.proofs.Common.{◌≡◌, ◌+◌, ◌∷◌, length, map, drop, sym, ap, ◌∙◌, subst, arith}
 use Rattle.mb_build.specs.NewHomes.{AreAtFirst, directory_of}
-use Rattle.mb_build.specs.Kinds.{AreQueues}
+use Rattle.mb_build.specs.Kinds.{AreKindsOf}
 use Rattle.mb_build.specs.Made.{AreAllMade, AreMade}
 use Rattle.mb_build.specs.Numbers.{sender_numbers}
 use Rattle.mb_build.proofs.HomeLemmas.{all-made, whose}
@@ -12,9 +12,9 @@ use Rattle.mb_build.proofs.homes.make_homes.Goals as goal
 pub make_queues-requires : goal.make_queues-requires
 make_queues-requires g c =
     let plans = c.args.plans.items in let kinds = c.in_ok-kinds.kinds.items in
-    let are : AreQueues plans kinds = subst (λ l. AreQueues l kinds) c.deref.ensures.value c.in_ok-kinds.ensures in
-    let many = length-queues plans kinds are in let few = c.requires.few.0 in record {
-      few = (omega (arith, many, few), c.requires.few.1);
+    let are : AreKindsOf plans kinds = subst (λ l. AreKindsOf l kinds) c.deref.ensures.value c.in_ok-kinds.ensures in
+    let many = length-queues plans kinds are in let few = c.requires.within_limit.0 in record {
+      within_limit = (omega (arith, many, few), c.requires.within_limit.1);
       kinds = all-makeable 1 plans kinds c.requires.right.1 are;
     }
 
@@ -25,20 +25,20 @@ make_directory-requires g c =
     let are = cells-of c.args.journal_limit plans c.in_ok-cells.cells.items c.in_ok-cells.ensures in
     let all = all-made kinds numbers takes _ c.in_ok-queues.ensures in
     let cells : length c.deref-2.result.now ≡ length plans + 1 = ap length c.deref-2.ensures.value ∙ are.count in
-    let ways : length c.deref-3.result.now ≡ length takes = ap length c.deref-3.ensures.value in
+    let as_many : length c.deref-3.result.now ≡ length takes = ap length c.deref-3.ensures.value in
     let whole = ap length all.2 in let queues = as-many kinds 1 numbers all.1 all.3.empty in
-    let many = length-queues plans kinds (subst (λ l. AreQueues l kinds) c.deref.ensures.value c.in_ok-kinds.ensures) in
-    omega (arith, cells, ways, whole, queues, many)
+    let many = length-queues plans kinds (subst (λ l. AreKindsOf l kinds) c.deref.ensures.value c.in_ok-kinds.ensures) in
+    omega (arith, cells, as_many, whole, queues, many)
 
 pub homes-requires : goal.homes-requires
 homes-requires g c =
     let plans = c.args.plans.items in let kinds = c.in_ok-kinds.kinds.items in let cells = c.in_ok-cells.cells.items in
     let takes = c.in_ok-queues.queues.takes.items in let rows = map (λ row. row.items) c.in_ok-queues.queues.senders.items in
     let are = cells-of c.args.journal_limit plans cells c.in_ok-cells.ensures in
-    let many = length-queues plans kinds (subst (λ l. AreQueues l kinds) c.deref.ensures.value c.in_ok-kinds.ensures) in
-    let few = c.requires.few.0 in let whole = are.count in
+    let many = length-queues plans kinds (subst (λ l. AreKindsOf l kinds) c.deref.ensures.value c.in_ok-kinds.ensures) in
+    let few = c.requires.within_limit.0 in let whole = are.count in
     let count : length cells ≡ length kinds + 1 = omega (arith, whole, many) in record {
-      few = omega (arith, whole, few);
+      within_limit = omega (arith, whole, few);
       cells = (are.unused, planned-cells c.args.journal_limit plans cells are c.requires.right.0 c.ranges.journal_limit.fits);
       made = (
         kinds,
@@ -54,7 +54,7 @@ pub returns : goal.returns
 returns g c =
     let plans = c.args.plans.items in let kinds = c.in_ok-kinds.kinds.items in let cells = c.in_ok-cells.cells.items in
     let rows = map (λ row. row.items) c.in_ok-queues.queues.senders.items in let limit = c.args.journal_limit in
-    let queues = subst (λ l. AreQueues l kinds) c.deref.ensures.value c.in_ok-kinds.ensures in
+    let queues = subst (λ l. AreKindsOf l kinds) c.deref.ensures.value c.in_ok-kinds.ensures in
     let all = all-made kinds (sender_numbers (length kinds + 1) c.args.senders) c.in_ok-queues.queues.takes.items rows c.in_ok-queues.ensures in
     let guardian = all.0 in let takes = all.1 in
     let are = cells-of limit plans cells c.in_ok-cells.ensures in

@@ -1,5 +1,5 @@
 use Rattle.std.proofs.Common.{◌+◌, ◌∷◌, [], length, length-append, sym, ap, subst, ◌∙◌}
-use Rattle.mb_build.specs.Kinds.{AreQueues, Queues}
+use Rattle.mb_build.specs.Kinds.{AreKindsOf, IsKindOf}
 use Rattle.mb_build.proofs.KindLemmas.{queues-next}
 use Rattle.mb_build.proofs.planned.kinds_of.Goals as goal
 
@@ -7,11 +7,11 @@ pub loop-plan-preserved : goal.loop-plan-preserved
 loop-plan-preserved c =
     let at = c.loop-plan in let kind = c.in_ok-kind.kind in let new = c.push_reserved.new.self.items in (
       queues-next c.args.plans.now at.plan-index c.plan-item.result at.kinds.items new kind c.loop-plan-test.true at.invariant.0
-          (subst (λ a. Queues a.mailbox kind) c.plan-item.is c.in_ok-kind.ensures) c.push_reserved.ensures.items,
+          (subst (λ a. IsKindOf a.mailbox kind) c.plan-item.is c.in_ok-kind.ensures) c.push_reserved.ensures.items,
       ap length c.push_reserved.ensures.items ∙ length-append at.kinds.items (kind ∷ []) ∙ ap (λ n. n + 1) at.invariant.1,
       c.push_reserved.ensures.capacity ∙ at.invariant.2,
     )
 
 pub loop-plan-init : goal.loop-plan-init
 loop-plan-init c =
-    let none = c.in_ok-kinds.ensures.items in (subst (AreQueues []) (sym none) tt, ap length none, c.in_ok-kinds.ensures.exact)
+    let none = c.in_ok-kinds.ensures.items in (subst (AreKindsOf []) (sym none) tt, ap length none, c.in_ok-kinds.ensures.exact)

@@ -3,10 +3,10 @@ use Rattle.mb_build.proofs.queues.add_queue.Goals as goal
 
 pub overflow_cast-to : goal.overflow_cast-to
 overflow_cast-to c =
-    let here : c.len.result ≡ length c.args.takes.now.items = search rules in let few = c.requires.few in omega (arith, here, few)
+    let here : c.len.result ≡ length c.args.takes.now.items = search rules in let few = c.requires.within_limit in omega (arith, here, few)
 
-pub returns-in_err-take-clause-many : goal.returns-in_err-take-clause-many
-returns-in_err-take-clause-many c = refl
+pub returns-in_err-take-clause-same_count : goal.returns-in_err-take-clause-same_count
+returns-in_err-take-clause-same_count c = refl
 
-pub returns-in_err-push-clause-many : goal.returns-in_err-push-clause-many
-returns-in_err-push-clause-many c = refl
+pub returns-in_err-push-clause-same_count : goal.returns-in_err-push-clause-same_count
+returns-in_err-push-clause-same_count c = refl

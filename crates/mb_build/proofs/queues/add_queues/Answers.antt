@@ -14,18 +14,18 @@ loop-kind-init c =
     let all = c.into_iter-kind-iterator.ensures.into_iter_gives.0 in
     ([], sym (append-nil c.args.takes.now.items), tt, c.requires.none, all, subst (All IsMakeable) (sym all) c.requires.kinds)
 
-pub add_queue-requires-clause-few : goal.add_queue-requires-clause-few
-add_queue-requires-clause-few c =
+pub add_queue-requires-clause-within_limit : goal.add_queue-requires-clause-within_limit
+add_queue-requires-clause-within_limit c =
     let at = c.loop-kind in let kind = c.in-Some.kind in let rest = into_iter_items c.next.new.self in
     let steps : into_iter_items at.kind-iterator ≡ kind ∷ rest = c.in-Some.ensures.steps.0 in
     let whole = ap length (ap (λ l. at.yielded ++ l) (sym steps) ∙ at.invariant.4) in let sum = length-append at.yielded (kind ∷ rest) in
     let many = as-many at.yielded 1 (numbers_of c.args.senders.now) at.invariant.0 at.invariant.2 in
-    let taken = ap length at.invariant.1 in let both = length-append c.args.takes.now.items at.invariant.0 in let few = c.requires.few in
+    let taken = ap length at.invariant.1 in let both = length-append c.args.takes.now.items at.invariant.0 in let few = c.requires.within_limit in
     let one = few.0 in let most = few.1 in
     omega (arith, whole, sum, many, taken, both, one, most)
 
-pub add_queue-requires-clause-many : goal.add_queue-requires-clause-many
-add_queue-requires-clause-many c =
+pub add_queue-requires-clause-same_count : goal.add_queue-requires-clause-same_count
+add_queue-requires-clause-same_count c =
     let at = c.loop-kind in let senders = c.args.senders.now in
     sym (length-map at.rows (λ r. r.items)) ∙ ap length at.invariant.3
     ∙ length-map (numbers_of senders) (passes_of at.invariant.0) ∙ length-map senders (λ s. s.0)
@@ -37,7 +37,7 @@ loop-kind-preserved c =
     let more = at.invariant.0 in let before = c.args.takes.now.items in
     let steps : into_iter_items at.kind-iterator ≡ kind ∷ rest = c.in-Some.ensures.steps.0 in
     let many = as-many at.yielded 1 senders more at.invariant.2 in let taken = ap length at.invariant.1 in
-    let both = length-append before more in let one = c.requires.few.0 in
+    let both = length-append before more in let one = c.requires.within_limit.0 in
     let number : length at.takes.items ≡ 1 + length at.yielded = omega (arith, many, taken, both, one) in (
       more ++ take ∷ [],
       made.1 ∙ ap (λ l. l ++ take ∷ []) at.invariant.1 ∙ append_assoc before more (take ∷ []),

@@ -7,12 +7,12 @@ use Rattle.mb_build.proofs.NumberLemmas.{senders-different}
 use Rattle.mb_build.proofs.QueueLemmas.{all-made-of, refilled, unhanded}
 use Rattle.mb_build.proofs.queues.make_queues.Goals as goal
 
-pub add_queues-requires-clause-few : goal.add_queues-requires-clause-few
-add_queues-requires-clause-few c = (ap length c.in_ok-queues.ensures.0.1, c.requires.few.0)
+pub add_queues-requires-clause-within_limit : goal.add_queues-requires-clause-within_limit
+add_queues-requires-clause-within_limit c = (ap length c.in_ok-queues.ensures.0.1, c.requires.within_limit.0)
 
 pub add_queues-requires-clause-distinct : goal.add_queues-requires-clause-distinct
 add_queues-requires-clause-distinct c =
-    let few = c.requires.few.0 in
+    let few = c.requires.within_limit.0 in
     let count : c.len.result ≡ length c.args.kinds.items = search rules in
     subst (AllPairs (λ (a b : ℕ). a ≢ b)) (sym (ap numbers_of c.deref.ensures.value ∙ c.in_ok-senders.ensures))
     (senders-different (c.len.result + 1) c.args.outside (omega (arith, few, count)))
@@ -32,6 +32,6 @@ returns c =
     let count : c.len.result ≡ length c.args.kinds.items = search rules in
     let who : numbers ≡ sender_numbers (length c.args.kinds.items + 1) c.args.outside =
     ap numbers_of c.deref.ensures.value ∙ c.in_ok-senders.ensures ∙ ap (λ n. sender_numbers (n + 1) c.args.outside) count in
-    let rows = ap (map (λ r. r.items)) (refilled old.len old.items new (c.add_queues.ensures.many ∙ c.deref_mut.ensures.len)) ∙ made.3 in
+    let rows = ap (map (λ r. r.items)) (refilled old.len old.items new (c.add_queues.ensures.same_count ∙ c.deref_mut.ensures.len)) ∙ made.3 in
     all-made-of c.args.kinds.items numbers _ first.0 c.add_queues.new.takes.items made.0 _
     (made.1 ∙ ap (λ l. l ++ made.0) first.1) first.2 made.2 rows who

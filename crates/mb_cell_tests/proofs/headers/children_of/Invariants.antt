@@ -5,6 +5,6 @@ use Rattle.mb_cell_tests.proofs.headers.children_of.Given as goal
 
 abbrev pub invariant-loop-id : goal.invariant-loop-id
 invariant-loop-id l = record {
-  few : vec_len l.children ≤ l.id;
+  within_limit : vec_len l.children ≤ l.id;
   numbered : All (λ x. x.0 < most_actors) l.children.items;
 }

@@ -18,7 +18,7 @@ returns-clause-sent g c =
     let discharged = c.retry_refused.ensures in let gates = c.args.system.now.gates in
     let orders = c.args.orders.now in let old = c.args.sender.now in let new = c.retry_refused.new.self in
     let both : OwesNobody gates new → HasSent orders old new × OwesNobody gates new =
-    λ nobody. (sent-still orders old c.send_all.new.sender new discharged.same.1 discharged.same.0 discharged.saw c.in_ok-send_all.ensures.sent, nobody) in
+    λ nobody. (sent-still orders old c.send_all.new.sender new discharged.same.1 discharged.same.0 discharged.log_kept c.in_ok-send_all.ensures.sent, nobody) in
     on_ok_weaker _ both discharged.done
 
 pub returns-clause-obligations : goal.returns-clause-obligations
@@ -27,14 +27,14 @@ returns-clause-obligations g c =
     (obligations-then (actors_of c.args.system.now.gates) (sender_caller c.args.sender.now.inner.registrar) (sender_caller c.send_all.new.sender.inner.registrar)
     (sender_caller c.retry_refused.new.self.inner.registrar) c.in_ok-send_all.ensures.obligations c.retry_refused.ensures.obligations)
 
-pub returns-clause-ours : goal.returns-clause-ours
-returns-clause-ours g c = c.retry_refused.ensures.ours
+pub returns-clause-same_gates : goal.returns-clause-same_gates
+returns-clause-same_gates g c = c.retry_refused.ensures.same_gates
 
 pub returns-clause-by : goal.returns-clause-by
 returns-clause-by g c = c.retry_refused.ensures.by ∙ c.send_all.ensures.by
 
-pub returns-in_err-send_all-clause-ours : goal.returns-in_err-send_all-clause-ours
-returns-in_err-send_all-clause-ours g c = c.send_all.ensures.ours
+pub returns-in_err-send_all-clause-same_gates : goal.returns-in_err-send_all-clause-same_gates
+returns-in_err-send_all-clause-same_gates g c = c.send_all.ensures.same_gates
 
 pub returns-in_err-send_all-clause-by : goal.returns-in_err-send_all-clause-by
 returns-in_err-send_all-clause-by g c = c.send_all.ensures.by

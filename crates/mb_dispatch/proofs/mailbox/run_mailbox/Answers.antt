@@ -1,17 +1,17 @@
 use Rattle.std.proofs.Common.{refl}
 use Rattle.mb_dispatch.proofs.mailbox.run_mailbox.Goals as goal
 
-pub run_mailbox-requires-clause-ours : goal.run_mailbox-requires-clause-ours
-run_mailbox-requires-clause-ours g c = c.requires.ours
+pub run_mailbox-requires-clause-same_gates : goal.run_mailbox-requires-clause-same_gates
+run_mailbox-requires-clause-same_gates g c = c.requires.same_gates
 
 pub run_mailbox-requires-clause-untouched : goal.run_mailbox-requires-clause-untouched
 run_mailbox-requires-clause-untouched g c = c.requires.untouched
 
-pub run_mailbox-requires-clause-many : goal.run_mailbox-requires-clause-many
-run_mailbox-requires-clause-many g c = c.args.system.now.directory
+pub run_mailbox-requires-clause-same_count : goal.run_mailbox-requires-clause-same_count
+run_mailbox-requires-clause-same_count g c = c.args.system.now.directory
 
-pub returns-clause-ours : goal.returns-clause-ours
-returns-clause-ours g c = c.run_mailbox.ensures.ours
+pub returns-clause-same_gates : goal.returns-clause-same_gates
+returns-clause-same_gates g c = c.run_mailbox.ensures.same_gates
 
 pub returns-clause-leaves : goal.returns-clause-leaves
 returns-clause-leaves g c = c.run_mailbox.ensures.caller_advances

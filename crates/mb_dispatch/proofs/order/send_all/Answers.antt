@@ -16,7 +16,7 @@ use Rattle.mb_dispatch.proofs.order.send_all.Goals as goal
 pub loop-order-init : goal.loop-order-init
 loop-order-init g c =
     let first = c.args.sender.now in let caller = sender_caller first.inner.registrar in (
-      c.requires.ours,
+      c.requires.same_gates,
       sent-none first,
       obligations-same (actors_of c.args.system.now.gates) caller caller refl refl,
       account-none caller.account,
@@ -25,7 +25,7 @@ loop-order-init g c =
 pub loop-order-preserved : goal.loop-order-preserved
 loop-order-preserved g c =
     let at = c.loop-order in let one = c.in_ok-send_often.ensures in (
-      c.send_often.ensures.ours,
+      c.send_often.ensures.same_gates,
       subst (λ xs. HasSent xs c.args.sender.now c.send_often.new.sender)
           (sym (take_more c.args.orders.now at.order-index _ c.loop-order-test.true))
           (sent-then _ _ _ _ _ at.invariant.1 one.sent),
@@ -34,8 +34,8 @@ loop-order-preserved g c =
       account-then _ _ _ at.invariant.3 c.send_often.ensures.owed,
     )
 
-pub returns-clause-ours : goal.returns-clause-ours
-returns-clause-ours g c = c.loop-order.invariant.0
+pub returns-clause-same_gates : goal.returns-clause-same_gates
+returns-clause-same_gates g c = c.loop-order.invariant.0
 
 pub returns-clause-by : goal.returns-clause-by
 returns-clause-by g c = c.loop-order.invariant.1.by
@@ -46,8 +46,8 @@ returns-clause-obligations g c = c.loop-order.invariant.2
 pub returns-clause-fault : goal.returns-clause-fault
 returns-clause-fault g c = tt
 
-pub returns-in_err-send_often-clause-ours : goal.returns-in_err-send_often-clause-ours
-returns-in_err-send_often-clause-ours g c = c.send_often.ensures.ours
+pub returns-in_err-send_often-clause-same_gates : goal.returns-in_err-send_often-clause-same_gates
+returns-in_err-send_often-clause-same_gates g c = c.send_often.ensures.same_gates
 
 pub returns-in_err-send_often-clause-by : goal.returns-in_err-send_often-clause-by
 returns-in_err-send_often-clause-by g c = c.send_often.ensures.by ∙ c.loop-order.invariant.1.by

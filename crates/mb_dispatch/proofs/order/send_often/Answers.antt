@@ -14,7 +14,7 @@ use Rattle.mb_dispatch.proofs.order.send_often.Goals as goal
 pub loop-init : goal.loop-init
 loop-init g c =
     let first = c.args.sender.now in let caller = sender_caller first.inner.registrar in (
-      c.requires.ours,
+      c.requires.same_gates,
       sent-never c.args.order.to c.args.order.what first,
       obligations-same (actors_of c.args.system.now.gates) caller caller refl refl,
       account-none caller.account,
@@ -23,15 +23,15 @@ loop-init g c =
 pub loop-preserved : goal.loop-preserved
 loop-preserved g c =
     let one = c.in_ok-send.ensures in (
-      c.send.ensures.ours,
+      c.send.ensures.same_gates,
       sent-again c.args.order.to c.args.order.what c.loop.counter c.args.sender.now c.loop.sender c.send.new.sender c.loop.invariant.1 one.sent,
       obligations-then (actors_of c.args.system.now.gates) (sender_caller c.args.sender.now.inner.registrar) (sender_caller c.loop.sender.inner.registrar)
           (sender_caller c.send.new.sender.inner.registrar) c.loop.invariant.2 one.obligations,
       account-then _ _ _ c.loop.invariant.3 c.send.ensures.owed,
     )
 
-pub returns-clause-ours : goal.returns-clause-ours
-returns-clause-ours g c = c.loop.invariant.0
+pub returns-clause-same_gates : goal.returns-clause-same_gates
+returns-clause-same_gates g c = c.loop.invariant.0
 
 pub returns-clause-sent : goal.returns-clause-sent
 returns-clause-sent g c =
@@ -48,8 +48,8 @@ returns-clause-obligations g c = c.loop.invariant.2
 pub returns-clause-fault : goal.returns-clause-fault
 returns-clause-fault g c = tt
 
-pub returns-in_err-send-clause-ours : goal.returns-in_err-send-clause-ours
-returns-in_err-send-clause-ours g c = c.send.ensures.ours
+pub returns-in_err-send-clause-same_gates : goal.returns-in_err-send-clause-same_gates
+returns-in_err-send-clause-same_gates g c = c.send.ensures.same_gates
 
 pub returns-in_err-send-clause-by : goal.returns-in_err-send-clause-by
 returns-in_err-send-clause-by g c = c.send.ensures.by ∙ c.loop.invariant.1.by

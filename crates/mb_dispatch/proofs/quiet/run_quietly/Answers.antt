@@ -14,13 +14,13 @@ use Rattle.mb_dispatch.proofs.quiet.run_quietly.Goals as goal
 
 pub loop-init : goal.loop-init
 loop-init g c =
-    let did = c.register_all.ensures in (did.ours, did.number, did.saw, did.discharged)
+    let did = c.register_all.ensures in (did.same_gates, did.number, did.log_kept, did.discharged)
 
 pub loop-preserved-in-Some-take : goal.loop-preserved-in-Some-take
 loop-preserved-in-Some-take g c =
     let did = c.run_one.ensures in let same = c.take.ensures.same in let actors = actors_of c.args.system.now.gates in
     let old = end_caller c.loop.end.registrar in let between = end_caller c.take.new.self.registrar in let new = end_caller c.run_one.new.end.registrar in (
-      did.ours,
+      did.same_gates,
       did.number ∙ same.3 ∙ c.loop.invariant.1,
       saw-then _ _ _ c.loop.invariant.2
           (subst (λ p. IsPart (pass_view p).log (pass_view c.run_one.new.end.registrar.pass).log) same.0 did.leaves.log),
@@ -33,23 +33,23 @@ pub loop-preserved : goal.loop-preserved
 loop-preserved g c =
     let did = c.retry_refused.ensures in let same = c.take.ensures.same in let actors = actors_of c.args.system.now.gates in
     let old = end_caller c.loop.end.registrar in let between = end_caller c.take.new.self.registrar in let new = end_caller c.retry_refused.new.self.registrar in (
-      did.ours,
+      did.same_gates,
       did.number ∙ same.3 ∙ c.loop.invariant.1,
-      saw-then _ _ _ c.loop.invariant.2 (subst (λ p. IsPart (pass_view p).log (pass_view c.retry_refused.new.self.registrar.pass).log) same.0 did.saw),
+      saw-then _ _ _ c.loop.invariant.2 (subst (λ p. IsPart (pass_view p).log (pass_view c.retry_refused.new.self.registrar.pass).log) same.0 did.log_kept),
       discharged-still actors between new
           (discharged-still actors old between c.loop.invariant.3 (obligations-same actors old between (ap pass_view same.0) same.1))
           did.obligations,
     )
 
-pub returns-in_err-run_one-in-Some-take-clause-saw : goal.returns-in_err-run_one-in-Some-take-clause-saw
-returns-in_err-run_one-in-Some-take-clause-saw g c =
+pub returns-in_err-run_one-in-Some-take-clause-log_kept : goal.returns-in_err-run_one-in-Some-take-clause-log_kept
+returns-in_err-run_one-in-Some-take-clause-log_kept g c =
     saw-then _ _ _ c.loop.invariant.2
     (subst (λ p. IsPart (pass_view p).log (pass_view c.run_one.new.end.registrar.pass).log) c.take.ensures.same.0 c.run_one.ensures.leaves.log)
 
-pub returns-in_err-retry_refused-in-None-take-clause-saw : goal.returns-in_err-retry_refused-in-None-take-clause-saw
-returns-in_err-retry_refused-in-None-take-clause-saw g c =
+pub returns-in_err-retry_refused-in-None-take-clause-log_kept : goal.returns-in_err-retry_refused-in-None-take-clause-log_kept
+returns-in_err-retry_refused-in-None-take-clause-log_kept g c =
     saw-then _ _ _ c.loop.invariant.2
-    (subst (λ p. IsPart (pass_view p).log (pass_view c.retry_refused.new.self.registrar.pass).log) c.take.ensures.same.0 c.retry_refused.ensures.saw)
+    (subst (λ p. IsPart (pass_view p).log (pass_view c.retry_refused.new.self.registrar.pass).log) c.take.ensures.same.0 c.retry_refused.ensures.log_kept)
 
 pub returns-in_err-run_one-in-Some-take-clause-obligations : goal.returns-in_err-run_one-in-Some-take-clause-obligations
 returns-in_err-run_one-in-Some-take-clause-obligations g c =
@@ -83,16 +83,16 @@ returns-then-is_empty-clause-settled g c =
     owes-nothing actors new (discharged-still actors old new c.loop.invariant.3 (obligations-same actors old new (ap pass_view same.0) same.1))
     (λ id lt. c.is_empty.ensures.nobody c.if-is_empty.true id)
 
-pub run_one-requires-clause-ours : goal.run_one-requires-clause-ours
-run_one-requires-clause-ours g c =
+pub run_one-requires-clause-same_gates : goal.run_one-requires-clause-same_gates
+run_one-requires-clause-same_gates g c =
     let same = c.take.ensures.same in let ours = c.loop.invariant.0 in (ap pass_id same.0 ∙ ours.0, same.2 ∙ ours.1, ours.2)
 
 pub run_one-requires-clause-untouched : goal.run_one-requires-clause-untouched
 run_one-requires-clause-untouched g c =
     subst (λ (o : Option (Origin (Box Contents))). IsFreshClaim g.K.Behaviours.gives o c.in-Some-take.claim) c.loop.invariant.0.1 c.in-Some-take.ensures.fit
 
-pub returns-then-is_err-clause-ours : goal.returns-then-is_err-clause-ours
-returns-then-is_err-clause-ours g c = c.loop.invariant.0
+pub returns-then-is_err-clause-same_gates : goal.returns-then-is_err-clause-same_gates
+returns-then-is_err-clause-same_gates g c = c.loop.invariant.0
 
 pub returns-then-is_err-clause-discharged : goal.returns-then-is_err-clause-discharged
 returns-then-is_err-clause-discharged g c = tt
@@ -109,27 +109,27 @@ returns-then-is_err-clause-empty g c = tt
 pub returns-then-is_err-clause-number : goal.returns-then-is_err-clause-number
 returns-then-is_err-clause-number g c = c.loop.invariant.1
 
-pub returns-then-is_err-clause-saw : goal.returns-then-is_err-clause-saw
-returns-then-is_err-clause-saw g c = c.loop.invariant.2
+pub returns-then-is_err-clause-log_kept : goal.returns-then-is_err-clause-log_kept
+returns-then-is_err-clause-log_kept g c = c.loop.invariant.2
 
 pub returns-then-is_err-clause-fault : goal.returns-then-is_err-clause-fault
 returns-then-is_err-clause-fault g c = tt
 
-pub returns-in_err-run_one-in-Some-take-clause-ours : goal.returns-in_err-run_one-in-Some-take-clause-ours
-returns-in_err-run_one-in-Some-take-clause-ours g c = c.run_one.ensures.ours
+pub returns-in_err-run_one-in-Some-take-clause-same_gates : goal.returns-in_err-run_one-in-Some-take-clause-same_gates
+returns-in_err-run_one-in-Some-take-clause-same_gates g c = c.run_one.ensures.same_gates
 
 pub returns-in_err-run_one-in-Some-take-clause-number : goal.returns-in_err-run_one-in-Some-take-clause-number
 returns-in_err-run_one-in-Some-take-clause-number g c =
     c.run_one.ensures.number ∙ c.take.ensures.same.3 ∙ c.loop.invariant.1
 
-pub returns-in_err-retry_refused-in-None-take-clause-ours : goal.returns-in_err-retry_refused-in-None-take-clause-ours
-returns-in_err-retry_refused-in-None-take-clause-ours g c = c.retry_refused.ensures.ours
+pub returns-in_err-retry_refused-in-None-take-clause-same_gates : goal.returns-in_err-retry_refused-in-None-take-clause-same_gates
+returns-in_err-retry_refused-in-None-take-clause-same_gates g c = c.retry_refused.ensures.same_gates
 
 pub returns-in_err-retry_refused-in-None-take-clause-number : goal.returns-in_err-retry_refused-in-None-take-clause-number
 returns-in_err-retry_refused-in-None-take-clause-number g c = c.retry_refused.ensures.number ∙ c.take.ensures.same.3 ∙ c.loop.invariant.1
 
-pub returns-then-is_empty-clause-ours : goal.returns-then-is_empty-clause-ours
-returns-then-is_empty-clause-ours g c =
+pub returns-then-is_empty-clause-same_gates : goal.returns-then-is_empty-clause-same_gates
+returns-then-is_empty-clause-same_gates g c =
     let same = c.take.ensures.same in let ours = c.loop.invariant.0 in (ap pass_id same.0 ∙ ours.0, same.2 ∙ ours.1, ours.2)
 
 pub returns-then-is_empty-clause-discharged : goal.returns-then-is_empty-clause-discharged
@@ -138,8 +138,8 @@ returns-then-is_empty-clause-discharged g c = c.is_empty.ensures.nobody c.if-is_
 pub returns-then-is_empty-clause-number : goal.returns-then-is_empty-clause-number
 returns-then-is_empty-clause-number g c = c.take.ensures.same.3 ∙ c.loop.invariant.1
 
-pub returns-then-is_empty-clause-saw : goal.returns-then-is_empty-clause-saw
-returns-then-is_empty-clause-saw g c =
+pub returns-then-is_empty-clause-log_kept : goal.returns-then-is_empty-clause-log_kept
+returns-then-is_empty-clause-log_kept g c =
     subst (λ p. IsPart (pass_view c.args.end.now.registrar.pass).log (pass_view p).log) (sym c.take.ensures.same.0) c.loop.invariant.2
 
 pub returns-then-is_empty-clause-fault : goal.returns-then-is_empty-clause-fault

@@ -10,12 +10,12 @@ use Rattle.mb_dispatch.proofs.running.register_by_first.Goals as goal
 pub returns-in-Some-clause-ends : goal.returns-in-Some-clause-ends
 returns-in-Some-clause-ends g c =
     first_changed c.args.system.now.gates c.args.ends.now c.in-Some.first.now c.register_all.new.self c.in-Some.ensures.item.1 c.requires
-    c.register_all.ensures.ours c.register_all.ensures.number
+    c.register_all.ensures.same_gates c.register_all.ensures.number
 
-pub returns-in-Some-clause-saw : goal.returns-in-Some-clause-saw
-returns-in-Some-clause-saw g c =
+pub returns-in-Some-clause-log_kept : goal.returns-in-Some-clause-log_kept
+returns-in-Some-clause-log_kept g c =
     zip_first _ (λ x. saw-same (pass_view x.registrar.pass).log) c.args.ends.now c.in-Some.first.now c.register_all.new.self
-    c.in-Some.ensures.item.1 c.register_all.ensures.saw
+    c.in-Some.ensures.item.1 c.register_all.ensures.log_kept
 
 pub returns-in-Some-clause-obligations : goal.returns-in-Some-clause-obligations
 returns-in-Some-clause-obligations g c =

@@ -55,9 +55,9 @@ returns-clause-fault g c =
     err_of _ of.1 of.0 c.first_error.result c.first_error.ensures (IfErr-weaker _ _ _ (λ fault. breaks-by-end _ _ _ _ _ fault) fails.1)
     (IfErr-weaker _ _ _ (λ fault. breaks-by-job _ _ _ _ _ fault) fails.0)
 
-pub returns-clause-saw : goal.returns-clause-saw
-returns-clause-saw g c =
-    zip_then _ _ _ (λ x y z saw kept. saw-then _ _ _ saw kept.2) _ _ _ c.register_by_first.ensures.saw c.both_in_parallel-of_jobs.ensures.keeps.1
+pub returns-clause-log_kept : goal.returns-clause-log_kept
+returns-clause-log_kept g c =
+    zip_then _ _ _ (λ x y z saw kept. saw-then _ _ _ saw kept.2) _ _ _ c.register_by_first.ensures.log_kept c.both_in_parallel-of_jobs.ensures.keeps.1
 
 pub returns-clause-obligations : goal.returns-clause-obligations
 returns-clause-obligations g c =
@@ -83,8 +83,8 @@ returns-clause-settled g c =
 pub register_by_first-requires : goal.register_by_first-requires
 register_by_first-requires g c = c.requires.ends
 
-pub both_in_parallel-of_jobs-requires-clause-these : goal.both_in_parallel-of_jobs-requires-clause-these
-both_in_parallel-of_jobs-requires-clause-these g c κs within = c.requires.jobs
+pub both_in_parallel-of_jobs-requires-clause-same_origin : goal.both_in_parallel-of_jobs-requires-clause-same_origin
+both_in_parallel-of_jobs-requires-clause-same_origin g c κs within = c.requires.jobs
 
 pub both_in_parallel-of_jobs-requires-clause-those : goal.both_in_parallel-of_jobs-requires-clause-those
 both_in_parallel-of_jobs-requires-clause-those g c κs within = c.register_by_first.ensures.ends.0

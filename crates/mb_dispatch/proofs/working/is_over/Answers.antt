@@ -14,8 +14,8 @@ use Rattle.mb_system.proofs.Obligations.{obligations-left, obligations-same, obl
 use Rattle.mb_dispatch.specs.Found.{FoundPoolEmpty}
 use Rattle.mb_dispatch.proofs.working.is_over.Goals as goal
 
-pub returns-then-is_over-clause-saw : goal.returns-then-is_over-clause-saw
-returns-then-is_over-clause-saw g c =
+pub returns-then-is_over-clause-log_kept : goal.returns-then-is_over-clause-log_kept
+returns-then-is_over-clause-log_kept g c =
     subst (λ p. IsPart (pass_view c.args.end.now.registrar.pass).log (pass_view p).log) (sym (c.take.ensures.same.0 ∙ c.loop.invariant.3)) (saw-same _)
 
 pub returns-then-is_over-clause-empty : goal.returns-then-is_over-clause-empty
@@ -23,23 +23,23 @@ returns-then-is_over-clause-empty g c =
     let none = c.in_default.ensures.none in λ over. subst (FoundPoolEmpty g.K.Behaviours.gives) (sym none.0) none.1
 
 pub loop-init : goal.loop-init
-loop-init g c = (c.requires.ours, refl, refl, refl)
+loop-init g c = (c.requires.same_gates, refl, refl, refl)
 
 pub loop-preserved : goal.loop-preserved
 loop-preserved g c =
     let same = c.take.ensures.same in let at = c.loop.invariant in
     ((ap pass_id same.0 ∙ at.0.0, same.2 ∙ at.0.1, at.0.2), same.3 ∙ at.1, same.1 ∙ at.2, same.0 ∙ at.3)
 
-pub run_one-requires-clause-ours : goal.run_one-requires-clause-ours
-run_one-requires-clause-ours g c =
+pub run_one-requires-clause-same_gates : goal.run_one-requires-clause-same_gates
+run_one-requires-clause-same_gates g c =
     let same = c.take.ensures.same in let ours = c.loop.invariant.0 in (ap pass_id same.0 ∙ ours.0, same.2 ∙ ours.1, ours.2)
 
 pub run_one-requires-clause-untouched : goal.run_one-requires-clause-untouched
 run_one-requires-clause-untouched g c =
     subst (λ (o : Option (Origin (Box Contents))). IsFreshClaim g.K.Behaviours.gives o c.in-Some-take.claim) c.loop.invariant.0.1 c.in-Some-take.ensures.fit
 
-pub returns-then-is_over-clause-ours : goal.returns-then-is_over-clause-ours
-returns-then-is_over-clause-ours g c =
+pub returns-then-is_over-clause-same_gates : goal.returns-then-is_over-clause-same_gates
+returns-then-is_over-clause-same_gates g c =
     let same = c.take.ensures.same in let ours = c.loop.invariant.0 in (ap pass_id same.0 ∙ ours.0, same.2 ∙ ours.1, ours.2)
 
 pub returns-then-is_over-clause-number : goal.returns-then-is_over-clause-number
@@ -56,11 +56,11 @@ pub returns-then-is_over-clause-discharged : goal.returns-then-is_over-clause-di
 returns-then-is_over-clause-discharged g c =
     λ over id lt. ap (λ o. is_owed o id) (c.take.ensures.same.1 ∙ c.loop.invariant.2) ∙ c.requires.discharged id lt
 
-pub returns-in-Some-take-clause-ours : goal.returns-in-Some-take-clause-ours
-returns-in-Some-take-clause-ours g c = c.run_one.ensures.ours
+pub returns-in-Some-take-clause-same_gates : goal.returns-in-Some-take-clause-same_gates
+returns-in-Some-take-clause-same_gates g c = c.run_one.ensures.same_gates
 
-pub returns-in_err-run_one-clause-ours : goal.returns-in_err-run_one-clause-ours
-returns-in_err-run_one-clause-ours g c = c.run_one.ensures.ours
+pub returns-in_err-run_one-clause-same_gates : goal.returns-in_err-run_one-clause-same_gates
+returns-in_err-run_one-clause-same_gates g c = c.run_one.ensures.same_gates
 
 pub returns-in-Some-take-clause-number : goal.returns-in-Some-take-clause-number
 returns-in-Some-take-clause-number g c = c.run_one.ensures.number ∙ c.take.ensures.same.3 ∙ c.loop.invariant.1
@@ -84,12 +84,12 @@ returns-in_err-run_one-clause-obligations g c =
     obligations-then actors first between new (obligations-same actors first between (ap pass_view (same.0 ∙ at.3)) (same.1 ∙ at.2))
     (obligations-left actors between new c.run_one.ensures.leaves)
 
-pub returns-in-Some-take-clause-saw : goal.returns-in-Some-take-clause-saw
-returns-in-Some-take-clause-saw g c =
+pub returns-in-Some-take-clause-log_kept : goal.returns-in-Some-take-clause-log_kept
+returns-in-Some-take-clause-log_kept g c =
     subst (λ p. IsPart (pass_view p).log (pass_view c.run_one.new.end.registrar.pass).log) (c.take.ensures.same.0 ∙ c.loop.invariant.3) c.run_one.ensures.leaves.log
 
-pub returns-in_err-run_one-clause-saw : goal.returns-in_err-run_one-clause-saw
-returns-in_err-run_one-clause-saw g c =
+pub returns-in_err-run_one-clause-log_kept : goal.returns-in_err-run_one-clause-log_kept
+returns-in_err-run_one-clause-log_kept g c =
     subst (λ p. IsPart (pass_view p).log (pass_view c.run_one.new.end.registrar.pass).log) (c.take.ensures.same.0 ∙ c.loop.invariant.3) c.run_one.ensures.leaves.log
 
 pub returns-in-Some-take-clause-fault : goal.returns-in-Some-take-clause-fault

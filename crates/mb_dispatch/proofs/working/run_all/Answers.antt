@@ -18,24 +18,24 @@ use Rattle.mb_dispatch.proofs.working.run_all.Goals as goal
 pub loop-init : goal.loop-init
 loop-init g c =
     let caller = end_caller c.args.end.now.registrar in
-    (c.requires.ours, refl, saw-same _, obligations-same (actors_of c.args.system.now.gates) caller caller refl refl)
+    (c.requires.same_gates, refl, saw-same _, obligations-same (actors_of c.args.system.now.gates) caller caller refl refl)
 
 pub loop-preserved : goal.loop-preserved
 loop-preserved g c =
     let did = c.run_one.ensures in let same = c.take.ensures.same in let actors = actors_of c.args.system.now.gates in
     let first = end_caller c.args.end.now.registrar in let old = end_caller c.loop.end.registrar in
     let between = end_caller c.take.new.self.registrar in let new = end_caller c.run_one.new.end.registrar in (
-      did.ours,
+      did.same_gates,
       did.number ∙ same.3 ∙ c.loop.invariant.1,
       saw-then _ _ _ c.loop.invariant.2
           (subst (λ p. IsPart (pass_view p).log (pass_view c.run_one.new.end.registrar.pass).log) same.0 did.leaves.log),
       obligations-from actors first old between new c.loop.invariant.3 (ap pass_view same.0) same.1 (obligations-left actors between new did.leaves),
     )
 
-pub returns-in_default-clause-saw : goal.returns-in_default-clause-saw
-returns-in_default-clause-saw g c =
+pub returns-in_default-clause-log_kept : goal.returns-in_default-clause-log_kept
+returns-in_default-clause-log_kept g c =
     saw-then _ _ _ c.loop.invariant.2
-    (subst (λ p. IsPart (pass_view p).log (pass_view c.retry_refused.new.self.registrar.pass).log) c.take.ensures.same.0 c.retry_refused.ensures.saw)
+    (subst (λ p. IsPart (pass_view p).log (pass_view c.retry_refused.new.self.registrar.pass).log) c.take.ensures.same.0 c.retry_refused.ensures.log_kept)
 
 pub returns-in_default-clause-obligations : goal.returns-in_default-clause-obligations
 returns-in_default-clause-obligations g c =
@@ -50,27 +50,27 @@ returns-in_err-run_one-clause-obligations g c =
     obligations-from actors (end_caller c.args.end.now.registrar) (end_caller c.loop.end.registrar) between new c.loop.invariant.3 (ap pass_view same.0) same.1
     (obligations-left actors between new c.run_one.ensures.leaves)
 
-pub returns-in_err-run_one-clause-saw : goal.returns-in_err-run_one-clause-saw
-returns-in_err-run_one-clause-saw g c =
+pub returns-in_err-run_one-clause-log_kept : goal.returns-in_err-run_one-clause-log_kept
+returns-in_err-run_one-clause-log_kept g c =
     saw-then _ _ _ c.loop.invariant.2
     (subst (λ p. IsPart (pass_view p).log (pass_view c.run_one.new.end.registrar.pass).log) c.take.ensures.same.0 c.run_one.ensures.leaves.log)
 
-pub run_one-requires-clause-ours : goal.run_one-requires-clause-ours
-run_one-requires-clause-ours g c =
+pub run_one-requires-clause-same_gates : goal.run_one-requires-clause-same_gates
+run_one-requires-clause-same_gates g c =
     let same = c.take.ensures.same in let ours = c.loop.invariant.0 in (ap pass_id same.0 ∙ ours.0, same.2 ∙ ours.1, ours.2)
 
 pub run_one-requires-clause-untouched : goal.run_one-requires-clause-untouched
 run_one-requires-clause-untouched g c =
     subst (λ (o : Option (Origin (Box Contents))). IsFreshClaim g.K.Behaviours.gives o c.in-Some-take.claim) c.loop.invariant.0.1 c.in-Some-take.ensures.fit
 
-pub returns-in_default-clause-ours : goal.returns-in_default-clause-ours
-returns-in_default-clause-ours g c = c.retry_refused.ensures.ours
+pub returns-in_default-clause-same_gates : goal.returns-in_default-clause-same_gates
+returns-in_default-clause-same_gates g c = c.retry_refused.ensures.same_gates
 
 pub returns-in_default-clause-number : goal.returns-in_default-clause-number
 returns-in_default-clause-number g c = c.retry_refused.ensures.number ∙ c.take.ensures.same.3 ∙ c.loop.invariant.1
 
-pub returns-in_err-run_one-clause-ours : goal.returns-in_err-run_one-clause-ours
-returns-in_err-run_one-clause-ours g c = c.run_one.ensures.ours
+pub returns-in_err-run_one-clause-same_gates : goal.returns-in_err-run_one-clause-same_gates
+returns-in_err-run_one-clause-same_gates g c = c.run_one.ensures.same_gates
 
 pub returns-in_err-run_one-clause-number : goal.returns-in_err-run_one-clause-number
 returns-in_err-run_one-clause-number g c = c.run_one.ensures.number ∙ c.take.ensures.same.3 ∙ c.loop.invariant.1

@@ -1,37 +1,42 @@
 use Rattle.std.proofs.Common.{◌∙◌, Err, ap}
-use Rattle.mb_dispatch.proofs.Breaking.{breaks-work, came-to-limit}
+use Rattle.mb_system.specs.RunErrors.{of_ready}
+use Rattle.mb_dispatch.specs.Faults.{BreaksWork}
+use Rattle.mb_dispatch.proofs.Breaking.{breaks-work, came-to-limit, full-of-ready, ready-is-known}
+use Rattle.mb_system.proofs.RunErrors.{on-error}
 use Rattle.mb_dispatch.proofs.working.run_one.Goals as goal
 
-pub returns-in-Err-clause-fault : goal.returns-in-Err-clause-fault
-returns-in-Err-clause-fault g c =
-    breaks-work _ _ _ _
+pub returns-in_err-turn-clause-fault : goal.returns-in_err-turn-clause-fault
+returns-in_err-turn-clause-fault g c =
+    let error = c.in_err-turn.field-0.0 in let end = c.run_mailbox.new.end in
+    on-error c.from_residual.result (BreaksWork g.K.Behaviours.gives c.args.system.now end) (of_ready error) c.from_residual.ensures.1
+    (breaks-work g.K.Behaviours.gives c.args.system.now end (of_ready error)
     (λ full. came-to-limit _ _ _ _ _ c.requires.untouched c.run_mailbox.result c.run_mailbox.ensures.ran
-    (c.in-Err.is ∙ ap Err (c.of_turn.ensures.full full)))
-    c.of_turn.ensures.known
+    (c.in_err-turn.was ∙ ap Err (full-of-ready error full)))
+    (ready-is-known error))
 
-pub run_mailbox-requires-clause-ours : goal.run_mailbox-requires-clause-ours
-run_mailbox-requires-clause-ours g c = c.requires.ours
+pub run_mailbox-requires-clause-same_gates : goal.run_mailbox-requires-clause-same_gates
+run_mailbox-requires-clause-same_gates g c = c.requires.same_gates
 
 pub run_mailbox-requires-clause-untouched : goal.run_mailbox-requires-clause-untouched
 run_mailbox-requires-clause-untouched g c = c.requires.untouched
 
-pub returns-in-Ok-clause-ours : goal.returns-in-Ok-clause-ours
-returns-in-Ok-clause-ours g c = c.run_mailbox.ensures.ours
+pub returns-clause-same_gates : goal.returns-clause-same_gates
+returns-clause-same_gates g c = c.run_mailbox.ensures.same_gates
 
-pub returns-in-Ok-clause-leaves : goal.returns-in-Ok-clause-leaves
-returns-in-Ok-clause-leaves g c = c.run_mailbox.ensures.leaves
+pub returns-clause-leaves : goal.returns-clause-leaves
+returns-clause-leaves g c = c.run_mailbox.ensures.leaves
 
-pub returns-in-Ok-clause-number : goal.returns-in-Ok-clause-number
-returns-in-Ok-clause-number g c = c.run_mailbox.ensures.number
+pub returns-clause-number : goal.returns-clause-number
+returns-clause-number g c = c.run_mailbox.ensures.number
 
-pub returns-in-Ok-clause-fault : goal.returns-in-Ok-clause-fault
-returns-in-Ok-clause-fault g c = tt
+pub returns-clause-fault : goal.returns-clause-fault
+returns-clause-fault g c = tt
 
-pub returns-in-Err-clause-ours : goal.returns-in-Err-clause-ours
-returns-in-Err-clause-ours g c = c.run_mailbox.ensures.ours
+pub returns-in_err-turn-clause-same_gates : goal.returns-in_err-turn-clause-same_gates
+returns-in_err-turn-clause-same_gates g c = c.run_mailbox.ensures.same_gates
 
-pub returns-in-Err-clause-leaves : goal.returns-in-Err-clause-leaves
-returns-in-Err-clause-leaves g c = c.run_mailbox.ensures.leaves
+pub returns-in_err-turn-clause-leaves : goal.returns-in_err-turn-clause-leaves
+returns-in_err-turn-clause-leaves g c = c.run_mailbox.ensures.leaves
 
-pub returns-in-Err-clause-number : goal.returns-in-Err-clause-number
-returns-in-Err-clause-number g c = c.run_mailbox.ensures.number
+pub returns-in_err-turn-clause-number : goal.returns-in_err-turn-clause-number
+returns-in_err-turn-clause-number g c = c.run_mailbox.ensures.number

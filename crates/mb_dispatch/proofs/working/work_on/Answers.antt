@@ -8,23 +8,23 @@ use Rattle.mb_dispatch.proofs.working.work_on.Goals as goal
 pub loop-init : goal.loop-init
 loop-init g c =
     let caller = end_caller c.args.end.now.registrar in
-    (c.requires.ours, refl, saw-same _, obligations-same (actors_of c.args.system.now.gates) caller caller refl refl)
+    (c.requires.same_gates, refl, saw-same _, obligations-same (actors_of c.args.system.now.gates) caller caller refl refl)
 
 pub loop-preserved : goal.loop-preserved
 loop-preserved g c =
     let at = c.loop.invariant in let actors = actors_of c.args.system.now.gates in
     let first = end_caller c.args.end.now.registrar in let old = end_caller c.loop.end.registrar in
     let between = end_caller c.run_all.new.end.registrar in let new = end_caller c.is_over.new.end.registrar in (
-      c.is_over.ensures.ours,
+      c.is_over.ensures.same_gates,
       c.is_over.ensures.number ∙ c.run_all.ensures.number ∙ at.1,
-      saw-then _ _ _ (saw-then _ _ _ at.2 c.run_all.ensures.saw) c.is_over.ensures.saw,
+      saw-then _ _ _ (saw-then _ _ _ at.2 c.run_all.ensures.log_kept) c.is_over.ensures.log_kept,
       obligations-then actors first between new (obligations-then actors first old between at.3 c.run_all.ensures.obligations)
           c.is_over.ensures.obligations,
     )
 
-pub returns-then-branch-clause-saw : goal.returns-then-branch-clause-saw
-returns-then-branch-clause-saw g c =
-    saw-then _ _ _ (saw-then _ _ _ c.loop.invariant.2 c.run_all.ensures.saw) c.is_over.ensures.saw
+pub returns-then-branch-clause-log_kept : goal.returns-then-branch-clause-log_kept
+returns-then-branch-clause-log_kept g c =
+    saw-then _ _ _ (saw-then _ _ _ c.loop.invariant.2 c.run_all.ensures.log_kept) c.is_over.ensures.log_kept
 
 pub returns-then-branch-clause-obligations : goal.returns-then-branch-clause-obligations
 returns-then-branch-clause-obligations g c =
@@ -34,12 +34,12 @@ returns-then-branch-clause-obligations g c =
     obligations-then actors first between new (obligations-then actors first old between c.loop.invariant.3 c.run_all.ensures.obligations)
     c.is_over.ensures.obligations
 
-pub returns-in_err-run_all-clause-saw : goal.returns-in_err-run_all-clause-saw
-returns-in_err-run_all-clause-saw g c = saw-then _ _ _ c.loop.invariant.2 c.run_all.ensures.saw
+pub returns-in_err-run_all-clause-log_kept : goal.returns-in_err-run_all-clause-log_kept
+returns-in_err-run_all-clause-log_kept g c = saw-then _ _ _ c.loop.invariant.2 c.run_all.ensures.log_kept
 
-pub returns-in_err-is_over-clause-saw : goal.returns-in_err-is_over-clause-saw
-returns-in_err-is_over-clause-saw g c =
-    saw-then _ _ _ (saw-then _ _ _ c.loop.invariant.2 c.run_all.ensures.saw) c.is_over.ensures.saw
+pub returns-in_err-is_over-clause-log_kept : goal.returns-in_err-is_over-clause-log_kept
+returns-in_err-is_over-clause-log_kept g c =
+    saw-then _ _ _ (saw-then _ _ _ c.loop.invariant.2 c.run_all.ensures.log_kept) c.is_over.ensures.log_kept
 
 pub returns-in_err-run_all-clause-obligations : goal.returns-in_err-run_all-clause-obligations
 returns-in_err-run_all-clause-obligations g c =
@@ -53,14 +53,14 @@ returns-in_err-is_over-clause-obligations g c =
     let between = end_caller c.run_all.new.end.registrar in let new = end_caller c.is_over.new.end.registrar in
     obligations-then actors first between new (obligations-then actors first old between c.loop.invariant.3 c.run_all.ensures.obligations) c.is_over.ensures.obligations
 
-pub is_over-requires-clause-ours : goal.is_over-requires-clause-ours
-is_over-requires-clause-ours g c = c.run_all.ensures.ours
+pub is_over-requires-clause-same_gates : goal.is_over-requires-clause-same_gates
+is_over-requires-clause-same_gates g c = c.run_all.ensures.same_gates
 
 pub is_over-requires-clause-discharged : goal.is_over-requires-clause-discharged
 is_over-requires-clause-discharged g c = c.in_ok-run_all.ensures.discharged
 
-pub returns-then-branch-clause-ours : goal.returns-then-branch-clause-ours
-returns-then-branch-clause-ours g c = c.is_over.ensures.ours
+pub returns-then-branch-clause-same_gates : goal.returns-then-branch-clause-same_gates
+returns-then-branch-clause-same_gates g c = c.is_over.ensures.same_gates
 
 pub returns-then-branch-clause-number : goal.returns-then-branch-clause-number
 returns-then-branch-clause-number g c = c.is_over.ensures.number ∙ c.run_all.ensures.number ∙ c.loop.invariant.1
@@ -68,14 +68,14 @@ returns-then-branch-clause-number g c = c.is_over.ensures.number ∙ c.run_all.e
 pub returns-then-branch-clause-fault : goal.returns-then-branch-clause-fault
 returns-then-branch-clause-fault g c = tt
 
-pub returns-in_err-run_all-clause-ours : goal.returns-in_err-run_all-clause-ours
-returns-in_err-run_all-clause-ours g c = c.run_all.ensures.ours
+pub returns-in_err-run_all-clause-same_gates : goal.returns-in_err-run_all-clause-same_gates
+returns-in_err-run_all-clause-same_gates g c = c.run_all.ensures.same_gates
 
 pub returns-in_err-run_all-clause-number : goal.returns-in_err-run_all-clause-number
 returns-in_err-run_all-clause-number g c = c.run_all.ensures.number ∙ c.loop.invariant.1
 
-pub returns-in_err-is_over-clause-ours : goal.returns-in_err-is_over-clause-ours
-returns-in_err-is_over-clause-ours g c = c.is_over.ensures.ours
+pub returns-in_err-is_over-clause-same_gates : goal.returns-in_err-is_over-clause-same_gates
+returns-in_err-is_over-clause-same_gates g c = c.is_over.ensures.same_gates
 
 pub returns-in_err-is_over-clause-number : goal.returns-in_err-is_over-clause-number
 returns-in_err-is_over-clause-number g c = c.is_over.ensures.number ∙ c.run_all.ensures.number ∙ c.loop.invariant.1

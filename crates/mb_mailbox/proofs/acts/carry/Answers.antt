@@ -17,8 +17,8 @@ use Rattle.mb_mailbox.proofs.acts.carry.Goals as goal
 
 -- ---- a tell, and a system message
 
-pub tell-requires-clause-ours : goal.tell-requires-clause-ours
-tell-requires-clause-ours g c = c.requires.ours
+pub tell-requires-clause-same_gates : goal.tell-requires-clause-same_gates
+tell-requires-clause-same_gates g c = c.requires.same_gates
 
 pub tell-requires-clause-running : goal.tell-requires-clause-running
 tell-requires-clause-running g c =
@@ -28,8 +28,8 @@ tell-requires-clause-running g c =
 pub tell-requires-clause-backlog : goal.tell-requires-clause-backlog
 tell-requires-clause-backlog g c = c.requires.backlog
 
-pub send_system-requires-clause-ours : goal.send_system-requires-clause-ours
-send_system-requires-clause-ours g c = c.requires.ours
+pub send_system-requires-clause-same_gates : goal.send_system-requires-clause-same_gates
+send_system-requires-clause-same_gates g c = c.requires.same_gates
 
 pub send_system-requires-clause-running : goal.send_system-requires-clause-running
 send_system-requires-clause-running g c =
@@ -39,8 +39,8 @@ send_system-requires-clause-running g c =
 pub send_system-requires-clause-backlog : goal.send_system-requires-clause-backlog
 send_system-requires-clause-backlog g c = c.requires.backlog
 
-pub returns-in-Tell-clause-ours : goal.returns-in-Tell-clause-ours
-returns-in-Tell-clause-ours g c = c.tell.ensures.ours
+pub returns-in-Tell-clause-same_gates : goal.returns-in-Tell-clause-same_gates
+returns-in-Tell-clause-same_gates g c = c.tell.ensures.same_gates
 
 pub returns-in-Tell-clause-running : goal.returns-in-Tell-clause-running
 returns-in-Tell-clause-running g c = c.tell.ensures.running
@@ -57,8 +57,8 @@ returns-in-Tell-clause-ended g c = tt
 pub returns-in-Tell-clause-caller_advances : goal.returns-in-Tell-clause-caller_advances
 returns-in-Tell-clause-caller_advances g c = c.tell.ensures.caller_advances
 
-pub returns-in-Sys-clause-ours : goal.returns-in-Sys-clause-ours
-returns-in-Sys-clause-ours g c = c.send_system.ensures.ours
+pub returns-in-Sys-clause-same_gates : goal.returns-in-Sys-clause-same_gates
+returns-in-Sys-clause-same_gates g c = c.send_system.ensures.same_gates
 
 pub returns-in-Sys-clause-running : goal.returns-in-Sys-clause-running
 returns-in-Sys-clause-running g c = c.send_system.ensures.running
@@ -89,33 +89,33 @@ returns-in-Sys-clause-cleared g c = c.send_system.ensures.cleared
 
 -- ---- a suspension
 
-pub suspend-requires-clause-ours : goal.suspend-requires-clause-ours
-suspend-requires-clause-ours g c = c.requires.running.ours
+pub suspend-requires-clause-same_gates : goal.suspend-requires-clause-same_gates
+suspend-requires-clause-same_gates g c = c.requires.running.same_gates
 
-pub suspend-requires-clause-there : goal.suspend-requires-clause-there
-suspend-requires-clause-there g c = c.requires.running.there
+pub suspend-requires-clause-present : goal.suspend-requires-clause-present
+suspend-requires-clause-present g c = c.requires.running.present
 
-pub suspend-requires-clause-few : goal.suspend-requires-clause-few
-suspend-requires-clause-few g c =
+pub suspend-requires-clause-within_limit : goal.suspend-requires-clause-within_limit
+suspend-requires-clause-within_limit g c =
     let r = subst (λ (a : Handed). IsRunning g.K.Behaviours.gives (origin_of c.args.gates.now) (act_of a ∷ c.args.claim.now.home.value.cell.acts)
     (pass_view c.args.registrar.now.pass).log (run_state c.args.claim.now)) c.in-SuspendSelf.is c.requires.running in
     (running-suspend _ _ _ _ _ r).0
 
-pub returns-in-SuspendSelf-clause-ours : goal.returns-in-SuspendSelf-clause-ours
-returns-in-SuspendSelf-clause-ours g c = c.requires.ours
+pub returns-in-SuspendSelf-clause-same_gates : goal.returns-in-SuspendSelf-clause-same_gates
+returns-in-SuspendSelf-clause-same_gates g c = c.requires.same_gates
 
 pub returns-in-SuspendSelf-clause-running : goal.returns-in-SuspendSelf-clause-running
 returns-in-SuspendSelf-clause-running g c =
     let old = c.args.claim.now in let new = c.suspend.new.claim in let did = c.suspend.ensures in
     let r = subst (λ (a : Handed). IsRunning g.K.Behaviours.gives (origin_of c.args.gates.now) (act_of a ∷ old.home.value.cell.acts)
     (pass_view c.args.registrar.now.pass).log (run_state old)) c.in-SuspendSelf.is c.requires.running in
-    running-suspended old new (status_of new) (word_of (status_of new)) did.ours did.home did.known did.taken refl g.K.Behaviours.gives
+    running-suspended old new (status_of new) (word_of (status_of new)) did.same_gates did.home did.known did.taken refl g.K.Behaviours.gives
     (origin_of c.args.gates.now) (pass_view c.args.registrar.now.pass).log did.status r
 
 pub returns-in-SuspendSelf-clause-backlog : goal.returns-in-SuspendSelf-clause-backlog
 returns-in-SuspendSelf-clause-backlog g c =
     let old = c.args.claim.now in let new = c.suspend.new.claim in let did = c.suspend.ensures in
-    backlog-written old new (status_of new) (word_of (status_of new)) did.ours did.home did.known did.taken refl
+    backlog-written old new (status_of new) (word_of (status_of new)) did.same_gates did.home did.known did.taken refl
     (ap (λ (m : Mailbox). m.closed) did.status ∙ suspend-closed (status_of old)) c.requires.backlog
 
 pub returns-in-SuspendSelf-clause-left : goal.returns-in-SuspendSelf-clause-left
@@ -124,7 +124,7 @@ returns-in-SuspendSelf-clause-left g c = ap (λ (b : Box Contents). b.value.cell
 pub returns-in-SuspendSelf-clause-same : goal.returns-in-SuspendSelf-clause-same
 returns-in-SuspendSelf-clause-same g c =
     let old = c.args.claim.now in let new = c.suspend.new.claim in let did = c.suspend.ensures in
-    keeps-written old new (status_of new) (word_of (status_of new)) did.ours did.home did.known did.taken refl
+    keeps-written old new (status_of new) (word_of (status_of new)) did.same_gates did.home did.known did.taken refl
 
 pub returns-in-SuspendSelf-clause-cleared : goal.returns-in-SuspendSelf-clause-cleared
 returns-in-SuspendSelf-clause-cleared g c =
@@ -140,27 +140,27 @@ returns-in-SuspendSelf-clause-caller_advances g c = further-none _
 
 -- ---- the end of one
 
-pub resume-requires-clause-ours : goal.resume-requires-clause-ours
-resume-requires-clause-ours g c = c.requires.running.ours
+pub resume-requires-clause-same_gates : goal.resume-requires-clause-same_gates
+resume-requires-clause-same_gates g c = c.requires.running.same_gates
 
-pub resume-requires-clause-there : goal.resume-requires-clause-there
-resume-requires-clause-there g c = c.requires.running.there
+pub resume-requires-clause-present : goal.resume-requires-clause-present
+resume-requires-clause-present g c = c.requires.running.present
 
-pub returns-in-ResumeSelf-clause-ours : goal.returns-in-ResumeSelf-clause-ours
-returns-in-ResumeSelf-clause-ours g c = c.requires.ours
+pub returns-in-ResumeSelf-clause-same_gates : goal.returns-in-ResumeSelf-clause-same_gates
+returns-in-ResumeSelf-clause-same_gates g c = c.requires.same_gates
 
 pub returns-in-ResumeSelf-clause-running : goal.returns-in-ResumeSelf-clause-running
 returns-in-ResumeSelf-clause-running g c =
     let old = c.args.claim.now in let new = c.resume.new.claim in let did = c.resume.ensures in
     let r = subst (λ (a : Handed). IsRunning g.K.Behaviours.gives (origin_of c.args.gates.now) (act_of a ∷ old.home.value.cell.acts)
     (pass_view c.args.registrar.now.pass).log (run_state old)) c.in-ResumeSelf.is c.requires.running in
-    running-resumed old new (status_of new) (word_of (status_of new)) did.ours did.home did.known did.taken refl g.K.Behaviours.gives
+    running-resumed old new (status_of new) (word_of (status_of new)) did.same_gates did.home did.known did.taken refl g.K.Behaviours.gives
     (origin_of c.args.gates.now) (pass_view c.args.registrar.now.pass).log did.status r
 
 pub returns-in-ResumeSelf-clause-backlog : goal.returns-in-ResumeSelf-clause-backlog
 returns-in-ResumeSelf-clause-backlog g c =
     let old = c.args.claim.now in let new = c.resume.new.claim in let did = c.resume.ensures in
-    backlog-written old new (status_of new) (word_of (status_of new)) did.ours did.home did.known did.taken refl
+    backlog-written old new (status_of new) (word_of (status_of new)) did.same_gates did.home did.known did.taken refl
     (ap (λ (m : Mailbox). m.closed) did.status) c.requires.backlog
 
 pub returns-in-ResumeSelf-clause-left : goal.returns-in-ResumeSelf-clause-left
@@ -169,7 +169,7 @@ returns-in-ResumeSelf-clause-left g c = ap (λ (b : Box Contents). b.value.cell.
 pub returns-in-ResumeSelf-clause-same : goal.returns-in-ResumeSelf-clause-same
 returns-in-ResumeSelf-clause-same g c =
     let old = c.args.claim.now in let new = c.resume.new.claim in let did = c.resume.ensures in
-    keeps-written old new (status_of new) (word_of (status_of new)) did.ours did.home did.known did.taken refl
+    keeps-written old new (status_of new) (word_of (status_of new)) did.same_gates did.home did.known did.taken refl
 
 pub returns-in-ResumeSelf-clause-cleared : goal.returns-in-ResumeSelf-clause-cleared
 returns-in-ResumeSelf-clause-cleared g c =
@@ -185,8 +185,8 @@ returns-in-ResumeSelf-clause-caller_advances g c = further-none _
 
 -- ---- the end
 
-pub close-requires-clause-ours : goal.close-requires-clause-ours
-close-requires-clause-ours g c = c.requires.ours
+pub close-requires-clause-same_gates : goal.close-requires-clause-same_gates
+close-requires-clause-same_gates g c = c.requires.same_gates
 
 pub close-requires-clause-running : goal.close-requires-clause-running
 close-requires-clause-running g c =
@@ -196,8 +196,8 @@ close-requires-clause-running g c =
 pub close-requires-clause-backlog : goal.close-requires-clause-backlog
 close-requires-clause-backlog g c = c.requires.backlog
 
-pub returns-in-CloseSelf-clause-ours : goal.returns-in-CloseSelf-clause-ours
-returns-in-CloseSelf-clause-ours g c = c.close.ensures.ours
+pub returns-in-CloseSelf-clause-same_gates : goal.returns-in-CloseSelf-clause-same_gates
+returns-in-CloseSelf-clause-same_gates g c = c.close.ensures.same_gates
 
 pub returns-in-CloseSelf-clause-running : goal.returns-in-CloseSelf-clause-running
 returns-in-CloseSelf-clause-running g c = c.close.ensures.running

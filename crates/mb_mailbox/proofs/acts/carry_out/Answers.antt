@@ -17,7 +17,7 @@ use Rattle.mb_mailbox.proofs.acts.carry_out.Goals as goal
 
 pub loop-act-init : goal.loop-act-init
 loop-act-init g c = (
-  c.requires.ours,
+  c.requires.same_gates,
   c.requires.running,
   c.requires.backlog,
   keeps-same _,
@@ -56,7 +56,7 @@ loop-act-preserved g c =
     let new : Contents = c.next_act.new.self in
     let same = subst (λ (x : Contents). new ≡ record x { cell = record x.cell { acts = new.cell.acts } }) c.deref_mut.ensures.value
     c.next_act.ensures.same in (
-      c.carry.ensures.ours,
+      c.carry.ensures.same_gates,
       c.carry.ensures.running,
       c.carry.ensures.backlog,
       keeps-then _ _ _ c.loop-act.invariant.3 (keeps-then _ _ _ (keeps-next (run_state c.loop-act.claim) new same) c.carry.ensures.same),

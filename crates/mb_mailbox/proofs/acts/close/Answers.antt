@@ -15,11 +15,11 @@ use Rattle.mb_mailbox.proofs.CleanLemmas.{ended-closed}
 use Rattle.mb_mailbox.proofs.StatusLemmas.{keeps-written, count-written, running-closed}
 use Rattle.mb_mailbox.proofs.acts.close.Goals as goal
 
-pub close_mailbox-requires-clause-ours : goal.close_mailbox-requires-clause-ours
-close_mailbox-requires-clause-ours g c = c.requires.running.ours
+pub close_mailbox-requires-clause-same_gates : goal.close_mailbox-requires-clause-same_gates
+close_mailbox-requires-clause-same_gates g c = c.requires.running.same_gates
 
-pub close_mailbox-requires-clause-there : goal.close_mailbox-requires-clause-there
-close_mailbox-requires-clause-there g c = c.requires.running.there
+pub close_mailbox-requires-clause-present : goal.close_mailbox-requires-clause-present
+close_mailbox-requires-clause-present g c = c.requires.running.present
 
 pub clean_up-requires-clause-closed : goal.clean_up-requires-clause-closed
 clean_up-requires-clause-closed g c = ap (λ (m : Mailbox). m.closed) c.close_mailbox.ensures.status
@@ -27,13 +27,13 @@ clean_up-requires-clause-closed g c = ap (λ (m : Mailbox). m.closed) c.close_ma
 pub clean_up-requires-clause-running : goal.clean_up-requires-clause-running
 clean_up-requires-clause-running g c =
     let old = c.args.claim.now in let new = c.close_mailbox.new.claim in let did = c.close_mailbox.ensures in
-    running-closed old new (status_of new) (word_of (status_of new)) did.ours did.home did.known did.taken refl g.K.Behaviours.gives
+    running-closed old new (status_of new) (word_of (status_of new)) did.same_gates did.home did.known did.taken refl g.K.Behaviours.gives
     (origin_of c.args.gates.now) (pass_view c.args.registrar.now.pass).log did.status c.requires.running
 
 pub clean_up-requires-clause-count : goal.clean_up-requires-clause-count
 clean_up-requires-clause-count g c =
     let old = c.args.claim.now in let new = c.close_mailbox.new.claim in let did = c.close_mailbox.ensures in
-    count-written old new (status_of new) (word_of (status_of new)) did.ours did.home did.known did.taken refl c.requires.backlog.count
+    count-written old new (status_of new) (word_of (status_of new)) did.same_gates did.home did.known did.taken refl c.requires.backlog.count
 
 pub returns-clause-left : goal.returns-clause-left
 returns-clause-left g c =
@@ -42,7 +42,7 @@ returns-clause-left g c =
 pub returns-clause-same : goal.returns-clause-same
 returns-clause-same g c =
     let old = c.args.claim.now in let new = c.close_mailbox.new.claim in let did = c.close_mailbox.ensures in
-    keeps-then _ _ _ (keeps-written old new (status_of new) (word_of (status_of new)) did.ours did.home did.known did.taken refl)
+    keeps-then _ _ _ (keeps-written old new (status_of new) (word_of (status_of new)) did.same_gates did.home did.known did.taken refl)
     c.clean_up.ensures.same
 
 pub returns-clause-ended : goal.returns-clause-ended
@@ -53,7 +53,7 @@ returns-clause-ended g c =
     let seen = (pass_view c.args.registrar.now.pass).log in
     ap (λ (x : CellView). closed x.who x.journal) c.clean_up.ensures.left
     ∙ ended-closed gives origin seen (run_state new) new.home.value.cell.acts (ap (λ (m : Mailbox). m.closed) did.status)
-    (running-closed old new (status_of new) (word_of (status_of new)) did.ours did.home did.known did.taken refl gives origin seen did.status
+    (running-closed old new (status_of new) (word_of (status_of new)) did.same_gates did.home did.known did.taken refl gives origin seen did.status
     c.requires.running)
 
 pub returns-clause-emptied : goal.returns-clause-emptied

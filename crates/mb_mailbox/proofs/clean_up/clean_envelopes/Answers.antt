@@ -44,11 +44,11 @@ clean_next-requires-clause-settled g c =
     subst (λ (x : Contents). AgreesWithJournal (g.K.Behaviours.gives x.cell.who.this.0) x.cell.acts x) (sym c.deref_mut.ensures.value)
     (running-own _ _ _ _ (run_state c.loop.claim) (c.loop.invariant.4 c.requires.running.0 c.requires.running.1))
 
-pub note_taken-requires-clause-ours : goal.note_taken-requires-clause-ours
-note_taken-requires-clause-ours g c = (c.loop.invariant.4 c.requires.running.0 c.requires.running.1).ours
+pub note_taken-requires-clause-same_gates : goal.note_taken-requires-clause-same_gates
+note_taken-requires-clause-same_gates g c = (c.loop.invariant.4 c.requires.running.0 c.requires.running.1).same_gates
 
-pub note_taken-requires-clause-there : goal.note_taken-requires-clause-there
-note_taken-requires-clause-there g c = (c.loop.invariant.4 c.requires.running.0 c.requires.running.1).there
+pub note_taken-requires-clause-present : goal.note_taken-requires-clause-present
+note_taken-requires-clause-present g c = (c.loop.invariant.4 c.requires.running.0 c.requires.running.1).present
 
 -- ---- a place was refused
 
@@ -149,7 +149,7 @@ loop-preserved g c =
     c.in_ok-clean_next.ensures.cleaned in
     let found = subst (λ b. MatchBool b (Cleans l.home.value mid) (FindsNone l.home.value mid)) c.if-not-branch.false at_home in
     let cell = ap (λ (x : Contents). x.cell) found.same in
-    let ours : (claim_id new ≡ claim_id l) × (held_actor new ≡ held_actor l) = (did.ours, did.actor) in (
+    let ours : (claim_id new ≡ claim_id l) × (held_actor new ≡ held_actor l) = (did.same_gates, did.actor) in (
       tt,
       tt,
       ap (λ (m : Mailbox). m.closed) did.same.0 ∙ inv.2,

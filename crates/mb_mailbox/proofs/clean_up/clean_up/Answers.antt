@@ -21,11 +21,11 @@ use Rattle.mb_mailbox.proofs.RunningSteps.{running-kept}
 use Rattle.mb_mailbox.proofs.TellingLemmas.{running-own, keeps-home, settled-here}
 use Rattle.mb_mailbox.proofs.clean_up.clean_up.Goals as goal
 
-pub sys_close-listed-requires-clause-ours : goal.sys_close-listed-requires-clause-ours
-sys_close-listed-requires-clause-ours g c = c.requires.running.ours
+pub sys_close-listed-requires-clause-same_gates : goal.sys_close-listed-requires-clause-same_gates
+sys_close-listed-requires-clause-same_gates g c = c.requires.running.same_gates
 
-pub sys_close-listed-requires-clause-there : goal.sys_close-listed-requires-clause-there
-sys_close-listed-requires-clause-there g c = c.requires.running.there
+pub sys_close-listed-requires-clause-present : goal.sys_close-listed-requires-clause-present
+sys_close-listed-requires-clause-present g c = c.requires.running.present
 
 pub drop_systems-requires-clause-closed : goal.drop_systems-requires-clause-closed
 drop_systems-requires-clause-closed g c = ap (λ (m : Mailbox). m.closed) c.sys_close-listed.ensures.same.0 ∙ c.requires.closed
@@ -33,12 +33,12 @@ drop_systems-requires-clause-closed g c = ap (λ (m : Mailbox). m.closed) c.sys_
 pub drop_systems-requires-clause-running : goal.drop_systems-requires-clause-running
 drop_systems-requires-clause-running g c =
     let did = c.sys_close-listed.ensures in
-    running-end c.args.claim.now c.sys_close-listed.new.claim did.ours did.same did.taken did.recorded c.sys_close-listed.result did.given did.known
+    running-end c.args.claim.now c.sys_close-listed.new.claim did.same_gates did.same did.taken did.recorded c.sys_close-listed.result did.given did.known
     did.gave g.K.Behaviours.gives (origin_of c.args.gates.now) (pass_view c.args.registrar.now.pass).log c.requires.running
 
 -- what the home knows that the list gave before it was ended
-pub keep-requires-clause-goes_on : goal.keep-requires-clause-goes_on
-keep-requires-clause-goes_on g c =
+pub keep-requires-clause-continues : goal.keep-requires-clause-continues
+keep-requires-clause-continues g c =
     let did = c.sys_close-listed.ensures in
     let given : given_of c.drop_systems.new.claim.home.value ≡ given_to c.args.claim.now =
     c.drop_systems.ensures.given.0 ∙ ap (λ (b : Box Contents). given_of b.value) did.same.1 ∙ c.requires.count in
@@ -68,7 +68,7 @@ pub clean_envelopes-requires-clause-ended : goal.clean_envelopes-requires-clause
 clean_envelopes-requires-clause-ended g c =
     let did = c.sys_close-listed.ensures in
     let first = c.sys_close-listed.new.claim in
-    let w = was-ended c.args.claim.now first did.ours did.same did.taken did.recorded c.sys_close-listed.result did.given did.known did.gave in
+    let w = was-ended c.args.claim.now first did.same_gates did.same did.taken did.recorded c.sys_close-listed.result did.given did.known did.gave in
     let actor = c.drop_systems-2.ensures.same.same.actor ∙ c.drop_systems.ensures.same.same.actor in
     let log = c.drop_systems-2.ensures.log ∙ c.drop_systems.ensures.log in
     subst (λ (x : ℕ × List Observation). WasEnded x.0 x.1) (λ i. (sym actor i, sym log i)) w
@@ -109,7 +109,7 @@ returns-clause-same g c =
     let cell = ap (λ (x : Contents). x.cell) c.keep.ensures.kept ∙ ap (λ (x : Contents). x.cell) c.deref_mut.ensures.value in
     let take = ap (λ (x : Contents). x.take) c.keep.ensures.kept ∙ ap (λ (x : Contents). x.take) c.deref_mut.ensures.value in
     keeps-then _ _ _
-    (keeps-ended c.args.claim.now first did.ours did.same did.taken did.recorded c.sys_close-listed.result did.given did.known did.gave)
+    (keeps-ended c.args.claim.now first did.same_gates did.same did.taken did.recorded c.sys_close-listed.result did.given did.known did.gave)
     (keeps-then _ _ _ c.drop_systems.ensures.same
     (keeps-then _ _ _ (keeps-home (run_state mid) c.keep.new.self cell take)
     (keeps-then _ _ _ c.drop_systems-2.ensures.same c.clean_envelopes.ensures.same)))

@@ -26,7 +26,7 @@ use Rattle.mb_mailbox.proofs.clean_up.drop_systems.Goals as goal
 
 pub loop-node-init : goal.loop-node-init
 loop-node-init g c = (
-  c.requires.ours,
+  c.requires.same_gates,
   c.requires.closed,
   c.requires.running,
   refl,
@@ -51,18 +51,18 @@ pub answer-requires-clause-parent : goal.answer-requires-clause-parent
 answer-requires-clause-parent g c =
     let n = actors_of c.args.gates.now in
     let first = c.requires.running in
-    let there = subst (λ k. IfSome c.args.claim.now.home.value.cell.who.parent (λ (p : ActorId). p.0 < k)) first.many first.named.parent in
+    let there = subst (λ k. IfSome c.args.claim.now.home.value.cell.who.parent (λ (p : ActorId). p.0 < k)) first.same_count first.named.parent in
     let of_home = c.parent-parent.ensures ∙ ap (λ (x : Contents). x.cell.who.parent) c.deref.ensures in
     subst (λ (o : Option ActorId). IfSome o (λ p. p.0 < n)) (sym of_home) there
 
-pub answer-requires-clause-there : goal.answer-requires-clause-there
-answer-requires-clause-there g c = subst (λ k. k < actors_of c.args.gates.now) (sym c.actor-actor.ensures) c.requires.running.there
+pub answer-requires-clause-present : goal.answer-requires-clause-present
+answer-requires-clause-present g c = subst (λ k. k < actors_of c.args.gates.now) (sym c.actor-actor.ensures) c.requires.running.present
 
 pub answer-requires-clause-named : goal.answer-requires-clause-named
 answer-requires-clause-named g c =
     let r = c.loop-node.invariant.2 in
     let rest = ap (λ (x : Contents). x.rest) c.deref_mut.ensures.value in
-    subst (λ k. NamesBelow k c.in-Some.node) r.many
+    subst (λ k. NamesBelow k c.in-Some.node) r.same_count
     (named-first c.loop-node.claim.home.value.cell.who.actors _ c.in-Some.node c.drop_next.new.self.rest
     (subst (λ l. EachNamesBelow c.loop-node.claim.home.value.cell.who.actors l) (sym rest ∙ c.in-Some.ensures.dropped) r.named.rest))
 
@@ -88,7 +88,7 @@ loop-node-preserved g c =
     let less = running-less gives origin seen (run_state l) inv.2 mid cell (ap (λ (x : Contents). x.directory) same) (ap (λ (x : Contents). x.dead) same)
     c.drop_next.ensures.settled _ c.in-Some.node dropped in
     let here : c.actor-actor.result.0 ≡ (run_state l).actor = c.actor-actor.ensures ∙ sym inv.7.same.actor in (
-      c.answer.ensures.ours,
+      c.answer.ensures.same_gates,
       ap (λ (m : Mailbox). m.closed) status ∙ inv.1,
       running-caller_advances gives origin new.home.value.cell.acts _ _ (run_state new) c.answer.ensures.caller_advances
           (running-departed c.actor-actor.result.0 _ new gives origin seen asked told here inv.1 less),

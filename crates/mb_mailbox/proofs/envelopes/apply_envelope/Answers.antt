@@ -35,14 +35,14 @@ use Rattle.mb_mailbox.proofs.envelopes.apply_envelope.Goals as goal
 
 -- ---- how few were taken
 
-pub returns-then-not-should_process-clause-few : goal.returns-then-not-should_process-clause-few
-returns-then-not-should_process-clause-few g c = omega arith
+pub returns-then-not-should_process-clause-within_limit : goal.returns-then-not-should_process-clause-within_limit
+returns-then-not-should_process-clause-within_limit g c = omega arith
 
-pub returns-in_default-clause-few : goal.returns-in_default-clause-few
-returns-in_default-clause-few g c = omega arith
+pub returns-in_default-clause-within_limit : goal.returns-in_default-clause-within_limit
+returns-in_default-clause-within_limit g c = omega arith
 
-pub returns-in_err-ready-clause-few : goal.returns-in_err-ready-clause-few
-returns-in_err-ready-clause-few g c = omega arith
+pub returns-in_err-ready-clause-within_limit : goal.returns-in_err-ready-clause-within_limit
+returns-in_err-ready-clause-within_limit g c = omega arith
 
 -- ---- the status was not open
 
@@ -75,7 +75,7 @@ returns-in_err-ready-clause-in_run g c =
     let kept = subst (λ (x : Contents). (pending : List Act) → AgreesWithJournal (g.K.Behaviours.gives x.cell.who.this.0) pending x →
     AgreesWithJournal (g.K.Behaviours.gives c.ready.new.self.cell.who.this.0) pending c.ready.new.self) c.deref_mut.ensures.value c.ready.ensures.settled in
     let old = run_state c.args.claim.now in let before = c.requires.in_run in record {
-      ours = before.ours;
+      same_gates = before.same_gates;
       running =
           running-ready old c.ready.new.self _ _ same g.K.Behaviours.gives (origin_of c.args.gates.now) (pass_view c.args.registrar.now.pass).log
           before.running kept;
@@ -153,7 +153,7 @@ returns-in_default-clause-in_run g c =
     let keeps = keeps-then old (record old { home = mid }) (record old { home = new }) (keeps-ready old mid _ _ same)
     (keeps-asked (record old { home = mid }) new (ap (λ (x : Contents). x.cell) found.same) found.took
     (takes-one _ _ _ (take-none _ _ found))) in record {
-      ours = c.requires.in_run.ours;
+      same_gates = c.requires.in_run.same_gates;
       running =
           running-found gives origin seen h r new found (acts-ready old mid _ _ same ∙ c.requires.in_run.carried_out)
           c.in_default.ensures.settled;
@@ -221,11 +221,11 @@ pub overflow_add-turn : goal.overflow_add-turn
 overflow_add-turn g c =
     let few = envelopes-fit _ _ _ (run_state c.args.claim.now) [] c.args.turn.now c.requires.in_run.running c.requires.in_run.run_counts in omega (arith, few)
 
-pub note_taken-requires-clause-ours : goal.note_taken-requires-clause-ours
-note_taken-requires-clause-ours g c = c.requires.in_run.running.ours
+pub note_taken-requires-clause-same_gates : goal.note_taken-requires-clause-same_gates
+note_taken-requires-clause-same_gates g c = c.requires.in_run.running.same_gates
 
-pub note_taken-requires-clause-there : goal.note_taken-requires-clause-there
-note_taken-requires-clause-there g c = c.requires.in_run.running.there
+pub note_taken-requires-clause-present : goal.note_taken-requires-clause-present
+note_taken-requires-clause-present g c = c.requires.in_run.running.present
 
 pub begin-requires-clause-took : goal.begin-requires-clause-took
 begin-requires-clause-took g c =
@@ -276,8 +276,8 @@ begin-requires-clause-open g c =
     (subst (λ (m : Mailbox). IsOpen h.home.cell.who h.home.cell.journal (word_of m)) (sym c.status-status.ensures)
     (open-reading h.status h.home.cell.who h.home.cell.journal (status-at h r.leads) t))
 
-pub carry_out-requires-clause-ours : goal.carry_out-requires-clause-ours
-carry_out-requires-clause-ours g c = c.requires.in_run.ours
+pub carry_out-requires-clause-same_gates : goal.carry_out-requires-clause-same_gates
+carry_out-requires-clause-same_gates g c = c.requires.in_run.same_gates
 
 pub carry_out-requires-clause-running : goal.carry_out-requires-clause-running
 carry_out-requires-clause-running g c =
@@ -296,7 +296,7 @@ carry_out-requires-clause-running g c =
     let new : Contents = c.begin.new.self in
     let h : RunState = record old { home = mid } in
     let did = c.note_taken.ensures in
-    let counted = hold-one _ c.note_taken.new.claim (did.ours, did.actor) did.same.1 did.same.0 did.known did.taken in
+    let counted = hold-one _ c.note_taken.new.claim (did.same_gates, did.actor) did.same.1 did.same.0 did.known did.taken in
     let t = sym (c.should_process.ensures ∙ ap should_process c.status-status.ensures) ∙ c.if-not-should_process.false in
     let begun : Begins mid new (word_of c.status-status.result) =
     c.begin.ensures.begun mid (subst (λ (x : Contents). TakesOut mid x c.in-Some.envelope) (sym here) out) in
@@ -324,7 +324,7 @@ carry_out-requires-clause-backlog g c =
     let new : Contents = c.begin.new.self in
     let h : RunState = record old { home = mid } in
     let did = c.note_taken.ensures in
-    let counted = hold-one _ c.note_taken.new.claim (did.ours, did.actor) did.same.1 did.same.0 did.known did.taken in
+    let counted = hold-one _ c.note_taken.new.claim (did.same_gates, did.actor) did.same.1 did.same.0 did.known did.taken in
     let t = sym (c.should_process.ensures ∙ ap should_process c.status-status.ensures) ∙ c.if-not-should_process.false in
     let begun : Begins mid new (word_of c.status-status.result) =
     c.begin.ensures.begun mid (subst (λ (x : Contents). TakesOut mid x c.in-Some.envelope) (sym here) out) in
@@ -351,7 +351,7 @@ returns-in-Ok-clause-in_run g c =
     let new : Contents = c.begin.new.self in
     let h : RunState = record old { home = mid } in
     let did = c.note_taken.ensures in
-    let counted = hold-one _ c.note_taken.new.claim (did.ours, did.actor) did.same.1 did.same.0 did.known did.taken in
+    let counted = hold-one _ c.note_taken.new.claim (did.same_gates, did.actor) did.same.1 did.same.0 did.known did.taken in
     let t = sym (c.should_process.ensures ∙ ap should_process c.status-status.ensures) ∙ c.if-not-should_process.false in
     let begun : Begins mid new (word_of c.status-status.result) =
     c.begin.ensures.begun mid (subst (λ (x : Contents). TakesOut mid x c.in-Some.envelope) (sym here) out) in
@@ -362,7 +362,7 @@ returns-in-Ok-clause-in_run g c =
     let took = same-begun h c.take_next.new.self c.note_taken.new.claim counted new (word_of c.status-status.result) begun in
     let turned = run_counts-counted h c.take_next.new.self c.note_taken.new.claim counted new (word_of c.status-status.result) begun c.args.turn.now at
     drained.none in record {
-      ours = c.carry_out.ensures.ours;
+      same_gates = c.carry_out.ensures.same_gates;
       running = c.carry_out.ensures.running;
       backlog = c.carry_out.ensures.backlog;
       carried_out = c.carry_out.ensures.carried_out;
@@ -386,7 +386,7 @@ returns-in-Ok-clause-advances g c =
     let new : Contents = c.begin.new.self in
     let h : RunState = record old { home = mid } in
     let did = c.note_taken.ensures in
-    let counted = hold-one _ c.note_taken.new.claim (did.ours, did.actor) did.same.1 did.same.0 did.known did.taken in
+    let counted = hold-one _ c.note_taken.new.claim (did.same_gates, did.actor) did.same.1 did.same.0 did.known did.taken in
     let t = sym (c.should_process.ensures ∙ ap should_process c.status-status.ensures) ∙ c.if-not-should_process.false in
     let begun : Begins mid new (word_of c.status-status.result) =
     c.begin.ensures.begun mid (subst (λ (x : Contents). TakesOut mid x c.in-Some.envelope) (sym here) out) in
@@ -424,7 +424,7 @@ returns-in-Err-clause-in_run g c =
     let new : Contents = c.begin.new.self in
     let h : RunState = record old { home = mid } in
     let did = c.note_taken.ensures in
-    let counted = hold-one _ c.note_taken.new.claim (did.ours, did.actor) did.same.1 did.same.0 did.known did.taken in
+    let counted = hold-one _ c.note_taken.new.claim (did.same_gates, did.actor) did.same.1 did.same.0 did.known did.taken in
     let t = sym (c.should_process.ensures ∙ ap should_process c.status-status.ensures) ∙ c.if-not-should_process.false in
     let begun : Begins mid new (word_of c.status-status.result) =
     c.begin.ensures.begun mid (subst (λ (x : Contents). TakesOut mid x c.in-Some.envelope) (sym here) out) in
@@ -435,7 +435,7 @@ returns-in-Err-clause-in_run g c =
     let took = same-begun h c.take_next.new.self c.note_taken.new.claim counted new (word_of c.status-status.result) begun in
     let turned = run_counts-counted h c.take_next.new.self c.note_taken.new.claim counted new (word_of c.status-status.result) begun c.args.turn.now at
     drained.none in record {
-      ours = c.carry_out.ensures.ours;
+      same_gates = c.carry_out.ensures.same_gates;
       running = c.carry_out.ensures.running;
       backlog = c.carry_out.ensures.backlog;
       carried_out = c.carry_out.ensures.carried_out;
@@ -454,7 +454,7 @@ returns-in-Err-clause-advances g c =
     let new : Contents = c.begin.new.self in
     let h : RunState = record old { home = mid } in
     let did = c.note_taken.ensures in
-    let counted = hold-one _ c.note_taken.new.claim (did.ours, did.actor) did.same.1 did.same.0 did.known did.taken in
+    let counted = hold-one _ c.note_taken.new.claim (did.same_gates, did.actor) did.same.1 did.same.0 did.known did.taken in
     let begun : Begins mid new (word_of c.status-status.result) =
     c.begin.ensures.begun mid (subst (λ (x : Contents). TakesOut mid x c.in-Some.envelope) (sym here) out) in
     let before = keeps-ready old mid _ _ same in

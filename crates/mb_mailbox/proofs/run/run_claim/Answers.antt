@@ -25,8 +25,8 @@ returns-in_err-apply_systems-clause-stops g c =
     stops-passed c.apply_systems.result c.from_residual.result c.in_err-apply_systems.field-0.0 c.apply_systems.new.claim c.in_err-apply_systems.was
     c.from_residual.ensures.1 c.apply_systems.ensures.stops
 
-pub returns-in_err-apply_systems-clause-few : goal.returns-in_err-apply_systems-clause-few
-returns-in_err-apply_systems-clause-few g c = omega (arith, c.apply_systems.ensures.envelopes, c.requires.none_taken)
+pub returns-in_err-apply_systems-clause-within_limit : goal.returns-in_err-apply_systems-clause-within_limit
+returns-in_err-apply_systems-clause-within_limit g c = omega (arith, c.apply_systems.ensures.envelopes, c.requires.none_taken)
 
 -- ---- and then the envelopes
 

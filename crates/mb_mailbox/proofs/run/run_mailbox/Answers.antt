@@ -24,10 +24,10 @@ use Rattle.mb_mailbox.proofs.run.run_mailbox.Goals as goal
 pub run_claim-outcome-requires-clause-in_run : goal.run_claim-outcome-requires-clause-in_run
 run_claim-outcome-requires-clause-in_run g c =
     let gives = g.K.Behaviours.gives in let origin = origin_of c.args.gates.now in let fresh = c.requires.untouched in record {
-      ours = c.requires.ours;
-      running = running-fresh gives origin c.args.claim fresh (pass_view c.args.registrar.now.pass).log c.requires.many;
+      same_gates = c.requires.same_gates;
+      running = running-fresh gives origin c.args.claim fresh (pass_view c.args.registrar.now.pass).log c.requires.same_count;
       backlog = backlog-fresh gives origin c.args.claim fresh;
-      carried_out = fresh.ours.own.carried_out;
+      carried_out = fresh.same_gates.own.carried_out;
       run_counts = run_counts-fresh gives origin c.args.claim fresh _ c.actor-actor.ensures refl refl;
     }
 
@@ -36,11 +36,11 @@ run_claim-outcome-requires-clause-none_taken g c = refl
 
 -- ---- it may be given back
 
-pub release-requires-clause-ours : goal.release-requires-clause-ours
-release-requires-clause-ours g c = (c.run_claim-outcome.ensures.in_run.running.ours, c.run_claim-outcome.ensures.in_run.ours.0)
+pub release-requires-clause-same_gates : goal.release-requires-clause-same_gates
+release-requires-clause-same_gates g c = (c.run_claim-outcome.ensures.in_run.running.same_gates, c.run_claim-outcome.ensures.in_run.same_gates.0)
 
-pub release-requires-clause-there : goal.release-requires-clause-there
-release-requires-clause-there g c = c.run_claim-outcome.ensures.in_run.running.there
+pub release-requires-clause-present : goal.release-requires-clause-present
+release-requires-clause-present g c = c.run_claim-outcome.ensures.in_run.running.present
 
 pub release-requires-clause-own : goal.release-requires-clause-own
 release-requires-clause-own g c =
@@ -55,8 +55,8 @@ release-requires-clause-fold g c = home-fold _ _ _ c.run_claim-outcome.new.claim
 pub release-requires-clause-count : goal.release-requires-clause-count
 release-requires-clause-count g c = c.run_claim-outcome.ensures.in_run.backlog.count
 
-pub release-requires-clause-shut : goal.release-requires-clause-shut
-release-requires-clause-shut g c = c.run_claim-outcome.ensures.in_run.running.shut
+pub release-requires-clause-known_closed : goal.release-requires-clause-known_closed
+release-requires-clause-known_closed g c = c.run_claim-outcome.ensures.in_run.running.known_closed
 
 pub release-requires-clause-told : goal.release-requires-clause-told
 release-requires-clause-told g c = home-told _ _ _ c.run_claim-outcome.new.claim c.run_claim-outcome.ensures.in_run.running
@@ -65,30 +65,30 @@ pub release-requires-clause-rest : goal.release-requires-clause-rest
 release-requires-clause-rest g c =
     home-rest _ _ _ c.run_claim-outcome.new.claim c.run_claim-outcome.ensures.in_run.running c.run_claim-outcome.ensures.in_run.backlog
 
-pub register-requires-clause-ours : goal.register-requires-clause-ours
-register-requires-clause-ours g c = (
-  c.release.ensures.ours ∙ c.run_claim-outcome.ensures.in_run.ours.0,
-  c.run_claim-outcome.ensures.in_run.ours.1,
+pub register-requires-clause-same_gates : goal.register-requires-clause-same_gates
+register-requires-clause-same_gates g c = (
+  c.release.ensures.same_gates ∙ c.run_claim-outcome.ensures.in_run.same_gates.0,
+  c.run_claim-outcome.ensures.in_run.same_gates.1,
 )
 
-pub returns-in-Ok-clause-ours : goal.returns-in-Ok-clause-ours
-returns-in-Ok-clause-ours g c = (
-  c.register.ensures.ours.0 ∙ c.release.ensures.ours ∙ c.run_claim-outcome.ensures.in_run.ours.0,
-  c.register.ensures.ours.1 ∙ c.run_claim-outcome.ensures.in_run.ours.1,
-  c.requires.ours.2,
+pub returns-in-Ok-clause-same_gates : goal.returns-in-Ok-clause-same_gates
+returns-in-Ok-clause-same_gates g c = (
+  c.register.ensures.same_gates.0 ∙ c.release.ensures.same_gates ∙ c.run_claim-outcome.ensures.in_run.same_gates.0,
+  c.register.ensures.same_gates.1 ∙ c.run_claim-outcome.ensures.in_run.same_gates.1,
+  c.requires.same_gates.2,
 )
 
-pub returns-in-Err-clause-ours : goal.returns-in-Err-clause-ours
-returns-in-Err-clause-ours g c = (
-  c.register.ensures.ours.0 ∙ c.release.ensures.ours ∙ c.run_claim-outcome.ensures.in_run.ours.0,
-  c.register.ensures.ours.1 ∙ c.run_claim-outcome.ensures.in_run.ours.1,
-  c.requires.ours.2,
+pub returns-in-Err-clause-same_gates : goal.returns-in-Err-clause-same_gates
+returns-in-Err-clause-same_gates g c = (
+  c.register.ensures.same_gates.0 ∙ c.release.ensures.same_gates ∙ c.run_claim-outcome.ensures.in_run.same_gates.0,
+  c.register.ensures.same_gates.1 ∙ c.run_claim-outcome.ensures.in_run.same_gates.1,
+  c.requires.same_gates.2,
 )
 
-pub register-requires-clause-there : goal.register-requires-clause-there
-register-requires-clause-there g c =
-    let below = subst (λ n. n < actors_of c.args.gates.now) (sym c.actor-actor.ensures) c.requires.untouched.ours.there in
-    (below, omega (arith, below, c.requires.ours.2))
+pub register-requires-clause-present : goal.register-requires-clause-present
+register-requires-clause-present g c =
+    let below = subst (λ n. n < actors_of c.args.gates.now) (sym c.actor-actor.ensures) c.requires.untouched.same_gates.present in
+    (below, omega (arith, below, c.requires.same_gates.2))
 
 -- ---- what it leaves
 
@@ -156,7 +156,7 @@ returns-in-Ok-clause-ran g c =
         ended.1,
         leaves-run c.args.throughput c.args.claim last (pass_view c.args.registrar.now.pass) (pass_view c.register.new.self.pass) turn ended.0
             taken run.ensures.advances.same
-            run.ensures.in_run.run_counts run.ensures.few ended.4 ended.2 ended.5 run.ensures.in_run.running.only_drained saw part fresh at_first
+            run.ensures.in_run.run_counts run.ensures.within_limit ended.4 ended.2 ended.5 run.ensures.in_run.running.only_drained saw part fresh at_first
             run.ensures.in_run.running.settled.taken run.ensures.in_run.running.settled.open_keeps empty,
       ),
     )
@@ -183,7 +183,7 @@ returns-in-Err-clause-ran g c =
         turn,
         leaves-run c.args.throughput c.args.claim last (pass_view c.args.registrar.now.pass) (pass_view c.register.new.self.pass) turn NoRoom
             taken run.ensures.advances.same
-            run.ensures.in_run.run_counts run.ensures.few tt tt tt run.ensures.in_run.running.only_drained saw part fresh at_first
+            run.ensures.in_run.run_counts run.ensures.within_limit tt tt tt run.ensures.in_run.running.only_drained saw part fresh at_first
             run.ensures.in_run.running.settled.taken run.ensures.in_run.running.settled.open_keeps (λ ends. absurd ends),
         λ full. subst (λ (w : Identity). w.limit ≤ length journal) run.ensures.advances.same.who
             (run.ensures.stops.full (c.in-Err.is ∙ ap (λ (f : ReadyError). Err f) (same-fault c.in-Err.fault full))),
@@ -211,7 +211,7 @@ returns-in-Err-clause-short g c = λ short.
       turn,
       leaves-run c.args.throughput c.args.claim last (pass_view c.args.registrar.now.pass) (pass_view c.register.new.self.pass) turn NoRoom
           taken run.ensures.advances.same
-          run.ensures.in_run.run_counts run.ensures.few tt tt tt run.ensures.in_run.running.only_drained saw part fresh at_first
+          run.ensures.in_run.run_counts run.ensures.within_limit tt tt tt run.ensures.in_run.running.only_drained saw part fresh at_first
           run.ensures.in_run.running.settled.taken run.ensures.in_run.running.settled.open_keeps (λ ends. absurd ends),
       subst (λ (w : Identity). IsShortOfMemory w journal) run.ensures.advances.same.who
           (run.ensures.stops.short (c.in-Err.is ∙ ap (λ (f : ReadyError). Err f) (same-fault c.in-Err.fault short))),

@@ -7,13 +7,13 @@ use Rattle.mb_mailbox.proofs.NamedLemmas.{asker-there}
 use Rattle.mb_mailbox.specs.Notice.{asker, IsAnswered}
 use Rattle.mb_mailbox.proofs.sending_system.answer.Goals as goal
 
-pub notify-requires-clause-there : goal.notify-requires-clause-there
-notify-requires-clause-there g c =
+pub notify-requires-clause-present : goal.notify-requires-clause-present
+notify-requires-clause-present g c =
     let n = actors_of c.args.gates.now in
     let all = asker-there n c.args.parent c.args.node c.requires.parent c.requires.named in (
       subst (λ (o : Option ActorId). IfSome o (λ whom. whom.0 < n))
           (ap (λ m. asker c.args.parent m) (sym c.msg.ensures) ∙ sym c.asker_of.ensures ∙ c.in-Some.is) all,
-      c.requires.there,
+      c.requires.present,
     )
 
 pub returns-in-Some-clause-answered : goal.returns-in-Some-clause-answered

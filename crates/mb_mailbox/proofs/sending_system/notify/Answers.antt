@@ -8,27 +8,27 @@ use Rattle.mb_register.proofs.MoveLemmas.{moves-does, further-moves}
 use Rattle.mb_mailbox.proofs.SendSystemLemmas.{notified}
 use Rattle.mb_mailbox.proofs.sending_system.notify.Goals as goal
 
-pub sys_enqueue_in_run-requires-clause-ours : goal.sys_enqueue_in_run-requires-clause-ours
-sys_enqueue_in_run-requires-clause-ours g c = c.requires.ours.0
+pub sys_enqueue_in_run-requires-clause-same_gates : goal.sys_enqueue_in_run-requires-clause-same_gates
+sys_enqueue_in_run-requires-clause-same_gates g c = c.requires.same_gates.0
 
-pub register-requires-clause-ours : goal.register-requires-clause-ours
-register-requires-clause-ours g c = (c.sys_enqueue_in_run.ensures.ours ∙ c.requires.ours.0, c.requires.ours.1)
+pub register-requires-clause-same_gates : goal.register-requires-clause-same_gates
+register-requires-clause-same_gates g c = (c.sys_enqueue_in_run.ensures.same_gates ∙ c.requires.same_gates.0, c.requires.same_gates.1)
 
-pub register-requires-clause-there : goal.register-requires-clause-there
-register-requires-clause-there g c = (c.requires.there.0, omega (arith, c.requires.there.0, c.requires.ours.2))
+pub register-requires-clause-present : goal.register-requires-clause-present
+register-requires-clause-present g c = (c.requires.present.0, omega (arith, c.requires.present.0, c.requires.same_gates.2))
 
-pub returns-clause-ours : goal.returns-clause-ours
-returns-clause-ours g c = (
-  c.register.ensures.ours.0 ∙ c.sys_enqueue_in_run.ensures.ours ∙ c.requires.ours.0,
-  c.register.ensures.ours.1 ∙ c.requires.ours.1,
-  c.requires.ours.2,
+pub returns-clause-same_gates : goal.returns-clause-same_gates
+returns-clause-same_gates g c = (
+  c.register.ensures.same_gates.0 ∙ c.sys_enqueue_in_run.ensures.same_gates ∙ c.requires.same_gates.0,
+  c.register.ensures.same_gates.1 ∙ c.requires.same_gates.1,
+  c.requires.same_gates.2,
 )
 
-pub returns-in_default-clause-ours : goal.returns-in_default-clause-ours
-returns-in_default-clause-ours g c = (c.sys_enqueue_in_run.ensures.ours ∙ c.requires.ours.0, c.requires.ours.1, c.requires.ours.2)
+pub returns-in_default-clause-same_gates : goal.returns-in_default-clause-same_gates
+returns-in_default-clause-same_gates g c = (c.sys_enqueue_in_run.ensures.same_gates ∙ c.requires.same_gates.0, c.requires.same_gates.1, c.requires.same_gates.2)
 
 pub sys_enqueue_in_run-requires-clause-named : goal.sys_enqueue_in_run-requires-clause-named
-sys_enqueue_in_run-requires-clause-named g c = subst (NamesBelow (actors_of c.args.gates.now)) (sym c.set.ensures) c.requires.there.1
+sys_enqueue_in_run-requires-clause-named g c = subst (NamesBelow (actors_of c.args.gates.now)) (sym c.set.ensures) c.requires.present.1
 
 pub returns-clause-told : goal.returns-clause-told
 returns-clause-told g c =

@@ -19,28 +19,28 @@ use Rattle.mb_mailbox.proofs.sending_system.send_system.Goals as goal
 
 -- ---- the registrar stays one of these gates
 
-pub sys_enqueue_in_run-requires-clause-ours : goal.sys_enqueue_in_run-requires-clause-ours
-sys_enqueue_in_run-requires-clause-ours g c = c.requires.ours.0
+pub sys_enqueue_in_run-requires-clause-same_gates : goal.sys_enqueue_in_run-requires-clause-same_gates
+sys_enqueue_in_run-requires-clause-same_gates g c = c.requires.same_gates.0
 
-pub register-requires-clause-ours : goal.register-requires-clause-ours
-register-requires-clause-ours g c = (c.sys_enqueue_in_run.ensures.ours ∙ c.requires.ours.0, c.requires.ours.1)
+pub register-requires-clause-same_gates : goal.register-requires-clause-same_gates
+register-requires-clause-same_gates g c = (c.sys_enqueue_in_run.ensures.same_gates ∙ c.requires.same_gates.0, c.requires.same_gates.1)
 
-pub register-requires-clause-there : goal.register-requires-clause-there
-register-requires-clause-there g c =
-    let below = c.requires.running.sends.0.0 in (below, omega (arith, below, c.requires.ours.2))
+pub register-requires-clause-present : goal.register-requires-clause-present
+register-requires-clause-present g c =
+    let below = c.requires.running.sends.0.0 in (below, omega (arith, below, c.requires.same_gates.2))
 
-pub returns-in-Ok-clause-ours : goal.returns-in-Ok-clause-ours
-returns-in-Ok-clause-ours g c = (
-  c.register.ensures.ours.0 ∙ c.sys_enqueue_in_run.ensures.ours ∙ c.requires.ours.0,
-  c.register.ensures.ours.1 ∙ c.requires.ours.1,
-  c.requires.ours.2,
+pub returns-in-Ok-clause-same_gates : goal.returns-in-Ok-clause-same_gates
+returns-in-Ok-clause-same_gates g c = (
+  c.register.ensures.same_gates.0 ∙ c.sys_enqueue_in_run.ensures.same_gates ∙ c.requires.same_gates.0,
+  c.register.ensures.same_gates.1 ∙ c.requires.same_gates.1,
+  c.requires.same_gates.2,
 )
 
-pub answer-requires-clause-ours : goal.answer-requires-clause-ours
-answer-requires-clause-ours g c = (c.sys_enqueue_in_run.ensures.ours ∙ c.requires.ours.0, c.requires.ours.1, c.requires.ours.2)
+pub answer-requires-clause-same_gates : goal.answer-requires-clause-same_gates
+answer-requires-clause-same_gates g c = (c.sys_enqueue_in_run.ensures.same_gates ∙ c.requires.same_gates.0, c.requires.same_gates.1, c.requires.same_gates.2)
 
-pub sys_enqueue_in_run-requires-clause-there : goal.sys_enqueue_in_run-requires-clause-there
-sys_enqueue_in_run-requires-clause-there g c = c.requires.running.sends.0.0
+pub sys_enqueue_in_run-requires-clause-present : goal.sys_enqueue_in_run-requires-clause-present
+sys_enqueue_in_run-requires-clause-present g c = c.requires.running.sends.0.0
 
 pub sys_enqueue_in_run-requires-clause-named : goal.sys_enqueue_in_run-requires-clause-named
 sys_enqueue_in_run-requires-clause-named g c = c.requires.running.sends.0.1
@@ -85,10 +85,10 @@ returns-in-Ok-clause-cleared g c =
 
 pub answer-requires-clause-parent : goal.answer-requires-clause-parent
 answer-requires-clause-parent g c =
-    subst (λ n. n < actors_of c.args.gates.now) (sym (c.actor-parent.ensures ∙ c.in-Err.ensures.recorded.actor)) c.requires.running.there
+    subst (λ n. n < actors_of c.args.gates.now) (sym (c.actor-parent.ensures ∙ c.in-Err.ensures.recorded.actor)) c.requires.running.present
 
-pub answer-requires-clause-there : goal.answer-requires-clause-there
-answer-requires-clause-there g c = c.requires.running.sends.0.0
+pub answer-requires-clause-present : goal.answer-requires-clause-present
+answer-requires-clause-present g c = c.requires.running.sends.0.0
 
 pub answer-requires-clause-named : goal.answer-requires-clause-named
 answer-requires-clause-named g c =

@@ -107,7 +107,7 @@ drain-requires-clause-carried_out g c = c.loop.invariant.2.carried_out
 pub returns-then-not-drain-clause-in_run : goal.returns-then-not-drain-clause-in_run
 returns-then-not-drain-clause-in_run g c =
     let before = c.loop.invariant.2 in record {
-      ours = before.ours;
+      same_gates = before.same_gates;
       running = c.drain.ensures.running (pass_view c.loop.registrar.pass).log before.running;
       backlog = c.drain.ensures.backlog;
       carried_out = ap (λ (x : CellView). x.acts) c.drain.ensures.left ∙ before.carried_out;
@@ -138,7 +138,7 @@ loop-preserved g c =
       tt,
       tt,
       record {
-        ours = before.ours;
+        same_gates = before.same_gates;
         running = c.drain.ensures.running (pass_view c.loop.registrar.pass).log before.running;
         backlog = c.drain.ensures.backlog;
         carried_out = ap (λ (x : CellView). x.acts) c.drain.ensures.left ∙ before.carried_out;

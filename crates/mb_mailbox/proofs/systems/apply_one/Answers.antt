@@ -33,7 +33,7 @@ returns-in_err-ready-clause-in_run g c =
     let kept = subst (λ (x : Contents). (pending : List Act) → AgreesWithJournal (g.K.Behaviours.gives x.cell.who.this.0) pending x →
     AgreesWithJournal (g.K.Behaviours.gives c.ready.new.self.cell.who.this.0) pending c.ready.new.self) c.deref_mut.ensures.value c.ready.ensures.settled in
     let old = run_state c.args.claim.now in let before = c.requires.in_run in record {
-      ours = before.ours;
+      same_gates = before.same_gates;
       running =
           running-ready old c.ready.new.self _ _ same g.K.Behaviours.gives (origin_of c.args.gates.now) (pass_view c.args.registrar.now.pass).log
           before.running kept;
@@ -112,8 +112,8 @@ pub overflow_add-turn : goal.overflow_add-turn
 overflow_add-turn g c =
     let few = systems-fit _ _ _ (run_state c.args.claim.now) [] c.args.turn.now c.requires.in_run.running c.requires.in_run.run_counts in omega (arith, few)
 
-pub carry_out-requires-clause-ours : goal.carry_out-requires-clause-ours
-carry_out-requires-clause-ours g c = c.requires.in_run.ours
+pub carry_out-requires-clause-same_gates : goal.carry_out-requires-clause-same_gates
+carry_out-requires-clause-same_gates g c = c.requires.in_run.same_gates
 
 pub carry_out-requires-clause-running : goal.carry_out-requires-clause-running
 carry_out-requires-clause-running g c =
@@ -166,7 +166,7 @@ returns-clause-in_run g c =
     let new : Contents = c.apply_next.new.self in
     let a = applied in
     let t = run_counts-applied h new c.args.turn.now (run_counts-keeps old h c.args.turn.now keeps c.requires.in_run.run_counts) a in record {
-      ours = c.carry_out.ensures.ours;
+      same_gates = c.carry_out.ensures.same_gates;
       running = c.carry_out.ensures.running;
       backlog = c.carry_out.ensures.backlog;
       carried_out = c.carry_out.ensures.carried_out;

@@ -20,7 +20,7 @@ has_no_system_work-requires-clause-carried_out g c = c.requires.in_run.carried_o
 pub returns-then-has_no_system_work-clause-in_run : goal.returns-then-has_no_system_work-clause-in_run
 returns-then-has_no_system_work-clause-in_run g c =
     let before = c.requires.in_run in let quiet = c.has_no_system_work.ensures in record {
-      ours = before.ours;
+      same_gates = before.same_gates;
       running = quiet.running (pass_view c.args.registrar.now.pass).log before.running;
       backlog = quiet.backlog;
       carried_out = ap (λ (x : CellView). x.acts) quiet.left ∙ before.carried_out;
@@ -43,7 +43,7 @@ pub apply_all-requires : goal.apply_all-requires
 apply_all-requires g c =
     let before = c.requires.in_run in let quiet = c.has_no_system_work.ensures in record {
       in_run = record {
-        ours = before.ours;
+        same_gates = before.same_gates;
         running = quiet.running (pass_view c.args.registrar.now.pass).log before.running;
         backlog = quiet.backlog;
         carried_out = ap (λ (x : CellView). x.acts) quiet.left ∙ before.carried_out;

@@ -13,22 +13,22 @@ use Rattle.mb_mailbox.proofs.EmptiedLemmas.{cleared-open}
 use Rattle.mb_mailbox.proofs.TellingLemmas.{running-own}
 use Rattle.mb_mailbox.proofs.systems.drain.Goals as goal
 
-pub sys_drain-drained-requires-clause-ours : goal.sys_drain-drained-requires-clause-ours
-sys_drain-drained-requires-clause-ours g c = c.requires.running.1.ours
+pub sys_drain-drained-requires-clause-same_gates : goal.sys_drain-drained-requires-clause-same_gates
+sys_drain-drained-requires-clause-same_gates g c = c.requires.running.1.same_gates
 
-pub sys_drain-drained-requires-clause-there : goal.sys_drain-drained-requires-clause-there
-sys_drain-drained-requires-clause-there g c = c.requires.running.1.there
+pub sys_drain-drained-requires-clause-present : goal.sys_drain-drained-requires-clause-present
+sys_drain-drained-requires-clause-present g c = c.requires.running.1.present
 
 pub keep-requires-clause-none_left : goal.keep-requires-clause-none_left
 keep-requires-clause-none_left g c =
     ap (λ (x : Contents). x.rest) c.deref_mut.ensures.value ∙ ap (λ (b : Box Contents). b.value.rest) c.sys_drain-drained.ensures.same.1
     ∙ c.requires.rested.no_rest
 
-pub keep-requires-clause-goes_on : goal.keep-requires-clause-goes_on
-keep-requires-clause-goes_on g c =
+pub keep-requires-clause-continues : goal.keep-requires-clause-continues
+keep-requires-clause-continues g c =
     let did = c.sys_drain-drained.ensures in
     subst (λ (x : Contents). IsNumberedFrom (given_of x) c.sys_drain-drained.result) (sym c.deref_mut.ensures.value)
-    (drained-from c.args.claim.now c.sys_drain-drained.new.claim did.ours did.same did.taken did.recorded c.sys_drain-drained.result did.given
+    (drained-from c.args.claim.now c.sys_drain-drained.new.claim did.same_gates did.same did.taken did.recorded c.sys_drain-drained.result did.given
     did.known did.gave (record c.sys_drain-drained.new.claim.home.value { rest = c.sys_drain-drained.result }) refl c.requires.backlog.count
     did.numbers)
 
@@ -46,7 +46,7 @@ returns-clause-running g c =
     let did = c.sys_drain-drained.ensures in
     let kept = subst (λ (x : Contents). c.keep.new.self ≡ record x { rest = c.sys_drain-drained.result }) c.deref_mut.ensures.value
     c.keep.ensures.kept in
-    λ seen r. running-drain c.args.claim.now c.sys_drain-drained.new.claim did.ours did.same did.taken did.recorded c.sys_drain-drained.result
+    λ seen r. running-drain c.args.claim.now c.sys_drain-drained.new.claim did.same_gates did.same did.taken did.recorded c.sys_drain-drained.result
     did.given did.known did.gave c.keep.new.self kept g.K.Behaviours.gives (origin_of c.args.gates.now) seen c.requires.carried_out
     c.keep.ensures.settled did.named r
 
@@ -55,7 +55,7 @@ returns-clause-backlog g c =
     let did = c.sys_drain-drained.ensures in
     let kept = subst (λ (x : Contents). c.keep.new.self ≡ record x { rest = c.sys_drain-drained.result }) c.deref_mut.ensures.value
     c.keep.ensures.kept in
-    backlog-drained c.args.claim.now c.sys_drain-drained.new.claim did.ours did.same did.taken did.recorded c.sys_drain-drained.result did.given
+    backlog-drained c.args.claim.now c.sys_drain-drained.new.claim did.same_gates did.same did.taken did.recorded c.sys_drain-drained.result did.given
     did.known did.gave c.keep.new.self kept c.requires.rested c.requires.not_closed c.requires.backlog.count
 
 pub returns-clause-left : goal.returns-clause-left
@@ -68,7 +68,7 @@ returns-clause-same g c =
     let did = c.sys_drain-drained.ensures in
     let kept = subst (λ (x : Contents). c.keep.new.self ≡ record x { rest = c.sys_drain-drained.result }) c.deref_mut.ensures.value
     c.keep.ensures.kept in
-    keeps-drained c.args.claim.now c.sys_drain-drained.new.claim did.ours did.same did.taken did.recorded c.sys_drain-drained.result did.given
+    keeps-drained c.args.claim.now c.sys_drain-drained.new.claim did.same_gates did.same did.taken did.recorded c.sys_drain-drained.result did.given
     did.known did.gave c.keep.new.self kept
 
 pub returns-clause-some : goal.returns-clause-some
@@ -91,7 +91,7 @@ returns-then-is_empty-clause-running g c =
     let before = subst (λ (l : List Act). AgreesWithJournal (g.K.Behaviours.gives old.home.value.cell.who.this.0) l old.home.value)
     (sym c.requires.carried_out) own in
     let settled = subst (λ (x : Contents). AgreesWithJournal (g.K.Behaviours.gives x.cell.who.this.0) x.cell.acts x) (sym here) before in
-    λ seen r. running-drain old mid did.ours did.same did.taken did.recorded c.sys_drain-drained.result did.given did.known did.gave mid.home.value kept
+    λ seen r. running-drain old mid did.same_gates did.same did.taken did.recorded c.sys_drain-drained.result did.given did.known did.gave mid.home.value kept
     g.K.Behaviours.gives (origin_of c.args.gates.now) seen c.requires.carried_out settled did.named r
 
 pub returns-then-is_empty-clause-backlog : goal.returns-then-is_empty-clause-backlog
@@ -102,7 +102,7 @@ returns-then-is_empty-clause-backlog g c =
     let none = c.is_empty.ensures.0 c.if-is_empty.true in
     let here = ap (λ (b : Box Contents). b.value) did.same.1 in
     let kept = none-kept mid.home.value c.sys_drain-drained.result (ap (λ (x : Contents). x.rest) here ∙ c.requires.rested.no_rest) none in
-    backlog-drained old mid did.ours did.same did.taken did.recorded c.sys_drain-drained.result did.given did.known did.gave mid.home.value kept
+    backlog-drained old mid did.same_gates did.same did.taken did.recorded c.sys_drain-drained.result did.given did.known did.gave mid.home.value kept
     c.requires.rested c.requires.not_closed c.requires.backlog.count
 
 pub returns-then-is_empty-clause-left : goal.returns-then-is_empty-clause-left
@@ -116,7 +116,7 @@ returns-then-is_empty-clause-same g c =
     let none = c.is_empty.ensures.0 c.if-is_empty.true in
     let here = ap (λ (b : Box Contents). b.value) did.same.1 in
     let kept = none-kept mid.home.value c.sys_drain-drained.result (ap (λ (x : Contents). x.rest) here ∙ c.requires.rested.no_rest) none in
-    keeps-drained old mid did.ours did.same did.taken did.recorded c.sys_drain-drained.result did.given did.known did.gave mid.home.value kept
+    keeps-drained old mid did.same_gates did.same did.taken did.recorded c.sys_drain-drained.result did.given did.known did.gave mid.home.value kept
 
 pub returns-then-is_empty-clause-drained : goal.returns-then-is_empty-clause-drained
 returns-then-is_empty-clause-drained g c =
@@ -126,7 +126,7 @@ returns-then-is_empty-clause-drained g c =
     let none = c.is_empty.ensures.0 c.if-is_empty.true in
     let here = ap (λ (b : Box Contents). b.value) did.same.1 in
     let kept = none-kept mid.home.value c.sys_drain-drained.result (ap (λ (x : Contents). x.rest) here ∙ c.requires.rested.no_rest) none in
-    λ _. is-drained old mid did.ours did.same did.taken did.recorded c.sys_drain-drained.result did.given did.known did.gave mid.home.value kept
+    λ _. is-drained old mid did.same_gates did.same did.taken did.recorded c.sys_drain-drained.result did.given did.known did.gave mid.home.value kept
     c.requires.rested none
 
 -- ---- the mailbox is as it was

@@ -20,11 +20,11 @@ use Rattle.mb_mailbox.proofs.RunStateLemmas.{hold-same}
 use Rattle.mb_mailbox.proofs.TellingLemmas.{running-own}
 use Rattle.mb_mailbox.proofs.systems.has_no_system_work.Goals as goal
 
-pub sys_is_drained-requires-clause-ours : goal.sys_is_drained-requires-clause-ours
-sys_is_drained-requires-clause-ours g c = c.requires.running.1.ours
+pub sys_is_drained-requires-clause-same_gates : goal.sys_is_drained-requires-clause-same_gates
+sys_is_drained-requires-clause-same_gates g c = c.requires.running.1.same_gates
 
-pub sys_is_drained-requires-clause-there : goal.sys_is_drained-requires-clause-there
-sys_is_drained-requires-clause-there g c = c.requires.running.1.there
+pub sys_is_drained-requires-clause-present : goal.sys_is_drained-requires-clause-present
+sys_is_drained-requires-clause-present g c = c.requires.running.1.present
 
 -- ---- it is closed, or a message is due: the claim is as it was
 
@@ -54,7 +54,7 @@ returns-then-sys_is_drained-clause-running g c =
     let before = subst (λ (l : List Act). AgreesWithJournal (g.K.Behaviours.gives old.home.value.cell.who.this.0) l old.home.value)
     (sym c.requires.carried_out) own in
     let settled = subst (λ (x : Contents). AgreesWithJournal (g.K.Behaviours.gives x.cell.who.this.0) x.cell.acts x) (sym here) before in
-    λ seen r. running-drain old mid did.ours did.same did.taken did.recorded [] (did.given hit) (did.known hit) (did.gave hit) mid.home.value kept
+    λ seen r. running-drain old mid did.same_gates did.same did.taken did.recorded [] (did.given hit) (did.known hit) (did.gave hit) mid.home.value kept
     g.K.Behaviours.gives (origin_of c.args.gates.now) seen c.requires.carried_out settled
     (All-nil (λ (m : ℕ × SysMsg). NamesBelow (actors_of c.args.gates.now) m.1)) r
 
@@ -66,7 +66,7 @@ returns-then-sys_is_drained-clause-backlog g c =
     let rested = subst (λ b. MatchBool b (HasNext old.home.value) (HasNoBacklog old.home.value)) c.if-has_next.false at_home in
     let here = ap (λ (b : Box Contents). b.value) did.same.1 in
     let kept = none-kept mid.home.value [] (ap (λ (x : Contents). x.rest) here ∙ rested.no_rest) refl in
-    backlog-drained old mid did.ours did.same did.taken did.recorded [] (did.given hit) (did.known hit) (did.gave hit) mid.home.value kept
+    backlog-drained old mid did.same_gates did.same did.taken did.recorded [] (did.given hit) (did.known hit) (did.gave hit) mid.home.value kept
     rested (sym (c.closed.ensures ∙ ap (λ (m : Mailbox). m.closed) c.status.ensures) ∙ c.if-closed.false) c.requires.backlog.count
 
 pub returns-then-sys_is_drained-clause-left : goal.returns-then-sys_is_drained-clause-left
@@ -81,7 +81,7 @@ returns-then-sys_is_drained-clause-same g c =
     let rested = subst (λ b. MatchBool b (HasNext old.home.value) (HasNoBacklog old.home.value)) c.if-has_next.false at_home in
     let here = ap (λ (b : Box Contents). b.value) did.same.1 in
     let kept = none-kept mid.home.value [] (ap (λ (x : Contents). x.rest) here ∙ rested.no_rest) refl in
-    keeps-drained old mid did.ours did.same did.taken did.recorded [] (did.given hit) (did.known hit) (did.gave hit) mid.home.value kept
+    keeps-drained old mid did.same_gates did.same did.taken did.recorded [] (did.given hit) (did.known hit) (did.gave hit) mid.home.value kept
 
 pub returns-then-sys_is_drained-clause-drained : goal.returns-then-sys_is_drained-clause-drained
 returns-then-sys_is_drained-clause-drained g c =
@@ -91,7 +91,7 @@ returns-then-sys_is_drained-clause-drained g c =
     let rested = subst (λ b. MatchBool b (HasNext old.home.value) (HasNoBacklog old.home.value)) c.if-has_next.false at_home in
     let here = ap (λ (b : Box Contents). b.value) did.same.1 in
     let kept = none-kept mid.home.value [] (ap (λ (x : Contents). x.rest) here ∙ rested.no_rest) refl in
-    λ _. is-drained old mid did.ours did.same did.taken did.recorded [] (did.given hit) (did.known hit) (did.gave hit) mid.home.value kept rested refl
+    λ _. is-drained old mid did.same_gates did.same did.taken did.recorded [] (did.given hit) (did.known hit) (did.gave hit) mid.home.value kept rested refl
 
 pub returns-then-sys_is_drained-clause-cleared : goal.returns-then-sys_is_drained-clause-cleared
 returns-then-sys_is_drained-clause-cleared g c =
@@ -106,7 +106,7 @@ returns-clause-running g c =
     let did = c.sys_is_drained.ensures in let kept = did.unchanged c.if-sys_is_drained.false in
     let old = c.args.claim.now in let mid = c.sys_is_drained.new.claim in
     let as_before : run_state mid ≡ run_state old =
-    hold-same old mid did.ours did.same.1 did.same.0 did.taken did.recorded kept.0 kept.1 kept.2 in
+    hold-same old mid did.same_gates did.same.1 did.same.0 did.taken did.recorded kept.0 kept.1 kept.2 in
     λ seen r. subst (λ (h : RunState). IsRunning g.K.Behaviours.gives (origin_of c.args.gates.now) [] seen h) (sym as_before) r
 
 pub returns-clause-backlog : goal.returns-clause-backlog
@@ -114,7 +114,7 @@ returns-clause-backlog g c =
     let did = c.sys_is_drained.ensures in let kept = did.unchanged c.if-sys_is_drained.false in
     let old = c.args.claim.now in let mid = c.sys_is_drained.new.claim in
     let as_before : run_state mid ≡ run_state old =
-    hold-same old mid did.ours did.same.1 did.same.0 did.taken did.recorded kept.0 kept.1 kept.2 in
+    hold-same old mid did.same_gates did.same.1 did.same.0 did.taken did.recorded kept.0 kept.1 kept.2 in
     subst (λ (h : RunState). BacklogAgrees h) (sym as_before) c.requires.backlog
 
 pub returns-clause-left : goal.returns-clause-left
@@ -126,7 +126,7 @@ returns-clause-same g c =
     let did = c.sys_is_drained.ensures in let kept = did.unchanged c.if-sys_is_drained.false in
     let old = c.args.claim.now in let mid = c.sys_is_drained.new.claim in
     let as_before : run_state mid ≡ run_state old =
-    hold-same old mid did.ours did.same.1 did.same.0 did.taken did.recorded kept.0 kept.1 kept.2 in
+    hold-same old mid did.same_gates did.same.1 did.same.0 did.taken did.recorded kept.0 kept.1 kept.2 in
     subst (λ (h : RunState). KeepsJournal (run_state old) h) (sym as_before) (keeps-same (run_state old))
 
 pub returns-clause-cleared : goal.returns-clause-cleared

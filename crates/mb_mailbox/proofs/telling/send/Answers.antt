@@ -14,17 +14,17 @@ use Rattle.mb_mailbox.proofs.telling.send.Goals as goal
 
 -- ---- the pass stays one of these gates
 
-pub note_sent-requires-clause-ours : goal.note_sent-requires-clause-ours
-note_sent-requires-clause-ours g c = c.status-status.ensures.ours ∙ c.requires.ours
+pub note_sent-requires-clause-same_gates : goal.note_sent-requires-clause-same_gates
+note_sent-requires-clause-same_gates g c = c.status-status.ensures.same_gates ∙ c.requires.same_gates
 
-pub note_unsent-requires-clause-ours : goal.note_unsent-requires-clause-ours
-note_unsent-requires-clause-ours g c = c.note_sent.ensures.ours ∙ c.status-status.ensures.ours ∙ c.requires.ours
+pub note_unsent-requires-clause-same_gates : goal.note_unsent-requires-clause-same_gates
+note_unsent-requires-clause-same_gates g c = c.note_sent.ensures.same_gates ∙ c.status-status.ensures.same_gates ∙ c.requires.same_gates
 
-pub returns-in-Ok-clause-ours : goal.returns-in-Ok-clause-ours
-returns-in-Ok-clause-ours g c = c.note_sent.ensures.ours ∙ c.status-status.ensures.ours
+pub returns-in-Ok-clause-same_gates : goal.returns-in-Ok-clause-same_gates
+returns-in-Ok-clause-same_gates g c = c.note_sent.ensures.same_gates ∙ c.status-status.ensures.same_gates
 
-pub returns-in-Err-clause-ours : goal.returns-in-Err-clause-ours
-returns-in-Err-clause-ours g c = c.note_unsent.ensures.ours ∙ c.note_sent.ensures.ours ∙ c.status-status.ensures.ours
+pub returns-in-Err-clause-same_gates : goal.returns-in-Err-clause-same_gates
+returns-in-Err-clause-same_gates g c = c.note_unsent.ensures.same_gates ∙ c.note_sent.ensures.same_gates ∙ c.status-status.ensures.same_gates
 
 -- ---- its actor's home
 
@@ -80,7 +80,7 @@ returns-then-closed-clause-told g c =
     let shut = sym c.closed.ensures ∙ c.if-closed.true in
     record {
       word = word;
-      shut = ap (λ w. w == 1) (closed-word c.status-status.result shut);
+      known_closed = ap (λ w. w == 1) (closed-word c.status-status.result shut);
       did = does-read id word [] [] a b b c.status-status.ensures.known (looks-none id b);
       is_dead_letter = is_dead_letter;
     }

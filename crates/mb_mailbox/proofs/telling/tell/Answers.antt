@@ -17,26 +17,26 @@ use Rattle.mb_mailbox.proofs.telling.tell.Goals as goal
 
 pub send-requires : goal.send-requires
 send-requires g c = record {
-  ours = c.requires.ours.0;
-  there = told-below _ _ _ _ _ _ c.requires.running;
+  same_gates = c.requires.same_gates.0;
+  present = told-below _ _ _ _ _ _ c.requires.running;
   settled = running-own _ _ _ _ (run_state c.args.claim.now) c.requires.running;
 }
 
 pub register-requires : goal.register-requires
 register-requires g c =
     let below = told-below _ _ _ _ _ _ c.requires.running in record {
-      ours = (c.send.ensures.ours ∙ c.requires.ours.0, c.requires.ours.1);
-      there = (below, omega (arith, below, c.requires.ours.2));
+      same_gates = (c.send.ensures.same_gates ∙ c.requires.same_gates.0, c.requires.same_gates.1);
+      present = (below, omega (arith, below, c.requires.same_gates.2));
     }
 
-pub returns-in-None-clause-ours : goal.returns-in-None-clause-ours
-returns-in-None-clause-ours g c = (c.send.ensures.ours ∙ c.requires.ours.0, c.requires.ours.1, c.requires.ours.2)
+pub returns-in-None-clause-same_gates : goal.returns-in-None-clause-same_gates
+returns-in-None-clause-same_gates g c = (c.send.ensures.same_gates ∙ c.requires.same_gates.0, c.requires.same_gates.1, c.requires.same_gates.2)
 
-pub returns-in-Some-clause-ours : goal.returns-in-Some-clause-ours
-returns-in-Some-clause-ours g c = (
-  c.register.ensures.ours.0 ∙ c.send.ensures.ours ∙ c.requires.ours.0,
-  c.register.ensures.ours.1 ∙ c.requires.ours.1,
-  c.requires.ours.2,
+pub returns-in-Some-clause-same_gates : goal.returns-in-Some-clause-same_gates
+returns-in-Some-clause-same_gates g c = (
+  c.register.ensures.same_gates.0 ∙ c.send.ensures.same_gates ∙ c.requires.same_gates.0,
+  c.register.ensures.same_gates.1 ∙ c.requires.same_gates.1,
+  c.requires.same_gates.2,
 )
 
 -- ---- the receiver was read closed

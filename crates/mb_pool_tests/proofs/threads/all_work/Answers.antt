@@ -15,14 +15,14 @@ pub four_work-first-requires-clause-third : goal.four_work-first-requires-clause
 four_work-first-requires-clause-third g c κs within =
     let ours = λ (w : PoolEndpoint _). gates_of w ≡ Some c.args.pool.now.gates in
     let all = subst (All ours) c.in_ok-third.ensures.items (ends_gates c.args.pool.now _ c.requires.are_ends) in
-    all_last ours c.pop.new.self.items c.in_ok-third.third all ∙ ap (λ o. Some o) c.requires.these
+    all_last ours c.pop.new.self.items c.in_ok-third.third all ∙ ap (λ o. Some o) c.requires.same_origin
 
 pub four_work-first-requires-clause-second : goal.four_work-first-requires-clause-second
 four_work-first-requires-clause-second g c κs within =
     let ours = λ (w : PoolEndpoint _). gates_of w ≡ Some c.args.pool.now.gates in
     let all = subst (All ours) c.in_ok-third.ensures.items (ends_gates c.args.pool.now _ c.requires.are_ends) in
     let front = subst (All ours) c.in_ok-second.ensures.items (all_front ours c.pop.new.self.items (c.in_ok-third.third ∷ []) all) in
-    all_last ours c.pop-2.new.self.items c.in_ok-second.second front ∙ ap (λ o. Some o) c.requires.these
+    all_last ours c.pop-2.new.self.items c.in_ok-second.second front ∙ ap (λ o. Some o) c.requires.same_origin
 
 pub four_work-first-requires-clause-first : goal.four_work-first-requires-clause-first
 four_work-first-requires-clause-first g c κs within =
@@ -30,13 +30,13 @@ four_work-first-requires-clause-first g c κs within =
     let all = subst (All ours) c.in_ok-third.ensures.items (ends_gates c.args.pool.now _ c.requires.are_ends) in
     let front = subst (All ours) c.in_ok-second.ensures.items (all_front ours c.pop.new.self.items (c.in_ok-third.third ∷ []) all) in
     let head = subst (All ours) c.in_ok-first.ensures.items (all_front ours c.pop-2.new.self.items (c.in_ok-second.second ∷ []) front) in
-    all_last ours c.pop-3.new.self.items c.in_ok-first.first head ∙ ap (λ o. Some o) c.requires.these
+    all_last ours c.pop-3.new.self.items c.in_ok-first.first head ∙ ap (λ o. Some o) c.requires.same_origin
 
 pub four_work-first-requires-clause-feed : goal.four_work-first-requires-clause-feed
 four_work-first-requires-clause-feed g c κs within =
     let ours = λ (w : PoolEndpoint _). gates_of w ≡ Some c.args.pool.now.gates in
     let all = subst (All ours) c.in_ok-feed.ensures.items (feeds_gates c.args.pool.now _ c.requires.are_feeds) in
-    all_last ours c.pop-4.new.self.items c.in_ok-feed.feed all ∙ ap (λ o. Some o) c.requires.these
+    all_last ours c.pop-4.new.self.items c.in_ok-feed.feed all ∙ ap (λ o. Some o) c.requires.same_origin
 
 pub returns-clause-are_ends : goal.returns-clause-are_ends
 returns-clause-are_ends g c =

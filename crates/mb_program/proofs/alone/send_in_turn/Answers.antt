@@ -9,8 +9,8 @@ use Rattle.mb_program.specs.Senders.{HaveSentAll}
 use Rattle.mb_program.proofs.SenderLemmas.{all-ours, no-sending, sent-more}
 use Rattle.mb_program.proofs.alone.send_in_turn.Goals as goal
 
-pub send_one-requires-clause-ours : goal.send_one-requires-clause-ours
-send_one-requires-clause-ours g c =
+pub send_one-requires-clause-same_gates : goal.send_one-requires-clause-same_gates
+send_one-requires-clause-same_gates g c =
     let at = c.loop-send in let gates = c.args.system.now.gates in
     let may = All-get_or (IsSendable (length c.args.senders.now) (actors_of gates)) c.args.sends.now at.send-index no-sending
     c.loop-send-test.true c.requires.sendable in
@@ -18,8 +18,8 @@ send_one-requires-clause-ours g c =
     All-get_or (λ s. IsSenderOf gates s.inner) at.senders (get_or c.args.sends.now at.send-index no-sending).from c.index-senders-send.result
     (omega (arith, lt, many)) (all-ours gates (λ number. _) 0 at.senders at.invariant.1)
 
-pub send_one-requires-clause-there : goal.send_one-requires-clause-there
-send_one-requires-clause-there g c =
+pub send_one-requires-clause-present : goal.send_one-requires-clause-present
+send_one-requires-clause-present g c =
     let at = c.loop-send in let gates = c.args.system.now.gates in
     let may = All-get_or (IsSendable (length c.args.senders.now) (actors_of gates)) c.args.sends.now at.send-index no-sending
     c.loop-send-test.true c.requires.sendable in
@@ -35,7 +35,7 @@ loop-send-preserved g c =
       length-set at.senders send.from c.send_one.new.sender ∙ at.invariant.0,
       sent-more gates c.args.sends.now at.senders at.send-index no-sending c.index-senders-send.result c.send_one.new.sender
           c.loop-send-test.true (omega (arith, lt, many)) at.invariant.1
-          c.in_ok-send_one.ensures.sent c.send_one.ensures.ours,
+          c.in_ok-send_one.ensures.sent c.send_one.ensures.same_gates,
     )
 
 pub returns-clause-sent : goal.returns-clause-sent

@@ -4,7 +4,7 @@ use Rattle.mb_program.proofs.alone.send_one.Goals as goal
 
 pub of_run-requires : goal.of_run-requires
 of_run-requires g c =
-    record { there = one-for-somebody c.args.system.now.gates c.args.order c.in-Err.error c.requires.there c.in-Err.ensures.fault }
+    record { present = one-for-somebody c.args.system.now.gates c.args.order c.in-Err.error c.requires.present c.in-Err.ensures.fault }
 
 pub returns-in-Err-clause-fault : goal.returns-in-Err-clause-fault
 returns-in-Err-clause-fault g c =

@@ -21,7 +21,7 @@ overflow_cast-len g c =
     let place = place-left at.yielded rest c.args.senders.items c.in-Some.sender
     (ap (λ l. at.yielded ++ l) (sym steps) ∙ at.invariant.0) in
     let many = as-many-jobs (λ number. orders_of number c.args.sends.now) 0 at.yielded at.jobs.items at.invariant.1 in
-    let few = c.requires.few in
+    let few = c.requires.within_limit in
     let is : c.len-in-loop-sender.result ≡ length at.jobs.items = search rules in
     omega (arith, place, many, few, is)
 

@@ -24,7 +24,7 @@ of_run-requires g c =
     let built = c.args.built.now in let gates = built.system.gates in
     let orders : ℕ → List Order = λ number. orders_of number c.args.sends.now in
     let are = subst (λ s. AreJobs orders 0 s.items c.in_ok-jobs.jobs.items) c.replace-senders.ensures.value c.in_ok-jobs.ensures in record {
-      there = run-for-somebody g.K.Behaviours.gives built.system orders built.senders.items c.deref_mut-2.result.now c.run.new.ends c.in-Err.error
+      present = run-for-somebody g.K.Behaviours.gives built.system orders built.senders.items c.deref_mut-2.result.now c.run.new.ends c.in-Err.error
           (subst (AreJobs orders 0 built.senders.items) (sym c.deref_mut-2.ensures.value) are)
           (λ number. orderable built.system.senders (actors_of gates) number c.args.sends.now c.requires.sendable) c.in-Err.ensures.fault;
     }
@@ -50,6 +50,6 @@ returns-clause-ready g c =
       ends = subst (AreEndsOf gates) (sym ends) ran.ends.0;
       numbered = ap ends_numbers ends ∙ ran.ends.1 ∙ ap ends_numbers c.deref_mut.ensures.value ∙ ready.numbered;
       senders = subst (HaveSentAll gates orders 0) (sym are) all;
-      many = ap length are ∙ length-mapped sender done ∙ as_many ∙ as-many-jobs orders 0 built.senders.items jobs.items given
-          ∙ ready.many;
+      same_count = ap length are ∙ length-mapped sender done ∙ as_many ∙ as-many-jobs orders 0 built.senders.items jobs.items given
+          ∙ ready.same_count;
     }

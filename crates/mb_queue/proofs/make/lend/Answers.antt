@@ -3,7 +3,7 @@ use Rattle.std.specs.List.{Contains}
 use Rattle.mb_msg.specs.declared.envelope.Envelope.{Envelope}
 use Rattle.mb_queue.specs.declared.ledger.Account.{Account}
 use Rattle.mb_queue.specs.Ledger.{account, lent}
-use Rattle.mb_queue.specs.Port.{LanePort}
+use Rattle.mb_queue.specs.Port.{FifoPort}
 use Rattle.mb_queue.specs.declared.take_order.TakeOrder.{TakeOrder}
 use Rattle.mb_queue.specs.Representation.{IsSending, IsTakePass, sending, taking_of}
 use Rattle.mb_queue.specs.Lent.{order_lent}
@@ -27,13 +27,13 @@ lend_control-requires c = let i = c.take.inside in let s = c.args.by.0 in
 
 pub invariant_of-take : goal.invariant_of-take
 invariant_of-take c = let i = c.take.inside in let s = c.args.by.0 in
-    subst (λ (y : LanePort × TakeOrder × List Account). IsTakePass y.0 y.1 i.taken y.2)
+    subst (λ (y : FifoPort × TakeOrder × List Account). IsTakePass y.0 y.1 i.taken y.2)
     (λ k. (sym c.in_ok-own.ensures.0 k, sym c.in_ok-control.ensures.0 k, sym c.add.ensures k))
     (take_kept s i.main i.order i.taken i.accounts c.take.invariant.0, ours-lent s i.main i.order (order_lent s i.order) i.taken c.take.invariant.1)
 
 pub invariant_of-send : goal.invariant_of-send
 invariant_of-send c = let i = c.take.inside in let s = c.args.by.0 in
-    subst (λ (y : LanePort × Option LanePort × List Envelope). IsSending s y.0 y.1 y.2)
+    subst (λ (y : FifoPort × Option FifoPort × List Envelope). IsSending s y.0 y.1 y.2)
     (λ k. (sym c.in_ok-own.ensures.1 k, sym c.in_ok-control.ensures.1 k, sym c.new.ensures k))
     (send_kept s i.main i.order i.taken i.accounts c.take.invariant.0)
 

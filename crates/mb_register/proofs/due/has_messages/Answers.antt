@@ -3,7 +3,7 @@ use Rattle.std.proofs.lemmas.Bool.Decides.{nat_tests}
 use Rattle.mb_gate.specs.Accessors.{pass_view}
 use Rattle.mb_register.specs.Views.{LooksAfter}
 use Rattle.mb_register.proofs.Views.{looks-counting}
-use Rattle.mb_register.proofs.ClaimCounts.{turns-counted}
+use Rattle.mb_register.proofs.ClaimCounts.{claims-counted}
 use Rattle.mb_register.proofs.Dues.{saw-waiting}
 use Rattle.mb_register.proofs.due.has_messages.Goals as goal
 
@@ -12,8 +12,8 @@ returns-clause-looks g c =
     subst (LooksAfter c.args.id.0 (pass_view c.args.pass.now)) (sym c.waiting-waiting.ensures.known)
     (looks-counting c.args.id.0 c.waiting-waiting.result (pass_view c.args.pass.now))
 
-pub returns-clause-turns : goal.returns-clause-turns
-returns-clause-turns g c = turns-counted c.args.id.0 c.waiting-waiting.result (pass_view c.args.pass.now) _ c.waiting-waiting.ensures.known
+pub returns-clause-claims : goal.returns-clause-claims
+returns-clause-claims g c = claims-counted c.args.id.0 c.waiting-waiting.result (pass_view c.args.pass.now) _ c.waiting-waiting.ensures.known
 
 pub returns-clause-seen : goal.returns-clause-seen
 returns-clause-seen g c some =

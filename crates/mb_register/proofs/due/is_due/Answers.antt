@@ -6,7 +6,7 @@ use Rattle.mb_core.specs.Run.{after_reading}
 use Rattle.mb_register.specs.Views.{LooksAfter}
 use Rattle.mb_register.proofs.Views.{looks-reading, looks-then, owes-same}
 use Rattle.mb_register.proofs.Obligations.{discharged}
-use Rattle.mb_register.proofs.ClaimCounts.{turns-read, turns-then}
+use Rattle.mb_register.proofs.ClaimCounts.{claims-read, claims-then}
 use Rattle.mb_register.proofs.Dues.{due-by, due-hinted}
 use Rattle.mb_register.proofs.due.is_due.Goals as goal
 
@@ -45,23 +45,23 @@ returns-then-should_process-clause-looks g c =
     subst (LooksAfter c.args.id.0 (pass_view c.args.pass.now)) (sym c.status-status.ensures.known)
     (looks-reading c.args.id.0 (word_of c.status-status.result) (pass_view c.args.pass.now))
 
-pub returns-clause-turns : goal.returns-clause-turns
-returns-clause-turns g c =
+pub returns-clause-claims : goal.returns-clause-claims
+returns-clause-claims g c =
     let id = c.args.id.0 in
     let a = pass_view c.args.pass.now in
     let b = pass_view c.status-status.new.pass in
     let d = pass_view c.has_system-system.new.pass in
     let e = pass_view c.has_messages-messages.new.pass in
-    turns-then [] [] [] [] a b e (turns-read id (word_of c.status-status.result) a b c.status-status.ensures.known)
-    (turns-then [] [] [] [] b d e c.has_system-system.ensures.turns c.has_messages-messages.ensures.turns)
+    claims-then [] [] [] [] a b e (claims-read id (word_of c.status-status.result) a b c.status-status.ensures.known)
+    (claims-then [] [] [] [] b d e c.has_system-system.ensures.claims c.has_messages-messages.ensures.claims)
 
-pub returns-then-closed-clause-turns : goal.returns-then-closed-clause-turns
-returns-then-closed-clause-turns g c =
-    turns-read c.args.id.0 (word_of c.status-status.result) (pass_view c.args.pass.now) _ c.status-status.ensures.known
+pub returns-then-closed-clause-claims : goal.returns-then-closed-clause-claims
+returns-then-closed-clause-claims g c =
+    claims-read c.args.id.0 (word_of c.status-status.result) (pass_view c.args.pass.now) _ c.status-status.ensures.known
 
-pub returns-then-should_process-clause-turns : goal.returns-then-should_process-clause-turns
-returns-then-should_process-clause-turns g c =
-    turns-read c.args.id.0 (word_of c.status-status.result) (pass_view c.args.pass.now) _ c.status-status.ensures.known
+pub returns-then-should_process-clause-claims : goal.returns-then-should_process-clause-claims
+returns-then-should_process-clause-claims g c =
+    claims-read c.args.id.0 (word_of c.status-status.result) (pass_view c.args.pass.now) _ c.status-status.ensures.known
 
 pub returns-clause-due : goal.returns-clause-due
 returns-clause-due g c is =

@@ -2,7 +2,7 @@ use Rattle.std.proofs.Common.{◌∙◌, [], ◌∷◌}
 use Rattle.mb_status.specs.Mailbox.{word_of}
 use Rattle.mb_gate.specs.Accessors.{pass_view}
 use Rattle.mb_register.proofs.Views.{looks-then, looks-read, looks-read-twice, looks-read-won}
-use Rattle.mb_register.proofs.ClaimCounts.{turns-then, turns-read, turns-read-twice, turns-read-won}
+use Rattle.mb_register.proofs.ClaimCounts.{claims-then, claims-read, claims-read-twice, claims-read-won}
 use Rattle.mb_register.proofs.due.take_due.Goals as goal
 
 pub returns-in-Got-clause-looks : goal.returns-in-Got-clause-looks
@@ -11,11 +11,11 @@ returns-in-Got-clause-looks g c =
     let got = c.in-Got.ensures.answer in
     looks-then id a b d c.loop.invariant.3 (looks-read-won id (word_of got.0) b d got.1.pass)
 
-pub returns-in-Got-clause-turns : goal.returns-in-Got-clause-turns
-returns-in-Got-clause-turns g c =
+pub returns-in-Got-clause-claims : goal.returns-in-Got-clause-claims
+returns-in-Got-clause-claims g c =
     let id = c.args.id.0 in let a = pass_view c.args.pass.now in let b = pass_view c.loop.pass in let d = pass_view c.try_schedule.new.pass in
     let got = c.in-Got.ensures.answer in
-    turns-then [] [] (id ∷ []) [] a b d c.loop.invariant.4 (turns-read-won id (word_of got.0) b d got.1.pass)
+    claims-then [] [] (id ∷ []) [] a b d c.loop.invariant.4 (claims-read-won id (word_of got.0) b d got.1.pass)
 
 pub returns-in-Already-clause-looks : goal.returns-in-Already-clause-looks
 returns-in-Already-clause-looks g c =
@@ -29,17 +29,17 @@ returns-in-Closed-clause-looks g c =
     let tried = c.in-Closed.ensures.answer in
     looks-then id a b d c.loop.invariant.3 (looks-read id (word_of tried.0) b d tried.1.1)
 
-pub returns-in-Already-clause-turns : goal.returns-in-Already-clause-turns
-returns-in-Already-clause-turns g c =
+pub returns-in-Already-clause-claims : goal.returns-in-Already-clause-claims
+returns-in-Already-clause-claims g c =
     let id = c.args.id.0 in let a = pass_view c.args.pass.now in let b = pass_view c.loop.pass in let d = pass_view c.try_schedule.new.pass in
     let tried = c.in-Already.ensures.answer in
-    turns-then [] [] [] [] a b d c.loop.invariant.4 (turns-read id (word_of tried.0) b d tried.1.2)
+    claims-then [] [] [] [] a b d c.loop.invariant.4 (claims-read id (word_of tried.0) b d tried.1.2)
 
-pub returns-in-Closed-clause-turns : goal.returns-in-Closed-clause-turns
-returns-in-Closed-clause-turns g c =
+pub returns-in-Closed-clause-claims : goal.returns-in-Closed-clause-claims
+returns-in-Closed-clause-claims g c =
     let id = c.args.id.0 in let a = pass_view c.args.pass.now in let b = pass_view c.loop.pass in let d = pass_view c.try_schedule.new.pass in
     let tried = c.in-Closed.ensures.answer in
-    turns-then [] [] [] [] a b d c.loop.invariant.4 (turns-read id (word_of tried.0) b d tried.1.1)
+    claims-then [] [] [] [] a b d c.loop.invariant.4 (claims-read id (word_of tried.0) b d tried.1.1)
 
 pub returns-then-not-is_due-clause-looks : goal.returns-then-not-is_due-clause-looks
 returns-then-not-is_due-clause-looks g c =
@@ -49,13 +49,13 @@ returns-then-not-is_due-clause-looks g c =
     let lost = looks-then id a b d c.loop.invariant.3 (looks-read-twice id (word_of tried.0) (word_of c.in-Lost.field-0) b d tried.1.2) in
     looks-then id a d e lost c.is_due.ensures.looks
 
-pub returns-then-not-is_due-clause-turns : goal.returns-then-not-is_due-clause-turns
-returns-then-not-is_due-clause-turns g c =
+pub returns-then-not-is_due-clause-claims : goal.returns-then-not-is_due-clause-claims
+returns-then-not-is_due-clause-claims g c =
     let id = c.args.id.0 in let a = pass_view c.args.pass.now in let b = pass_view c.loop.pass in
     let d = pass_view c.try_schedule.new.pass in let e = pass_view c.is_due.new.pass in
     let tried = c.in-Lost.ensures.answer in
-    let lost = turns-then [] [] [] [] a b d c.loop.invariant.4 (turns-read-twice id (word_of tried.0) (word_of c.in-Lost.field-0) b d tried.1.2) in
-    turns-then [] [] [] [] a d e lost c.is_due.ensures.turns
+    let lost = claims-then [] [] [] [] a b d c.loop.invariant.4 (claims-read-twice id (word_of tried.0) (word_of c.in-Lost.field-0) b d tried.1.2) in
+    claims-then [] [] [] [] a d e lost c.is_due.ensures.claims
 
 pub loop-preserved : goal.loop-preserved
 loop-preserved g c =
@@ -63,10 +63,10 @@ loop-preserved g c =
     let d = pass_view c.try_schedule.new.pass in let e = pass_view c.is_due.new.pass in
     let tried = c.in-Lost.ensures.answer in
     let lost = looks-then id a b d c.loop.invariant.3 (looks-read-twice id (word_of tried.0) (word_of c.in-Lost.field-0) b d tried.1.2) in
-    let after = turns-then [] [] [] [] a b d c.loop.invariant.4 (turns-read-twice id (word_of tried.0) (word_of c.in-Lost.field-0) b d tried.1.2) in (
+    let after = claims-then [] [] [] [] a b d c.loop.invariant.4 (claims-read-twice id (word_of tried.0) (word_of c.in-Lost.field-0) b d tried.1.2) in (
       tt,
       tt,
-      c.is_due.ensures.ours ∙ c.in-Lost.ensures.ours.0 ∙ c.loop.invariant.2,
+      c.is_due.ensures.same_gates ∙ c.in-Lost.ensures.same_gates.0 ∙ c.loop.invariant.2,
       looks-then id a d e lost c.is_due.ensures.looks,
-      turns-then [] [] [] [] a d e after c.is_due.ensures.turns,
+      claims-then [] [] [] [] a d e after c.is_due.ensures.claims,
     )

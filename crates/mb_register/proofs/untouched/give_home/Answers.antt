@@ -5,7 +5,7 @@ use Rattle.mb_gate.specs.Accessors.{pass_view, claim_view, held_actor, status_of
 use Rattle.mb_gate.specs.View.{View, taking_in}
 use Rattle.mb_register.proofs.AtHome.{extends-same, shut-same, told-nothing, rest-open}
 use Rattle.mb_register.proofs.Views.{looks-back}
-use Rattle.mb_register.proofs.ClaimCounts.{turns-back}
+use Rattle.mb_register.proofs.ClaimCounts.{claims-back}
 use Rattle.mb_register.proofs.untouched.give_home.Goals as goal
 
 pub release-requires-clause-longer : goal.release-requires-clause-longer
@@ -16,8 +16,8 @@ release-requires-clause-longer g c =
 pub release-requires-clause-count : goal.release-requires-clause-count
 release-requires-clause-count g c = sym (ap (λ (v : View). (held_in v).given) c.requires.untouched.known)
 
-pub release-requires-clause-shut : goal.release-requires-clause-shut
-release-requires-clause-shut g c =
+pub release-requires-clause-known_closed : goal.release-requires-clause-known_closed
+release-requires-clause-known_closed g c =
     let claim = c.args.claim in
     shut-same (g.H.MailboxState.facts claim.home).closed_to (closed_with claim) (taking_in (claim_view claim) (pass_view c.args.pass.now))
     (ap (λ (v : View). (held_in v).closed_to) c.requires.untouched.known)
@@ -44,11 +44,11 @@ returns-clause-looks g c =
     (pass_view c.release.new.pass) refl
     c.requires.untouched.known c.release.ensures.known
 
-pub returns-clause-turns : goal.returns-clause-turns
-returns-clause-turns g c =
+pub returns-clause-claims : goal.returns-clause-claims
+returns-clause-claims g c =
     let claim = c.args.claim in
     let home = claim.home in
-    turns-back (held_actor claim) (g.H.MailboxState.facts home).journal (g.H.MailboxState.facts home).journal (g.H.MailboxState.facts home).closed_to (word_of
+    claims-back (held_actor claim) (g.H.MailboxState.facts home).journal (g.H.MailboxState.facts home).journal (g.H.MailboxState.facts home).closed_to (word_of
     (status_of claim))
     (gave_last claim) (g.H.MailboxState.facts home).given (pass_view c.args.pass.now) (claim_view claim)
     (pass_view c.release.new.pass) c.requires.untouched.known

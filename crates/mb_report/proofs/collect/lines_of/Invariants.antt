@@ -11,6 +11,6 @@ invariant-loop-id l = record {
   whole : map kept l.lines.items ++ lines_from l.report.senders.items l.id (drop l.id (codes "guardian" ∷ map string_bytes l.names))
       (drop l.id l.report.actors.items)
       ≡ lines_from l.report.senders.items 0 (codes "guardian" ∷ map string_bytes l.names) l.report.actors.items;
-  few : length l.lines.items ≡ l.id;
-  small : All (λ (line : Line). line.dead < 2 ^ 72) l.lines.items;
+  within_limit : length l.lines.items ≡ l.id;
+  below_bound : All (λ (line : Line). line.dead < 2 ^ 72) l.lines.items;
 }

@@ -6,6 +6,6 @@ use Rattle.mb_scenario.proofs.sends.senders_of.Given as goal
 -- those that are left lead to where all lead
 abbrev pub invariant-loop-send : goal.invariant-loop-send
 invariant-loop-send l = record {
-  small : l.senders ≤ 2 ^ 32;
+  below_bound : l.senders ≤ 2 ^ 32;
   same : fold (λ n (s : SenderOrder). max n (s.from + 1)) l.senders (drop l.send-index l.sends) ≡ senders_of l.sends;
 }

@@ -5,6 +5,6 @@ use Rattle.mb_schema.proofs.number.value_of.Given as goal
 -- the digits that are left lead to the number of all
 abbrev pub invariant-loop-digit : goal.invariant-loop-digit
 invariant-loop-digit l = record {
-  small : l.value < 2 ^ 36;
+  below_bound : l.value < 2 ^ 36;
   same : value_from l.value (drop l.digit-index l.digits) ≡ value_from 0 l.digits;
 }

@@ -23,7 +23,7 @@ loop-outsider-preserved c =
           refl,
       added sent_of (λ o. (o.send_log.sent, o.send_log.dead.items)) at.senders.items senders.new.self.items _ at.yielded o _ senders.ensures.items
           at.invariant.1 c.sender_report.ensures.report,
-      All-push (λ o. o.send_log.sent < 2 ^ 64) at.yielded o at.invariant.2 c.sender_report.ensures.small,
+      All-push (λ o. o.send_log.sent < 2 ^ 64) at.yielded o at.invariant.2 c.sender_report.ensures.below_bound,
       append_assoc at.yielded (o ∷ []) rest ∙ ap (λ l. at.yielded ++ l) (sym steps) ∙ at.invariant.3,
       (omega (arith, a, fewer, more_rows, same_rows)),
       (omega (arith, b, fewer, more_senders, same_senders)),
@@ -47,8 +47,8 @@ returns-clause-senders c =
     subst (λ (l : List FinishedSender). map sent_of at.senders.items
     ≡ map sent_of c.args.senders.now.items ++ map {A = FinishedSender} {B = ℕ × List DeadLetter} (λ o. (o.send_log.sent, o.send_log.dead.items)) l) all at.invariant.1
 
-pub returns-clause-small : goal.returns-clause-small
-returns-clause-small c =
+pub returns-clause-below_bound : goal.returns-clause-below_bound
+returns-clause-below_bound c =
     let at = c.loop-outsider in
     let none : into_iter_items at.outsider-iterator ≡ [] =
     nil_from_length (into_iter_items at.outsider-iterator) (sym at.outsider-iterator.rest.ok.0 ∙ c.in-None.ensures.steps.0) in

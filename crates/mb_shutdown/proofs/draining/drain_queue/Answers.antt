@@ -28,8 +28,8 @@ returns-in_default-clause-rest g c = λ fits.
     is-rest c.args.take c.take.new.self items (controls-left c.args.take c.loop.take items at.1 at.2 came)
     (e.taken ∙ append-nil c.loop.take.taken ∙ at.0.1 ∙ ap (λ l. c.args.take.taken ++ (items ++ l)) none
     ∙ ap (λ l. c.args.take.taken ++ l) (append-nil items)) (e.same.0 ∙ at.1.0, e.same.1 ∙ at.1.1) (e.same.2 ∙ at.2) e.each_once
-    (λ turns. e.in_order (sym e.same.1 ∙ turns))
-    (parts-out c.loop.take c.take.new.self e.turn e.taken e.same.1 e.same.2) e.known
+    (λ discipline. e.in_order (sym e.same.1 ∙ discipline))
+    (parts-out c.loop.take c.take.new.self e.follows_discipline e.taken e.same.1 e.same.2) e.known
 
 pub returns-in_default-clause-over : goal.returns-in_default-clause-over
 returns-in_default-clause-over g c = λ over.
@@ -38,8 +38,8 @@ returns-in_default-clause-over g c = λ over.
       left = items ++ more;
       rest = is-rest c.args.take c.take.new.self (items ++ more)
           (controls-left c.args.take c.loop.take (items ++ more) at.1 at.2 at.0.3) (e.taken ∙ append-nil c.loop.take.taken ∙ at.0.1)
-          (e.same.0 ∙ at.1.0, e.same.1 ∙ at.1.1) (e.same.2 ∙ at.2) e.each_once (λ turns. e.in_order (sym e.same.1 ∙ turns))
-          (parts-out c.loop.take c.take.new.self e.turn e.taken e.same.1 e.same.2) e.known;
+          (e.same.0 ∙ at.1.0, e.same.1 ∙ at.1.1) (e.same.2 ∙ at.2) e.each_once (λ discipline. e.in_order (sym e.same.1 ∙ discipline))
+          (parts-out c.loop.take c.take.new.self e.follows_discipline e.taken e.same.1 e.same.2) e.known;
       over = ⊎_elim (λ all. absurd (cc (sym over ∙ all.0)))
           (λ some.
           let a = some-length more some.1 in let b = some.2 in let cap = at.3 in let both = length-append items more in
@@ -61,7 +61,7 @@ loop-preserved-then-len-capacity g c =
         subst (ControlsCame c.take.new.self)
             (ap (λ l. (items ++ l) ++ one) all.1 ∙ ap (λ l. l ++ one) (append-nil items) ∙ sym c.push_reserved.ensures.items
             ∙ sym (append-nil c.push_reserved.new.self.items))
-            (one-came c.loop.take c.take.new.self (items ++ at.0.0) c.in-Some-take.envelope e.taken e.same.2 (e.same.0, e.same.1) e.turn
+            (one-came c.loop.take c.take.new.self (items ++ at.0.0) c.in-Some-take.envelope e.taken e.same.2 (e.same.0, e.same.1) e.follows_discipline
             e.sender at.0.3),
       )) (λ some. absurd (let full = some.2 in omega (arith, full, place))) at.0.2,
       (e.same.0 ∙ at.1.0, e.same.1 ∙ at.1.1),
@@ -80,7 +80,7 @@ loop-preserved g c =
         e.taken ∙ ap (λ l. l ++ one) at.0.1 ∙ append_assoc old (items ++ more) one ∙ ap (λ l. old ++ l) (append_assoc items more one),
         inr (refl, longer-none more c.in-Some-take.envelope, full),
         subst (ControlsCame c.take.new.self) (append_assoc items more one)
-            (one-came c.loop.take c.take.new.self (items ++ more) c.in-Some-take.envelope e.taken e.same.2 (e.same.0, e.same.1) e.turn
+            (one-came c.loop.take c.take.new.self (items ++ more) c.in-Some-take.envelope e.taken e.same.2 (e.same.0, e.same.1) e.follows_discipline
             e.sender at.0.3),
       ),
       (e.same.0 ∙ at.1.0, e.same.1 ∙ at.1.1),

@@ -47,7 +47,7 @@ returns-then-not-drain_queue-clause-over g c =
     record {
       take = one;
       room = old;
-      there = ap (slice_get c.args.takes.items) place ∙ ap (λ l. slice_get l n) all ∙ in-place items one done;
+      present = ap (slice_get c.args.takes.items) place ∙ ap (λ l. slice_get l n) all ∙ in-place items one done;
       lies = ap (slice_get rooms) place ∙ sym same ∙ ap (slice_get at.rooms) (sym place)
           ∙ slice_get-get_or at.rooms c.len-place.result c.index-rooms-place.result (subst (λ m. m < length at.rooms) (sym place) lt);
       more = c.drain_queue.ensures.over (search rules);
@@ -64,12 +64,12 @@ returns-then-not-drain_queue-clause-full g c =
 
 pub loop-take-init : goal.loop-take-init
 loop-take-init g c =
-    let ways = c.args.takes.items in let rooms = c.args.rooms.now in let many = c.requires.many in
-    let whole : take (length ways) rooms ≡ rooms = take_all (length ways) rooms (omega (arith, many)) in
-    let none : drop (length ways) rooms ≡ [] = drop_of_length-le rooms (omega (arith, many)) in (
+    let all_takes = c.args.takes.items in let rooms = c.args.rooms.now in let many = c.requires.same_count in
+    let whole : take (length all_takes) rooms ≡ rooms = take_all (length all_takes) rooms (omega (arith, many)) in
+    let none : drop (length all_takes) rooms ≡ [] = drop_of_length-le rooms (omega (arith, many)) in (
       many,
       subst (All (λ room. room.items ≡ [])) (sym whole) c.requires.empty,
-      ([], sym (append-nil ways), subst (λ l. AreRests [] (map (λ room. room.items) l)) (sym none) tt),
+      ([], sym (append-nil all_takes), subst (λ l. AreRests [] (map (λ room. room.items) l)) (sym none) tt),
       refl,
     )
 

@@ -13,7 +13,7 @@ use Rattle.mb_system.specs.Belonging.{senders_numbers}
 use Rattle.mb_system.specs.Members.{ends_numbers}
 use Rattle.mb_shutdown.specs.Belonging.{AreThere, HasRead, IsLeastMissing}
 use Rattle.mb_shutdown.proofs.Back.{counted-all, back-complete, back-ends, back-some, back-together, left-counted, settled-then-read, some-end}
-use Rattle.mb_shutdown.proofs.Closing.{as-many-outside, came-answers, came-known, came-outside, came-room, came-ways, gathered, goes-on}
+use Rattle.mb_shutdown.proofs.Closing.{as-many-outside, came-answers, came-known, came-outside, came-room, came-passes, gathered, goes-on}
 use Rattle.mb_shutdown.proofs.Places.{as-many-senders}
 use Rattle.mb_shutdown.proofs.ending.finish.Goals as goal
 
@@ -33,7 +33,7 @@ returns-in-Some-missing-clause-refused g c =
 pub first_busy_of-requires : goal.first_busy_of-requires
 first_busy_of-requires g c =
     let built = c.args.built in record {
-      ours = c.requires.together.ends;
+      same_gates = c.requires.together.ends;
       some = some-end built.ends.items built.system.workers built.system.some
           (subst (λ l. AreThere built.system.workers (ends_numbers l)) c.deref.ensures.value c.in_default.ensures);
     }
@@ -57,10 +57,10 @@ room_of-requires g c =
     let settled : HasRead (WereReadIdle 0 (actors_of built.system.gates)) built b1 = c.in_default-first_busy_of.ensures in
     let many = as-many-senders built.system.senders built.senders.items senders together.numbered together.once in
     let same = ap length settled.2.senders in
-    let few = built.system.few.1 in record {
-      ours = back-ends built b1 settled.0 settled.1 settled.2 together.ends;
+    let few = built.system.within_limit.1 in record {
+      same_gates = back-ends built b1 settled.0 settled.1 settled.2 together.ends;
       some = back-some built b1 settled.0 settled.1 settled.2;
-      few = omega (arith, many, same, few);
+      within_limit = omega (arith, many, same, few);
     }
 
 pub returns-in_default-room_of-clause-refused : goal.returns-in_default-room_of-clause-refused
@@ -117,10 +117,10 @@ build_report-requires g c =
     let came = gathered built b2 gates log outside found c.gather-gates.ensures.gates.0 c.gather-gates.ensures.seen c.gather-gates.ensures.outside in
     let together = c.requires.together in
     let many = as-many-outside built gates log outside together (ends, senders) came in
-    let few = built.system.few.1 in record {
-      ours = c.gather-gates.ensures.gates.1;
-      few = (
-        subst (λ (g : Gates (Box Contents)). actors_of g ≤ 64) (sym came.gates_are) built.system.few.0,
+    let few = built.system.within_limit.1 in record {
+      same_gates = c.gather-gates.ensures.gates.1;
+      within_limit = (
+        subst (λ (g : Gates (Box Contents)). actors_of g ≤ 64) (sym came.gates_are) built.system.within_limit.0,
         omega (arith, many, few),
       );
       directory = subst (λ (g : Gates (Box Contents)). length (first_home g).value.directory ≡ actors_of g) (sym came.gates_are) built.system.directory;
@@ -232,15 +232,15 @@ returns-in-Err-clause-why g c =
     let gates = c.gather-gates.result.0 in let v = pass_view c.gather-gates.result.1 in let log = v.log in
     let outside = c.gather-gates.new.outside.items in
     let came = gathered built b2 gates log outside found c.gather-gates.ensures.gates.0 c.gather-gates.ensures.seen c.gather-gates.ensures.outside in
-    let waiting = counted_in c.in-Some-room_of.room in let ways = map (λ (o : FinishedSender). o.sends.items) outside in
+    let waiting = counted_in c.in-Some-room_of.room in let send_passes = map (λ (o : FinishedSender). o.sends.items) outside in
     record {
       view = v;
       seen = came.seen;
-      outside = ways;
-      ways = came-ways built gates log outside c.requires.together (ends, senders) came;
+      outside = send_passes;
+      send_passes = came-passes built gates log outside c.requires.together (ends, senders) came;
       waiting = waiting;
       counted = counted-all b1 b2 log waiting c.in-Some-room_of.ensures.waiting c.gather-gates.ensures.seen.0;
       disagrees =
-          subst (λ (h : Gates (Box Contents)). Disagrees g.K.Behaviours.gives (first_home h).value (actors_of h) v ways waiting c.in-Err.mismatch)
+          subst (λ (h : Gates (Box Contents)). Disagrees g.K.Behaviours.gives (first_home h).value (actors_of h) v send_passes waiting c.in-Err.mismatch)
           came.gates_are c.in-Err.ensures.why;
     }

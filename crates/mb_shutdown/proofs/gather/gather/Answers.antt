@@ -21,9 +21,9 @@ sort_by_number-requires g c =
     let many = as-many-senders built.system.senders built.senders.items c.requires.complete.1 together.numbered together.once in
     let is = c.deref_mut.ensures.value in
     let long = ap length is in
-    let few = built.system.few.1 in record {
-      few = omega (arith, long, many, few);
-      there = all-there built.system.senders c.deref_mut.result.now built.senders.items is many c.requires.complete.1;
+    let few = built.system.within_limit.1 in record {
+      within_limit = omega (arith, long, many, few);
+      present = all-there built.system.senders c.deref_mut.result.now built.senders.items is many c.requires.complete.1;
     }
 
 pub unreachable-requires : goal.unreachable-requires
@@ -46,8 +46,8 @@ loop-end-init g c =
 pub absorb-requires : goal.absorb-requires
 absorb-requires g c =
     let built = c.args.built in let at = c.loop-end in record {
-      ours = (
-        at.invariant.ours,
+      same_gates = (
+        at.invariant.same_gates,
         end-ours built.system.gates built.ends.items at.yielded (into_iter_items at.end-iterator) (into_iter_items c.next-in-loop-end.new.self)
             c.in-Some-end.end at.pass c.into_pass.result at.invariant c.in-Some-end.ensures.steps.0 c.into_pass.ensures c.requires.together.ends,
       );
@@ -58,7 +58,7 @@ loop-end-preserved g c =
     let built = c.args.built in let at = c.loop-end in
     ends-more built.system.gates built.ends.items at.yielded (into_iter_items at.end-iterator) (into_iter_items c.next-in-loop-end.new.self)
     c.in-Some-end.end at.pass c.absorb.new.pass c.into_pass.result at.invariant c.in-Some-end.ensures.steps.0 c.into_pass.ensures
-    c.absorb.ensures.ours c.absorb.ensures.known
+    c.absorb.ensures.same_gates c.absorb.ensures.known
 
 pub loop-sender-init : goal.loop-sender-init
 loop-sender-init g c =
@@ -76,7 +76,7 @@ loop-sender-init g c =
       same,
       c.sort_by_number.ensures.numbers ∙ ap (numbers 0) (ap length is ∙ many),
       senders-first built.system.gates built.ends.items now (into_iter_items c.into_iter-sender-iterator.result) at.pass c.args.outside.now.items
-          at.invariant.ours
+          at.invariant.same_gates
           (ends-all built.system.gates built.ends.items at.yielded (into_iter_items at.end-iterator) at.pass at.invariant
           (nil_from_length (into_iter_items at.end-iterator) (sym at.end-iterator.rest.ok.0 ∙ c.in-None.ensures.steps.0)))
           rest c.requires.room.0,
@@ -88,8 +88,8 @@ absorb-requires-in-loop-sender g c =
     let built = c.args.built in let at = c.loop-sender in let now = at.invariant.0 in
     let all = All-permutation (λ s. IsSenderOf built.system.gates s.inner) built.senders.items now
     (IsPermutation-sym now built.senders.items at.invariant.1) c.requires.together.senders in record {
-      ours = (
-        at.invariant.3.ours,
+      same_gates = (
+        at.invariant.3.same_gates,
         sender-ours built.system.gates built.ends.items now at.yielded (into_iter_items at.sender-iterator)
             (into_iter_items c.next-in-loop-sender.new.self) c.in-Some-sender.sender at.pass c.into_parts-other.result.0 at.outside.items
             at.invariant.3 c.in-Some-sender.ensures.steps.0 c.into_parts-other.ensures.0 all,
@@ -116,7 +116,7 @@ loop-sender-preserved g c =
       at.invariant.2,
       senders-more built.system.gates built.ends.items now at.yielded (into_iter_items at.sender-iterator) rest c.in-Some-sender.sender at.pass
           c.absorb-in-loop-sender.new.pass c.into_parts-other.result.0 at.outside.items c.push_reserved.new.self.items _ at.invariant.3
-          c.in-Some-sender.ensures.steps.0 c.into_parts-other.ensures.0 c.absorb-in-loop-sender.ensures.ours c.absorb-in-loop-sender.ensures.known
+          c.in-Some-sender.ensures.steps.0 c.into_parts-other.ensures.0 c.absorb-in-loop-sender.ensures.same_gates c.absorb-in-loop-sender.ensures.known
           c.push_reserved.ensures.items c.into_parts-other.ensures.1 c.into_parts-other.ensures.2,
       (omega (arith, next, room, longer, capacity)),
     )
@@ -128,7 +128,7 @@ returns g c =
     let all : at.yielded ≡ now =
     senders-all built.system.gates built.ends.items now at.yielded (into_iter_items at.sender-iterator) at.pass at.outside.items has none in
     record {
-      gates = (refl, has.ours);
+      gates = (refl, has.same_gates);
       seen = (
         has.ends_seen,
         All-permutation (λ s. IsPart (seen_by_sender s) (pass_view at.pass).log) now built.senders.items at.invariant.1

@@ -10,7 +10,7 @@ loop-number-init g c = (refl, none_read 0 (pass_view c.args.pass.now))
 pub loop-number-preserved : goal.loop-number-preserved
 loop-number-preserved g c =
     let at = c.loop-number in (
-      c.is_idle.ensures.ours ∙ at.invariant.0,
+      c.is_idle.ensures.same_gates ∙ at.invariant.0,
       settled-more at.number (pass_view c.args.pass.now) (pass_view at.pass) (pass_view c.is_idle.new.pass) at.invariant.1
           c.if-not-is_idle.ensures.settled,
     )

@@ -1,7 +1,7 @@
 use Rattle.std.proofs.Common.{rules, ◌≡◌, ◌++◌, [], ◌∷◌, length, sym, ap, ◌∙◌, Some}
 use Rattle.std.specs.Prelude.{slice_get, slice_set}
 use Rattle.mb_shutdown.specs.Joined.{joined, joins, queues_of, queues_pushed_into}
-use Rattle.mb_shutdown.proofs.JoinLemmas.{joins-last, joins-none, queue-last, queues-set, ways-last}
+use Rattle.mb_shutdown.proofs.JoinLemmas.{joins-last, joins-none, queue-last, queues-set, passes-last}
 use Rattle.mb_shutdown.proofs.joining.join_each.Goals as goal
 
 pub join_at-requires-clause-queue : goal.join_at-requires-clause-queue
@@ -24,7 +24,7 @@ loop-pass-preserved c =
       (
         pass.queue ∷ at.invariant.1.0,
         ap queues_of same ∙ queues-set at.takes (length rest) take pass was ∙ at.invariant.1.1
-            ∙ ap (λ l. queues_pushed_into l ++ at.invariant.1.0) c.in-Some.ensures.items ∙ ways-last rest pass at.invariant.1.0,
+            ∙ ap (λ l. queues_pushed_into l ++ at.invariant.1.0) c.in-Some.ensures.items ∙ passes-last rest pass at.invariant.1.0,
       ),
     )
 

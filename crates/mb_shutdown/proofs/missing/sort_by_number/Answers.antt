@@ -15,7 +15,7 @@ loop-place-init g c = record {
 pub unreachable-requires : goal.unreachable-requires
 unreachable-requires g c =
     c.in_default.ensures (still-there g.T.Numbered.numbered c.loop-place.all c.args.all.now (length c.args.all.now) c.loop-place.place
-    c.loop-place.invariant.same c.requires.there c.loop-place-test.true)
+    c.loop-place.invariant.same c.requires.present c.loop-place-test.true)
 
 pub swap-requires : goal.swap-requires
 swap-requires g c =

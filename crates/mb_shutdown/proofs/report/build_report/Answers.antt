@@ -24,16 +24,16 @@ take_rests-requires-clause-queues g c =
     let room = c.args.room in let apart = c.in_ok-take_apart.ensures.apart in let ended = c.take_apart.new.ended.items in
     let takes = c.take_apart.new.takes.items in let before = map (λ r. r.items) c.take_apart.new.rows.items in
     rows-queues g.K.Behaviours.gives (first_home c.args.gates).value (actors_of c.args.gates) (pass_view c.args.pass) c.finish-all.result.items
-    c.finish-all.ensures.left ended takes before c.take_apart.new.senders.items apart c.args.outside.items c.requires.few.0 c.requires.directory
-    c.requires.outside c.add_outside.ensures.small (λ r. r.items) c.add_outside.new.rows.items c.add_outside.ensures.rows
+    c.finish-all.ensures.left ended takes before c.take_apart.new.senders.items apart c.args.outside.items c.requires.within_limit.0 c.requires.directory
+    c.requires.outside c.add_outside.ensures.below_bound (λ r. r.items) c.add_outside.new.rows.items c.add_outside.ensures.rows
 
 pub take_rests-requires-clause-different : goal.take_rests-requires-clause-different
 take_rests-requires-clause-different g c =
     let room = c.args.room in let apart = c.in_ok-take_apart.ensures.apart in let ended = c.take_apart.new.ended.items in
     let takes = c.take_apart.new.takes.items in let before = map (λ r. r.items) c.take_apart.new.rows.items in
     rows-different g.K.Behaviours.gives (first_home c.args.gates).value (actors_of c.args.gates) (pass_view c.args.pass) c.finish-all.result.items
-    c.finish-all.ensures.left ended takes before c.take_apart.new.senders.items apart c.args.outside.items c.requires.few.0 c.requires.directory
-    c.requires.outside c.add_outside.ensures.small (λ r. r.items) c.add_outside.new.rows.items c.add_outside.ensures.rows
+    c.finish-all.ensures.left ended takes before c.take_apart.new.senders.items apart c.args.outside.items c.requires.within_limit.0 c.requires.directory
+    c.requires.outside c.add_outside.ensures.below_bound (λ r. r.items) c.add_outside.new.rows.items c.add_outside.ensures.rows
 
 pub returns-in-Ok-clause-whole : goal.returns-in-Ok-clause-whole
 returns-in-Ok-clause-whole g c =
@@ -48,8 +48,8 @@ returns-in-Ok-clause-whole g c =
     (λ report. IsCompleteReport g.K.Behaviours.after g.K.Behaviours.gives first.directory v.log (map (λ o. o.send_log.posted) c.args.outside.items) report)
     (λ report s.
     report-whole g.K.Behaviours.gives first (actors_of c.args.gates) v c.finish-all.result.items
-    c.finish-all.ensures.left ended takes before c.take_apart.new.senders.items apart c.args.outside.items c.requires.few.0 c.requires.directory
-    c.requires.outside c.add_outside.ensures.small (λ r. r.items) c.add_outside.new.rows.items c.add_outside.ensures.rows g.K.Behaviours.after
+    c.finish-all.ensures.left ended takes before c.take_apart.new.senders.items apart c.args.outside.items c.requires.within_limit.0 c.requires.directory
+    c.requires.outside c.add_outside.ensures.below_bound (λ r. r.items) c.add_outside.new.rows.items c.add_outside.ensures.rows g.K.Behaviours.after
     c.requires.senders lefts c.in-Ok.ensures.taken c.deref.result.now waits report s.0
     (ap (λ (w : Vec SenderReport Global). map sent_of w.items) s.1 ∙ c.add_outside.ensures.senders)) c.report_on.ensures.shows
 
@@ -66,15 +66,15 @@ returns-in-Ok-clause-seen g c =
     (λ report. ReportExtendsAll report v)
     (λ report s.
     report-seen g.K.Behaviours.gives first (actors_of c.args.gates) v c.finish-all.result.items
-    c.finish-all.ensures.left ended takes before c.take_apart.new.senders.items apart c.args.outside.items c.requires.few.0 c.requires.directory
-    c.requires.outside c.add_outside.ensures.small (λ r. r.items) c.add_outside.new.rows.items c.add_outside.ensures.rows g.K.Behaviours.after
+    c.finish-all.ensures.left ended takes before c.take_apart.new.senders.items apart c.args.outside.items c.requires.within_limit.0 c.requires.directory
+    c.requires.outside c.add_outside.ensures.below_bound (λ r. r.items) c.add_outside.new.rows.items c.add_outside.ensures.rows g.K.Behaviours.after
     c.requires.senders lefts c.in-Ok.ensures.taken c.deref.result.now waits report s.0
     (ap (λ (w : Vec SenderReport Global). map sent_of w.items) s.1 ∙ c.add_outside.ensures.senders)) c.report_on.ensures.shows
 
 pub add_outside-requires : goal.add_outside-requires
 add_outside-requires g c =
     let apart = c.in_ok-take_apart.ensures.apart in
-    let n = c.finish-all.ensures.left.many in
+    let n = c.finish-all.ensures.left.same_count in
     let many = as-many c.finish-all.result.items c.take_apart.new.ended.items c.take_apart.new.takes.items
     (map (λ r. r.items) c.take_apart.new.rows.items) c.take_apart.new.senders.items apart in
     let rows = many.of_rows in let of = length-mapped (λ r. r.items) c.take_apart.new.rows.items in let senders = many.of_senders in
@@ -85,16 +85,16 @@ add_outside-requires g c =
 pub take_rests-requires-clause-some : goal.take_rests-requires-clause-some
 take_rests-requires-clause-some g c =
     let apart = c.in_ok-take_apart.ensures.apart in
-    let n = c.finish-all.ensures.left.many in
+    let n = c.finish-all.ensures.left.same_count in
     let many = as-many c.finish-all.result.items c.take_apart.new.ended.items c.take_apart.new.takes.items
     (map (λ r. r.items) c.take_apart.new.rows.items) c.take_apart.new.senders.items apart in
-    let takes = many.of_takes in let some = c.args.gates.some.0 in let few = c.requires.few.0 in
+    let takes = many.of_takes in let some = c.args.gates.some.0 in let few = c.requires.within_limit.0 in
     ((omega (arith, takes, n, some)), (omega (arith, takes, n, few)))
 
-pub take_rests-requires-clause-many : goal.take_rests-requires-clause-many
-take_rests-requires-clause-many g c =
+pub take_rests-requires-clause-same_count : goal.take_rests-requires-clause-same_count
+take_rests-requires-clause-same_count g c =
     let apart = c.in_ok-take_apart.ensures.apart in
-    let n = c.finish-all.ensures.left.many in
+    let n = c.finish-all.ensures.left.same_count in
     let many = as-many c.finish-all.result.items c.take_apart.new.ended.items c.take_apart.new.takes.items
     (map (λ r. r.items) c.take_apart.new.rows.items) c.take_apart.new.senders.items apart in
     zip-many IsEmptyWithRoom c.args.room.waiting.items c.args.room.lefts.items c.requires.room.lefts ∙ c.requires.room.counted
@@ -103,21 +103,21 @@ take_rests-requires-clause-many g c =
 pub take_rests-requires-clause-empty : goal.take_rests-requires-clause-empty
 take_rests-requires-clause-empty g c = zip-empty c.args.room.waiting.items c.args.room.lefts.items c.requires.room.lefts
 
-pub report_on-requires-clause-many : goal.report_on-requires-clause-many
-report_on-requires-clause-many g c =
+pub report_on-requires-clause-same_count : goal.report_on-requires-clause-same_count
+report_on-requires-clause-same_count g c =
     let apart = c.in_ok-take_apart.ensures.apart in
-    let n = c.finish-all.ensures.left.many in
+    let n = c.finish-all.ensures.left.same_count in
     let many = as-many c.finish-all.result.items c.take_apart.new.ended.items c.take_apart.new.takes.items
     (map (λ r. r.items) c.take_apart.new.rows.items) c.take_apart.new.senders.items apart in
-    let taken = c.in-Ok.ensures.taken.many in let of = length-mapped (λ l. l.items) c.take_rests.new.lefts.items in
+    let taken = c.in-Ok.ensures.taken.same_count in let of = length-mapped (λ l. l.items) c.take_rests.new.lefts.items in
     let ended = many.of_ended in let takes = many.of_takes in let same : c.deref.result.now ≡ c.args.room.waiting.items = search rules in
-    let waits = ap length same ∙ c.requires.room.counted in let few = c.requires.few.0 in
+    let waits = ap length same ∙ c.requires.room.counted in let few = c.requires.within_limit.0 in
     ((omega (arith, taken, of, ended, takes)), (omega (arith, waits, ended, n)), (omega (arith, ended, n, few)))
 
 pub report_on-requires-clause-room : goal.report_on-requires-clause-room
 report_on-requires-clause-room g c =
     let apart = c.in_ok-take_apart.ensures.apart in
-    let n = c.finish-all.ensures.left.many in
+    let n = c.finish-all.ensures.left.same_count in
     let many = as-many c.finish-all.result.items c.take_apart.new.ended.items c.take_apart.new.takes.items
     (map (λ r. r.items) c.take_apart.new.rows.items) c.take_apart.new.senders.items apart in
     let ended = many.of_ended in let room = c.requires.room.reports.1 in (c.requires.room.reports.0, (omega (arith, ended, n, room)))
@@ -125,7 +125,7 @@ report_on-requires-clause-room g c =
 pub report_on-requires-clause-senders : goal.report_on-requires-clause-senders
 report_on-requires-clause-senders g c =
     let apart = c.in_ok-take_apart.ensures.apart in
-    let n = c.finish-all.ensures.left.many in
+    let n = c.finish-all.ensures.left.same_count in
     let many = as-many c.finish-all.result.items c.take_apart.new.ended.items c.take_apart.new.takes.items
     (map (λ r. r.items) c.take_apart.new.rows.items) c.take_apart.new.senders.items apart in
     let senders = many.of_senders in let of = length-mapped sent_of c.add_outside.new.senders.items in
@@ -133,7 +133,7 @@ report_on-requires-clause-senders g c =
     let outs = length-mapped {X = FinishedSender} {Y = ℕ × List DeadLetter} (λ o. (o.send_log.sent, o.send_log.dead.items)) c.args.outside.items in
     let all = ap length c.add_outside.ensures.senders
     ∙ length-append (map sent_of c.take_apart.new.senders.items) (map {A = FinishedSender} {B = ℕ × List DeadLetter} (λ o. (o.send_log.sent, o.send_log.dead.items)) c.args.outside.items) in
-    let few = c.requires.few in let a = few.0 in let b = few.1 in omega (arith, senders, of, before, outs, all, n, a, b)
+    let few = c.requires.within_limit in let a = few.0 in let b = few.1 in omega (arith, senders, of, before, outs, all, n, a, b)
 
 pub returns-in_err-take_apart-clause-whom : goal.returns-in_err-take_apart-clause-whom
 returns-in_err-take_apart-clause-whom g c =
@@ -220,8 +220,8 @@ returns-in-Ok-clause-home g c =
     (HomesReturned g.K.Behaviours.gives first (actors_of c.args.gates) v)
     (λ report s.
     report-home g.K.Behaviours.gives first (actors_of c.args.gates) v c.finish-all.result.items
-    c.finish-all.ensures.left ended takes before c.take_apart.new.senders.items apart c.args.outside.items c.requires.few.0 c.requires.directory
-    c.requires.outside c.add_outside.ensures.small (λ r. r.items) c.add_outside.new.rows.items c.add_outside.ensures.rows g.K.Behaviours.after
+    c.finish-all.ensures.left ended takes before c.take_apart.new.senders.items apart c.args.outside.items c.requires.within_limit.0 c.requires.directory
+    c.requires.outside c.add_outside.ensures.below_bound (λ r. r.items) c.add_outside.new.rows.items c.add_outside.ensures.rows g.K.Behaviours.after
     c.requires.senders lefts c.in-Ok.ensures.taken c.deref.result.now waits report s.0
     (ap (λ (w : Vec SenderReport Global). map sent_of w.items) s.1 ∙ c.add_outside.ensures.senders)) c.report_on.ensures.shows
 
@@ -238,8 +238,8 @@ returns-in-Ok-clause-counted g c =
     (λ report. map (λ a. length a.left.items) report.actors.items ≡ c.args.room.waiting.items)
     (λ report s.
     report-counted g.K.Behaviours.gives first (actors_of c.args.gates) v c.finish-all.result.items
-    c.finish-all.ensures.left ended takes before c.take_apart.new.senders.items apart c.args.outside.items c.requires.few.0 c.requires.directory
-    c.requires.outside c.add_outside.ensures.small (λ r. r.items) c.add_outside.new.rows.items c.add_outside.ensures.rows g.K.Behaviours.after
+    c.finish-all.ensures.left ended takes before c.take_apart.new.senders.items apart c.args.outside.items c.requires.within_limit.0 c.requires.directory
+    c.requires.outside c.add_outside.ensures.below_bound (λ r. r.items) c.add_outside.new.rows.items c.add_outside.ensures.rows g.K.Behaviours.after
     c.requires.senders lefts c.in-Ok.ensures.taken c.deref.result.now waits report s.0
     (ap (λ (w : Vec SenderReport Global). map sent_of w.items) s.1 ∙ c.add_outside.ensures.senders) ∙ same) c.report_on.ensures.shows
 

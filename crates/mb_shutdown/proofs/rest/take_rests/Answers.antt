@@ -13,13 +13,13 @@ returns-clause-taken g c =
     let takes_are : c.args.takes.items ≡ guardian ∷ rest
     = first-removed c.args.takes.items guardian c.requires.some.0 c.remove-guardian.ensures.value
     ∙ ap (λ l. guardian ∷ l) (sym c.remove-guardian.ensures.items) in
-    let many_now : length now ≡ length c.args.takes.items = ap length base ∙ c.requires.many in
+    let many_now : length now ≡ length c.args.takes.items = ap length base ∙ c.requires.same_count in
     let many_takes = ap length takes_are in
     let many_rooms : length rooms + 1 ≡ length now = search (rules, many_now, many_takes) in
     let some = c.requires.some.0 in
     let none : last.taken ≡ guardian.taken
     = c.take.ensures.taken ∙ ap (λ l. guardian.taken ++ l) (none-listed c.take.result (search rules)) ∙ append-nil guardian.taken in
-    let many_lefts = c.requires.many in
+    let many_lefts = c.requires.same_count in
     subst (λ l. AreTaken c.args.takes.items rows (map (λ room. room.items) l))
     (sym (lent now c.args.lefts.now.items rooms c.args.lefts.now.len base (omega (arith, some, many_now)) (search rules) many_rooms
     ∙ ap (λ l. take 1 l ++ rooms) base))

@@ -47,7 +47,7 @@ pub loop-number-preserved : goal.loop-number-preserved
 loop-number-preserved g c =
     let at = c.loop-number in let w = c.waiting-waiting.result in let room = c.in_ok-room.room in
     let first = c.push_reserved in let second = c.push_reserved-in-loop-number in (
-      c.waiting-waiting.ensures.ours ∙ at.invariant.0,
+      c.waiting-waiting.ensures.same_gates ∙ at.invariant.0,
       part-more (pass_view c.args.pass.now).log (pass_view at.pass).log (pass_view c.waiting-waiting.new.pass).log (Counted at.number w)
           (ap (λ (v : View). v.log) c.waiting-waiting.ensures.known ∙ counting-log at.number w (pass_view at.pass)) at.invariant.1,
       ap length first.ensures.items ∙ length-append at.counts.items (w ∷ []) ∙ ap (λ n. n + 1) at.invariant.2,

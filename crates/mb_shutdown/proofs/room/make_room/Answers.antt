@@ -4,8 +4,8 @@ use Rattle.mb_shutdown.specs.Rooms.{AreCounted, IsRoom, counted_in}
 use Rattle.mb_shutdown.proofs.Answered.{ok-each}
 use Rattle.mb_shutdown.proofs.room.make_room.Goals as goal
 
-pub returns-in_err-waiting-clause-ours : goal.returns-in_err-waiting-clause-ours
-returns-in_err-waiting-clause-ours g c = c.make_lefts.ensures.ours
+pub returns-in_err-waiting-clause-same_gates : goal.returns-in_err-waiting-clause-same_gates
+returns-in_err-waiting-clause-same_gates g c = c.make_lefts.ensures.same_gates
 
 pub returns-in_err-waiting-clause-known : goal.returns-in_err-waiting-clause-known
 returns-in_err-waiting-clause-known g c = c.make_lefts.ensures.known
@@ -13,8 +13,8 @@ returns-in_err-waiting-clause-known g c = c.make_lefts.ensures.known
 pub returns-in_err-waiting-clause-only : goal.returns-in_err-waiting-clause-only
 returns-in_err-waiting-clause-only g c = c.make_lefts.ensures.only
 
-pub returns-clause-ours : goal.returns-clause-ours
-returns-clause-ours g c = c.make_lefts.ensures.ours
+pub returns-clause-same_gates : goal.returns-clause-same_gates
+returns-clause-same_gates g c = c.make_lefts.ensures.same_gates
 
 pub returns-clause-known : goal.returns-clause-known
 returns-clause-known g c = c.make_lefts.ensures.known

@@ -24,7 +24,7 @@ loop-one-preserved g c =
     let same : c.deref.result.now ≡ left.items = search rules in
     let here : c.len-place.result ≡ k = search rules in
     let inside : k < length c.args.waiting.now
-    = let b = c.requires.many in omega (arith, below, b) in
+    = let b = c.requires.same_count in omega (arith, below, b) in
     let steps'' = c.in-Some.ensures.steps in let len = at.invariant.4 in let fewer = ap length c.in-Some.ensures.steps.0 in
     let less = c.in-Some.ensures.steps.1 in (
       drop-rest c.args.ended.items k one rest steps ∙ ap (λ n. drop n c.args.ended.items) (sym longer),
@@ -42,13 +42,13 @@ pub invariant_of-result-clause-few_actors : goal.invariant_of-result-clause-few_
 invariant_of-result-clause-few_actors g c =
     let at = c.loop-one.invariant in
     let all = every-one g.K.Behaviours.after c.args.ended.items c.loop-one.actors.items (into_iter_items c.loop-one.one-iterator) at.0
-    (nothing-left _ (sym at.4 ∙ c.in-None.ensures.steps.0)) at.2 in let few = c.requires.many.2 in omega (arith, all, few)
+    (nothing-left _ (sym at.4 ∙ c.in-None.ensures.steps.0)) at.2 in let few = c.requires.same_count.2 in omega (arith, all, few)
 
 pub returns-clause-shows : goal.returns-clause-shows
 returns-clause-shows g c =
     let at = c.loop-one.invariant in (
       record {
-        many = every-one g.K.Behaviours.after c.args.ended.items c.loop-one.actors.items (into_iter_items c.loop-one.one-iterator) at.0
+        same_count = every-one g.K.Behaviours.after c.args.ended.items c.loop-one.actors.items (into_iter_items c.loop-one.one-iterator) at.0
             (nothing-left _ (sym at.4 ∙ c.in-None.ensures.steps.0)) at.2;
         each = at.5;
       },
@@ -64,7 +64,7 @@ returns-then-not-agrees-clause-differs g c =
     let below = within c.args.ended.items k one (drop-first c.args.ended.items k one rest steps) in
     let same : c.deref.result.now ≡ left.items = search rules in
     let here : c.len-place.result ≡ k = search rules in
-    let inside : k < length c.args.waiting.now = let b = c.requires.many in omega (arith, below, b) in
+    let inside : k < length c.args.waiting.now = let b = c.requires.same_count in omega (arith, below, b) in
     let count = get_or c.args.waiting.now k 0 in
     subst (λ id. DiffersFromCountFor c.args.ended.items (map (λ l. l.items) c.args.lefts.items) c.args.waiting.now id) (search (rules, here))
     (otherwise-at c.args.ended.items c.args.lefts.items c.args.waiting.now k one left count (drop-first c.args.ended.items k one rest steps)
@@ -89,7 +89,7 @@ unreachable-requires g c =
     let steps : one ∷ rest ≡ drop k c.args.ended.items = sym c.in-Some.ensures.steps.0 ∙ at.invariant.0 in
     let below = within c.args.ended.items k one (drop-first c.args.ended.items k one rest steps) in
     let none : into_iter_items at.lefts ≡ [] = nil_from_length (into_iter_items at.lefts) (sym at.lefts.rest.ok.0 ∙ c.in_default.ensures.cases.0) in
-    let left = length-drop k c.args.lefts.items in let over = ap length (sym at.invariant.1 ∙ none) in let many = c.requires.many.0 in
+    let left = length-drop k c.args.lefts.items in let over = ap length (sym at.invariant.1 ∙ none) in let many = c.requires.same_count.0 in
     omega (arith, below, left, over, many)
 
 pub bounds-waiting-place : goal.bounds-waiting-place
@@ -97,7 +97,7 @@ bounds-waiting-place g c =
     let at = c.loop-one in let one = c.in-Some.one in let k : ℕ = length at.actors.items in let rest = into_iter_items c.next.new.self in
     let steps : one ∷ rest ≡ drop k c.args.ended.items = sym c.in-Some.ensures.steps.0 ∙ at.invariant.0 in
     let below = within c.args.ended.items k one (drop-first c.args.ended.items k one rest steps) in
-    let here : c.len-place.result ≡ k = search rules in let many = c.requires.many.1 in
+    let here : c.len-place.result ≡ k = search rules in let many = c.requires.same_count.1 in
     omega (arith, here, below, many)
 
 pub offset_bounds-waiting-place : goal.offset_bounds-waiting-place
@@ -105,7 +105,7 @@ offset_bounds-waiting-place g c =
     let at = c.loop-one in let one = c.in-Some.one in let k : ℕ = length at.actors.items in let rest = into_iter_items c.next.new.self in
     let steps : one ∷ rest ≡ drop k c.args.ended.items = sym c.in-Some.ensures.steps.0 ∙ at.invariant.0 in
     let below = within c.args.ended.items k one (drop-first c.args.ended.items k one rest steps) in
-    let here : c.len-place.result ≡ k = search rules in let few = c.requires.many.2 in
+    let here : c.len-place.result ≡ k = search rules in let few = c.requires.same_count.2 in
     omega (arith, here, below, few)
 
 pub overflow_cast-result : goal.overflow_cast-result
@@ -113,7 +113,7 @@ overflow_cast-result g c =
     let at = c.loop-one in let one = c.in-Some.one in let k : ℕ = length at.actors.items in let rest = into_iter_items c.next.new.self in
     let steps : one ∷ rest ≡ drop k c.args.ended.items = sym c.in-Some.ensures.steps.0 ∙ at.invariant.0 in
     let below = within c.args.ended.items k one (drop-first c.args.ended.items k one rest steps) in
-    let here : c.len-place.result ≡ k = search rules in let few = c.requires.many.2 in
+    let here : c.len-place.result ≡ k = search rules in let few = c.requires.same_count.2 in
     omega (arith, here, below, few)
 
 pub push_reserved-requires : goal.push_reserved-requires

@@ -16,9 +16,9 @@ use Rattle.mb_startup.proofs.building.assemble.Goals as goal
 pub found-requires : goal.found-requires
 found-requires g c =
     let right = right-plan c.args.plan (length c.args.actors.items) c.requires.right in record {
-      few = (right.few, right.senders);
+      within_limit = (right.within_limit, right.senders);
       right = (right.parents, right.bounds);
-      many = sym right.as_many;
+      same_count = sym right.as_many;
       behaved = c.requires.behaved;
     }
 
@@ -32,11 +32,11 @@ open-requires g c =
     let founded = c.in_ok-gates.ensures.founded in let pool = c.in_ok-pool.ensures in let outside = c.in_ok-gates.field-0.outside in
     let of_pool = c.in_ok-pool.pool in let ends = c.in_ok-pool.ends.items in let feeds = c.in_ok-pool.feeds.items in
     let ends_are = ends-gates of_pool ends pool.are_ends in let feeds_are = feeds-gates of_pool feeds pool.are_feeds in
-    let few = right.few in let actors = founded.actors in let some = right.workers.0 in let workers = right.workers.1 in
+    let few = right.within_limit in let actors = founded.actors in let some = right.workers.0 in let workers = right.workers.1 in
     let as_many : length ends ≡ c.args.plan.workers = ends_are.1 ∙ pool.ends_are in
     let fed : length feeds ≡ c.args.plan.senders = feeds_are.1 ∙ pool.feeds_are in
     let rows = sym (length-map outside.items (λ row. row.items)) ∙ founded.rows in let senders = right.senders in record {
-      ours = c.in_ok-gates.ensures.pass.0;
+      same_gates = c.in_ok-gates.ensures.pass.0;
       blank = let known = c.in_ok-gates.ensures.pass.1 in
           (ap (λ (v : View). v.log) known, ap (λ (v : View). v.got) known, ap (λ (v : View). v.obligations) known);
       whole = subst (λ (v : View). IsWhole v.share) (sym c.in_ok-gates.ensures.pass.1) whole_one;
@@ -44,14 +44,14 @@ open-requires g c =
       some = (omega (arith, as_many, some), omega (arith, as_many, workers));
       ends = subst (λ o. All (λ e. gates_of e ≡ Some o) ends) pool.gates ends_are.0;
       feeds = subst (λ o. All (λ f. gates_of f ≡ Some o) feeds) pool.gates feeds_are.0;
-      many = (fed ∙ sym rows, omega (arith, fed, senders));
+      same_count = (fed ∙ sym rows, omega (arith, fed, senders));
       outside = founded.unused;
     }
 
 pub returns : goal.returns
 returns g c =
     let right = right-plan c.args.plan (length c.args.actors.items) c.requires.right in
-    let founded = c.in_ok-gates.ensures.founded in let housed = c.in_ok-gates.ensures.housed in let pool = c.in_ok-pool.ensures in
+    let founded = c.in_ok-gates.ensures.founded in let housed = c.in_ok-gates.ensures.homes_made in let pool = c.in_ok-pool.ensures in
     let opened = c.in_ok-ends.ensures in let gates = c.in_ok-gates.field-0.gates in
     let outside = map (λ row. row.items) c.in_ok-gates.field-0.outside.items in let senders = c.in_ok-ends.field-0.senders.items in
     let ends_are = ends-gates c.in_ok-pool.pool c.in_ok-pool.ends.items pool.are_ends in let few = right.senders in
@@ -67,19 +67,19 @@ returns g c =
       kinds_are = housed.2;
       homes = housed.1;
       outside = outside;
-      housed = housed.3;
+      homes_made = housed.3;
       first = housed.4;
       actors = housed.5;
       senders = opened.senders;
       numbers = (refl, refl, refl);
       pool = pool.kind_is;
       of_pool = (
-        subst (AreEnds c.in_ok-pool.pool) (sym opened.ways.0) pool.are_ends,
-        subst (AreFeeds c.in_ok-pool.pool) (sym opened.ways.1) pool.are_feeds,
+        subst (AreEnds c.in_ok-pool.pool) (sym opened.ports.0) pool.are_ends,
+        subst (AreFeeds c.in_ok-pool.pool) (sym opened.ports.1) pool.are_feeds,
       );
-      unused = subst (λ ways. AreUnused (ways ++ pool_feeds_of senders)) (sym opened.ways.0)
-          (subst (λ ways. AreUnused (c.in_ok-pool.ends.items ++ ways)) (sym opened.ways.1) pool.unused);
-      many = opened.many ∙ ends_are.1 ∙ pool.ends_are;
+      unused = subst (λ pool_ends. AreUnused (pool_ends ++ pool_feeds_of senders)) (sym opened.ports.0)
+          (subst (λ pool_feeds. AreUnused (c.in_ok-pool.ends.items ++ pool_feeds)) (sym opened.ports.1) pool.unused);
+      same_count = opened.same_count ∙ ends_are.1 ∙ pool.ends_are;
       end = opened.ends.end;
       others = opened.ends.others;
       ends_are = opened.ends.ends_are;
@@ -94,9 +94,9 @@ returns g c =
 pub invariant_of-system : goal.invariant_of-system
 invariant_of-system g c =
     let right = right-plan c.args.plan (length c.args.actors.items) c.requires.right in let founded = c.in_ok-gates.ensures.founded in
-    let few = right.few in let actors = founded.actors in record {
+    let few = right.within_limit in let actors = founded.actors in record {
       some = right.workers.0;
-      few = (omega (arith, few, actors), right.senders);
+      within_limit = (omega (arith, few, actors), right.senders);
       directory = founded.directory;
       known = founded.known;
     }

@@ -2,25 +2,25 @@ use Rattle.std.proofs.Common.{refl, ap}
 use Rattle.std.proofs.lemmas.List.{length-set}
 use Rattle.mb_gate.specs.Accessors.{pass_view}
 use Rattle.mb_gate.specs.View.{View}
-use Rattle.mb_startup.proofs.Led.{first-led, first-ours, first-ways}
+use Rattle.mb_startup.proofs.Led.{first-led, first-ours, first-ports}
 use Rattle.mb_startup.proofs.Sharing.{first-shares}
 use Rattle.mb_startup.proofs.ends_and_senders.give_first.Goals as goal
 
 pub absorb-requires : goal.absorb-requires
 absorb-requires g c =
-    record { ours = (first-ours c.args.gates.now c.args.ends.now _ _ refl c.requires.some c.requires.ends, c.requires.ours) }
+    record { same_gates = (first-ours c.args.gates.now c.args.ends.now _ _ refl c.requires.some c.requires.ends, c.requires.same_gates) }
 
-pub returns-clause-many : goal.returns-clause-many
-returns-clause-many g c = length-set c.args.ends.now 0 _
+pub returns-clause-same_count : goal.returns-clause-same_count
+returns-clause-same_count g c = length-set c.args.ends.now 0 _
 
 pub returns-clause-first : goal.returns-clause-first
 returns-clause-first g c =
     first-led c.args.gates.now c.args.ends.now _ _ c.absorb.new.pass (pass_view c.args.pass) refl c.requires.some c.requires.ends
-    c.absorb.ensures.ours c.requires.created (ap (λ (v : View). v.log) c.absorb.ensures.known)
+    c.absorb.ensures.same_gates c.requires.created (ap (λ (v : View). v.log) c.absorb.ensures.known)
     (ap (λ (v : View). v.got) c.absorb.ensures.known) c.requires.unclaimed (ap (λ (v : View). v.obligations) c.absorb.ensures.known)
 
-pub returns-clause-ways : goal.returns-clause-ways
-returns-clause-ways g c = first-ways c.args.gates.now c.args.ends.now _ _ c.absorb.new.pass refl
+pub returns-clause-ports : goal.returns-clause-ports
+returns-clause-ports g c = first-ports c.args.gates.now c.args.ends.now _ _ c.absorb.new.pass refl
 
 pub returns-clause-shares : goal.returns-clause-shares
 returns-clause-shares g c =

@@ -22,12 +22,12 @@ loop-end-init g c =
       whole = all;
       ends = subst (All (λ e. gates_of e ≡ Some (origin_of c.args.gates.now))) (sym all) c.requires.ends;
       count = ap length none;
-      ours = refl;
+      same_gates = refl;
       kept = (refl, refl, refl);
       shares = subst (λ l. KeepsWhole (pass_view c.args.pass.now).share (pass_view c.args.pass.now).share (shares_of_ends l)) (sym none)
           (keeps-none (pass_view c.args.pass.now).share);
       opened = subst (AreNewEnds c.args.gates.now 0) (sym none) tt;
-      ways = ap pool_ends_of none;
+      ports = ap pool_ends_of none;
     }
 
 pub loop-end-preserved : goal.loop-end-preserved
@@ -41,7 +41,7 @@ loop-end-preserved g c =
       whole = append_assoc at.yielded (end ∷ []) rest ∙ ap (λ l. at.yielded ++ l) (sym steps) ∙ at.invariant.whole;
       ends = All-rest (λ e. gates_of e ≡ Some (origin_of gates)) end rest (into_iter_items at.end-iterator) steps at.invariant.ends;
       count = omega (arith, longer, further, count);
-      ours = c.apart.ensures.ours.0 ∙ at.invariant.ours;
+      same_gates = c.apart.ensures.same_gates.0 ∙ at.invariant.same_gates;
       kept = (
         ap (λ (v : View). v.log) c.apart.ensures.known.0 ∙ at.invariant.kept.0,
         ap (λ (v : View). v.got) c.apart.ensures.known.0 ∙ at.invariant.kept.1,
@@ -50,10 +50,10 @@ loop-end-preserved g c =
       shares = keeps-next share_of_end (pass_view c.args.pass.now).share (pass_view at.pass).share _ at.opened.items _ _
           (ap (λ (v : View). v.share) c.apart.ensures.known.0) pushed (ap (λ (v : View). v.share) c.apart.ensures.known.1) at.invariant.shares;
       opened = ends-next gates at.opened.items _ _ pushed at.invariant.opened (record {
-        ours = (
-          c.apart.ensures.ours.1 ∙ at.invariant.ours ∙ c.requires.ours.0,
+        same_gates = (
+          c.apart.ensures.same_gates.1 ∙ at.invariant.same_gates ∙ c.requires.same_gates.0,
           ap gates_of c.new.ensures ∙ All-head (λ e. gates_of e ≡ Some (origin_of gates)) end rest these,
-          c.requires.ours.1,
+          c.requires.same_gates.1,
         );
         number_is = place;
         nobody = c.none.ensures;
@@ -61,8 +61,8 @@ loop-end-preserved g c =
         blank = ap (λ (v : View). v.log) c.apart.ensures.known.1;
         unclaimed = ap (λ (v : View). v.got) c.apart.ensures.known.1;
       });
-      ways = ap pool_ends_of pushed ∙ map_push (λ (e : WorkerEnd _ _). e.registrar.run_queue.end) at.opened.items _
-          ∙ (λ i. at.invariant.ways i ++ c.new.ensures i ∷ []);
+      ports = ap pool_ends_of pushed ∙ map_push (λ (e : WorkerEnd _ _). e.registrar.run_queue.end) at.opened.items _
+          ∙ (λ i. at.invariant.ports i ++ c.new.ensures i ∷ []);
     }
 
 pub returns-clause-opened : goal.returns-clause-opened
@@ -73,15 +73,15 @@ returns-clause-opened g c =
     let all : at.yielded ≡ c.args.ends.items = sym (append-nil at.yielded) ∙ ap (λ l. at.yielded ++ l) (sym none) ∙ at.invariant.whole in
     (at.invariant.count ∙ ap length all, at.invariant.opened)
 
-pub returns-clause-ways : goal.returns-clause-ways
-returns-clause-ways g c =
+pub returns-clause-ports : goal.returns-clause-ports
+returns-clause-ports g c =
     let at = c.loop-end in
     let none : into_iter_items at.end-iterator ≡ [] =
     nil_from_length (into_iter_items at.end-iterator) (sym at.end-iterator.rest.ok.0 ∙ c.in-None.ensures.steps.0) in
-    at.invariant.ways ∙ sym (append-nil at.yielded) ∙ ap (λ l. at.yielded ++ l) (sym none) ∙ at.invariant.whole
+    at.invariant.ports ∙ sym (append-nil at.yielded) ∙ ap (λ l. at.yielded ++ l) (sym none) ∙ at.invariant.whole
 
-pub returns-clause-ours : goal.returns-clause-ours
-returns-clause-ours g c = c.loop-end.invariant.ours
+pub returns-clause-same_gates : goal.returns-clause-same_gates
+returns-clause-same_gates g c = c.loop-end.invariant.same_gates
 
 pub returns-clause-kept : goal.returns-clause-kept
 returns-clause-kept g c = c.loop-end.invariant.kept
@@ -89,14 +89,14 @@ returns-clause-kept g c = c.loop-end.invariant.kept
 pub returns-clause-shares : goal.returns-clause-shares
 returns-clause-shares g c = c.loop-end.invariant.shares
 
-pub returns-in_err-opened-clause-ours : goal.returns-in_err-opened-clause-ours
-returns-in_err-opened-clause-ours g c = refl
+pub returns-in_err-opened-clause-same_gates : goal.returns-in_err-opened-clause-same_gates
+returns-in_err-opened-clause-same_gates g c = refl
 
 pub returns-in_err-opened-clause-kept : goal.returns-in_err-opened-clause-kept
 returns-in_err-opened-clause-kept g c = (refl, refl, refl)
 
-pub returns-in_err-push-clause-ours : goal.returns-in_err-push-clause-ours
-returns-in_err-push-clause-ours g c = c.apart.ensures.ours.0 ∙ c.loop-end.invariant.ours
+pub returns-in_err-push-clause-same_gates : goal.returns-in_err-push-clause-same_gates
+returns-in_err-push-clause-same_gates g c = c.apart.ensures.same_gates.0 ∙ c.loop-end.invariant.same_gates
 
 pub returns-in_err-push-clause-kept : goal.returns-in_err-push-clause-kept
 returns-in_err-push-clause-kept g c =

@@ -14,10 +14,10 @@ invariant-loop-end g l = record {
   whole : l.yielded ++ into_iter_items l.end-iterator ≡ l.fn.ends.items;
   ends : All (λ e. gates_of e ≡ Some (origin_of l.gates)) (into_iter_items l.end-iterator);
   count : length l.opened.items ≡ length l.yielded;
-  ours : pass_id l.pass ≡ pass_id l.initial.pass;
+  same_gates : pass_id l.pass ≡ pass_id l.initial.pass;
   kept : ((pass_view l.pass).log ≡ (pass_view l.initial.pass).log) × ((pass_view l.pass).got ≡ (pass_view l.initial.pass).got)
       × ((pass_view l.pass).obligations ≡ (pass_view l.initial.pass).obligations);
   shares : KeepsWhole (pass_view l.initial.pass).share (pass_view l.pass).share (shares_of_ends l.opened.items);
   opened : AreNewEnds l.gates 0 l.opened.items;
-  ways : pool_ends_of l.opened.items ≡ l.yielded;
+  ports : pool_ends_of l.opened.items ≡ l.yielded;
 }

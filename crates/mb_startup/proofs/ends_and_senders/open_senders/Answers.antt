@@ -28,13 +28,13 @@ loop-feed-init g c =
       feeds = subst (All (λ f. gates_of f ≡ Some (origin_of c.args.gates.now))) (sym all) c.requires.feeds;
       count = ap length none;
       rows = c.into_iter-outside.ensures.rest ∙ ap (λ l. drop (length l) c.args.outside.items) (sym none);
-      ours = refl;
+      same_gates = refl;
       kept = (refl, refl, refl);
       shares = subst (λ l. KeepsWhole (pass_view c.args.pass.now).share (pass_view c.args.pass.now).share (shares_of_senders l)) (sym none)
           (keeps-none (pass_view c.args.pass.now).share);
       opened = subst (λ l. AreNewSenders c.args.gates.now most_actors (map (λ row. row.items) (take (length l) c.args.outside.items)) l)
           (sym none) tt;
-      ways = ap pool_feeds_of none;
+      ports = ap pool_feeds_of none;
     }
 
 pub unreachable-requires : goal.unreachable-requires
@@ -45,7 +45,7 @@ unreachable-requires g c =
     nil_from_length (into_iter_items at.outside) (sym at.outside.rest.ok.0 ∙ c.in_default.ensures.cases.0) in
     none-left c.args.outside.items (length at.senders.items) (sym at.invariant.rows ∙ none)
     (place-left at.yielded rest c.args.feeds.items feed c.args.outside.items (length at.senders.items)
-    (ap (λ l. at.yielded ++ l) (sym steps) ∙ at.invariant.whole) at.invariant.count c.requires.many.0)
+    (ap (λ l. at.yielded ++ l) (sym steps) ∙ at.invariant.whole) at.invariant.count c.requires.same_count.0)
 
 pub new-inner-requires : goal.new-inner-requires
 new-inner-requires g c =
@@ -77,12 +77,12 @@ loop-feed-preserved g c =
     let longer = ap length pushed ∙ length_push at.senders.items _ in let further = length_push at.yielded feed in
     let next : suc place ≡ length c.push.new.self.items = omega (arith, longer) in
     let parts = c.new-inner.ensures.parts in let send_log = c.new-inner.ensures.send_log in
-    let long = ap vec_len parts.1 ∙ sends.ok.0 in let many = unused.many in record {
+    let long = ap vec_len parts.1 ∙ sends.ok.0 in let many = unused.same_count in record {
       whole = append_assoc at.yielded (feed ∷ []) rest ∙ ap (λ l. at.yielded ++ l) (sym steps) ∙ at.invariant.whole;
       feeds = All-rest (λ f. gates_of f ≡ Some (origin_of gates)) feed rest (into_iter_items at.feed-iterator) steps at.invariant.feeds;
       count = omega (arith, longer, further, count);
       rows = sym (drop-next place outside sends left here) ∙ ap (λ n. drop n outside) next;
-      ours = c.apart.ensures.ours.0 ∙ at.invariant.ours;
+      same_gates = c.apart.ensures.same_gates.0 ∙ at.invariant.same_gates;
       kept = (
         ap (λ (v : View). v.log) c.apart.ensures.known.0 ∙ at.invariant.kept.0,
         ap (λ (v : View). v.got) c.apart.ensures.known.0 ∙ at.invariant.kept.1,
@@ -92,11 +92,11 @@ loop-feed-preserved g c =
           (ap (λ (v : View). v.share) c.apart.ensures.known.0) pushed
           (ap (λ w. (pass_view w.pass).share) parts.0 ∙ ap (λ (v : View). v.share) c.apart.ensures.known.1) at.invariant.shares;
       opened = senders-next (λ r. r.items) gates most_actors at.senders.items _ _ outside sends left pushed here at.invariant.opened (record {
-        ours = record {
-          ours = (
-            ap (λ w. pass_id w.pass) parts.0 ∙ c.apart.ensures.ours.1 ∙ at.invariant.ours ∙ c.requires.ours.0,
+        same_gates = record {
+          same_gates = (
+            ap (λ w. pass_id w.pass) parts.0 ∙ c.apart.ensures.same_gates.1 ∙ at.invariant.same_gates ∙ c.requires.same_gates.0,
             ap (λ w. gates_of w.run_queue.feed) parts.0 ∙ ap gates_of c.new.ensures ∙ All-head (λ f. gates_of f ≡ Some (origin_of gates)) feed rest these,
-            c.requires.ours.1,
+            c.requires.same_gates.1,
           );
           all = omega (arith, long, many);
           queues = ap (λ v. receiving_queues v.items) parts.1 ∙ unused.queues_are;
@@ -110,8 +110,8 @@ loop-feed-preserved g c =
         silent = ap (λ w. (pass_view w.pass).said) parts.0 ∙ ap (λ (v : View). v.said) c.apart.ensures.known.1;
         unclaimed = ap (λ w. (pass_view w.pass).got) parts.0 ∙ ap (λ (v : View). v.got) c.apart.ensures.known.1;
       });
-      ways = ap pool_feeds_of pushed ∙ map_push (λ (s : Sender _ _). s.inner.registrar.run_queue.feed) at.senders.items _
-          ∙ (λ i. at.invariant.ways i ++ (ap (λ w. w.run_queue.feed) parts.0 ∙ c.new.ensures) i ∷ []);
+      ports = ap pool_feeds_of pushed ∙ map_push (λ (s : Sender _ _). s.inner.registrar.run_queue.feed) at.senders.items _
+          ∙ (λ i. at.invariant.ports i ++ (ap (λ w. w.run_queue.feed) parts.0 ∙ c.new.ensures) i ∷ []);
     }
 
 pub returns-clause-opened : goal.returns-clause-opened
@@ -120,19 +120,19 @@ returns-clause-opened g c =
     let none : into_iter_items at.feed-iterator ≡ [] =
     nil_from_length (into_iter_items at.feed-iterator) (sym at.feed-iterator.rest.ok.0 ∙ c.in-None.ensures.steps.0) in
     let all : at.yielded ≡ c.args.feeds.items = sym (append-nil at.yielded) ∙ ap (λ l. at.yielded ++ l) (sym none) ∙ at.invariant.whole in
-    let is = ap length all in let count = at.invariant.count in let many = c.requires.many.0 in
+    let is = ap length all in let count = at.invariant.count in let many = c.requires.same_count.0 in
     subst (λ l. AreNewSenders c.args.gates.now most_actors (map (λ r. r.items) l) at.senders.items)
     (take_all (length at.senders.items) outside (omega (arith, is, count, many))) at.invariant.opened
 
-pub returns-clause-ways : goal.returns-clause-ways
-returns-clause-ways g c =
+pub returns-clause-ports : goal.returns-clause-ports
+returns-clause-ports g c =
     let at = c.loop-feed in
     let none : into_iter_items at.feed-iterator ≡ [] =
     nil_from_length (into_iter_items at.feed-iterator) (sym at.feed-iterator.rest.ok.0 ∙ c.in-None.ensures.steps.0) in
-    at.invariant.ways ∙ sym (append-nil at.yielded) ∙ ap (λ l. at.yielded ++ l) (sym none) ∙ at.invariant.whole
+    at.invariant.ports ∙ sym (append-nil at.yielded) ∙ ap (λ l. at.yielded ++ l) (sym none) ∙ at.invariant.whole
 
-pub returns-clause-ours : goal.returns-clause-ours
-returns-clause-ours g c = c.loop-feed.invariant.ours
+pub returns-clause-same_gates : goal.returns-clause-same_gates
+returns-clause-same_gates g c = c.loop-feed.invariant.same_gates
 
 pub returns-clause-kept : goal.returns-clause-kept
 returns-clause-kept g c = c.loop-feed.invariant.kept
@@ -140,14 +140,14 @@ returns-clause-kept g c = c.loop-feed.invariant.kept
 pub returns-clause-shares : goal.returns-clause-shares
 returns-clause-shares g c = c.loop-feed.invariant.shares
 
-pub returns-in_err-senders-clause-ours : goal.returns-in_err-senders-clause-ours
-returns-in_err-senders-clause-ours g c = refl
+pub returns-in_err-senders-clause-same_gates : goal.returns-in_err-senders-clause-same_gates
+returns-in_err-senders-clause-same_gates g c = refl
 
 pub returns-in_err-senders-clause-kept : goal.returns-in_err-senders-clause-kept
 returns-in_err-senders-clause-kept g c = (refl, refl, refl)
 
-pub returns-in_err-push-clause-ours : goal.returns-in_err-push-clause-ours
-returns-in_err-push-clause-ours g c = c.apart.ensures.ours.0 ∙ c.loop-feed.invariant.ours
+pub returns-in_err-push-clause-same_gates : goal.returns-in_err-push-clause-same_gates
+returns-in_err-push-clause-same_gates g c = c.apart.ensures.same_gates.0 ∙ c.loop-feed.invariant.same_gates
 
 pub returns-in_err-push-clause-kept : goal.returns-in_err-push-clause-kept
 returns-in_err-push-clause-kept g c =

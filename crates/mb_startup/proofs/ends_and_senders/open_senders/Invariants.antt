@@ -16,10 +16,10 @@ invariant-loop-feed g l = record {
   feeds : All (λ f. gates_of f ≡ Some (origin_of l.gates)) (into_iter_items l.feed-iterator);
   count : length l.senders.items ≡ length l.yielded;
   rows : into_iter_items l.outside ≡ drop (length l.senders.items) l.fn.outside.items;
-  ours : pass_id l.pass ≡ pass_id l.initial.pass;
+  same_gates : pass_id l.pass ≡ pass_id l.initial.pass;
   kept : ((pass_view l.pass).log ≡ (pass_view l.initial.pass).log) × ((pass_view l.pass).got ≡ (pass_view l.initial.pass).got)
       × ((pass_view l.pass).obligations ≡ (pass_view l.initial.pass).obligations);
   shares : KeepsWhole (pass_view l.initial.pass).share (pass_view l.pass).share (shares_of_senders l.senders.items);
   opened : AreNewSenders l.gates most_actors (map (λ row. row.items) (take (length l.senders.items) l.fn.outside.items)) l.senders.items;
-  ways : pool_feeds_of l.senders.items ≡ l.yielded;
+  ports : pool_feeds_of l.senders.items ≡ l.yielded;
 }

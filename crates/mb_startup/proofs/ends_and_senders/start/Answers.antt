@@ -17,14 +17,14 @@ returns-clause-created g c = (
 pub returns-clause-kept : goal.returns-clause-kept
 returns-clause-kept g c = kept-whole _ _ (pass_view c.args.pass.now) _ c.in-Ok.ensures.listed c.requires.blank.1 c.requires.whole
 
-pub sys_enqueue-requires-clause-ours : goal.sys_enqueue-requires-clause-ours
-sys_enqueue-requires-clause-ours g c = c.requires.ours.0
+pub sys_enqueue-requires-clause-same_gates : goal.sys_enqueue-requires-clause-same_gates
+sys_enqueue-requires-clause-same_gates g c = c.requires.same_gates.0
 
-pub sys_enqueue-requires-clause-there : goal.sys_enqueue-requires-clause-there
-sys_enqueue-requires-clause-there g c = c.requires.ours.1
+pub sys_enqueue-requires-clause-present : goal.sys_enqueue-requires-clause-present
+sys_enqueue-requires-clause-present g c = c.requires.same_gates.1
 
-pub returns-in_err-node-clause-ours : goal.returns-in_err-node-clause-ours
-returns-in_err-node-clause-ours g c = refl
+pub returns-in_err-node-clause-same_gates : goal.returns-in_err-node-clause-same_gates
+returns-in_err-node-clause-same_gates g c = refl
 
 pub sys_enqueue-requires-clause-named : goal.sys_enqueue-requires-clause-named
 sys_enqueue-requires-clause-named g c = subst (NamesBelow (actors_of c.args.gates.now)) (sym c.in_ok-node.ensures) tt

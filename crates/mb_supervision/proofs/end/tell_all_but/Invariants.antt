@@ -6,5 +6,5 @@ use Rattle.mb_supervision.proofs.end.tell_all_but.Given as goal
 abbrev pub invariant-loop-watcher : goal.invariant-loop-watcher
 invariant-loop-watcher l = record {
   acts : l.acts.acts ≡ l.fn.acts.acts ++ to_each l.message (without (take l.watcher-index l.watchers) l.parent);
-  few : l.fn.acts.room ≤ l.acts.room + l.watcher-index;
+  within_limit : l.fn.acts.room ≤ l.acts.room + l.watcher-index;
 }

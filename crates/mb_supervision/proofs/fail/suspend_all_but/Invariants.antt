@@ -8,5 +8,5 @@ use Rattle.mb_supervision.proofs.fail.suspend_all_but.Given as goal
 abbrev pub invariant-loop-child : goal.invariant-loop-child
 invariant-loop-child l = record {
   acts : l.acts.acts ≡ l.fn.acts.acts ++ to_each system.Suspend (filter (λ x. not (has l.except x)) (take l.child-index l.children));
-  few : l.fn.acts.room ≤ l.acts.room + l.child-index;
+  within_limit : l.fn.acts.room ≤ l.acts.room + l.child-index;
 }

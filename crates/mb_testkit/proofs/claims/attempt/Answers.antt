@@ -6,4 +6,4 @@ pub returns-in-Got-clause-fit : goal.returns-in-Got-clause-fit
 returns-in-Got-clause-fit g c =
     let got = c.in-Got.ensures.answer in
     untouched g.H.MailboxState.is_of g.H.MailboxState.facts
-    (origin_of c.args.gates.now) c.args.id.0 _ _ got.0 c.in-Got.claim got.1 c.in-Got.ensures.ours.1 c.requires.there
+    (origin_of c.args.gates.now) c.args.id.0 _ _ got.0 c.in-Got.claim got.1 c.in-Got.ensures.same_gates.1 c.requires.present

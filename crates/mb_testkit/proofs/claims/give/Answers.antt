@@ -14,8 +14,8 @@ release-requires-clause-count g c =
     count g.H.MailboxState.is_of g.H.MailboxState.facts
     (origin_of c.args.gates.now) c.args.claim c.requires.fit
 
-pub release-requires-clause-shut : goal.release-requires-clause-shut
-release-requires-clause-shut g c =
+pub release-requires-clause-known_closed : goal.release-requires-clause-known_closed
+release-requires-clause-known_closed g c =
     shut g.H.MailboxState.is_of g.H.MailboxState.facts
     (origin_of c.args.gates.now) c.args.claim c.requires.fit
     (taking_in (claim_view c.args.claim) (pass_view c.args.pass.now))

@@ -38,8 +38,8 @@ loop-number-preserved g c =
           let limit = ap (λ (w : Identity). w.limit) so_far.same_who in
           let before = so_far.entries in
           omega (arith, not_full, limit, before);
-      heard = ap (λ (s : CellView). messages s.who s.journal) is_taken ∙ step.heard
-          ∙ ap (λ (l : List Message). l ++ body_messages c.envelope.result.body) so_far.heard
+      messages_added = ap (λ (s : CellView). messages s.who s.journal) is_taken ∙ step.messages_added
+          ∙ ap (λ (l : List Message). l ++ body_messages c.envelope.result.body) so_far.messages_added
           ∙ append_assoc old (sends n) (body_messages c.envelope.result.body)
           ∙ ap (λ (e : Envelope). old ++ (sends n ++ body_messages e.body)) c.envelope.ensures
           ∙ ap (λ (l : List Message). old ++ l) (replicate_more n (User 1 (pos 7)));

@@ -10,5 +10,5 @@ invariant-loop-number g l = record {
   same_who : l.cell.who ≡ l.fn.cell.who;
   entries : length l.cell.journal ≡ length l.fn.cell.journal + l.number;
   room : 0 < l.number → length l.fn.cell.journal + l.number ≤ l.fn.cell.who.limit;
-  heard : messages l.cell.who l.cell.journal ≡ messages l.fn.cell.who l.fn.cell.journal ++ sends l.number;
+  messages_added : messages l.cell.who l.cell.journal ≡ messages l.fn.cell.who l.fn.cell.journal ++ sends l.number;
 }

@@ -10,4 +10,4 @@ returns-clause-state g c =
     let this = ap (λ (w : Identity). w.this.0) c.in_ok-acts.ensures.same_who ∙ ap (λ x. x.0) c.requires.the_actor in
     let kept : to_z w64 (of_z w64 c.state_of-state.result) ≡ c.state_of-state.result = search rules in
     kept ∙ c.state_of-state.ensures ∙ ap (λ n. g.K.Behaviours.after n (messages cell.who cell.journal)) this
-    ∙ ap (λ (l : List Message). g.K.Behaviours.after 1 l) c.in_ok-acts.ensures.heard
+    ∙ ap (λ (l : List Message). g.K.Behaviours.after 1 l) c.in_ok-acts.ensures.messages_added

@@ -3,7 +3,7 @@ use Rattle.mb_pool.specs.Places.{PoolEndpoint, gates_of}
 use Rattle.mb_pool.proofs.Alike.{ends_gates}
 use Rattle.bench.proofs.pools.worker.workers.Goals as goal
 
-pub workers_of-requires-clause-these : goal.workers_of-requires-clause-these
-workers_of-requires-clause-these c =
+pub workers_of-requires-clause-same_origin : goal.workers_of-requires-clause-same_origin
+workers_of-requires-clause-same_origin c =
     let begun = c.in-Ok.ensures in let ends = c.in-Ok.ends.items in
     subst (λ o. All (λ (w : PoolEndpoint _). gates_of w ≡ Some o) ends) begun.gates (ends_gates c.in-Ok._pool ends begun.are_ends)

@@ -38,8 +38,8 @@ guardian_row g c =
     (ap (λ (s : CellView). s.acts) c.self.view_is ∙ c.requires.may_take.carried_out)
     (guardian g c) c.create_guardian.new.self c.create_guardian.ensures
 
-pub create_guardian-requires-clause-few : goal.create_guardian-requires-clause-few
-create_guardian-requires-clause-few g c = let same = c.self.invariant.0.fanout in omega arith
+pub create_guardian-requires-clause-within_limit : goal.create_guardian-requires-clause-within_limit
+create_guardian-requires-clause-within_limit g c = let same = c.self.invariant.0.fanout in omega arith
 
 pub invariant_of-self : goal.invariant_of-self
 invariant_of-self g c =
@@ -62,8 +62,8 @@ returns-in_default-clause-lawful g c = (invariant_of-self g c).0.lawful
 
 -- ---- an actor
 
-pub create-requires-clause-small : goal.create-requires-clause-small
-create-requires-clause-small g c = cell.count-small _ _ _ _ _ c.self.invariant.0
+pub create-requires-clause-below_bound : goal.create-requires-clause-below_bound
+create-requires-clause-below_bound g c = cell.count-small _ _ _ _ _ c.self.invariant.0
 
 abbrev who : (g : given.Over) (c : goal.After-settle g) → Identity
 who g c = identity_of c.self.inside.place c.self.inside.journal.limit

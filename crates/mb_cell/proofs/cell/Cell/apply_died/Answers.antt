@@ -18,7 +18,7 @@ row : (g : given.Over) (c : goal.After-push_system g) →
 row g c =
     died-row _ _ _ _ _ c.self.invariant.0 c.args.number
     (subst (λ (s : CellView). closed s.who s.journal ≡ false) (sym c.self.view_is) c.requires.may_take.not_ended)
-    (subst (λ (s : CellView). phase_is (phase s.who s.journal) Fresh ≡ false) (sym c.self.view_is) c.requires.off_fresh)
+    (subst (λ (s : CellView). phase_is (phase s.who s.journal) Fresh ≡ false) (sym c.self.view_is) c.requires.not_fresh)
     c.args.id
     (subst (λ (s : CellView). (phase_is (phase s.who s.journal) Ending && is_alone (children s.who s.journal) c.args.id) ≡ false)
     (sym c.self.view_is) c.requires.not_last)

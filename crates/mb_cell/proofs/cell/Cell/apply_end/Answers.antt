@@ -20,7 +20,7 @@ row g c =
     ended-row _ _ _ _ _ c.self.invariant.0 c.args.number
     (subst (λ (s : CellView). closed s.who s.journal ≡ false) (sym c.self.view_is) c.requires.may_take.not_ended)
     (ap (λ (s : CellView). s.acts) c.self.view_is ∙ c.requires.may_take.carried_out)
-    (subst (λ (s : CellView). phase_is (phase s.who s.journal) Ending ≡ false) (sym c.self.view_is) c.requires.off_ending)
+    (subst (λ (s : CellView). phase_is (phase s.who s.journal) Ending ≡ false) (sym c.self.view_is) c.requires.not_ending)
     (subst (λ (s : CellView). is_empty (children s.who s.journal) ≡ true) (sym c.self.view_is) c.requires.no_children)
     (subst (λ (s : CellView). (not (is_guardian s.who) && phase_is (phase s.who s.journal) Live) ≡ false) (sym c.self.view_is) c.requires.silent)
     c.end_at_once.new.self c.end_at_once.ensures

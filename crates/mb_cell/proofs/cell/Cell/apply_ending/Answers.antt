@@ -12,8 +12,8 @@ use Rattle.mb_cell.proofs.SilentRow.{IsSilentRow}
 use Rattle.mb_cell.proofs.cell.Cell.apply_ending.Given as given
 use Rattle.mb_cell.proofs.cell.Cell.apply_ending.Goals as goal
 
-pub terminate-requires-clause-small : goal.terminate-requires-clause-small
-terminate-requires-clause-small g c = count-small _ _ _ _ _ c.self.invariant.0
+pub terminate-requires-clause-below_bound : goal.terminate-requires-clause-below_bound
+terminate-requires-clause-below_bound g c = count-small _ _ _ _ _ c.self.invariant.0
 
 row : (g : given.Over) (c : goal.After-push_system g) →
     IsSilentRow (identity_of c.self.inside.place c.self.inside.journal.limit) c.self.inside.journal.entries c.args.number system.Terminate
@@ -21,7 +21,7 @@ row : (g : given.Over) (c : goal.After-push_system g) →
 row g c =
     ending-row _ _ _ _ _ c.self.invariant.0 c.args.number
     (subst (λ (s : CellView). closed s.who s.journal ≡ false) (sym c.self.view_is) c.requires.may_take.not_ended)
-    (subst (λ (s : CellView). phase_is (phase s.who s.journal) Ending ≡ false) (sym c.self.view_is) c.requires.off_ending)
+    (subst (λ (s : CellView). phase_is (phase s.who s.journal) Ending ≡ false) (sym c.self.view_is) c.requires.not_ending)
     (subst (λ (s : CellView). is_empty (children s.who s.journal) ≡ false) (sym c.self.view_is) c.requires.has_children)
     c.terminate.new.self c.terminate.ensures
 

@@ -13,8 +13,8 @@ use Rattle.mb_cell.proofs.SilentRow.{IsSilentRow}
 use Rattle.mb_cell.proofs.cell.Cell.apply_failed.Given as given
 use Rattle.mb_cell.proofs.cell.Cell.apply_failed.Goals as goal
 
-pub supervise-requires-clause-small : goal.supervise-requires-clause-small
-supervise-requires-clause-small g c = count-small _ _ _ _ _ c.self.invariant.0
+pub supervise-requires-clause-below_bound : goal.supervise-requires-clause-below_bound
+supervise-requires-clause-below_bound g c = count-small _ _ _ _ _ c.self.invariant.0
 
 row : (g : given.Over) (c : goal.After-push_system g) →
     IsSilentRow (identity_of c.self.inside.place c.self.inside.journal.limit) c.self.inside.journal.entries c.args.number
@@ -23,7 +23,7 @@ row g c =
     failed-row _ _ _ _ _ c.self.invariant.0 c.args.number
     (subst (λ (s : CellView). closed s.who s.journal ≡ false) (sym c.self.view_is) c.requires.may_take.not_ended)
     (subst (λ (s : CellView). s.acts ≡ []) (sym c.self.view_is) c.requires.may_take.carried_out)
-    (subst (λ (s : CellView). phase_is (phase s.who s.journal) Fresh ≡ false) (sym c.self.view_is) c.requires.off_fresh)
+    (subst (λ (s : CellView). phase_is (phase s.who s.journal) Fresh ≡ false) (sym c.self.view_is) c.requires.not_fresh)
     c.args.child c.args.cause
     (subst (λ (s : CellView). has (children s.who s.journal) c.args.child ≡ true) (sym c.self.view_is) c.requires.of_child)
     c.supervise.new.self c.supervise.ensures

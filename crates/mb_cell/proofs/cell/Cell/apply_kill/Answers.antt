@@ -15,8 +15,8 @@ use Rattle.mb_cell.proofs.QuietRows.{kill-row}
 use Rattle.mb_cell.proofs.cell.Cell.apply_kill.Given as given
 use Rattle.mb_cell.proofs.cell.Cell.apply_kill.Goals as goal
 
-pub handle-requires-clause-small : goal.handle-requires-clause-small
-handle-requires-clause-small g c = count-small _ _ _ _ _ c.self.invariant.0
+pub handle-requires-clause-below_bound : goal.handle-requires-clause-below_bound
+handle-requires-clause-below_bound g c = count-small _ _ _ _ _ c.self.invariant.0
 
 abbrev entry : (g : given.Over) (c : goal.After-push_handled g) → Entry
 entry g c = Handled c.args.envelope c.word.result (Applied None [])

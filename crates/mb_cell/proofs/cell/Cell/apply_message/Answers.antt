@@ -22,8 +22,8 @@ use Rattle.mb_cell.proofs.HandledRow.{handled_after, receive-row}
 use Rattle.mb_cell.proofs.cell.Cell.apply_message.Given as given
 use Rattle.mb_cell.proofs.cell.Cell.apply_message.Goals as goal
 
-pub handle-requires-clause-small : goal.handle-requires-clause-small
-handle-requires-clause-small g c = cell.count-small _ _ _ _ _ c.self.invariant.0
+pub handle-requires-clause-below_bound : goal.handle-requires-clause-below_bound
+handle-requires-clause-below_bound g c = cell.count-small _ _ _ _ _ c.self.invariant.0
 
 abbrev who : (g : given.Over) (c : goal.After-settle g) → Identity
 who g c = identity_of c.self.inside.place c.self.inside.journal.limit
@@ -86,7 +86,7 @@ invariant_of-self g c =
     c.handle.new.self c.self.inside.outbox c.receive-answer.new.out _ _ _ _ _ _ _ _ _ _ c.push_handled.ensures.added
     c.push_handled.ensures.within c.self.invariant.0 (plays g c) (came g c) _ (row g c) c.settle.new.self
     (g.A.Actor.content c.receive-answer.new.self.actor) c.settle.ensures refl
-    (c.receive-answer.ensures.goes_on (messages (who g c) c.self.inside.journal.entries) (content_before g c)
+    (c.receive-answer.ensures.continues (messages (who g c) c.self.inside.journal.entries) (content_before g c)
     ∙ ap (λ more. g.A.Actor.after c.receive-answer.new.self.actor (messages (who g c) c.self.inside.journal.entries ++ more))
     (sym c.requires.carries))
 

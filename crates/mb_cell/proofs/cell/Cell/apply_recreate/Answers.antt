@@ -23,8 +23,8 @@ use Rattle.mb_cell.proofs.RecreateRow.{recreate_after, recreate-row}
 use Rattle.mb_cell.proofs.cell.Cell.apply_recreate.Given as given
 use Rattle.mb_cell.proofs.cell.Cell.apply_recreate.Goals as goal
 
-pub recreate-requires-clause-small : goal.recreate-requires-clause-small
-recreate-requires-clause-small g c = cell.count-small _ _ _ _ _ c.self.invariant.0
+pub recreate-requires-clause-below_bound : goal.recreate-requires-clause-below_bound
+recreate-requires-clause-below_bound g c = cell.count-small _ _ _ _ _ c.self.invariant.0
 
 abbrev who : (g : given.Over) (c : goal.After-settle g) → Identity
 who g c = identity_of c.self.inside.place c.self.inside.journal.limit
@@ -61,8 +61,8 @@ row g c =
     (subst (λ (s : CellView). closed s.who s.journal ≡ false) (sym c.self.view_is) c.requires.may_take.not_ended)
     (ap (λ (s : CellView). s.acts) c.self.view_is ∙ c.requires.may_take.carried_out)
     (plays g c).no_guardian c.restart-answer.result c.effects-effects.result.now c.args.cause
-    (subst (λ (s : CellView). phase_is (phase s.who s.journal) Fresh ≡ false) (sym c.self.view_is) c.requires.off_fresh)
-    (subst (λ (s : CellView). phase_is (phase s.who s.journal) Ending ≡ false) (sym c.self.view_is) c.requires.off_ending)
+    (subst (λ (s : CellView). phase_is (phase s.who s.journal) Fresh ≡ false) (sym c.self.view_is) c.requires.not_fresh)
+    (subst (λ (s : CellView). phase_is (phase s.who s.journal) Ending ≡ false) (sym c.self.view_is) c.requires.not_ending)
     (subst (λ (s : CellView). IsNumbered s.who s.journal c.args.number (system.Recreate c.args.cause)) (sym c.self.view_is) c.requires.may_take.numbered)
     (subst (λ (s : CellView). sets_aside s.who s.journal (system.Recreate c.args.cause) ≡ false) (sym c.self.view_is) c.requires.applied)
     c.recreate.new.self c.recreate.ensures

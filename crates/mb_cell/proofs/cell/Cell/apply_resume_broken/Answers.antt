@@ -23,8 +23,8 @@ use Rattle.mb_cell.proofs.RecreateRow.{recreate_after, resume_broken-row}
 use Rattle.mb_cell.proofs.cell.Cell.apply_resume_broken.Given as given
 use Rattle.mb_cell.proofs.cell.Cell.apply_resume_broken.Goals as goal
 
-pub recreate-requires-clause-small : goal.recreate-requires-clause-small
-recreate-requires-clause-small g c = cell.count-small _ _ _ _ _ c.self.invariant.0
+pub recreate-requires-clause-below_bound : goal.recreate-requires-clause-below_bound
+recreate-requires-clause-below_bound g c = cell.count-small _ _ _ _ _ c.self.invariant.0
 
 abbrev who : (g : given.Over) (c : goal.After-settle g) → Identity
 who g c = identity_of c.self.inside.place c.self.inside.journal.limit

@@ -12,8 +12,8 @@ use Rattle.mb_cell.proofs.SuspendRow.{suspend-row}
 use Rattle.mb_cell.proofs.cell.Cell.apply_suspend.Given as given
 use Rattle.mb_cell.proofs.cell.Cell.apply_suspend.Goals as goal
 
-pub suspend-requires-clause-small : goal.suspend-requires-clause-small
-suspend-requires-clause-small g c = count-small _ _ _ _ _ c.self.invariant.0
+pub suspend-requires-clause-below_bound : goal.suspend-requires-clause-below_bound
+suspend-requires-clause-below_bound g c = count-small _ _ _ _ _ c.self.invariant.0
 
 row : (g : given.Over) (c : goal.After-push_system g) →
     IsSilentRow (identity_of c.self.inside.place c.self.inside.journal.limit) c.self.inside.journal.entries c.args.number system.Suspend
@@ -21,7 +21,7 @@ row : (g : given.Over) (c : goal.After-push_system g) →
 row g c =
     suspend-row _ _ _ _ _ c.self.invariant.0 c.args.number
     (subst (λ (s : CellView). closed s.who s.journal ≡ false) (sym c.self.view_is) c.requires.may_take.not_ended)
-    (subst (λ (s : CellView). phase_is (phase s.who s.journal) Fresh ≡ false) (sym c.self.view_is) c.requires.off_fresh)
+    (subst (λ (s : CellView). phase_is (phase s.who s.journal) Fresh ≡ false) (sym c.self.view_is) c.requires.not_fresh)
     c.suspend.new.self c.suspend.ensures
 
 pub invariant_of-self : goal.invariant_of-self

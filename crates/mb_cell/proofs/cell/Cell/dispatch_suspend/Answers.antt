@@ -6,5 +6,5 @@ use Rattle.mb_cell.proofs.cell.Cell.dispatch_suspend.Goals as goal
 pub apply_nothing-requires-clause-nothing : goal.apply_nothing-requires-clause-nothing
 apply_nothing-requires-clause-nothing g c = fresh_suspend (is_fresh _ (sym c.is_fresh.ensures ∙ c.if-is_fresh.true))
 
-pub apply_suspend-requires-clause-off_fresh : goal.apply_suspend-requires-clause-off_fresh
-apply_suspend-requires-clause-off_fresh g c = search rules
+pub apply_suspend-requires-clause-not_fresh : goal.apply_suspend-requires-clause-not_fresh
+apply_suspend-requires-clause-not_fresh g c = search rules

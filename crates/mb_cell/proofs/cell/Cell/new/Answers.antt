@@ -28,7 +28,7 @@ invariant_of-result g c = (
       (record { this = c.args.this; parent = c.args.parent; actors = c.args.actors; prepared = c.args.prepared; strategy = c.args.strategy })
       c.new-journal.result c.args.journal_limit _ c.new-cell_state.result c.new-outbox.result c.new-journal.ensures
       (first _ _ c.new-cell_state.ensures) (let same = ap (λ (b : CellState). b.fanout) c.new-cell_state.ensures in omega arith) c.new-outbox.ensures
-      (omega arith) c.requires.few,
+      (omega arith) c.requires.within_limit,
   (λ ready. let no : c.new-journal.result.is_ready ≡ false = ap (λ j. j.is_ready) c.new-journal.ensures in cc),
   no_parent c.args.actor c.args.parent c.in_default.not-Some c.requires.guardian,
 )
@@ -46,7 +46,7 @@ invariant_of-result-2 g c = (
       (record { this = c.args.this; parent = c.args.parent; actors = c.args.actors; prepared = c.args.prepared; strategy = c.args.strategy })
       c.new-journal.result c.args.journal_limit _ c.new-cell_state.result c.new-outbox.result c.new-journal.ensures
       (first _ _ c.new-cell_state.ensures) (let same = ap (λ (b : CellState). b.fanout) c.new-cell_state.ensures in omega arith) c.new-outbox.ensures
-      (omega arith) c.requires.few,
+      (omega arith) c.requires.within_limit,
   (λ ready. let no : c.new-journal.result.is_ready ≡ false = ap (λ j. j.is_ready) c.new-journal.ensures in cc),
   plays-new
       (record { this = c.args.this; parent = c.args.parent; actors = c.args.actors; prepared = c.args.prepared; strategy = c.args.strategy })

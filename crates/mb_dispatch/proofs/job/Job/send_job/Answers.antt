@@ -1,8 +1,8 @@
 use Rattle.std.proofs.Common.{refl}
 use Rattle.mb_dispatch.proofs.job.Job.send_job.Goals as goal
 
-pub returns-clause-ours : goal.returns-clause-ours
-returns-clause-ours g c = c.send_and_retry-outcome.ensures.ours
+pub returns-clause-same_gates : goal.returns-clause-same_gates
+returns-clause-same_gates g c = c.send_and_retry-outcome.ensures.same_gates
 
 pub returns-clause-by : goal.returns-clause-by
 returns-clause-by g c = c.send_and_retry-outcome.ensures.by

@@ -6,10 +6,10 @@ pub look-requires : goal.look-requires
 look-requires c =
     let was = c.self.inside in
     let some : 0 < length was.senders.items = omega (arith, was.senders.ok.0) in
-    record { ours = first-sender was.system was.ends was.senders c.index_mut.result.now c.index_mut.ensures.value some c.self.invariant }
+    record { same_gates = first-sender was.system was.ends was.senders c.index_mut.result.now c.index_mut.ensures.value some c.self.invariant }
 
 pub invariant_of-self : goal.invariant_of-self
 invariant_of-self c =
     let was = c.self.inside in
-    with-sender was.system was.ends was.senders _ c.index_mut.result.now c.look.new.self refl c.look.ensures.ours c.look.ensures.by
+    with-sender was.system was.ends was.senders _ c.index_mut.result.now c.look.new.self refl c.look.ensures.same_gates c.look.ensures.by
     c.index_mut.ensures.value c.self.invariant

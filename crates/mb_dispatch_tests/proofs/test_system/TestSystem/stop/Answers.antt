@@ -6,10 +6,10 @@ pub stop-requires : goal.stop-requires
 stop-requires g c =
     let was = c.self.inside in
     let some : 0 < length was.senders.items = omega (arith, was.senders.ok.0) in
-    record { ours = first-sender was.system was.ends was.senders c.index_mut.result.now c.index_mut.ensures.value some c.self.invariant }
+    record { same_gates = first-sender was.system was.ends was.senders c.index_mut.result.now c.index_mut.ensures.value some c.self.invariant }
 
 pub invariant_of-self : goal.invariant_of-self
 invariant_of-self g c =
     let was = c.self.inside in
-    with-sender was.system was.ends was.senders _ c.index_mut.result.now c.stop.new.self refl c.stop.ensures.ours c.stop.ensures.by
+    with-sender was.system was.ends was.senders _ c.index_mut.result.now c.stop.new.self refl c.stop.ensures.same_gates c.stop.ensures.by
     c.index_mut.ensures.value c.self.invariant

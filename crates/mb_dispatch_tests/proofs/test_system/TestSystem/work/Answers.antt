@@ -6,9 +6,9 @@ pub work-requires : goal.work-requires
 work-requires g c =
     let was = c.self.inside in
     let some : 0 < length was.ends.items = omega (arith, was.ends.ok.0) in
-    record { ours = first-end was.system was.ends was.senders c.index_mut.result.now c.index_mut.ensures.value some c.self.invariant }
+    record { same_gates = first-end was.system was.ends was.senders c.index_mut.result.now c.index_mut.ensures.value some c.self.invariant }
 
 pub invariant_of-self : goal.invariant_of-self
 invariant_of-self g c =
     let was = c.self.inside in
-    with-end was.system was.ends was.senders _ c.work.new.end refl c.work.ensures.ours c.self.invariant
+    with-end was.system was.ends was.senders _ c.work.new.end refl c.work.ensures.same_gates c.self.invariant

@@ -8,7 +8,7 @@ load-requires g c = (
   search rules,
   search rules,
   counts_allowed (g.H.MailboxState.is_of (first_home c.args.self.now)) g.H.MailboxState.facts
-      _ _ _ _ c.args.id.0 _ (let k = c.args.self.now.keyed in let t = c.requires.there in omega arith) c.word_index.ensures,
+      _ _ _ _ c.args.id.0 _ (let k = c.args.self.now.keyed in let t = c.requires.present in omega arith) c.word_index.ensures,
 )
 
 pub returns-clause-known : goal.returns-clause-known

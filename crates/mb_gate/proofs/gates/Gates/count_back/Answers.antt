@@ -8,7 +8,7 @@ fetch_sub-requires g c = (
   search rules,
   search rules,
   unsends_allowed (g.H.MailboxState.is_of (first_home c.args.self.now)) g.H.MailboxState.facts _ _ _ _ c.args.id.0 _
-      (let k = c.args.self.now.keyed in let t = c.requires.there
+      (let k = c.args.self.now.keyed in let t = c.requires.present
       in omega arith) (λ n. (n + (2 ^ 64 - 1))
       % 2 ^ 64) 1 (λ w. omega arith) c.requires.share c.word_index.ensures,
 )

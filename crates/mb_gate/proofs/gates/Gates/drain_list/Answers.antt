@@ -4,7 +4,7 @@ use Rattle.mb_gate.specs.View.{Lent, draining}
 use Rattle.mb_gate.specs.Rule.{is_some_item}
 use Rattle.mb_gate.specs.Claims.{held_in}
 use Rattle.mb_syslist.specs.MessageList.{numbered}
-use Rattle.mb_gate.specs.Lists.{with_drained}
+use Rattle.mb_gate.specs.ListWord.{with_drained}
 use Rattle.mb_gate.specs.NamedActors.{NamesBelow, EachNamesBelow}
 use Rattle.mb_gate.specs.Accessors.{first_home, actors_of}
 use Rattle.mb_gate.proofs.Numbers.{all_with_numbers}
@@ -16,24 +16,24 @@ pub store-requires : goal.store-requires
 store-requires g c =
     let lent = c.requires.lent in
     let l : Lent = record { actor = c.args.id.0; listed = c.args.list; gave = lent.gave } in
-    let laid = c.put_back_list.ensures.carries in
+    let laid = c.put_back.ensures.carries in
     let some = ap is_some_item c.drain-chain.ensures.chain ∙ some_listed c.args.list in (
       search rules,
       search rules,
       drains_allowed (g.H.MailboxState.is_of (first_home c.args.self.now)) g.H.MailboxState.facts _ _ _ _ c.args.id.0 _ (let k =
-          c.args.self.now.keyed in let t = c.requires.there in omega arith) _ l _ c.word_index-gate.ensures
+          c.args.self.now.keyed in let t = c.requires.present in omega arith) _ l _ c.word_index-gate.ensures
           (let k = c.args.self.now.keyed in let d = c.args.self.now.deep in omega arith)
           (ap (λ m. m.0.claim) laid ∙ c.requires.holder.has) c.requires.holder.of (ap (λ m. m.0.list) laid ∙ lent.has) refl (laid_back
           c.args.id.0 _ _ c.args.seat.now.me _ laid c.drain-chain.ensures.list)
-          (c.with_drained_bits-new.ensures ∙ (ap (with_drained c.args.word) (empty_is c.is_empty.result c.drain-chain.result c.is_empty.ensures ∙
-          ap not some) ∙ word_drained c.args.word c.args.list lent.gave _ lent.found)),
+          (c.with_drained-new.ensures ∙ (ap (with_drained c.args.word.bits) (empty_is c.is_empty.result c.drain-chain.result c.is_empty.ensures ∙
+          ap not some) ∙ word_drained c.args.word.bits c.args.list lent.gave _ lent.found)),
     )
 
 pub returns-clause-drained : goal.returns-clause-drained
 returns-clause-drained g c =
     let lent = c.requires.lent in
     let l : Lent = record { actor = c.args.id.0; listed = c.args.list; gave = lent.gave } in
-    let laid = c.put_back_list.ensures.carries in
+    let laid = c.put_back.ensures.carries in
     let told = c.store.ensures.2 l (held_in c.args.seat.now.me.0) (ap (λ m. m.0.list) laid ∙ lent.has) (ap (λ m. m.0.claim) laid
     ∙ c.requires.holder.has) in
     let some = ap is_some_item c.drain-chain.ensures.chain ∙ some_listed c.args.list in
@@ -43,7 +43,7 @@ pub returns-clause-numbers : goal.returns-clause-numbers
 returns-clause-numbers g c =
     let lent = c.requires.lent in
     let l : Lent = record { actor = c.args.id.0; listed = c.args.list; gave = lent.gave } in
-    let laid = c.put_back_list.ensures.carries in
+    let laid = c.put_back.ensures.carries in
     let told = c.store.ensures.2 l (held_in c.args.seat.now.me.0) (ap (λ m. m.0.list) laid ∙ lent.has) (ap (λ m. m.0.claim) laid
     ∙ c.requires.holder.has) in
     record { messages = c.args.list.messages; each = c.drain-chain.ensures.chain ∙ ap (λ n. numbered n c.args.list.messages) told.1 }
@@ -52,7 +52,7 @@ pub returns-clause-named : goal.returns-clause-named
 returns-clause-named g c =
     let lent = c.requires.lent in
     let l : Lent = record { actor = c.args.id.0; listed = c.args.list; gave = lent.gave } in
-    let laid = c.put_back_list.ensures.carries in
+    let laid = c.put_back.ensures.carries in
     let told = c.store.ensures.2 l (held_in c.args.seat.now.me.0) (ap (λ m. m.0.list) laid ∙ lent.has) (ap (λ m. m.0.claim) laid
     ∙ c.requires.holder.has) in
     let actors = actors_of c.args.self.now in

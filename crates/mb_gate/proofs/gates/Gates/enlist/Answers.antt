@@ -15,14 +15,14 @@ pub store-requires : goal.store-requires
 store-requires g c =
     let lent = c.requires.lent in
     let l : Lent = record { actor = c.args.id.0; listed = c.args.list; gave = lent.gave } in
-    let laid = c.put_back_list.ensures.carries in
+    let laid = c.put_back.ensures.carries in
     let list = c.push.ensures.list ∙ ap (λ b. if b then c.args.list else with_last c.args.list c.args.node) c.requires.not_ended in (
       search rules,
       search rules,
       enlists_allowed (g.H.MailboxState.is_of (first_home c.args.self.now)) g.H.MailboxState.facts _ _ _ _ c.args.id.0 _ (let k =
-          c.args.self.now.keyed in let t = c.requires.there in omega arith) l c.args.node _ c.word_index-gate.ensures (ap (λ m. m.0.list) laid ∙
+          c.args.self.now.keyed in let t = c.requires.present in omega arith) l c.args.node _ c.word_index-gate.ensures (ap (λ m. m.0.list) laid ∙
           lent.has) refl (laid_back c.args.id.0 _ _ c.args.seat.now.me _ laid list)
-          (c.with_listed_bit-new.ensures ∙ word_listed c.args.word c.args.list lent.gave c.args.node lent.found)
+          (c.with_listed-new.ensures ∙ word_listed c.args.word.bits c.args.list lent.gave c.args.node lent.found)
           (subst (λ n. NamesBelow n c.args.node) (sym c.args.self.now.keyed) c.requires.named),
     )
 
@@ -30,7 +30,7 @@ pub returns-clause-listed : goal.returns-clause-listed
 returns-clause-listed g c =
     let lent = c.requires.lent in
     let l : Lent = record { actor = c.args.id.0; listed = c.args.list; gave = lent.gave } in
-    let laid = c.put_back_list.ensures.carries in
+    let laid = c.put_back.ensures.carries in
     let list = c.push.ensures.list ∙ ap (λ b. if b then c.args.list else with_last c.args.list c.args.node) c.requires.not_ended in
     let answer = c.push.ensures.answer ∙ ap (λ b. if b then Err (record { 0 = c.args.node }) else Ok (pushed c.args.list)) c.requires.not_ended in
     let number = ok_same (pushed c.args.list) c.in-Ok.number (sym answer ∙ c.in-Ok.is) in

@@ -27,7 +27,7 @@ compare_exchange_with-found-requires g c =
       search rules,
       search rules,
       schedules_allowed g.H.MailboxState.is_of (memory note.0 key) g.H.MailboxState.facts _ _ _ _ c.args.id.0 _
-          (let k = c.args.self.now.keyed in let t = c.requires.there in omega arith) _ _ _ told c.word_index.ensures
+          (let k = c.args.self.now.keyed in let t = c.requires.present in omega arith) _ _ _ told c.word_index.ensures
           (ap (λ n. n % 4) c.word-old.ensures.word ∙ free_mod c.args.seen c.requires.free)
           (c.word-new.ensures.word ∙ (scheduled_word c.args.seen c.args.status c.requires.free c.requires.scheduled
           ∙ ap (λ n. n + 2) (sym c.word-old.ensures.word))) c.args.pass.now.holds_nothing.1 c.args.pass.now.shares,

@@ -7,11 +7,11 @@ use Rattle.mb_gate.proofs.gates.Gates.lock_list.Goals as goal
 pub loop-init : goal.loop-init
 loop-init g c = (refl, refl)
 
-pub loop-preserved-then-word-eq1 : goal.loop-preserved-then-word-eq1
-loop-preserved-then-word-eq1 g c = c.loop.invariant
+pub loop-preserved-then-is_locked : goal.loop-preserved-then-is_locked
+loop-preserved-then-is_locked g c = c.loop.invariant
 
-pub try_lock_list-requires-clause-ours : goal.try_lock_list-requires-clause-ours
-try_lock_list-requires-clause-ours g c = c.loop.invariant.0 ∙ c.requires.ours
+pub try_lock_list-requires-clause-same_gates : goal.try_lock_list-requires-clause-same_gates
+try_lock_list-requires-clause-same_gates g c = c.loop.invariant.0 ∙ c.requires.same_gates
 
 pub try_lock_list-requires-clause-no_list : goal.try_lock_list-requires-clause-no_list
 try_lock_list-requires-clause-no_list g c = ap (λ m. m.0.list) c.loop.invariant.1 ∙ c.requires.no_list
@@ -20,12 +20,12 @@ pub try_lock_list-requires-clause-may : goal.try_lock_list-requires-clause-may
 try_lock_list-requires-clause-may g c = ap (λ m. may_lock_list c.args.id.0 m.0) c.loop.invariant.1
     ∙ holder_may c.args.id.0 c.args.seat.now.me.0 (held_in c.args.seat.now.me.0) c.requires.holder.has c.requires.holder.of
 
-pub returns-in-Some-try_lock_list-clause-ours : goal.returns-in-Some-try_lock_list-clause-ours
-returns-in-Some-try_lock_list-clause-ours g c = c.try_lock_list.ensures.ours ∙ c.loop.invariant.0
+pub returns-in-Some-try_lock_list-clause-same_gates : goal.returns-in-Some-try_lock_list-clause-same_gates
+returns-in-Some-try_lock_list-clause-same_gates g c = c.try_lock_list.ensures.same_gates ∙ c.loop.invariant.0
 
 pub returns-in-Some-try_lock_list-clause-answer : goal.returns-in-Some-try_lock_list-clause-answer
 returns-in-Some-try_lock_list-clause-answer g c =
-    subst (λ m. IsLentBy c.args.id.0 c.peek-word.result c.in-Some-try_lock_list.list m c.try_lock_list.new.seat.me) c.loop.invariant.1 c.in-Some-try_lock_list.ensures.answer
+    subst (λ m. IsLentBy c.args.id.0 c.of-word.result.bits c.in-Some-try_lock_list.list m c.try_lock_list.new.seat.me) c.loop.invariant.1 c.in-Some-try_lock_list.ensures.answer
 
 pub loop-preserved : goal.loop-preserved
-loop-preserved g c = (c.try_lock_list.ensures.ours ∙ c.loop.invariant.0, c.in_default.ensures.answer ∙ c.loop.invariant.1)
+loop-preserved g c = (c.try_lock_list.ensures.same_gates ∙ c.loop.invariant.0, c.in_default.ensures.answer ∙ c.loop.invariant.1)

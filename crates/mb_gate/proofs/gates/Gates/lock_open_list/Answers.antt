@@ -1,22 +1,22 @@
-use Rattle.std.proofs.Common.{refl, ap, subst, ◌∙◌, if◌then◌else◌}
+use Rattle.std.proofs.Common.{refl, ap, sym, subst, ◌∙◌, if◌then◌else◌}
 use Rattle.atomic_table.specs.Table.{Me}
 use Rattle.mb_gate.specs.Lists.{IsLentBy, may_lock_list}
 use Rattle.mb_gate.specs.ClaimCounts.{WasHeldBy}
 use Rattle.mb_gate.specs.View.{View, refusing}
-use Rattle.mb_gate.proofs.ListCalls.{not_ended, sharer_may}
+use Rattle.mb_gate.proofs.ListCalls.{is_not_ended, sharer_may}
 use Rattle.mb_gate.proofs.gates.Gates.lock_open_list.Goals as goal
 
 pub loop-init : goal.loop-init
 loop-init g c = (refl, refl)
 
-pub loop-preserved-then-word-eq1 : goal.loop-preserved-then-word-eq1
-loop-preserved-then-word-eq1 g c = c.loop.invariant
+pub loop-preserved-then-is_locked : goal.loop-preserved-then-is_locked
+loop-preserved-then-is_locked g c = c.loop.invariant
 
-pub try_refuse-requires-clause-ours : goal.try_refuse-requires-clause-ours
-try_refuse-requires-clause-ours g c = c.loop.invariant.0 ∙ c.requires.ours
+pub try_refuse-requires-clause-same_gates : goal.try_refuse-requires-clause-same_gates
+try_refuse-requires-clause-same_gates g c = c.loop.invariant.0 ∙ c.requires.same_gates
 
-pub returns-then-try_refuse-clause-ours : goal.returns-then-try_refuse-clause-ours
-returns-then-try_refuse-clause-ours g c = c.try_refuse.ensures.ours ∙ c.loop.invariant.0
+pub returns-then-try_refuse-clause-same_gates : goal.returns-then-try_refuse-clause-same_gates
+returns-then-try_refuse-clause-same_gates g c = c.try_refuse.ensures.same_gates ∙ c.loop.invariant.0
 
 pub returns-then-try_refuse-clause-refused : goal.returns-then-try_refuse-clause-refused
 returns-then-try_refuse-clause-refused g c =
@@ -31,12 +31,12 @@ returns-then-try_refuse-clause-held g c =
 pub loop-preserved-else-try_refuse : goal.loop-preserved-else-try_refuse
 loop-preserved-else-try_refuse g c =
     let me = c.loop.seat.me in let said : Me _ View = (refusing c.args.id.0 c.args.message me.0, me.1) in (
-      c.try_refuse.ensures.ours ∙ c.loop.invariant.0,
+      c.try_refuse.ensures.same_gates ∙ c.loop.invariant.0,
       c.try_refuse.ensures.answer ∙ ap (λ b. if b then said else me) c.if-try_refuse.false ∙ c.loop.invariant.1,
     )
 
-pub try_lock_list-requires-clause-ours : goal.try_lock_list-requires-clause-ours
-try_lock_list-requires-clause-ours g c = c.loop.invariant.0 ∙ c.requires.ours
+pub try_lock_list-requires-clause-same_gates : goal.try_lock_list-requires-clause-same_gates
+try_lock_list-requires-clause-same_gates g c = c.loop.invariant.0 ∙ c.requires.same_gates
 
 pub try_lock_list-requires-clause-no_list : goal.try_lock_list-requires-clause-no_list
 try_lock_list-requires-clause-no_list g c = ap (λ m. m.0.list) c.loop.invariant.1 ∙ c.requires.no_list
@@ -45,8 +45,8 @@ pub try_lock_list-requires-clause-may : goal.try_lock_list-requires-clause-may
 try_lock_list-requires-clause-may g c = ap (λ m. may_lock_list c.args.id.0 m.0) c.loop.invariant.1
     ∙ sharer_may c.args.id.0 c.args.seat.now.me.0 c.requires.share
 
-pub returns-in-Some-try_lock_list-clause-ours : goal.returns-in-Some-try_lock_list-clause-ours
-returns-in-Some-try_lock_list-clause-ours g c = c.try_lock_list.ensures.ours ∙ c.loop.invariant.0
+pub returns-in-Some-try_lock_list-clause-same_gates : goal.returns-in-Some-try_lock_list-clause-same_gates
+returns-in-Some-try_lock_list-clause-same_gates g c = c.try_lock_list.ensures.same_gates ∙ c.loop.invariant.0
 
 pub returns-in-Some-try_lock_list-clause-refused : goal.returns-in-Some-try_lock_list-clause-refused
 returns-in-Some-try_lock_list-clause-refused g c = λ e. absurd (cc)
@@ -56,9 +56,9 @@ returns-in-Some-try_lock_list-clause-held g c = λ e. absurd (cc)
 
 pub returns-in-Some-try_lock_list-clause-lent : goal.returns-in-Some-try_lock_list-clause-lent
 returns-in-Some-try_lock_list-clause-lent g c =
-    let word = c.peek-word.result in let list = c.in-Some-try_lock_list.list in
-    let lent = subst (λ m. IsLentBy c.args.id.0 word list m c.try_lock_list.new.seat.me) c.loop.invariant.1 c.in-Some-try_lock_list.ensures.answer in
-    (lent, not_ended word list lent.gave lent.found c.if-word-eq1-2.false)
+    let word = c.of-word.result in let list = c.in-Some-try_lock_list.list in
+    let lent = subst (λ m. IsLentBy c.args.id.0 word.bits list m c.try_lock_list.new.seat.me) c.loop.invariant.1 c.in-Some-try_lock_list.ensures.answer in
+    (lent, is_not_ended word.bits list lent.gave lent.found (sym c.is_ended.ensures ∙ c.if-is_ended.false))
 
 pub loop-preserved : goal.loop-preserved
-loop-preserved g c = (c.try_lock_list.ensures.ours ∙ c.loop.invariant.0, c.in_default.ensures.answer ∙ c.loop.invariant.1)
+loop-preserved g c = (c.try_lock_list.ensures.same_gates ∙ c.loop.invariant.0, c.in_default.ensures.answer ∙ c.loop.invariant.1)

@@ -9,7 +9,7 @@ load-word-requires g c = (
   search rules,
   search rules,
   reads_allowed (g.H.MailboxState.is_of (first_home c.args.self.now)) g.H.MailboxState.facts _ _ _ _ c.args.id.0 _
-      (let k = c.args.self.now.keyed in let t = c.requires.there
+      (let k = c.args.self.now.keyed in let t = c.requires.present
       in omega arith) c.word_index.ensures,
 )
 

@@ -1,4 +1,5 @@
 use Rattle.std.proofs.Common.{◌∷◌, [], ap, sym, ◌∙◌, refl, subst}
+use Rattle.atomic_table.specs.Table.{rest}
 use Rattle.mb_ghost.specs.Layout.{slot_at}
 use Rattle.mb_gate.specs.declared.slot.Slot.TheVariants.{Home}
 use Rattle.mb_gate.specs.Claims.{IsReadyToRelease}
@@ -9,10 +10,10 @@ use Rattle.mb_gate.proofs.gates.Gates.release.Goals as goal
 pub idle-requires-clause-ready : goal.idle-requires-clause-ready
 idle-requires-clause-ready g c =
     let claim = c.args.claim in
-    let me = c.put_back_home.ensures.carries ∙ ap (λ m. (m.0, (slot_at claim.actor.0 0, Home claim.home) ∷ [])) c.take_in.ensures.known in
+    let me = c.put_back.ensures.carries ∙ ap (λ m. (m.0, (slot_at claim.actor.0 0, Home claim.home) ∷ rest m.1)) c.take_in.ensures.known in
     subst (λ m. IsReadyToRelease (g.H.MailboxState.is_of (first_home c.args.self.now)) g.H.MailboxState.facts claim.actor.0 claim.status m) (sym me) record {
       home = claim.home;
-      carried = refl;
+      carried = ap (λ l. (slot_at claim.actor.0 0, Home claim.home) ∷ rest l) claim.carries;
       has = claim.has;
       of = claim.of;
       word = claim.word;
@@ -20,7 +21,7 @@ idle-requires-clause-ready g c =
       longer = c.requires.longer;
       fold = c.requires.fold;
       count = c.requires.count;
-      shut = c.requires.shut;
+      known_closed = c.requires.known_closed;
       rest = c.requires.rest;
       share = some_left _ _ c.args.pass.now.shares;
     }

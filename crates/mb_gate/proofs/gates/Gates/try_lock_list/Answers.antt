@@ -1,9 +1,9 @@
-use Rattle.std.proofs.Common.{rules, ◌∷◌, ap, sym, ◌∙◌, refl, arith}
+use Rattle.std.proofs.Common.{rules, ◌∷◌, ap, sym, ◌∙◌, arith}
 use Rattle.atomic_table.specs.Table.{rest}
 use Rattle.mb_gate.specs.declared.slot.Slot.TheVariants.{List as Listing}
 use Rattle.mb_gate.specs.Accessors.{first_home}
 use Rattle.mb_gate.proofs.Allowed.{grips_allowed}
-use Rattle.mb_gate.proofs.ListCalls.{is_list, lent_by}
+use Rattle.mb_gate.proofs.ListCalls.{is_even, is_list, lent_by}
 use Rattle.mb_gate.proofs.gates.Gates.try_lock_list.Goals as goal
 
 pub compare_exchange-found-requires : goal.compare_exchange-found-requires
@@ -11,9 +11,9 @@ compare_exchange-found-requires g c = (
   search rules,
   search rules,
   grips_allowed (g.H.MailboxState.is_of (first_home c.args.self.now)) g.H.MailboxState.facts _ _ _ _ c.args.id.0 _
-      (let k = c.args.self.now.keyed in let t = c.requires.there
+      (let k = c.args.self.now.keyed in let t = c.requires.present
       in omega arith) _ _
-      c.word_index-gate.ensures c.requires.in_slot refl c.requires.no_list c.requires.may,
+      c.word_index-gate.ensures (is_even _ c.requires.in_slot) c.locked.ensures c.requires.no_list c.requires.may,
 )
 
 pub returns-then-found-word-clause-answer : goal.returns-then-found-word-clause-answer

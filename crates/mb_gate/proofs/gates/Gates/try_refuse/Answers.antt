@@ -10,8 +10,8 @@ compare_exchange_with-found-requires g c = (
   search rules,
   search rules,
   refuses_allowed (g.H.MailboxState.is_of (first_home c.args.self.now)) g.H.MailboxState.facts _ _ _ _ c.args.id.0 _
-      (let k = c.args.self.now.keyed in let t = c.requires.there in omega arith) _
-      c.args.message c.word_index-gate.ensures c.requires.ended,
+      (let k = c.args.self.now.keyed in let t = c.requires.present in omega arith) _
+      c.args.message c.word_index-gate.ensures (eqb-true _ _ c.requires.ended),
 )
 
 pub returns-clause-answer : goal.returns-clause-answer

@@ -12,7 +12,7 @@ store-requires g c =
       search rules,
       search rules,
       writes_allowed (g.H.MailboxState.is_of (first_home c.args.self.now)) g.H.MailboxState.facts _ _ _ _ claim.actor.0 _ (let k =
-          c.args.self.now.keyed in let t = c.requires.there in omega arith) _ _ c.word_index-index.ensures claim.has claim.of
+          c.args.self.now.keyed in let t = c.requires.present in omega arith) _ _ c.word_index-index.ensures claim.has claim.of
           (subst (λ n. IsTrue (is_valid n)) is (valid_word c.args.status c.word.ensures.possible))
           (subst (λ n. (n % 4 ≡ 2) ⊎ (n ≡ 1)) is (busy_word (word_of c.args.status) c.requires.busy))
           (λ one. sym is ∙ c.requires.closed (one_closed claim.status (sym claim.word ∙ one))),

@@ -25,7 +25,7 @@ returns-in_default-clause-settled g c =
     let done =
     settled-take h (g.K.Behaviours.gives h.cell.who.this.0) h.cell.acts c.take.new.self c.requires.settled (
       c.take.ensures.same.0 ∙ ap (λ (x : Contents). x.take.queue) c.self.view_is,
-      c.take.ensures.same.1 ∙ ap (λ (x : Contents). x.take.turns) c.self.view_is,
+      c.take.ensures.same.1 ∙ ap (λ (x : Contents). x.take.discipline) c.self.view_is,
     )
     (c.in_default.ensures.taken ∙ append-nil c.self.inside.take.taken ∙ ap (λ (x : Contents). x.take.taken) c.self.view_is) in
     subst (λ (x : Contents). AgreesWithJournal (g.K.Behaviours.gives x.cell.who.this.0) x.cell.acts x)
@@ -46,7 +46,7 @@ returns-clause-settled g c =
     let done =
     settled-clean h (g.K.Behaviours.gives h.cell.who.this.0) h.cell.acts c.take.new.self e c.requires.settled c.requires.ended (
       c.take.ensures.same.0 ∙ ap (λ (x : Contents). x.take.queue) c.self.view_is,
-      c.take.ensures.same.1 ∙ ap (λ (x : Contents). x.take.turns) c.self.view_is,
+      c.take.ensures.same.1 ∙ ap (λ (x : Contents). x.take.discipline) c.self.view_is,
     )
     (c.in-Some.ensures.taken ∙ ap (λ (x : Contents). x.take.taken ++ e ∷ []) c.self.view_is) in
     subst (λ (x : Contents). AgreesWithJournal (g.K.Behaviours.gives x.cell.who.this.0) x.cell.acts x)

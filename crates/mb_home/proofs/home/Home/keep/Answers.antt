@@ -1,5 +1,5 @@
 use Rattle.mb_home.proofs.DrainLemmas.{drained-on}
 use Rattle.mb_home.proofs.home.Home.keep.Goals as goal
 
-pub set_backlog-requires-clause-goes_on : goal.set_backlog-requires-clause-goes_on
-set_backlog-requires-clause-goes_on g c = drained-on c.args.self.now c.args.drained c.requires.none_left c.requires.goes_on
+pub set_backlog-requires-clause-continues : goal.set_backlog-requires-clause-continues
+set_backlog-requires-clause-continues g c = drained-on c.args.self.now c.args.drained c.requires.none_left c.requires.continues

@@ -6,8 +6,8 @@ use Rattle.mb_home.specs.Contents.{Contents}
 use Rattle.mb_home.proofs.StatusLemmas.{count_within, none_closed}
 use Rattle.mb_home.proofs.home.Home.own_status.Goals as goal
 
-pub status_of-requires-clause-few : goal.status_of-requires-clause-few
-status_of-requires-clause-few g c =
+pub status_of-requires-clause-within_limit : goal.status_of-requires-clause-within_limit
+status_of-requires-clause-within_limit g c =
     let within = count_within _ _ _ c.journal.ensures.lawful c.self.invariant.1 in omega (arith, within, c.count.ensures)
 
 pub status_of-requires-clause-none : goal.status_of-requires-clause-none

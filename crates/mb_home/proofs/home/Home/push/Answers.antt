@@ -1,14 +1,14 @@
 use Rattle.std.proofs.Common.{◌-◌, sym, subst, arith}
 use Rattle.mb_msg.specs.declared.envelope.Envelope.{Envelope}
 use Rattle.mb_home.specs.Steps.{Delivers, Fits}
-use Rattle.mb_home.proofs.TellSteps.{told-there, fits-next, pushes-next, settled-pushes, settled-buries}
+use Rattle.mb_home.proofs.TellSteps.{told-there, fits-next, pushes-next, settled-pushes, settled-dead_letter}
 use Rattle.mb_home.proofs.home.Home.push.Goals as goal
 
 pub overflow_sub-place : goal.overflow_sub-place
 overflow_sub-place g c = omega (arith, (told-there _ _ _ _ _ c.requires.settled).0)
 
-pub deliver-requires-clause-there : goal.deliver-requires-clause-there
-deliver-requires-clause-there g c =
+pub deliver-requires-clause-present : goal.deliver-requires-clause-present
+deliver-requires-clause-present g c =
     omega (arith, (told-there _ _ _ _ _ c.requires.settled).0, (told-there _ _ _ _ _ c.requires.settled).1)
 
 pub deliver-requires-clause-fits : goal.deliver-requires-clause-fits
@@ -27,6 +27,6 @@ returns-in-Ok-clause-settled g c =
 
 pub returns-in-Err-clause-settled : goal.returns-in-Err-clause-settled
 returns-in-Err-clause-settled g c =
-    settled-buries c.args.self.now c.deliver.new.self c.record_dead_letter.new.self g.K.Behaviours.gives c.args.to c.args.body c.in-Err.refused
+    settled-dead_letter c.args.self.now c.deliver.new.self c.record_dead_letter.new.self g.K.Behaviours.gives c.args.to c.args.body c.in-Err.refused
     c.envelope-envelope.result c.reason.result c.requires.settled c.in-Err.ensures.delivered.1 c.in-Err.ensures.delivered.2
     c.envelope-envelope.ensures c.reason.ensures c.record_dead_letter.ensures.same c.record_dead_letter.ensures.room

@@ -17,12 +17,12 @@ returns-clause-took g c =
     subst (λ (x : Contents). IfSome r (λ e. TakesOut h x e)) (sym (ap (λ (x : Contents). record x { take = new }) c.self.view_is))
     (takes-out h new r (c.take.ensures.taken ∙ ap (λ (x : Contents). x.take.taken ++ option_to_list r) c.self.view_is) (
       c.take.ensures.same.0 ∙ ap (λ (x : Contents). x.take.queue) c.self.view_is,
-      c.take.ensures.same.1 ∙ ap (λ (x : Contents). x.take.turns) c.self.view_is,
+      c.take.ensures.same.1 ∙ ap (λ (x : Contents). x.take.discipline) c.self.view_is,
       c.take.ensures.same.2 ∙ ap (λ (x : Contents). x.take.accounts) c.self.view_is,
     )
     (subst (λ (x : Contents). IfSome r (λ (e : Envelope). Contains x.take.queue.senders e.by.0)) c.self.view_is c.take.ensures.sender)
     (subst (λ (x : Contents). IfSome r (λ (e : Envelope). e.to.0 ≡ x.take.queue.to)) c.self.view_is c.take.ensures.addressed)
-    (subst (λ (x : Contents). IsTake x.take.turns x.take r new) c.self.view_is c.take.ensures.turn))
+    (subst (λ (x : Contents). IsTake x.take.discipline x.take r new) c.self.view_is c.take.ensures.follows_discipline))
 
 pub returns-clause-none : goal.returns-clause-none
 returns-clause-none g c =
@@ -33,10 +33,10 @@ returns-clause-none g c =
     (finds-none h (g.K.Behaviours.gives h.cell.who.this.0) new r
     (c.take.ensures.taken ∙ ap (λ (x : Contents). x.take.taken ++ option_to_list r) c.self.view_is) (
       c.take.ensures.same.0 ∙ ap (λ (x : Contents). x.take.queue) c.self.view_is,
-      c.take.ensures.same.1 ∙ ap (λ (x : Contents). x.take.turns) c.self.view_is,
+      c.take.ensures.same.1 ∙ ap (λ (x : Contents). x.take.discipline) c.self.view_is,
       c.take.ensures.same.2 ∙ ap (λ (x : Contents). x.take.accounts) c.self.view_is,
     )
-    (subst (λ (x : Contents). IsTake x.take.turns x.take r new) c.self.view_is c.take.ensures.turn) c.requires.settled).0
+    (subst (λ (x : Contents). IsTake x.take.discipline x.take r new) c.self.view_is c.take.ensures.follows_discipline) c.requires.settled).0
 
 pub returns-clause-settled : goal.returns-clause-settled
 returns-clause-settled g c =
@@ -48,7 +48,7 @@ returns-clause-settled g c =
     (finds-none h (g.K.Behaviours.gives h.cell.who.this.0) new r
     (c.take.ensures.taken ∙ ap (λ (x : Contents). x.take.taken ++ option_to_list r) c.self.view_is) (
       c.take.ensures.same.0 ∙ ap (λ (x : Contents). x.take.queue) c.self.view_is,
-      c.take.ensures.same.1 ∙ ap (λ (x : Contents). x.take.turns) c.self.view_is,
+      c.take.ensures.same.1 ∙ ap (λ (x : Contents). x.take.discipline) c.self.view_is,
       c.take.ensures.same.2 ∙ ap (λ (x : Contents). x.take.accounts) c.self.view_is,
     )
-    (subst (λ (x : Contents). IsTake x.take.turns x.take r new) c.self.view_is c.take.ensures.turn) c.requires.settled).1
+    (subst (λ (x : Contents). IsTake x.take.discipline x.take r new) c.self.view_is c.take.ensures.follows_discipline) c.requires.settled).1

@@ -6,7 +6,7 @@ use Rattle.mb_journal.proofs.journal.Journal.push.Goals as goal
 pub add_all-requires : goal.add_all-requires
 add_all-requires c =
     let room = c.self.invariant.effect_room (ap (λ (l : JournalView). l.is_ready) c.self.view_is ∙ c.requires.ready) in
-    omega (arith, room, c.requires.few)
+    omega (arith, room, c.requires.within_limit)
 
 pub push_reserved-requires : goal.push_reserved-requires
 push_reserved-requires c =

@@ -5,7 +5,7 @@ use Rattle.mb_pool.proofs.worker_port.WorkerPort.take.Goals as goal
 
 pub returns-clause-none : goal.returns-clause-none
 returns-clause-none g c =
-    none-tells _ _ _ _ c.take.result (λ same. ap (λ way. record c.args.self.now { end = way }) same) c.take.ensures.taken
+    none-tells _ _ _ _ c.take.result (λ same. ap (λ end. record c.args.self.now { end = end }) same) c.take.ensures.taken
 
 pub returns-clause-same : goal.returns-clause-same
 returns-clause-same g c = (

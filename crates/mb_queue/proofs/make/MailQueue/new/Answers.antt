@@ -42,7 +42,7 @@ returns c = let i = c.loop-sender.sender-index in let all = c.args.senders.now i
           (record {
             senders_are = e.senders_are;
             actor = e.actor;
-            turns = e.turns;
+            discipline = e.discipline;
             bound = e.bound;
             arrived = e.arrived;
             waiting = e.waiting;

@@ -2,7 +2,7 @@ use Rattle.std.proofs.Common.{◌≡◌, ℕ, List, [], ◌∷◌, ◌++◌, sub
 use Rattle.mb_queue.specs.declared.ledger.Account.{Account}
 use Rattle.mb_queue.specs.Ledger.{account, home}
 use Rattle.mb_queue.proofs.Lists.{account-other, account-same}
-use Rattle.mb_queue.specs.Port.{LanePort}
+use Rattle.mb_queue.specs.Port.{FifoPort}
 use Rattle.mb_queue.specs.declared.take_order.TakeOrder.{TakeOrder}
 use Rattle.mb_queue.specs.declared.take_order.TakeOrder.TheVariants.{ControlFirst, FirstInFirstOut, ByRank}
 use Rattle.mb_queue.specs.declared.take_pass.TakePass.TheInside.{Inside}
@@ -23,7 +23,7 @@ invariant_of-self c =
       sym (here ∙ is ∙ (λ l. record { main = c.join.ensures l; order = order; taken = i.taken; accounts = i.accounts })) k,
       sym (c.add.ensures ∙ ap (λ (j : Inside). j.accounts ++ home by p.pushed ∷ []) (here ∙ is)) k,
     )) (kept, ours-joined i.main p.main i.order order i.taken c.self.invariant.1) in
-    let sent : (control : Option LanePort) → p.control ≡ control → IsSending by p.main control p.pushed
+    let sent : (control : Option FifoPort) → p.control ≡ control → IsSending by p.main control p.pushed
     = λ control is. subst (λ o. IsSending by p.main o p.pushed) is c.pass.invariant in
     let kept : (order : TakeOrder) → i.order ≡ order → IsTaking i.main order i.taken i.accounts
     = λ order is. subst (λ o. IsTaking i.main o i.taken i.accounts) is c.self.invariant.0 in

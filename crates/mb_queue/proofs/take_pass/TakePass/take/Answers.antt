@@ -6,7 +6,7 @@ use Rattle.mb_queue.specs.Passes.{TakePassView}
 use Rattle.mb_queue.specs.Takes.{IsTake}
 use Rattle.mb_queue.proofs.Emptied.{emptied, none_held}
 use Rattle.mb_queue.proofs.Ours.{pass-none, pass-some}
-use Rattle.mb_queue.proofs.Takings.{each_once, given_known, turn_none, turn_some}
+use Rattle.mb_queue.proofs.Takings.{each_once, given_known, take_none, take_some}
 use Rattle.mb_queue.proofs.take_pass.TakePass.take.Goals as goal
 
 pub invariant_of-self : goal.invariant_of-self
@@ -35,16 +35,16 @@ returns-in-Some-clause-addressed g c = let i = c.self.inside in let next = c.tak
     subst (λ (t : TakePassView). e.to.0 ≡ t.queue.to) c.self.view_is
     (given_known i.main i.order i.taken i.accounts e next.main next.order c.self.invariant.0 c.in-Some.ensures).1
 
-pub returns-in-Some-clause-turn : goal.returns-in-Some-clause-turn
-returns-in-Some-clause-turn g c = let i = c.self.inside in let next = c.take_next-next.new in let e = c.in-Some.envelope in
-    subst (λ (y : TakePassView × _). IsTake y.0.turns y.0 (Some e) (taking_of next.main next.order y.1 i.accounts))
+pub returns-in-Some-clause-follows_discipline : goal.returns-in-Some-clause-follows_discipline
+returns-in-Some-clause-follows_discipline g c = let i = c.self.inside in let next = c.take_next-next.new in let e = c.in-Some.envelope in
+    subst (λ (y : TakePassView × _). IsTake y.0.discipline y.0 (Some e) (taking_of next.main next.order y.1 i.accounts))
     (λ k. (c.self.view_is k, sym c.add.ensures k))
-    (turn_some i.main i.order i.taken i.accounts e next.main next.order c.self.invariant.0 c.in-Some.ensures)
+    (take_some i.main i.order i.taken i.accounts e next.main next.order c.self.invariant.0 c.in-Some.ensures)
 
-pub returns-in-None-clause-turn : goal.returns-in-None-clause-turn
-returns-in-None-clause-turn g c = let i = c.self.inside in let next = c.take_next-next.new in
-    subst (λ (y : TakePassView). IsTake y.turns y None (taking_of next.main next.order i.taken i.accounts)) c.self.view_is
-    (turn_none i.main i.order i.taken i.accounts next.main next.order c.self.invariant.0 c.in-None.ensures)
+pub returns-in-None-clause-follows_discipline : goal.returns-in-None-clause-follows_discipline
+returns-in-None-clause-follows_discipline g c = let i = c.self.inside in let next = c.take_next-next.new in
+    subst (λ (y : TakePassView). IsTake y.discipline y None (taking_of next.main next.order i.taken i.accounts)) c.self.view_is
+    (take_none i.main i.order i.taken i.accounts next.main next.order c.self.invariant.0 c.in-None.ensures)
 
 pub returns-in-None-clause-each_once : goal.returns-in-None-clause-each_once
 returns-in-None-clause-each_once g c = let i = c.self.inside in let next = c.take_next-next.new in

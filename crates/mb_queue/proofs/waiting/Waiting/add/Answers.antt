@@ -10,8 +10,8 @@ use Rattle.mb_queue.proofs.waiting.Waiting.add.Goals as goal
 
 pub invariant_of-self : goal.invariant_of-self
 invariant_of-self c = let slot = c.insert_reserved-slot in let pushed = c.in-Ok.ensures in
-    let few : length (heap_items c.self.inside.turns) < 1024 =
-    omega (arith, c.requires, length-map (heap_items c.self.inside.turns) arrival_of, ap length c.self.view_is) in
+    let few : length (heap_items c.self.inside.keys) < 1024 =
+    omega (arith, c.requires, length-map (heap_items c.self.inside.keys) arrival_of, ap length c.self.view_is) in
     one_more _ c.push.new.self _ slot.new.self _ c.self.invariant few _ c.of.ensures slot.ensures.was_vacant slot.ensures.updates
     slot.ensures.len slot.ensures.capacity pushed.permutation (pushed.heap_order c.self.invariant.ordered) pushed.capacity
 

@@ -2,6 +2,6 @@ use Rattle.mb_queue.proofs.Keeps.{nothing}
 use Rattle.mb_queue.proofs.waiting.Waiting.new.Goals as goal
 
 pub invariant_of-result : goal.invariant_of-result
-invariant_of-result c = let turns = c.in_ok-turns in let envelopes = c.in_ok-envelopes in
-    nothing turns.turns envelopes.envelopes turns.ensures.items turns.ensures.heap_order turns.ensures.capacity
+invariant_of-result c = let keys = c.in_ok-keys in let envelopes = c.in_ok-envelopes in
+    nothing keys.keys envelopes.envelopes keys.ensures.items keys.ensures.heap_order keys.ensures.capacity
     envelopes.ensures.empty envelopes.ensures.capacity

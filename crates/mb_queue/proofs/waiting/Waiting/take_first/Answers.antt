@@ -10,13 +10,13 @@ use Rattle.mb_queue.proofs.RankKeys.{all_behind}
 use Rattle.mb_queue.proofs.waiting.Waiting.take_first.Goals as goal
 
 pub invariant_of-self-2 : goal.invariant_of-self-2
-invariant_of-self-2 c = let popped = c.in_ok-turn in let removed = c.remove-envelope in
+invariant_of-self-2 c = let popped = c.in_ok-key in let removed = c.remove-envelope in
     one_less _ c.pop.new.self _ removed.new.self popped.field-0 c.self.invariant popped.ensures.permutation
     (popped.ensures.heap_order c.self.invariant.ordered).0 popped.ensures.capacity
     removed.ensures.updates removed.ensures.len removed.ensures.capacity
 
 pub returns : goal.returns
-returns c = let popped = c.in_ok-turn in let first = popped.field-0 in
+returns c = let popped = c.in_ok-key in let first = popped.field-0 in
     let gone = IsPermutation-map arrival_of _ _ popped.ensures.permutation in
     let its = found _ c.pop.new.self _ first c.self.invariant popped.ensures.permutation c.remove-envelope.result c.remove-envelope.ensures.value in
     let seen = subst (λ (l : List Arrival). IsPermutation l (arrival_of first ∷ arrivals c.pop.new.self)) c.self.view_is gone in (

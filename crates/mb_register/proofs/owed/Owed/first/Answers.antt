@@ -7,4 +7,4 @@ pub returns-clause-first : goal.returns-clause-first
 returns-clause-first c =
     let some : c.args.self.bits ≢ 0 = λ zero. let f = c.if-self-eq0.false in grind (arith, nat_tests) in
     let l = lowest c.args.self.bits some (omega (arith, c.well_formed)) in
-    record { there = l.1; least = l.2 }
+    record { present = l.1; least = l.2 }

@@ -11,15 +11,15 @@ returns-clause-looks g c =
     c.register_due.ensures.looks
 
 pub returns-then-not-is_due-clause-handed : goal.returns-then-not-is_due-clause-handed
-returns-then-not-is_due-clause-handed g c = inl (refl, c.is_due.ensures.turns)
+returns-then-not-is_due-clause-handed g c = inl (refl, c.is_due.ensures.claims)
 
 pub returns-clause-handed : goal.returns-clause-handed
 returns-clause-handed g c =
     hands-after c.args.id.0 _ _ (pass_view c.args.self.now.pass) (pass_view c.is_due.new.pass) (pass_view c.register_due.new.self.pass) c.register_due.result
-    c.is_due.ensures.turns c.register_due.ensures.handed
+    c.is_due.ensures.claims c.register_due.ensures.handed
 
 pub returns-then-not-is_due-clause-due : goal.returns-then-not-is_due-clause-due
-returns-then-not-is_due-clause-due g c = got-none c.args.hint _ _ c.is_due.ensures.turns.got
+returns-then-not-is_due-clause-due g c = got-none c.args.hint _ _ c.is_due.ensures.claims.got
 
 pub returns-clause-due : goal.returns-clause-due
 returns-clause-due g c =
@@ -28,4 +28,4 @@ returns-clause-due g c =
     let looks = c.register_due.ensures.looks in
     got-handed hint id _ _ a b d c.register_due.result
     (due-later a b d (looks.looks ++ []) hint id looks.log (c.is_due.ensures.due c.if-not-is_due.false))
-    c.is_due.ensures.turns.got c.register_due.ensures.handed
+    c.is_due.ensures.claims.got c.register_due.ensures.handed

@@ -3,7 +3,7 @@ use Rattle.mb_gate.specs.Accessors.{pass_view, held_actor}
 use Rattle.mb_gate.specs.declared.claim.Claim.{Claim}
 use Rattle.mb_register.specs.Views.{GotAndGaveBack, LooksAfter}
 use Rattle.mb_register.proofs.Views.{looks-then}
-use Rattle.mb_register.proofs.ClaimCounts.{turns-then}
+use Rattle.mb_register.proofs.ClaimCounts.{claims-then}
 use Rattle.mb_register.proofs.registrar.Registrar.register_due.Goals as goal
 
 pub returns-in-Ok-clause-registered : goal.returns-in-Ok-clause-registered
@@ -32,7 +32,7 @@ returns-in-Err-clause-registered g c = inr (record {
 })
 
 pub returns-in_default-clause-handed : goal.returns-in_default-clause-handed
-returns-in_default-clause-handed g c = inl (refl, c.in_default.ensures.turns)
+returns-in_default-clause-handed g c = inl (refl, c.in_default.ensures.claims)
 
 pub returns-in-Ok-clause-handed : goal.returns-in-Ok-clause-handed
 returns-in-Ok-clause-handed g c = (
@@ -43,7 +43,7 @@ returns-in-Ok-clause-handed g c = (
     refused = c.in-Ok.ensures.pushed.1;
     owed = refl;
   },
-  c.in-Some.ensures.turns,
+  c.in-Some.ensures.claims,
 )
 
 pub returns-in-Err-clause-handed : goal.returns-in-Err-clause-handed
@@ -59,6 +59,6 @@ returns-in-Err-clause-handed g c =
         refused = c.in-Err.ensures.pushed.2;
         owed = c.insert.ensures;
       },
-      turns-then (id ∷ []) [] [] (id ∷ []) a b d c.in-Some.ensures.turns
-          (subst (λ (n : ℕ). GotAndGaveBack [] (n ∷ []) b d) here c.give_home.ensures.turns),
+      claims-then (id ∷ []) [] [] (id ∷ []) a b d c.in-Some.ensures.claims
+          (subst (λ (n : ℕ). GotAndGaveBack [] (n ∷ []) b d) here c.give_home.ensures.claims),
     )

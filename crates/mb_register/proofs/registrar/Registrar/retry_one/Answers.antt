@@ -8,7 +8,7 @@ use Rattle.mb_register.proofs.registrar.Registrar.retry_one.Goals as goal
 pub returns-then-contains-clause-refused : goal.returns-then-contains-clause-refused
 returns-then-contains-clause-refused g c =
     let id = c.args.id.0 in
-    refused-one id _ _ c.register.result c.register.ensures.registered (taken-out id _ _ (c.remove.ensures id c.requires.there.1))
+    refused-one id _ _ c.register.result c.register.ensures.registered (taken-out id _ _ (c.remove.ensures id c.requires.present.1))
     (sym c.contains-2.ensures ∙ c.if-contains.true)
 
 pub returns-clause-refused : goal.returns-clause-refused

@@ -27,8 +27,8 @@ loop-number-preserved g c =
     let n = c.loop-number.number in
     let few : n < 64 = omega (arith, c.loop-number-test.true) in
     let discharged = c.retry_one.ensures in (
-      discharged.ours.0 ∙ c.loop-number.invariant.0,
-      discharged.ours.1 ∙ c.loop-number.invariant.1,
+      discharged.same_gates.0 ∙ c.loop-number.invariant.0,
+      discharged.same_gates.1 ∙ c.loop-number.invariant.1,
       discharged-next n old.owed mid.owed now.owed (pass_view old.pass) (pass_view mid.pass) (pass_view now.pass) few c.loop-number.invariant.2
           (λ out. (ap (λ (w : Registrar _ _). w.owed) (discharged.none out), ap (λ (w : Registrar _ _). pass_view w.pass) (discharged.none out))) discharged.looks discharged.others
           c.in_ok-retry_one.ensures.done discharged.discharged,

@@ -34,4 +34,4 @@ pub returns-clause-seen : goal.returns-clause-seen
 returns-clause-seen g c = search rules
 
 pub returns-clause-same : goal.returns-clause-same
-returns-clause-same g c = (refl, refl, refl, refl, c.status-status.ensures.ours)
+returns-clause-same g c = (refl, refl, refl, refl, c.status-status.ensures.same_gates)

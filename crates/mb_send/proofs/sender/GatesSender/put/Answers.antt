@@ -12,7 +12,7 @@ use Rattle.mb_send.proofs.Bounding.{bounded-queued, bounded-dead, may-find-full}
 use Rattle.mb_gate.specs.Accessors.{pass_view}
 use Rattle.mb_send.proofs.Answering.{why-told}
 use Rattle.mb_send.proofs.Failing.{after-any}
-use Rattle.mb_send.proofs.Obligations.{still-registered, wakes-nobody}
+use Rattle.mb_send.proofs.Obligations.{still-registered, registers-nobody}
 use Rattle.mb_register.specs.Sending.{counts}
 use Rattle.mb_register.proofs.Views.{does-then, does-sending, does-unsending}
 use Rattle.mb_queue.specs.Passes.{Queue, SendPassView}
@@ -27,13 +27,13 @@ returns-in-Ok-clause-sent g c =
     let id = c.args.ticket.to.0 in
     let items = c.args.self.now.sends.items in
     let old = c.index_mut.result.now in
-    let lt : id - 1 < length items = omega (arith, c.requires.all, c.requires.there.0, c.requires.there.1) in
+    let lt : id - 1 < length items = omega (arith, c.requires.all, c.requires.present.0, c.requires.present.1) in
     let a = pass_view c.args.self.now.registrar.pass in let b = pass_view c.note_sent.new.pass in let d = pass_view c.register.new.self.pass in
     let body = c.args.body in let to = c.args.ticket.to in
     let made = c.next-envelope.ensures ∙ (λ i. envelope_of (c.ready.ensures.same.0 i) to (c.ready.ensures.same.1 i) body) in
     record {
       pass = old;
-      there = slice_get_read items (length items) (id - 1) old refl lt c.index_mut.ensures.value;
+      present = slice_get_read items (length items) (id - 1) old refl lt c.index_mut.ensures.value;
       refused = None;
       why = tt;
       answer = ap (λ n. put_of n None) c.ready.ensures.same.1;
@@ -47,14 +47,14 @@ returns-in-Err-clause-sent g c =
     let items = c.args.self.now.sends.items in
     let old = c.index_mut.result.now in
     let why = c.why_of-why.result in
-    let lt : id - 1 < length items = omega (arith, c.requires.all, c.requires.there.0, c.requires.there.1) in
+    let lt : id - 1 < length items = omega (arith, c.requires.all, c.requires.present.0, c.requires.present.1) in
     let a = pass_view c.args.self.now.registrar.pass in let b = pass_view c.note_sent.new.pass in
     let d = pass_view c.note_unsent.new.pass in let e = pass_view c.register-in-Err.new.self.pass in
     let body = c.args.body in let to = c.args.ticket.to in
     let made = c.next-envelope.ensures ∙ (λ i. envelope_of (c.ready.ensures.same.0 i) to (c.ready.ensures.same.1 i) body) in
     record {
       pass = old;
-      there = slice_get_read items (length items) (id - 1) old refl lt c.index_mut.ensures.value;
+      present = slice_get_read items (length items) (id - 1) old refl lt c.index_mut.ensures.value;
       refused = Some why;
       why = why-told old c.in-Err.refused why c.in-Err.ensures.refused c.why_of-why.ensures;
       answer = ap (λ n. put_of n (Some why)) c.ready.ensures.same.1;
@@ -68,7 +68,7 @@ returns-in-Ok-clause-queues g c =
     let id = c.args.ticket.to.0 in
     let items = c.args.self.now.sends.items in
     let old = c.index_mut.result.now in
-    let lt : id - 1 < length items = omega (arith, c.requires.all, c.requires.there.0, c.requires.there.1) in
+    let lt : id - 1 < length items = omega (arith, c.requires.all, c.requires.present.0, c.requires.present.1) in
     queues-set items (id - 1) old c.push.new.self (slice_get_read items (length items) (id - 1) old refl lt c.index_mut.ensures.value)
     (ap (λ (s : SendPassView). s.queue) c.in-Ok.ensures.pushed)
 
@@ -77,7 +77,7 @@ returns-in-Err-clause-queues g c =
     let id = c.args.ticket.to.0 in
     let items = c.args.self.now.sends.items in
     let old = c.index_mut.result.now in
-    let lt : id - 1 < length items = omega (arith, c.requires.all, c.requires.there.0, c.requires.there.1) in
+    let lt : id - 1 < length items = omega (arith, c.requires.all, c.requires.present.0, c.requires.present.1) in
     queues-set items (id - 1) old c.push.new.self (slice_get_read items (length items) (id - 1) old refl lt c.index_mut.ensures.value)
     (ap (λ (s : SendPassView). s.queue) c.in-Err.ensures.pushed.1)
 
@@ -89,12 +89,12 @@ invariant_of-self-in-Ok g c =
     let k = to - 1 in
     let old = c.index_mut.result.now in
     let e = c.next-envelope.result in
-    let lt : k < length items = omega (arith, c.requires.all, c.requires.there.0, c.requires.there.1) in
+    let lt : k < length items = omega (arith, c.requires.all, c.requires.present.0, c.requires.present.1) in
     let before = c.args.self.now.registrar.pass in
     let counted = c.note_sent.new.pass in
     let after = c.register.new.self.pass in
     let there = slice_get_read items (length items) k old refl lt c.index_mut.ensures.value in
-    let here : e.to.0 ≡ k + 1 = ap (λ (x : Envelope). x.to.0) c.next-envelope.ensures ∙ omega (arith, c.requires.there.0) in
+    let here : e.to.0 ≡ k + 1 = ap (λ (x : Envelope). x.to.0) c.next-envelope.ensures ∙ omega (arith, c.requires.present.0) in
     let p = c.record_queued.ensures.posted ∙ ap (λ (l : List SentEnvelope). l ++ posting e None ∷ []) c.ready.ensures.same.3 in
     let q = ap (λ (s : SenderId). s.0) (c.record_queued.ensures.by ∙ c.ready.ensures.same.0) in
     let qs = sym q in
@@ -122,7 +122,7 @@ invariant_of-self-in-Err g c =
     let old = c.index_mut.result.now in
     let e = c.next-envelope.result in
     let why = c.why_of-why.result in
-    let lt : k < length items = omega (arith, c.requires.all, c.requires.there.0, c.requires.there.1) in
+    let lt : k < length items = omega (arith, c.requires.all, c.requires.present.0, c.requires.present.1) in
     let before = c.args.self.now.registrar.pass in
     let counted = c.note_sent.new.pass in
     let back = c.note_unsent.new.pass in
@@ -134,7 +134,7 @@ invariant_of-self-in-Err g c =
     let ps = sym p in
     let queues = queues-set items k old c.push.new.self there (ap (λ (s : SendPassView). s.queue) c.in-Err.ensures.pushed.1) in
     let its : e.to.0 ≡ to = ap (λ (x : Envelope). x.to.0) c.next-envelope.ensures in
-    let above : suc k ≡ e.to.0 = omega (arith, its, c.requires.there.0) in
+    let above : suc k ≡ e.to.0 = omega (arith, its, c.requires.present.0) in
     record {
       routes = subst (λ (y : ℕ × List SentEnvelope). AreRoutes y.0 y.1 (slice_set items k c.push.new.self)) (λ i. (qs i, ps i))
           (routes-dead send_log.by.0 send_log.posted items c.args.self.now.routes k old there e c.push.new.self why c.in-Err.ensures.pushed.1);
@@ -172,14 +172,14 @@ returns-in-Err-clause-registered g c = (c.register-in-Err.result, c.register-in-
 pub returns-in_err-ready-clause-registered : goal.returns-in_err-ready-clause-registered
 returns-in_err-ready-clause-registered g c =
     let registrar = c.args.self.now.registrar in
-    wakes-nobody g.W.RunQueue.pushed g.W.RunQueue.refused c.args.ticket.to.0 registrar registrar refl refl
+    registers-nobody g.W.RunQueue.pushed g.W.RunQueue.refused c.args.ticket.to.0 registrar registrar refl refl
 
 -- the pass is the sender's, and pushes to the receiver's queue
 pub push-requires-clause-sender : goal.push-requires-clause-sender
 push-requires-clause-sender g c =
     let id = c.args.ticket.to.0 in let items = c.args.self.now.sends.items in let send_log = c.args.self.now.send_log in
     let k = id - 1 in let old = c.index_mut.result.now in
-    let lt : k < length items = omega (arith, c.requires.all, c.requires.there.0, c.requires.there.1) in
+    let lt : k < length items = omega (arith, c.requires.all, c.requires.present.0, c.requires.present.1) in
     let route = c.args.self.now.routes k old (slice_get_read items (length items) k old refl lt c.index_mut.ensures.value) in
     ap (λ (x : Envelope). x.by.0) c.next-envelope.ensures ∙ ap (λ (s : SenderId). s.0) c.ready.ensures.same.0 ∙ sym route.sender
 
@@ -187,7 +187,7 @@ pub push-requires-clause-addressed : goal.push-requires-clause-addressed
 push-requires-clause-addressed g c =
     let id = c.args.ticket.to.0 in let items = c.args.self.now.sends.items in let send_log = c.args.self.now.send_log in
     let k = id - 1 in let old = c.index_mut.result.now in
-    let lt : k < length items = omega (arith, c.requires.all, c.requires.there.0, c.requires.there.1) in
+    let lt : k < length items = omega (arith, c.requires.all, c.requires.present.0, c.requires.present.1) in
     let route = c.args.self.now.routes k old (slice_get_read items (length items) k old refl lt c.index_mut.ensures.value) in
-    let sum : id ≡ k + 1 = omega (arith, c.requires.there.0) in
+    let sum : id ≡ k + 1 = omega (arith, c.requires.present.0) in
     ap (λ (x : Envelope). x.to.0) c.next-envelope.ensures ∙ sum ∙ sym route.receiver

@@ -18,7 +18,7 @@ invariant_of-self-2-clause-bounded g c =
     let to : e.to.0 ≡ c.args.to.0 = ap (λ (x : Envelope). x.to.0) c.next-envelope.ensures in
     bounded-is_dead_letter me.sends.items me.send_log.posted c.record_dead.new.self.posted e
     (c.record_dead.ensures.posted ∙ ap (λ (l : List SentEnvelope). l ++ posting e (Some why.Closed) ∷ []) c.ready.ensures.same.3)
-    (omega (arith, to, c.requires.there.0)) (omega (arith, to, c.requires.there.1)) me.bounded
+    (omega (arith, to, c.requires.present.0)) (omega (arith, to, c.requires.present.1)) me.bounded
 
 pub invariant_of-self-2-clause-vouched : goal.invariant_of-self-2-clause-vouched
 invariant_of-self-2-clause-vouched g c =

@@ -6,7 +6,7 @@ use Rattle.mb_msg.specs.declared.system.SysMsg.TheVariants as system
 use Rattle.mb_register.proofs.Views.{does-enlisting, does-then}
 use Rattle.mb_journal.specs.Accepted.{dead_letters}
 use Rattle.mb_send.specs.SeenClosed.{were_seen_closed}
-use Rattle.mb_send.proofs.Obligations.{wakes-nobody}
+use Rattle.mb_send.proofs.Obligations.{registers-nobody}
 use Rattle.mb_send.proofs.SeenClosed.{vouched-seen, vouched-does}
 use Rattle.mb_send.proofs.sender.GatesSender.stop.Goals as goal
 
@@ -48,12 +48,12 @@ returns-clause-registered g c = (c.register-2.result, c.register-2.ensures.regis
 pub returns-then-id-len-clause-registered : goal.returns-then-id-len-clause-registered
 returns-then-id-len-clause-registered g c =
     let registrar = c.args.self.now.registrar in
-    wakes-nobody g.W.RunQueue.pushed g.W.RunQueue.refused c.args.id.0 registrar registrar refl refl
+    registers-nobody g.W.RunQueue.pushed g.W.RunQueue.refused c.args.id.0 registrar registrar refl refl
 
 pub returns-in_default-clause-registered : goal.returns-in_default-clause-registered
 returns-in_default-clause-registered g c =
     let registrar = c.args.self.now.registrar in
-    wakes-nobody g.W.RunQueue.pushed g.W.RunQueue.refused c.args.id.0 registrar registrar refl refl
+    registers-nobody g.W.RunQueue.pushed g.W.RunQueue.refused c.args.id.0 registrar registrar refl refl
 
 pub returns-clause-stopped : goal.returns-clause-stopped
 returns-clause-stopped g c =

@@ -11,7 +11,7 @@ use Rattle.mb_send.specs.Answers.{AnswersLook}
 use Rattle.mb_send.specs.Asked.{RegistersAtMost, account_of}
 use Rattle.mb_send.specs.declared.ticket.Look.{Look}
 use Rattle.mb_send.proofs.Failing.{at-fault, not-unknown, only-looked}
-use Rattle.mb_send.proofs.Obligations.{wakes-nobody, wakes-since}
+use Rattle.mb_send.proofs.Obligations.{registers-nobody, registers-since}
 use Rattle.mb_send.proofs.sender.GatesSender.tell.Goals as goal
 
 pub returns-in_err-look-clause-unknown : goal.returns-in_err-look-clause-unknown
@@ -20,7 +20,7 @@ returns-in_err-look-clause-unknown g c unknown = c.in_err-look.ensures.refused.0
 pub returns-in_err-look-clause-registered : goal.returns-in_err-look-clause-registered
 returns-in_err-look-clause-registered g c =
     let same = c.look.ensures.same in
-    wakes-nobody g.W.RunQueue.pushed g.W.RunQueue.refused c.args.to.0 c.args.self.now.registrar c.look.new.self.registrar same.3 same.2
+    registers-nobody g.W.RunQueue.pushed g.W.RunQueue.refused c.args.to.0 c.args.self.now.registrar c.look.new.self.registrar same.3 same.2
 
 pub returns-in-Open-clause-registered : goal.returns-in-Open-clause-registered
 returns-in-Open-clause-registered g c =
@@ -30,13 +30,13 @@ returns-in-Open-clause-registered g c =
     let seen = c.in_ok-look.ensures.seen.2 in
     let its = subst (λ (look : Look). AnswersLook c.args.to seen.seen look) c.in-Open.is seen.answer in
     subst (λ (id : ℕ). RegistersAtMost id old new) (ap (λ (to : ActorId). to.0) its.0)
-    (wakes-since g.W.RunQueue.pushed g.W.RunQueue.refused c.in-Open.ticket.to.0 c.args.self.now.registrar c.look.new.self.registrar new same.3 same.2
+    (registers-since g.W.RunQueue.pushed g.W.RunQueue.refused c.in-Open.ticket.to.0 c.args.self.now.registrar c.look.new.self.registrar new same.3 same.2
     c.put.ensures.registered)
 
 pub returns-in-Closed-clause-registered : goal.returns-in-Closed-clause-registered
 returns-in-Closed-clause-registered g c =
     let same = c.look.ensures.same in let registrar = c.record_dead_letter.ensures.same.0 in
-    wakes-nobody g.W.RunQueue.pushed g.W.RunQueue.refused c.args.to.0 c.args.self.now.registrar c.record_dead_letter.new.self.registrar
+    registers-nobody g.W.RunQueue.pushed g.W.RunQueue.refused c.args.to.0 c.args.self.now.registrar c.record_dead_letter.new.self.registrar
     (ap (λ (w : Registrar _ _). w.run_queue) registrar ∙ same.3) (ap (λ (w : Registrar _ _). w.owed) registrar ∙ same.2)
 
 pub returns-in-Open-clause-unsent : goal.returns-in-Open-clause-unsent
@@ -63,8 +63,8 @@ returns-in-Closed-clause-unknown g c unknown =
 pub returns-in-Open-clause-still : goal.returns-in-Open-clause-still
 returns-in-Open-clause-still g c id owed = c.put.ensures.still id (ap (λ (o : Owed). is_owed o id) c.look.ensures.same.2 ∙ owed)
 
-pub look-requires-clause-ours : goal.look-requires-clause-ours
-look-requires-clause-ours g c = c.requires.ours.0
+pub look-requires-clause-same_gates : goal.look-requires-clause-same_gates
+look-requires-clause-same_gates g c = c.requires.same_gates.0
 
 pub look-requires-clause-all : goal.look-requires-clause-all
 look-requires-clause-all g c = c.requires.all.0
@@ -74,8 +74,8 @@ returns-in_err-look-clause-still g c =
     let same = c.look.ensures.same in λ id owed.
     ap (λ (o : Owed). is_owed o id) same.2 ∙ owed
 
-pub returns-in_err-look-clause-ours : goal.returns-in_err-look-clause-ours
-returns-in_err-look-clause-ours g c =
+pub returns-in_err-look-clause-same_gates : goal.returns-in_err-look-clause-same_gates
+returns-in_err-look-clause-same_gates g c =
     let same = c.look.ensures.same in
     (same.4, ap g.W.RunQueue.origin same.3)
 
@@ -87,16 +87,16 @@ returns-in_err-look-clause-same g c =
 pub returns-in_err-look-clause-queues : goal.returns-in_err-look-clause-queues
 returns-in_err-look-clause-queues g c = ap (λ (s : Vec SendPassView). receiving_queues s.items) c.look.ensures.same.1
 
-pub put-requires-clause-ours : goal.put-requires-clause-ours
-put-requires-clause-ours g c =
+pub put-requires-clause-same_gates : goal.put-requires-clause-same_gates
+put-requires-clause-same_gates g c =
     let same = c.look.ensures.same in
-    (same.4 ∙ c.requires.ours.0, ap g.W.RunQueue.origin same.3 ∙ c.requires.ours.1)
+    (same.4 ∙ c.requires.same_gates.0, ap g.W.RunQueue.origin same.3 ∙ c.requires.same_gates.1)
 
 pub put-requires-clause-all : goal.put-requires-clause-all
 put-requires-clause-all g c = ap (λ (s : Vec SendPassView). vec_len s + 1) c.look.ensures.same.1 ∙ c.requires.all.0
 
-pub returns-in-Open-clause-there : goal.returns-in-Open-clause-there
-returns-in-Open-clause-there g c = search rules
+pub returns-in-Open-clause-present : goal.returns-in-Open-clause-present
+returns-in-Open-clause-present g c = search rules
 
 pub returns-in-Open-clause-told : goal.returns-in-Open-clause-told
 returns-in-Open-clause-told g c = search rules
@@ -107,10 +107,10 @@ returns-in-Open-clause-discharged g c = search rules
 pub returns-in-Open-clause-refused : goal.returns-in-Open-clause-refused
 returns-in-Open-clause-refused g c = search rules
 
-pub returns-in-Open-clause-ours : goal.returns-in-Open-clause-ours
-returns-in-Open-clause-ours g c =
+pub returns-in-Open-clause-same_gates : goal.returns-in-Open-clause-same_gates
+returns-in-Open-clause-same_gates g c =
     let same = c.look.ensures.same in
-    (c.put.ensures.ours.0 ∙ same.4, c.put.ensures.ours.1 ∙ ap g.W.RunQueue.origin same.3)
+    (c.put.ensures.same_gates.0 ∙ same.4, c.put.ensures.same_gates.1 ∙ ap g.W.RunQueue.origin same.3)
 
 pub returns-in-Open-clause-same : goal.returns-in-Open-clause-same
 returns-in-Open-clause-same g c =
@@ -120,8 +120,8 @@ returns-in-Open-clause-same g c =
 pub returns-in-Open-clause-queues : goal.returns-in-Open-clause-queues
 returns-in-Open-clause-queues g c = c.put.ensures.queues ∙ ap (λ (s : Vec SendPassView). receiving_queues s.items) c.look.ensures.same.1
 
-pub returns-in-Closed-clause-there : goal.returns-in-Closed-clause-there
-returns-in-Closed-clause-there g c = search rules
+pub returns-in-Closed-clause-present : goal.returns-in-Closed-clause-present
+returns-in-Closed-clause-present g c = search rules
 
 pub returns-in-Closed-clause-told : goal.returns-in-Closed-clause-told
 returns-in-Closed-clause-told g c = search rules
@@ -135,8 +135,8 @@ returns-in-Closed-clause-refused g c = search rules
 pub returns-in-Closed-clause-still : goal.returns-in-Closed-clause-still
 returns-in-Closed-clause-still g c = search rules
 
-pub returns-in-Closed-clause-ours : goal.returns-in-Closed-clause-ours
-returns-in-Closed-clause-ours g c = search rules
+pub returns-in-Closed-clause-same_gates : goal.returns-in-Closed-clause-same_gates
+returns-in-Closed-clause-same_gates g c = search rules
 
 pub returns-in-Closed-clause-same : goal.returns-in-Closed-clause-same
 returns-in-Closed-clause-same g c =

@@ -11,5 +11,5 @@ invariant-loop-child l = record {
       l.acts.acts
       ≡ l.fn.acts.acts
       ++ map (λ (x : ActorId). Sys x (system.Resume (l.of_failure && is_child l.failed x))) (take l.child-index l.children);
-  few : l.fn.acts.room ≤ l.acts.room + l.child-index;
+  within_limit : l.fn.acts.room ≤ l.acts.room + l.child-index;
 }

@@ -8,16 +8,16 @@ returns-clause-leaves g c =
     leaves-registered c.args.id.0 (end_caller c.args.self.now.registrar) (end_caller c.register.new.self) c.register.result c.register.ensures.looks
     c.register.ensures.registered c.register.ensures.discharged
 
-pub register-requires-clause-ours : goal.register-requires-clause-ours
-register-requires-clause-ours g c = (c.requires.ours.0, c.requires.ours.1)
+pub register-requires-clause-same_gates : goal.register-requires-clause-same_gates
+register-requires-clause-same_gates g c = (c.requires.same_gates.0, c.requires.same_gates.1)
 
-pub register-requires-clause-there : goal.register-requires-clause-there
-register-requires-clause-there g c =
-    let there = c.requires.there in let few = c.requires.ours.2 in (there, omega (arith, there, few))
+pub register-requires-clause-present : goal.register-requires-clause-present
+register-requires-clause-present g c =
+    let there = c.requires.present in let few = c.requires.same_gates.2 in (there, omega (arith, there, few))
 
-pub returns-clause-ours : goal.returns-clause-ours
-returns-clause-ours g c =
-    (c.register.ensures.ours.0 ∙ c.requires.ours.0, c.register.ensures.ours.1 ∙ c.requires.ours.1, c.requires.ours.2)
+pub returns-clause-same_gates : goal.returns-clause-same_gates
+returns-clause-same_gates g c =
+    (c.register.ensures.same_gates.0 ∙ c.requires.same_gates.0, c.register.ensures.same_gates.1 ∙ c.requires.same_gates.1, c.requires.same_gates.2)
 
 pub returns-clause-looks : goal.returns-clause-looks
 returns-clause-looks g c = c.register.ensures.looks

@@ -6,13 +6,13 @@ use Rattle.mb_system.proofs.end.WorkerEnd.register_all.Goals as goal
 
 pub loop-number-init : goal.loop-number-init
 loop-number-init g c =
-    (c.requires.ours, refl, leaves-none (end_caller c.args.self.now.registrar), λ id lt. absurd (omega (arith, lt)))
+    (c.requires.same_gates, refl, leaves-none (end_caller c.args.self.now.registrar), λ id lt. absurd (omega (arith, lt)))
 
 pub loop-number-preserved : goal.loop-number-preserved
 loop-number-preserved g c =
     let at = c.loop-number in let did = c.register.ensures in
     let first = end_caller c.args.self.now.registrar in let old = end_caller at.self.registrar in let new = end_caller c.register.new.self.registrar in (
-      did.ours,
+      did.same_gates,
       did.number ∙ at.invariant.1,
       leaves-then first old new at.invariant.2 did.leaves,
       discharged-more at.number old new at.invariant.3 did.leaves did.discharged,
@@ -24,14 +24,14 @@ returns-clause-discharged g c = λ id lt. c.loop-number.invariant.3 id (omega (a
 pub returns-clause-leaves : goal.returns-clause-leaves
 returns-clause-leaves g c = c.loop-number.invariant.2
 
-pub returns-clause-saw : goal.returns-clause-saw
-returns-clause-saw g c = c.loop-number.invariant.2.log
+pub returns-clause-log_kept : goal.returns-clause-log_kept
+returns-clause-log_kept g c = c.loop-number.invariant.2.log
 
-pub register-requires-clause-ours : goal.register-requires-clause-ours
-register-requires-clause-ours g c = c.loop-number.invariant.0
+pub register-requires-clause-same_gates : goal.register-requires-clause-same_gates
+register-requires-clause-same_gates g c = c.loop-number.invariant.0
 
-pub returns-clause-ours : goal.returns-clause-ours
-returns-clause-ours g c = c.loop-number.invariant.0
+pub returns-clause-same_gates : goal.returns-clause-same_gates
+returns-clause-same_gates g c = c.loop-number.invariant.0
 
 pub returns-clause-number : goal.returns-clause-number
 returns-clause-number g c = c.loop-number.invariant.1

@@ -2,65 +2,62 @@ use Rattle.mb_gate.specs.Accessors.{actors_of}
 use Rattle.mb_system.specs.Members.{end_caller}
 use Rattle.mb_system.proofs.Obligations.{obligations-discharged}
 use Rattle.mb_system.proofs.Saw.{saw-more}
-use Rattle.std.proofs.Common.{◌∙◌, refl, Err, ap}
+use Rattle.std.proofs.Common.{◌∙◌, refl}
+use Rattle.mb_register.proofs.Retries.{on-failure}
+use Rattle.mb_system.proofs.RunErrors.{no-memory}
 use Rattle.mb_system.proofs.end.WorkerEnd.retry_refused.Goals as goal
 
-pub returns-in-Ok-clause-saw : goal.returns-in-Ok-clause-saw
-returns-in-Ok-clause-saw g c = saw-more c.retry_refused.ensures.looks.looks _ _ c.retry_refused.ensures.looks.log
+pub returns-clause-log_kept : goal.returns-clause-log_kept
+returns-clause-log_kept g c = saw-more c.retry_refused.ensures.looks.looks _ _ c.retry_refused.ensures.looks.log
 
-pub returns-in-Err-clause-saw : goal.returns-in-Err-clause-saw
-returns-in-Err-clause-saw g c = saw-more c.retry_refused.ensures.looks.looks _ _ c.retry_refused.ensures.looks.log
+pub returns-in_err-retry_refused-clause-log_kept : goal.returns-in_err-retry_refused-clause-log_kept
+returns-in_err-retry_refused-clause-log_kept g c = saw-more c.retry_refused.ensures.looks.looks _ _ c.retry_refused.ensures.looks.log
 
-pub returns-in-Ok-clause-discharged : goal.returns-in-Ok-clause-discharged
-returns-in-Ok-clause-discharged g c = c.in-Ok.ensures.discharged
+pub returns-clause-discharged : goal.returns-clause-discharged
+returns-clause-discharged g c = c.in_ok-retry_refused.ensures.discharged
 
-pub returns-in-Ok-clause-obligations : goal.returns-in-Ok-clause-obligations
-returns-in-Ok-clause-obligations g c =
-    obligations-discharged (actors_of c.args.system.now.gates) (end_caller c.args.self.now.registrar) (end_caller c.retry_refused.new.self) c.requires.ours.2
+pub returns-clause-obligations : goal.returns-clause-obligations
+returns-clause-obligations g c =
+    obligations-discharged (actors_of c.args.system.now.gates) (end_caller c.args.self.now.registrar) (end_caller c.retry_refused.new.self) c.requires.same_gates.2
     c.retry_refused.ensures.looks c.retry_refused.ensures.kept
 
-pub returns-in-Err-clause-obligations : goal.returns-in-Err-clause-obligations
-returns-in-Err-clause-obligations g c =
-    obligations-discharged (actors_of c.args.system.now.gates) (end_caller c.args.self.now.registrar) (end_caller c.retry_refused.new.self) c.requires.ours.2
+pub returns-in_err-retry_refused-clause-obligations : goal.returns-in_err-retry_refused-clause-obligations
+returns-in_err-retry_refused-clause-obligations g c =
+    obligations-discharged (actors_of c.args.system.now.gates) (end_caller c.args.self.now.registrar) (end_caller c.retry_refused.new.self) c.requires.same_gates.2
     c.retry_refused.ensures.looks c.retry_refused.ensures.kept
 
-pub returns-in-Ok-clause-stops : goal.returns-in-Ok-clause-stops
-returns-in-Ok-clause-stops g c = c.in-Ok.ensures.refused
+pub returns-clause-stops : goal.returns-clause-stops
+returns-clause-stops g c = c.in_ok-retry_refused.ensures.refused
 
-pub returns-in-Err-clause-stops : goal.returns-in-Err-clause-stops
-returns-in-Err-clause-stops g c = c.in-Err.ensures.refused
+pub returns-in_err-retry_refused-clause-stops : goal.returns-in_err-retry_refused-clause-stops
+returns-in_err-retry_refused-clause-stops g c =
+    on-failure _ _ _ c.from_residual.result c.from_residual.ensures.1 c.in_err-retry_refused.ensures.refused
 
-pub retry_refused-requires-clause-ours : goal.retry_refused-requires-clause-ours
-retry_refused-requires-clause-ours g c = (c.requires.ours.0, c.requires.ours.1)
+pub retry_refused-requires-clause-same_gates : goal.retry_refused-requires-clause-same_gates
+retry_refused-requires-clause-same_gates g c = (c.requires.same_gates.0, c.requires.same_gates.1)
 
-pub retry_refused-requires-clause-few : goal.retry_refused-requires-clause-few
-retry_refused-requires-clause-few g c = c.requires.ours.2
+pub retry_refused-requires-clause-within_limit : goal.retry_refused-requires-clause-within_limit
+retry_refused-requires-clause-within_limit g c = c.requires.same_gates.2
 
-pub returns-in-Ok-clause-ours : goal.returns-in-Ok-clause-ours
-returns-in-Ok-clause-ours g c =
-    (c.retry_refused.ensures.ours.0 ∙ c.requires.ours.0, c.retry_refused.ensures.ours.1 ∙ c.requires.ours.1, c.requires.ours.2)
+pub returns-clause-same_gates : goal.returns-clause-same_gates
+returns-clause-same_gates g c =
+    (c.retry_refused.ensures.same_gates.0 ∙ c.requires.same_gates.0, c.retry_refused.ensures.same_gates.1 ∙ c.requires.same_gates.1, c.requires.same_gates.2)
 
-pub returns-in-Err-clause-ours : goal.returns-in-Err-clause-ours
-returns-in-Err-clause-ours g c =
-    (c.retry_refused.ensures.ours.0 ∙ c.requires.ours.0, c.retry_refused.ensures.ours.1 ∙ c.requires.ours.1, c.requires.ours.2)
+pub returns-in_err-retry_refused-clause-same_gates : goal.returns-in_err-retry_refused-clause-same_gates
+returns-in_err-retry_refused-clause-same_gates g c =
+    (c.retry_refused.ensures.same_gates.0 ∙ c.requires.same_gates.0, c.retry_refused.ensures.same_gates.1 ∙ c.requires.same_gates.1, c.requires.same_gates.2)
 
-pub returns-in-Ok-clause-done : goal.returns-in-Ok-clause-done
-returns-in-Ok-clause-done g c = c.in-Ok.ensures.done
+pub returns-clause-done : goal.returns-clause-done
+returns-clause-done g c = c.in_ok-retry_refused.ensures.done
 
-pub returns-in-Err-clause-discharged : goal.returns-in-Err-clause-discharged
-returns-in-Err-clause-discharged g c = tt
+pub returns-clause-refused : goal.returns-clause-refused
+returns-clause-refused g c = tt
 
-pub returns-in-Err-clause-done : goal.returns-in-Err-clause-done
-returns-in-Err-clause-done g c = tt
+pub returns-clause-number : goal.returns-clause-number
+returns-clause-number g c = refl
 
-pub returns-in-Ok-clause-refused : goal.returns-in-Ok-clause-refused
-returns-in-Ok-clause-refused g c = tt
+pub returns-in_err-retry_refused-clause-number : goal.returns-in_err-retry_refused-clause-number
+returns-in_err-retry_refused-clause-number g c = refl
 
-pub returns-in-Ok-clause-number : goal.returns-in-Ok-clause-number
-returns-in-Ok-clause-number g c = refl
-
-pub returns-in-Err-clause-number : goal.returns-in-Err-clause-number
-returns-in-Err-clause-number g c = refl
-
-pub returns-in-Err-clause-refused : goal.returns-in-Err-clause-refused
-returns-in-Err-clause-refused g c = ap Err c.of_still_refused.ensures
+pub returns-in_err-retry_refused-clause-refused : goal.returns-in_err-retry_refused-clause-refused
+returns-in_err-retry_refused-clause-refused g c = no-memory c.from_residual.result c.from_residual.ensures.1

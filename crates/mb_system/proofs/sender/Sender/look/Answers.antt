@@ -4,16 +4,16 @@ use Rattle.std.specs.Prelude.{vec_len}
 use Rattle.mb_send.specs.Sends.{receiving_queues}
 use Rattle.mb_system.proofs.sender.Sender.look.Goals as goal
 
-pub look-requires-clause-ours : goal.look-requires-clause-ours
-look-requires-clause-ours g c = c.requires.ours.ours.0
+pub look-requires-clause-same_gates : goal.look-requires-clause-same_gates
+look-requires-clause-same_gates g c = c.requires.same_gates.same_gates.0
 
 pub look-requires-clause-all : goal.look-requires-clause-all
-look-requires-clause-all g c = c.requires.ours.all
+look-requires-clause-all g c = c.requires.same_gates.all
 
-pub returns-clause-ours : goal.returns-clause-ours
-returns-clause-ours g c =
-    let same = c.look.ensures.same in let was = c.requires.ours in record {
-      ours = (same.4 ∙ was.ours.0, ap (λ run_queue. gates_of run_queue.feed) same.3 ∙ was.ours.1, was.ours.2);
+pub returns-clause-same_gates : goal.returns-clause-same_gates
+returns-clause-same_gates g c =
+    let same = c.look.ensures.same in let was = c.requires.same_gates in record {
+      same_gates = (same.4 ∙ was.same_gates.0, ap (λ run_queue. gates_of run_queue.feed) same.3 ∙ was.same_gates.1, was.same_gates.2);
       all = ap (λ sends. vec_len sends + 1) same.1 ∙ was.all;
       queues = ap (λ sends. receiving_queues sends.items) same.1 ∙ was.queues;
     }

@@ -1,16 +1,16 @@
 use Rattle.std.proofs.Common.{◌∙◌, ap, ◌+◌, arith}
 use Rattle.mb_system.proofs.sender.Sender.put.Goals as goal
 
-pub put-requires-clause-ours : goal.put-requires-clause-ours
-put-requires-clause-ours g c = (c.requires.ours.ours.0, c.requires.ours.ours.1)
+pub put-requires-clause-same_gates : goal.put-requires-clause-same_gates
+put-requires-clause-same_gates g c = (c.requires.same_gates.same_gates.0, c.requires.same_gates.same_gates.1)
 
 pub put-requires-clause-all : goal.put-requires-clause-all
-put-requires-clause-all g c = c.requires.ours.all
+put-requires-clause-all g c = c.requires.same_gates.all
 
-pub returns-clause-ours : goal.returns-clause-ours
-returns-clause-ours g c =
-    let did = c.put.ensures in let was = c.requires.ours in record {
-      ours = (did.ours.0 ∙ was.ours.0, did.ours.1 ∙ was.ours.1, was.ours.2);
+pub returns-clause-same_gates : goal.returns-clause-same_gates
+returns-clause-same_gates g c =
+    let did = c.put.ensures in let was = c.requires.same_gates in record {
+      same_gates = (did.same_gates.0 ∙ was.same_gates.0, did.same_gates.1 ∙ was.same_gates.1, was.same_gates.2);
       all = ap (λ n. n + 1) did.same.1 ∙ was.all;
       queues = did.queues ∙ was.queues;
     }
@@ -18,9 +18,9 @@ returns-clause-ours g c =
 pub returns-clause-by : goal.returns-clause-by
 returns-clause-by g c = c.put.ensures.same.0
 
-pub put-requires-clause-there : goal.put-requires-clause-there
-put-requires-clause-there g c =
-    let there = c.requires.there in let few = c.requires.ours.ours.2 in (there.0, there.1, omega (arith, there.1, few))
+pub put-requires-clause-present : goal.put-requires-clause-present
+put-requires-clause-present g c =
+    let there = c.requires.present in let few = c.requires.same_gates.same_gates.2 in (there.0, there.1, omega (arith, there.1, few))
 
 pub returns-clause-sent : goal.returns-clause-sent
 returns-clause-sent g c = c.put.ensures.sent

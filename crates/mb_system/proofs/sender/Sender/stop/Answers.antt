@@ -3,16 +3,16 @@ use Rattle.std.specs.Prelude.{vec_len}
 use Rattle.mb_send.specs.Sends.{receiving_queues}
 use Rattle.mb_system.proofs.sender.Sender.stop.Goals as goal
 
-pub stop-requires-clause-ours : goal.stop-requires-clause-ours
-stop-requires-clause-ours g c = (c.requires.ours.ours.0, c.requires.ours.ours.1)
+pub stop-requires-clause-same_gates : goal.stop-requires-clause-same_gates
+stop-requires-clause-same_gates g c = (c.requires.same_gates.same_gates.0, c.requires.same_gates.same_gates.1)
 
 pub stop-requires-clause-all : goal.stop-requires-clause-all
-stop-requires-clause-all g c = (c.requires.ours.all, c.requires.ours.ours.2)
+stop-requires-clause-all g c = (c.requires.same_gates.all, c.requires.same_gates.same_gates.2)
 
-pub returns-clause-ours : goal.returns-clause-ours
-returns-clause-ours g c =
-    let did = c.stop.ensures in let was = c.requires.ours in record {
-      ours = (did.ours.0 ∙ was.ours.0, did.ours.1 ∙ was.ours.1, was.ours.2);
+pub returns-clause-same_gates : goal.returns-clause-same_gates
+returns-clause-same_gates g c =
+    let did = c.stop.ensures in let was = c.requires.same_gates in record {
+      same_gates = (did.same_gates.0 ∙ was.same_gates.0, did.same_gates.1 ∙ was.same_gates.1, was.same_gates.2);
       all = ap (λ sends. vec_len sends + 1) did.same.1 ∙ was.all;
       queues = ap (λ sends. receiving_queues sends.items) did.same.1 ∙ was.queues;
     }

@@ -1,16 +1,16 @@
 use Rattle.std.proofs.Common.{◌∙◌, ap, ◌+◌}
 use Rattle.mb_system.proofs.sender.Sender.tell.Goals as goal
 
-pub tell-requires-clause-ours : goal.tell-requires-clause-ours
-tell-requires-clause-ours g c = (c.requires.ours.ours.0, c.requires.ours.ours.1)
+pub tell-requires-clause-same_gates : goal.tell-requires-clause-same_gates
+tell-requires-clause-same_gates g c = (c.requires.same_gates.same_gates.0, c.requires.same_gates.same_gates.1)
 
 pub tell-requires-clause-all : goal.tell-requires-clause-all
-tell-requires-clause-all g c = (c.requires.ours.all, c.requires.ours.ours.2)
+tell-requires-clause-all g c = (c.requires.same_gates.all, c.requires.same_gates.same_gates.2)
 
-pub returns-clause-ours : goal.returns-clause-ours
-returns-clause-ours g c =
-    let did = c.tell.ensures in let was = c.requires.ours in record {
-      ours = (did.ours.0 ∙ was.ours.0, did.ours.1 ∙ was.ours.1, was.ours.2);
+pub returns-clause-same_gates : goal.returns-clause-same_gates
+returns-clause-same_gates g c =
+    let did = c.tell.ensures in let was = c.requires.same_gates in record {
+      same_gates = (did.same_gates.0 ∙ was.same_gates.0, did.same_gates.1 ∙ was.same_gates.1, was.same_gates.2);
       all = ap (λ n. n + 1) did.same.1 ∙ was.all;
       queues = did.queues ∙ was.queues;
     }
@@ -36,8 +36,8 @@ returns-clause-registered g c = c.tell.ensures.registered
 pub returns-clause-unsent : goal.returns-clause-unsent
 returns-clause-unsent g c = c.tell.ensures.unsent
 
-pub returns-clause-there : goal.returns-clause-there
-returns-clause-there g c = c.tell.ensures.there
+pub returns-clause-present : goal.returns-clause-present
+returns-clause-present g c = c.tell.ensures.present
 
 pub returns-clause-unknown : goal.returns-clause-unknown
 returns-clause-unknown g c unknown i = record { inner = c.tell.ensures.unknown unknown i }

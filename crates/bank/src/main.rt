@@ -1,0 +1,114 @@
+//! A bank of three actors of two types: a teller, and two accounts between which it moves money. It runs on this thread and on
+//! four, and prints the money that is there at the end.
+#![tactic(auto)]
+
+ghost use Rattle.std.specs.Prelude.{◌≡◌, []};
+
+use bank_actors::{Account, DEPOSIT, OVERDRAFT, TRANSFER, Teller, WITHDRAW};
+use heddleorange::{
+    Actor, ActorId, Body, Directive, Envelope, Error, Order, Pattern, PlannedSystem, Report,
+    SETTINGS, child_of, on_cause, state, stop, tell, with_strategy,
+};
+use std::alloc::{AllocError, Global};
+use std::sync::Wait;
+use std::thread::Threads;
+
+const GUARDIAN: ActorId = ActorId(0);
+
+const TELLER: ActorId = ActorId(1);
+
+const ALICE: ActorId = ActorId(2);
+
+const BOB: ActorId = ActorId(3);
+
+/// What two senders are to send: the first asks for three transfers.
+fn orders(alloc: Global, second: Vec<Order>) -> Result<Vec<Vec<Order>>, AllocError> {
+    let mut first = Vec::new(alloc);
+    for amount in [30, 50, 40] {
+        first.push(tell(TELLER, TRANSFER, amount))?;
+    }
+    Ok(vec![in alloc; first, second]?)
+}
+
+/// Runs a bank: on this thread if it has one worker, else on threads. An overdrawn account goes on, one that fails otherwise restarts.
+fn run<R: Threads + Wait + Sync>(
+    rt: &R,
+    workers: u32,
+    sends: &[Vec<Order>],
+    teller: Box<dyn Actor + Send>,
+    alice: Box<dyn Actor + Send>,
+    bob: Box<dyn Actor + Send>,
+    alloc: Global,
+) -> Result<Report, Error>
+    requires unused { (content teller ≡ after teller []) × (content alice ≡ after alice []) × (content bob ≡ after bob []) }
+{
+    let mut settings = SETTINGS;
+    settings.workers = workers;
+    settings.senders = 2;
+    let none = child_of(alloc, TELLER).strategy;
+    let resuming = on_cause(none, Pattern::Error(OVERDRAFT), Directive::Resume)?;
+    let strategy = on_cause(resuming, Pattern::AnyError, Directive::Restart)?;
+    let mut bank = PlannedSystem::new(alloc, settings);
+    bank.add(with_strategy(child_of(alloc, GUARDIAN), strategy), teller)?;
+    bank.add(child_of(alloc, TELLER), alice)?;
+    bank.add(child_of(alloc, TELLER), bob)?;
+    if workers == 1 {
+        bank.run_here(rt, alloc, sends)
+    } else {
+        bank.run_on_threads(rt, alloc, sends)
+    }
+}
+
+/// Runs a new bank, whose accounts are opened with 100 each; one sender asks for transfers, and the other sends this.
+fn run_new<R: Threads + Wait + Sync>(
+    rt: &R,
+    alloc: Global,
+    workers: u32,
+    second: Vec<Order>,
+) -> Result<Report, Error> {
+    let sends = orders(alloc, second)?;
+    let teller: Box<dyn Actor + Send> = Box::new(alloc, Teller::new(ALICE, BOB))?;
+    let alice: Box<dyn Actor + Send> = Box::new(alloc, Account::new(100))?;
+    let bob: Box<dyn Actor + Send> = Box::new(alloc, Account::new(100))?;
+    run(rt, workers, &sends, teller, alice, bob, alloc)
+}
+
+/// What an envelope adds to the account that handles it.
+fn worth(envelope: &Envelope) -> i64 {
+    match envelope.body {
+        Body::User { kind, value } if kind == DEPOSIT => value,
+        Body::User { kind, value } if kind == WITHDRAW => value.wrapping_neg(),
+        _ => 0,
+    }
+}
+
+/// The money in both accounts, and in the envelopes that no account handled.
+fn total(report: &Report) -> i64 {
+    let mut sum: i64 = 0;
+    for id in [ALICE, BOB] {
+        sum = sum.wrapping_add(state(report, id).unwrap_or(0));
+    }
+    for actor in &report.actors {
+        for envelope in actor.left.iter().chain(&actor.cleaned) {
+            sum = sum.wrapping_add(worth(envelope));
+        }
+    }
+    for letter in report.senders.iter().flat_map(|sender| &sender.dead) {
+        sum = sum.wrapping_add(worth(&letter.envelope));
+    }
+    sum
+}
+
+fn main(rt: HostRuntime) -> anyhow::Result<()> {
+    for workers in [1, 4] {
+        let report = run_new(&rt, rt.alloc(), workers, Vec::new(rt.alloc()))?;
+        let money = total(&report);
+        if let (Some(alice), Some(bob)) = (state(&report, ALICE), state(&report, BOB)) {
+            println!(rt; "{workers} at work: Alice {alice}, Bob {bob}, together {money}")?;
+        }
+    }
+    let report = run_new(&rt, rt.alloc(), 4, vec![in rt.alloc(); stop(BOB)]?)?;
+    let money = total(&report);
+    println!(rt; "4 at work, and Bob's account closes: all the money is {money}")?;
+    Ok(())
+}

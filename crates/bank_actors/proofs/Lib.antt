@@ -1,0 +1,2 @@
+pub mod Booking
+pub mod Evenness

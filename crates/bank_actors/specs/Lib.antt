@@ -1,0 +1,5 @@
+pub mod Account
+pub mod Bookings
+pub mod Failures
+pub mod Money
+pub mod Teller

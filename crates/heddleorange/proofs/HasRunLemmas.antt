@@ -1,0 +1,44 @@
+-- A system of a plan that has run is all there, and has its story or a reason why there is none.
+use Rattle.std.proofs.Common.{◌≡◌, ℕ, ℤ, List, length}
+use Rattle.std.specs.Prelude.{All, Err, IfErr, IfOk, Ok, Result}
+use Rattle.mb_actor.specs.Behaviour.{Moment, Reply}
+use Rattle.mb_actor.specs.declared.message.Message.{Message}
+use Rattle.mb_msg.specs.declared.order.Order.{Order}
+use Rattle.mb_msg.specs.declared.plan.Plan.{Plan}
+use Rattle.mb_report.specs.declared.report.Report.{Report}
+use Rattle.mb_shutdown.specs.Refused.{IsComplete}
+use Rattle.mb_startup.specs.Begun.{IsBegun}
+use Rattle.mb_system.specs.Members.{StillSee, ends_numbers}
+use Rattle.mb_system.specs.declared.built.Built.{Built}
+use Rattle.heddleorange.specs.HasRun.{HasRun}
+use Rattle.heddleorange.specs.NoReport.{IsErrorOfRun, IsRight}
+use Rattle.heddleorange.specs.Sent.{HaveSent}
+use Rattle.heddleorange.specs.WholeRun.{IsReportOfRun}
+use Rattle.heddleorange.specs.declared.error.Error.{Error}
+use Rattle.heddleorange.proofs.WholeRun.{no-end-missing, no-sender-missing}
+
+module _ {A K : Type 0} (gives : ℕ → Moment → Reply → Type 0) (plan : Plan) (orders : List (List Order)) (first now : Built A K)
+    (begun : IsBegun gives plan first) (system : now.system ≡ first.system) (ends : ends_numbers now.ends.items ≡ ends_numbers first.ends.items)
+    (sent : HaveSent first.system.gates orders first.senders.items now.senders.items) (saw : StillSee first.ends.items now.ends.items) where
+  pub has-run : HasRun gives plan orders now
+  has-run = record { first = first; begun = begun; system = system; ends = ends; sent = sent; log_kept = saw }
+
+  pub complete : length orders ≡ plan.senders → IsComplete now
+  complete right = (
+    λ n within. no-end-missing gives plan first begun orders now right system ends sent n within,
+    λ n within. no-sender-missing gives plan first begun orders now right system ends sent n within,
+  )
+
+module _ {A K : Type 0} (after : ℕ → List Message → ℤ) (gives : ℕ → Moment → Reply → Type 0) (plan : Plan) (orders : List (List Order))
+    (now : Built A K) (ran : HasRun gives plan orders now) where
+  pub storied : (result : Result Report Error) → length orders ≡ plan.senders
+      → IfOk result (λ report. (p : Plan) (os : List (List Order)) → length os ≡ p.senders → HasRun gives p os now → IsReportOfRun after gives p os report)
+      → IfOk result (IsReportOfRun after gives plan orders)
+  storied (Ok report) right all = all plan orders right ran
+  storied (Err error) right all = all
+
+  pub unstoried : (actors : ℕ) (result : Result Report Error) → IsRight plan actors orders
+      → IfErr result (λ error. (p : Plan) (n : ℕ) (os : List (List Order)) → IsRight p n os → HasRun gives p os now → IsErrorOfRun gives p n os error)
+      → IfErr result (IsErrorOfRun gives plan actors orders)
+  unstoried actors (Ok report) right all = all
+  unstoried actors (Err error) right all = all plan actors orders right ran

@@ -1,0 +1,9 @@
+pub mod Sent
+pub mod Chosen
+pub mod WholeRun
+pub mod NoReport
+pub mod Breaking
+pub mod Jobs
+pub mod HasRunLemmas
+pub mod Identified
+pub mod FromStory

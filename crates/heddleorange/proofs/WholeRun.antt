@@ -1,0 +1,156 @@
+-- A whole run, from the new system to its report.
+use Rattle.std.proofs.Common.{◌≡◌, ℤ, ℕ, zero, suc, ◌+◌, ◌-◌, List, [], ◌∷◌, ◌++◌, length, map, refl, sym, ap, ◌∙◌, subst, Some, arith}
+use Rattle.std.specs.Prelude.{All, reverse, slice_get}
+use Rattle.std.specs.Global.{Box}
+use Rattle.std.proofs.lemmas.List.{append-nil}
+use Rattle.std.proofs.lemmas.List.Elements.{All-head, All-map}
+use Rattle.std.proofs.lemmas.Option.{get_or_from_slice_get, same_Some, slice_get_within}
+use Rattle.mb_msg.specs.Limits.{most_actors}
+use Rattle.mb_actor.specs.Behaviour.{Moment, Reply}
+use Rattle.mb_actor.specs.declared.message.Message.{Message}
+use Rattle.mb_journal.specs.Accepted.{accepted}
+use Rattle.mb_journal.specs.declared.sent_envelope.SentEnvelope.{SentEnvelope}
+use Rattle.mb_gate.specs.Accessors.{actors_of, first_home, pass_view}
+use Rattle.mb_gate.specs.Rule.{IsPart}
+use Rattle.mb_gate.specs.View.{Observation, View}
+use Rattle.mb_gate.specs.declared.gates.Gates.{Gates}
+use Rattle.mb_home.specs.Contents.{Contents}
+use Rattle.mb_msg.specs.declared.plan.Plan.{Plan}
+use Rattle.mb_queue.specs.Passes.{SendPassView}
+use Rattle.mb_report.specs.declared.report.Report.{Report}
+use Rattle.mb_build.specs.Numbers.{numbers}
+use Rattle.mb_shutdown.specs.Homes.{HomesReturned}
+use Rattle.mb_shutdown.specs.Seen.{ReportExtendsAll}
+use Rattle.mb_shutdown.specs.CompleteReport.{IsCompleteReport}
+use Rattle.mb_shutdown.proofs.Lists.{at-place, from-mapped, length-mapped, there}
+use Rattle.mb_startup.specs.Begun.{AreNewSenders, IsBegun}
+use Rattle.mb_system.specs.Belonging.{senders_numbers}
+use Rattle.mb_system.specs.Members.{StillSee, ends_numbers}
+use Rattle.mb_dispatch.specs.Orders.{addressed, addressed_system, terminates_of}
+use Rattle.mb_system.specs.declared.built.Built.{Built}
+use Rattle.mb_system.specs.declared.end.WorkerEnd.{WorkerEnd}
+use Rattle.mb_msg.specs.declared.order.Order.{Order}
+use Rattle.mb_system.specs.declared.sender.Sender.{Sender}
+use Rattle.mb_startup.proofs.Directories.{of-plan}
+use Rattle.mb_shutdown.specs.Belonging.{AreAnswers, AreThere, HasAllSeen}
+use Rattle.mb_shutdown.specs.Refused.{HasHomesReturned}
+use Rattle.mb_shutdown.proofs.Parts.{part-trans}
+use Rattle.mb_startup.proofs.There.{ends-there, length-numbers, number-at, senders-there}
+use Rattle.heddleorange.specs.Sent.{HaveSent}
+use Rattle.heddleorange.specs.WholeRun.{DidOrders, IsReportOfRun}
+use Rattle.heddleorange.proofs.Sent.{numbers-kept}
+
+-- numbers in a row are all there
+all-there : (many : ℕ) (ns : List ℕ) → ns ≡ numbers 0 many → AreThere many ns
+all-there many ns are n lt =
+    let at : slice_get ns n ≡ Some n = ap (λ l. slice_get l n) are ∙ number-at 0 many n lt ∙ ap Some (omega arith) in
+    (n, slice_get_within ns n n at, get_or_from_slice_get ns n n n at)
+
+module _ {A K : Type 0} (gates : Gates (Box Contents)) where
+  -- the sender at this place, as it began
+  new-at : (number : ℕ) (rows : List (List SendPassView)) (senders : List (Sender A K)) (place : ℕ) (s : Sender A K)
+      → AreNewSenders gates number rows senders → slice_get senders place ≡ Some s
+      → (s.inner.send_log.by.0 ≡ number + place) × (s.inner.send_log.posted ≡ []) × ((pass_view s.inner.registrar.pass).said ≡ [])
+  new-at number [] [] place s are is = absurd (omega (arith, slice_get_within {A = Sender A K} [] place s is))
+  new-at number [] (x ∷ senders) place s are is = absurd are
+  new-at number (row ∷ rows) [] place s are is = absurd are
+  new-at number (row ∷ rows) (x ∷ senders) zero s are is =
+      let same = sym (same_Some x s is) in (
+        ap (λ (y : Sender A K). y.inner.send_log.by.0) same ∙ ap (λ n. n.0) are.0.by ∙ (omega arith),
+        ap (λ (y : Sender A K). y.inner.send_log.posted) same ∙ are.0.posted,
+        ap (λ (y : Sender A K). (pass_view y.inner.registrar.pass).said) same ∙ are.0.silent,
+      )
+  new-at number (row ∷ rows) (x ∷ senders) (suc place) s are is =
+      let rest = new-at (number + 1) rows senders place s are.1 is in (rest.0 ∙ (omega arith), rest.1, rest.2)
+
+module _ {A K : Type 0} where
+  -- what the first of the ends had seen is among all that they saw
+  led : (log : List Observation) (end : WorkerEnd A K) (others now : List (WorkerEnd A K)) → StillSee (end ∷ others) now
+      → All (λ (e : WorkerEnd A K). IsPart (pass_view e.registrar.pass).log log) now → IsPart (pass_view end.registrar.pass).log log
+  led log end others [] saw seen = absurd saw
+  led log end others (e ∷ now) saw seen =
+      part-trans (pass_view end.registrar.pass).log (pass_view e.registrar.pass).log log saw.0
+      (All-head (λ (x : WorkerEnd A K). IsPart (pass_view x.registrar.pass).log log) e now seen)
+
+module _ {A K : Type 0} (gives : ℕ → Moment → Reply → Type 0) (plan : Plan) (built : Built A K) (begun : IsBegun gives plan built) where
+  module _ (orders : List (List Order)) (now : Built A K) (right : length orders ≡ plan.senders) (system : now.system ≡ built.system)
+      (ends : ends_numbers now.ends.items ≡ ends_numbers built.ends.items)
+      (sent : HaveSent built.system.gates orders built.senders.items now.senders.items) where
+    pub no-end-missing : AreThere now.system.workers (ends_numbers now.ends.items)
+    no-end-missing =
+        let workers : now.system.workers ≡ plan.workers = ap (λ s. s.workers) system ∙ begun.numbers.0 in
+        all-there now.system.workers (ends_numbers now.ends.items) (ends ∙ (ends-there gives plan built begun) ∙ ap (numbers 0) (sym workers))
+
+    pub no-sender-missing : AreThere now.system.senders (senders_numbers now.senders.items)
+    no-sender-missing =
+        let senders : now.system.senders ≡ plan.senders = ap (λ s. s.senders) system ∙ begun.numbers.1 in
+        all-there now.system.senders (senders_numbers now.senders.items)
+        (numbers-kept built.system.gates orders built.senders.items now.senders.items ((senders-there gives plan built begun).0 ∙ sym right) sent
+        ∙ (senders-there gives plan built begun).1 ∙ ap (numbers 0) (sym senders))
+
+    -- what came of the orders of one sender
+    did-orders : (answers : List (List SentEnvelope)) → AreAnswers now.system.senders now.senders.items answers → (place : ℕ) (of : List Order)
+        (postings : List SentEnvelope) (view : View) → slice_get orders place ≡ Some of → slice_get answers place ≡ Some postings
+        → slice_get (map (λ (s : Sender A K). pass_view s.inner.registrar.pass) now.senders.items) place ≡ Some view → DidOrders of postings view
+    did-orders answers answered place of postings view is told knew =
+        let knows = λ (s : Sender A K). pass_view s.inner.registrar.pass in
+        let after = from-mapped knows now.senders.items place view knew in
+        let lt = slice_get_within now.senders.items place after.0 after.1 in let many = sent.same_count in
+        let before = there built.senders.items place (omega (arith, lt, many)) in
+        let new = new-at built.system.gates most_actors begun.outside built.senders.items place before.0 begun.senders before.1 in
+        let one = (sent.each place of before.0 after.0 is before.1 after.1).0 in
+        let number : after.0.inner.send_log.by.0 - most_actors ≡ place =
+        let by = ap (λ n. n.0) one.by ∙ new.0 in omega (arith, by) in
+        let answer = at-place (λ (s : Sender A K). slice_get answers (s.inner.send_log.by.0 - most_actors) ≡ Some s.inner.send_log.posted) now.senders.items
+        place after.0 answered.each after.1 in
+        let posted : postings ≡ one.more =
+        same_Some postings after.0.inner.send_log.posted (sym told ∙ ap (slice_get answers) (sym number) ∙ answer)
+        ∙ one.posted ∙ ap (λ l. l ++ one.more) new.1 in
+        let terminates = reverse (terminates_of of) in record {
+          accepted_are = ap (λ l. addressed (accepted l)) posted ∙ one.accepted_are;
+          said = ap (λ (v : View). addressed_system v.said) (sym after.2) ∙ one.system_sent ∙ ap (λ l. terminates ++ addressed_system l) new.2 ∙ append-nil terminates;
+        }
+
+    pub story : (after : ℕ → List Message → ℤ) (report : Report) (log : List Observation) (answers : List (List SentEnvelope))
+        → StillSee built.ends.items now.ends.items → HasAllSeen now log
+        → AreAnswers now.system.senders now.senders.items answers
+        → IsCompleteReport after gives (first_home now.system.gates).value.directory log answers report
+        → All (λ (e : WorkerEnd A K). ReportExtendsAll report (pass_view e.registrar.pass)) now.ends.items
+        → All (λ (s : Sender A K). ReportExtendsAll report (pass_view s.inner.registrar.pass)) now.senders.items
+        → HasHomesReturned gives now report → IsReportOfRun after gives plan orders report
+    story after report log answers saw seen answered whole ends_seen senders_seen home =
+        let knows = λ (s : Sender A K). pass_view s.inner.registrar.pass in
+        let knew = λ (e : WorkerEnd A K). pass_view e.registrar.pass in
+        let IsTold = λ (v : View). IsPart v.log log × ReportExtendsAll report v in record {
+          directory = (first_home built.system.gates).value.directory;
+          planned = of-plan gives plan built begun;
+          log = log;
+          outside = answers;
+          same_count = answered.length_is ∙ ap (λ s. s.senders) system ∙ begun.numbers.1;
+          whole = subst (λ (g : Gates (Box Contents)). IsCompleteReport after gives (first_home g).value.directory log answers report)
+              (ap (λ s. s.gates) system) whole;
+          homes = record {
+            first = (first_home built.system.gates).value;
+            rolled = refl;
+            view = home.view;
+            home = subst (λ (n : ℕ). HomesReturned gives (first_home built.system.gates).value n home.view report) (sym built.system.directory)
+                (subst (λ (g : Gates (Box Contents)). HomesReturned gives (first_home g).value (actors_of g) home.view report)
+                (ap (λ s. s.gates) system) home.home);
+            counted = home.counted;
+          };
+          knew = map knows now.senders.items;
+          all_knew = length-mapped knows now.senders.items ∙ sent.same_count ∙ (senders-there gives plan built begun).0;
+          ends = map knew now.ends.items;
+          all_ends = length-mapped knew now.ends.items
+              ∙ sym (length-mapped (λ (e : WorkerEnd A K). e.number) now.ends.items) ∙ ap length (ends ∙ (ends-there gives plan built begun)) ∙ length-numbers 0 plan.workers;
+          seen = (
+            All-map IsTold knows now.senders.items (λ k d lt. (seen.1 k d lt, senders_seen k d lt)),
+            All-map IsTold knew now.ends.items (λ k d lt. (seen.0 k d lt, ends_seen k d lt)),
+          );
+          created = (
+            begun.created.0,
+            subst (λ l. IsPart l log) begun.created.1
+                (led log begun.end begun.others now.ends.items (subst (λ l. StillSee l now.ends.items) begun.ends_are saw) seen.0),
+          );
+          did = did-orders answers answered;
+        }

@@ -1,0 +1,20 @@
+use Rattle.mb_gate.specs.Accessors.{actors_of}
+use Rattle.mb_shutdown.proofs.Wholly.{of-whole}
+use Rattle.heddleorange.proofs.NoReport.{untold}
+use Rattle.heddleorange.proofs.WholeRun.{story}
+use Rattle.heddleorange.proofs.finish.finish_run.Goals as goal
+
+pub returns-in-Ok-clause-story : goal.returns-in-Ok-clause-story
+returns-in-Ok-clause-story g c = λ plan orders right ran.
+    (let end = c.in-Ok.ensures in
+    story g.K.Behaviours.gives plan ran.first ran.begun orders c.args.built right ran.system ran.ends ran.sent g.K.Behaviours.after
+    c.in-Ok.report end.whole.0 end.whole.2.0 ran.log_kept end.whole.1 end.whole.2.1 end.whole.2.2 end.seen.0 end.seen.1 end.home)
+
+pub without_report-requires : goal.without_report-requires
+without_report-requires g c =
+    (actors_of c.args.built.system.gates, of-whole c.args.built c.in-Err.error c.requires.complete c.in-Err.ensures.refused)
+
+pub returns-in-Err-clause-refused : goal.returns-in-Err-clause-refused
+returns-in-Err-clause-refused g c = λ plan actors orders right ran.
+    untold g.K.Behaviours.gives plan ran.first ran.begun c.args.built ran.system actors orders c.in-Err.error c.without_report.result right
+    c.requires.together.ends c.in-Err.ensures.refused c.in-Err.ensures.why c.without_report.ensures

@@ -1,0 +1,19 @@
+use Rattle.heddleorange.proofs.planned_system.PlannedSystem.run_here.Goals as goal
+
+pub run_here-requires : goal.run_here-requires
+run_here-requires g c = record { unused = c.requires.unused }
+
+pub returns-clause-story : goal.returns-clause-story
+returns-clause-story g c = c.run_here.ensures.story
+
+pub returns-clause-right : goal.returns-clause-right
+returns-clause-right g c = c.run_here.ensures.right
+
+pub returns-clause-refused : goal.returns-clause-refused
+returns-clause-refused g c = c.run_here.ensures.refused
+
+pub returns-clause-states : goal.returns-clause-states
+returns-clause-states g c = c.run_here.ensures.states
+
+pub returns-clause-lines : goal.returns-clause-lines
+returns-clause-lines g c = c.run_here.ensures.lines

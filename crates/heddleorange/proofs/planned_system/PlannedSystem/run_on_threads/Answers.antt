@@ -1,0 +1,19 @@
+use Rattle.heddleorange.proofs.planned_system.PlannedSystem.run_on_threads.Goals as goal
+
+pub run_on_threads-requires-clause-unused : goal.run_on_threads-requires-clause-unused
+run_on_threads-requires-clause-unused g c κs within = c.requires.unused
+
+pub returns-clause-story : goal.returns-clause-story
+returns-clause-story g c = c.run_on_threads.ensures.story
+
+pub returns-clause-right : goal.returns-clause-right
+returns-clause-right g c = c.run_on_threads.ensures.right
+
+pub returns-clause-refused : goal.returns-clause-refused
+returns-clause-refused g c = c.run_on_threads.ensures.refused
+
+pub returns-clause-states : goal.returns-clause-states
+returns-clause-states g c = c.run_on_threads.ensures.states
+
+pub returns-clause-lines : goal.returns-clause-lines
+returns-clause-lines g c = c.run_on_threads.ensures.lines

@@ -1,0 +1,28 @@
+use Rattle.heddleorange.specs.WholeRun.{gives_at}
+use Rattle.heddleorange.proofs.Chosen.{behave}
+use Rattle.heddleorange.proofs.FromStory.{all-lines, all-states}
+use Rattle.heddleorange.proofs.Sent.{orders_of}
+use Rattle.heddleorange.proofs.run.run_on_threads.Goals as goal
+
+pub run_planned_on_threads-requires-clause-behaved : goal.run_planned_on_threads-requires-clause-behaved
+run_planned_on_threads-requires-clause-behaved g c κs within =
+    behave g.A.Actor.content g.A.Actor.after g.A.Actor.gives c.args.actors.items c.requires.unused
+
+pub returns-clause-states : goal.returns-clause-states
+returns-clause-states g c =
+    all-states c.args.actors.items g.A.Actor.after (gives_at c.args.actors.items g.A.Actor.gives) c.args.plan (orders_of c.args.sends.now)
+    c.run_planned_on_threads.result c.run_planned_on_threads.ensures.story c.run_planned_on_threads.ensures.right
+
+pub returns-clause-lines : goal.returns-clause-lines
+returns-clause-lines g c =
+    all-lines c.args.actors.items g.A.Actor.after (gives_at c.args.actors.items g.A.Actor.gives) c.args.plan (orders_of c.args.sends.now)
+    c.run_planned_on_threads.result c.run_planned_on_threads.ensures.story c.run_planned_on_threads.ensures.right
+
+pub returns-clause-story : goal.returns-clause-story
+returns-clause-story g c = c.run_planned_on_threads.ensures.story
+
+pub returns-clause-right : goal.returns-clause-right
+returns-clause-right g c = c.run_planned_on_threads.ensures.right
+
+pub returns-clause-refused : goal.returns-clause-refused
+returns-clause-refused g c = c.run_planned_on_threads.ensures.refused

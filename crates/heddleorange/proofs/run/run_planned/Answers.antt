@@ -1,0 +1,45 @@
+use Rattle.std.proofs.Common.{length, sym, ◌∙◌, Vec}
+use Rattle.std.specs.Global.{Global}
+use Rattle.mb_shutdown.proofs.Lists.{length-mapped}
+use Rattle.mb_msg.specs.declared.order.Order.{Order}
+use Rattle.mb_startup.proofs.There.{senders-there, some-end}
+use Rattle.heddleorange.proofs.Breaking.{may-break}
+use Rattle.heddleorange.proofs.HasRunLemmas.{complete, has-run, storied, unstoried}
+use Rattle.heddleorange.proofs.Sent.{orders_of}
+use Rattle.heddleorange.proofs.run.run_planned.Goals as goal
+
+pub send_and_run-requires-clause-same_count : goal.send_and_run-requires-clause-same_count
+send_and_run-requires-clause-same_count g c =
+    (senders-there g.K.Behaviours.gives c.args.plan c.in_ok-built.built c.in_ok-built.ensures.begun).0 ∙ sym c.in_ok-built.ensures.right.1
+    ∙ length-mapped (λ (v : Vec Order Global). v.items) c.args.sends.now
+
+pub send_and_run-requires-clause-some : goal.send_and_run-requires-clause-some
+send_and_run-requires-clause-some g c = some-end g.K.Behaviours.gives c.args.plan c.in_ok-built.built c.in_ok-built.ensures.begun
+
+pub finish_run-requires-clause-complete : goal.finish_run-requires-clause-complete
+finish_run-requires-clause-complete g c =
+    let begun = c.in_ok-built.ensures in let went = c.in_default.ensures in
+    complete g.K.Behaviours.gives c.args.plan (orders_of c.args.sends.now) c.in_ok-built.built c.send_and_run.new.built begun.begun
+    went.system went.ends went.sent went.log_kept begun.right.1
+
+pub returns-clause-story : goal.returns-clause-story
+returns-clause-story g c =
+    let begun = c.in_ok-built.ensures in let went = c.in_default.ensures in let gives = g.K.Behaviours.gives in
+    let plan = c.args.plan in let orders = orders_of c.args.sends.now in let now = c.send_and_run.new.built in
+    let ran = has-run gives plan orders c.in_ok-built.built now begun.begun went.system went.ends went.sent went.log_kept in
+    storied g.K.Behaviours.after gives plan orders now ran c.finish_run.result begun.right.1 c.finish_run.ensures.story
+
+pub returns-clause-refused : goal.returns-clause-refused
+returns-clause-refused g c =
+    let begun = c.in_ok-built.ensures in let went = c.in_default.ensures in let gives = g.K.Behaviours.gives in
+    let plan = c.args.plan in let orders = orders_of c.args.sends.now in let now = c.send_and_run.new.built in
+    let ran = has-run gives plan orders c.in_ok-built.built now begun.begun went.system went.ends went.sent went.log_kept in
+    unstoried g.K.Behaviours.after gives plan orders now ran (length c.args.actors.items) c.finish_run.result begun.right
+    c.finish_run.ensures.refused
+
+pub returns-in-Err-clause-refused : goal.returns-in-Err-clause-refused
+returns-in-Err-clause-refused g c = (
+  c.in_ok-built.ensures.right,
+  may-break g.K.Behaviours.gives c.args.plan c.in_ok-built.built c.in_ok-built.ensures.begun (orders_of c.args.sends.now) c.in-Err.error
+      c.in-Err.ensures.fault,
+)

@@ -1,0 +1,7 @@
+pub mod Sent
+pub mod WholeRun
+pub mod NoReport
+pub mod HasRun
+pub mod Plans
+pub mod Reading
+pub mod States

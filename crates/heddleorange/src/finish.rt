@@ -1,0 +1,48 @@
+//! Ending the system of a run.
+ghost use Rattle.std.specs.Prelude.{◌≡◌, ℕ, List, IfErr, IfOk, length};
+ghost use Rattle.mb_msg.specs.declared.order.Order.{Order as OrderOf};
+ghost use Rattle.mb_msg.specs.declared.plan.Plan.{Plan as PlanOf};
+ghost use Rattle.mb_shutdown.specs.Refused.{IsComplete, IsOfWhole};
+ghost use Rattle.mb_system.specs.Belonging.{BelongsTogether};
+ghost use Rattle.heddleorange.specs.HasRun.{HasRun};
+ghost use Rattle.heddleorange.specs.NoReport.{IsErrorFor, IsErrorOfRun, IsRight};
+ghost use Rattle.heddleorange.specs.WholeRun.{IsReportOfRun};
+
+use crate::error::Error;
+use mb_actor::{Actor, Behaviours};
+use mb_report::Report;
+use mb_shutdown::{FinishError, finish};
+use mb_system::Built;
+use std::sync::Wait;
+
+/// Ends a system that has run: its report, or why there is none. Both are said of each plan and orders of which it is the system.
+pub(crate) fn finish_run<A: Actor, K: Behaviours, R: Wait>(
+    rt: &R,
+    built: Built<A, K>,
+) -> Result<Report, Error>
+    requires together { BelongsTogether built }
+    requires complete { IsComplete built }
+    ensures story { IfOk result (λ report. (plan : PlanOf) (orders : List (List OrderOf)) → length orders ≡ plan.senders
+        → HasRun K.gives plan orders built → IsReportOfRun K.after K.gives plan orders report) }
+    ensures refused { IfErr result (λ error. (plan : PlanOf) (actors : ℕ) (orders : List (List OrderOf)) → IsRight plan actors orders
+        → HasRun K.gives plan orders built → IsErrorOfRun K.gives plan actors orders error) }
+{
+    match finish(rt, built) {
+        Ok(report) => Ok(report),
+        Err(error) => Err(without_report(&error)),
+    }
+}
+
+// How it is told why there is no report of a system that has all ends and senders that it began with.
+fn without_report<A: Actor, K: Behaviours>(error: &FinishError<A, K>) -> Error
+    requires { (actors : ℕ) × IsOfWhole actors error.now }
+    ensures { IsErrorFor error.now result }
+{
+    match error {
+        FinishError::NotQuiet(id, _) => Error::NotQuiet(*id),
+        FinishError::Mismatch(mismatch) => Error::Mismatch(*mismatch),
+        FinishError::NoMemory(_) => Error::NoMemory,
+        FinishError::MissingEnd(_, _) => unreachable!(),
+        FinishError::MissingSender(_, _) => unreachable!(),
+    }
+}

@@ -1,0 +1,160 @@
+//! A plan and its actors, added together.
+ghost use Rattle.std.specs.Prelude.{◌≡◌, ◌+◌, ◌≤◌, ◌↔◌, [], ◌∷◌, ◌++◌, All, IfErr, IfOk, IsErrOf, OnErr, OnOk, length, map};
+ghost use Rattle.mb_build.specs.declared.check.PlanError.TheVariants.{Actors};
+ghost use Rattle.mb_msg.specs.declared.pool_kind.PoolKind.TheVariants as pool_kind;
+ghost use Rattle.heddleorange.specs.declared.error.Error.TheVariants.{BadPlan, NoMemory};
+ghost use Rattle.heddleorange.specs.NoReport.{IsErrorOfRun, IsRight};
+ghost use Rattle.heddleorange.specs.States.{ShowsStates};
+ghost use Rattle.heddleorange.specs.WholeRun.{IsReportOfRun, after_at, gives_at};
+
+use crate::error::Error;
+use crate::run::{run_here, run_on_threads};
+use mb_actor::Actor;
+use mb_build::PlanError;
+use mb_msg::limits::ACTORS;
+use mb_msg::{ActorId, ActorPlan, Order, Plan, PoolKind};
+use mb_report::Report;
+use std::alloc::Global;
+use std::sync::Wait;
+use std::thread::Threads;
+
+/// What a plan says beside its actors.
+#[derive(Clone, Copy, Debug)]
+pub struct Settings {
+    /// How many envelopes a run of a mailbox handles at most; 0 counts as 1 (Akka's `throughput`).
+    pub throughput: u32,
+    /// How many workers run mailboxes, from 1 to 16.
+    pub workers: u32,
+    /// How the workers share the work.
+    pub pool: PoolKind,
+    /// How many senders outside the actors there are, up to 16.
+    pub senders: u32,
+    /// How many entries the journal of each actor may have, at least 1.
+    pub journal_limit: u32,
+}
+
+/// Five envelopes in a run of a mailbox (as Akka's default dispatcher), one worker, one queue, one sender outside, and journals of
+/// up to a million entries.
+pub const SETTINGS: Settings = Settings {
+    throughput: 5,
+    workers: 1,
+    pool: PoolKind::Shared,
+    senders: 1,
+    journal_limit: 1_000_000,
+};
+
+/// A plan and the actors that it plans, which are added together. So there are as many of one as of the other, each actor with
+/// its own plan.
+///
+/// The actors are of one type, which may be `Box<dyn Actor + Send>`.
+#[derive(Drop)]
+pub struct PlannedSystem<A: Drop> {
+    /// The plan: the first actor that was added has number 1.
+    pub plan: Plan,
+    /// The actors, in the order of their numbers from 1 on.
+    pub actors: Vec<A>,
+    /// As many actors are planned as there are.
+    pub ghost as_planned: { length plan.actors.items ≡ length actors.items },
+}
+
+impl<A: Actor> PlannedSystem<A> {
+    /// A system of these settings, without an actor beside the guardian. This takes no memory.
+    pub fn new(alloc: Global, settings: Settings) -> Self
+        ensures actors { result.actors.items ≡ [] }
+        ensures planned { result.plan.actors.items ≡ [] }
+        ensures throughput { result.plan.throughput ≡ settings.throughput }
+        ensures workers { result.plan.workers ≡ settings.workers }
+        ensures pool { result.plan.pool ≡ settings.pool }
+        ensures senders { result.plan.senders ≡ settings.senders }
+        ensures journal_limit { result.plan.journal_limit ≡ settings.journal_limit }
+        ensures unused { All (λ actor. A.content actor ≡ A.after actor []) result.actors.items }
+    {
+        let Settings {
+            throughput,
+            workers,
+            pool,
+            senders,
+            journal_limit,
+        } = settings;
+        PlannedSystem {
+            plan: Plan {
+                throughput,
+                workers,
+                pool,
+                senders,
+                journal_limit,
+                actors: Vec::new(alloc),
+            },
+            actors: Vec::new(alloc),
+        }
+    }
+
+    /// Adds an actor with its plan, and answers its number: the first has number 1. No message may have come to the actor yet.
+    ///
+    /// It answers `BadPlan(Actors)` if there are 63 actors, and else `NoMemory` if memory was refused. The plan and the actor are
+    /// dropped then, and nothing has been added.
+    pub fn add(&mut self, plan: ActorPlan, actor: A) -> Result<ActorId, Error>
+        requires unused { A.content actor ≡ A.after actor [] }
+        ensures id { IfOk result (λ id. id.0 ≡ length self.old.actors.items + 1) }
+        ensures actors { OnOk result (self.new.actors.items ≡ self.old.actors.items ++ actor ∷ []) }
+        ensures planned { OnOk result (self.new.plan.actors.items ≡ self.old.plan.actors.items ++ plan ∷ []) }
+        ensures same { OnErr result ((self.new.actors.items ≡ self.old.actors.items) × (self.new.plan.actors.items ≡ self.old.plan.actors.items)) }
+        ensures settings { self.new.plan ≡ record self.old.plan { actors = self.new.plan.actors } }
+        ensures full { IsErrOf result (BadPlan Actors) ↔ (63 ≤ length self.old.actors.items) }
+        ensures unused { All (λ actor. A.content actor ≡ A.after actor []) self.old.actors.items
+            → All (λ actor. A.content actor ≡ A.after actor []) self.new.actors.items }
+    {
+        let count = self.actors.len() as u64;
+        if count + 1 >= ACTORS as u64 {
+            return Err(Error::BadPlan(PlanError::Actors));
+        }
+        if self.plan.actors.reserve(1).is_err() || self.actors.reserve(1).is_err() {
+            return Err(Error::NoMemory);
+        }
+        self.plan.actors.push_reserved(plan);
+        self.actors.push_reserved(actor);
+        Ok(ActorId(count as u32 + 1))
+    }
+
+    /// Runs it on this thread, as `run_here` does.
+    pub fn run_here<R: Wait>(
+        self,
+        rt: &R,
+        alloc: Global,
+        sends: &[Vec<Order>],
+    ) -> Result<Report, Error>
+        requires unused { All (λ actor. A.content actor ≡ A.after actor []) self.actors.items }
+        ensures story { IfOk result (IsReportOfRun (after_at self.actors.items A.after) (gives_at self.actors.items A.gives) self.plan
+            (map (λ orders. orders.items) sends.now)) }
+        ensures right { OnOk result (IsRight self.plan (length self.actors.items) (map (λ orders. orders.items) sends.now)) }
+        ensures refused { IfErr result (IsErrorOfRun (gives_at self.actors.items A.gives) self.plan (length self.actors.items)
+            (map (λ orders. orders.items) sends.now)) }
+        ensures states { IfOk result (ShowsStates A.after self.actors.items self.plan) }
+        ensures lines { IfOk result (λ report. length report.actors.items ≡ length self.actors.items + 1) }
+    {
+        let PlannedSystem { plan, actors } = self;
+        run_here::<A, R>(rt, alloc, plan, actors, sends)
+    }
+}
+
+impl<A: Actor + Send> PlannedSystem<A> {
+    /// Runs it with workers and senders on threads of their own, as `run_on_threads` does.
+    pub fn run_on_threads<R: Threads + Wait + Sync>(
+        self,
+        rt: &R,
+        alloc: Global,
+        sends: &[Vec<Order>],
+    ) -> Result<Report, Error>
+        requires unused { All (λ actor. A.content actor ≡ A.after actor []) self.actors.items }
+        ensures story { IfOk result (IsReportOfRun (after_at self.actors.items A.after) (gives_at self.actors.items A.gives) self.plan
+            (map (λ orders. orders.items) sends.now)) }
+        ensures right { OnOk result (IsRight self.plan (length self.actors.items) (map (λ orders. orders.items) sends.now)) }
+        ensures refused { IfErr result (IsErrorOfRun (gives_at self.actors.items A.gives) self.plan (length self.actors.items)
+            (map (λ orders. orders.items) sends.now)) }
+        ensures states { IfOk result (ShowsStates A.after self.actors.items self.plan) }
+        ensures lines { IfOk result (λ report. length report.actors.items ≡ length self.actors.items + 1) }
+    {
+        let PlannedSystem { plan, actors } = self;
+        run_on_threads::<A, R>(rt, alloc, plan, actors, sends)
+    }
+}

@@ -1,0 +1,127 @@
+//! Running a scenario and showing its run.
+ghost use Rattle.std.specs.Prelude.{◌≡◌, false};
+
+use crate::options::{Format, Options};
+use crate::refusal::{Failure, no_memory, not_written};
+use mb_dispatch::Turn as MailboxTurn;
+use mb_program::{FinishedRun, TrackedStream, run_scenario};
+use mb_scenario::{Scenario, read};
+use mb_streams::read_input;
+use mb_trace::{Filter, Trace, TraceError, Turn, write_text};
+use std::alloc::{AllocError, Global};
+use std::io::{BufWriter, Read, Write};
+use std::sync::Wait;
+use std::thread::Threads;
+
+/// Reads the scenario, runs it, and shows its run.
+pub(crate) fn show<T: Threads + Wait + Sync, R: Read, W: Write + Drop>(
+    rt: &T,
+    alloc: Global,
+    reader: &mut TrackedStream<R>,
+    options: &Options,
+    writer: W,
+) -> Result<(), Failure>
+    requires working { reader.old.failed ≡ false }
+{
+    let text = read_input(alloc, reader)?;
+    let ran = run_scenario(rt, alloc, &text)?;
+    // The run has taken the scenario's plan and scripts: the text is read once more.
+    let scenario = read(alloc, &text)?;
+    show_run(alloc, &scenario, &ran.run, options, writer)
+}
+
+/// Shows the run of a scenario.
+fn show_run<W: Write + Drop>(
+    alloc: Global,
+    scenario: &Scenario,
+    run: &FinishedRun,
+    options: &Options,
+    writer: W,
+) -> Result<(), Failure> {
+    let actors = numbers_of(alloc, &options.actors, &scenario.names)?;
+    let made = match &run.turns {
+        Some(turns) => Some(turns_of(alloc, turns)?),
+        None => None,
+    };
+    let turns = made.as_deref();
+    let trace = trace_of(scenario, run, turns);
+    let filter = Filter {
+        actors: actors.as_slice(),
+        only: options.only,
+        limit: options.limit,
+    };
+    match write(alloc, &trace, &filter, options.format, writer) {
+        Ok(()) | Err(TraceError::Closed) => Ok(()),
+        Err(TraceError::NoMemory) => Err(no_memory()),
+        Err(TraceError::Os) => Err(not_written()),
+    }
+}
+
+/// The trace of the run of a scenario, with these turns.
+fn trace_of<'a>(
+    scenario: &'a Scenario,
+    run: &'a FinishedRun,
+    turns: Option<&'a [Turn]>,
+) -> Trace<'a> {
+    Trace {
+        names: scenario.names.as_slice(),
+        plan: &scenario.plan,
+        scripts: scenario.scripts.as_slice(),
+        report: &run.report,
+        turns,
+    }
+}
+
+/// Writes the trace in this form.
+fn write<W: Write + Drop>(
+    alloc: Global,
+    trace: &Trace<'_>,
+    filter: &Filter<'_>,
+    format: Format,
+    writer: W,
+) -> Result<(), TraceError> {
+    let mut out = BufWriter::new(alloc, writer)?;
+    match format {
+        Format::Text => write_text(alloc, trace, filter, &mut out)?,
+    }
+    out.flush()?;
+    Ok(())
+}
+
+/// The turns as a trace needs them.
+fn turns_of(alloc: Global, turns: &[MailboxTurn]) -> Result<Vec<Turn>, AllocError> {
+    let mut made = Vec::new(alloc);
+    for turn in turns {
+        made.push(Turn {
+            actor: turn.actor,
+            entries: turn.system.saturating_add(turn.envelopes),
+        })?;
+    }
+    Ok(made)
+}
+
+/// The numbers of the actors with these names, of which each is one of the scenario's or the guardian's.
+fn numbers_of(alloc: Global, wanted: &[String], names: &[String]) -> Result<Vec<u32>, Failure> {
+    let mut numbers = Vec::new(alloc);
+    for name in wanted {
+        match number_of(name.as_str(), names) {
+            Some(number) => numbers.push(number)?,
+            None => return Err(Failure::NoSuchActor),
+        }
+    }
+    Ok(numbers)
+}
+
+fn number_of(wanted: &str, names: &[String]) -> Option<u32> {
+    if wanted == "guardian" {
+        return Some(0);
+    }
+    let mut number = 1;
+    for name in names {
+        if name.as_str() == wanted {
+            return Some(number);
+        }
+        number = number.saturating_add(1);
+    }
+    None
+}

@@ -1,0 +1,42 @@
+//! A scenario, from its text to what its run came to.
+ghost use Rattle.std.specs.Prelude.{IfErr, IfOk, map, string_bytes};
+ghost use Rattle.mb_program.specs.Answer.{IsRefused};
+ghost use Rattle.mb_program.specs.RunOf.{IsRunOf};
+
+use crate::running::{FinishedRun, run};
+use mb_scenario::{Scenario, read};
+use mb_script::Script;
+use mb_streams::ProgramError;
+use std::alloc::Global;
+use std::marker::Brand;
+use std::sync::Wait;
+use std::thread::Threads;
+
+/// A scenario that was run.
+#[derive(Drop)]
+pub struct ScenarioRun {
+    /// The names of its actors beside the guardian, in the order of their numbers.
+    pub names: Vec<String>,
+    /// What its run came to.
+    pub run: FinishedRun,
+}
+
+/// Reads the text of a scenario and runs it. Its errors are those of reading the text and of running it.
+pub fn run_scenario<R: Threads + Wait + Sync>(
+    rt: &R,
+    alloc: Global,
+    text: &[u8],
+) -> Result<ScenarioRun, ProgramError>
+    ensures run_of { IfOk result (λ ran. IsRunOf text.now (map string_bytes ran.names.items) ran.run) }
+    ensures refused { IfErr result (IsRefused text.now) }
+{
+    let Scenario {
+        plan,
+        names,
+        scripts,
+        sends,
+        quiet,
+    } = read(alloc, text)?;
+    let run = run::<Script, Brand, R>(rt, alloc, plan, scripts, &sends, quiet)?;
+    Ok(ScenarioRun { names, run })
+}

@@ -1,0 +1,5 @@
+use Rattle.mb_queue.proofs.Moves.{opens}
+use Rattle.mb_queue.proofs.bounded_fifo.BoundedFifo.open.Goals as goal
+
+pub another-requires-clause-rule : goal.another-requires-clause-rule
+another-requires-clause-rule g c = opens _ _ _ c.requires.unused

@@ -1,5 +1,0 @@
-use Rattle.mb_queue.proofs.Moves.{lends}
-use Rattle.mb_queue.proofs.bounded_lane.BoundedLane.lend.Goals as goal
-
-pub another-requires-clause-rule : goal.another-requires-clause-rule
-another-requires-clause-rule g c = lends _ _ _ c.requires.may

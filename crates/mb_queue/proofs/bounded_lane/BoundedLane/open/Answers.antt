@@ -1,5 +1,0 @@
-use Rattle.mb_queue.proofs.Moves.{opens}
-use Rattle.mb_queue.proofs.bounded_lane.BoundedLane.open.Goals as goal
-
-pub another-requires-clause-rule : goal.another-requires-clause-rule
-another-requires-clause-rule g c = opens _ _ _ c.requires.unused

@@ -1,0 +1,4 @@
+pub mod Words
+pub mod Standing
+pub mod Entries
+pub mod Ends

@@ -1,0 +1,91 @@
+//! The lines of an entry: what came, from whom, what became of it, how the actor stands after it, and the effects.
+ghost use Rattle.std.specs.Prelude.{Some, map, string_bytes};
+ghost use Rattle.std.specs.Fmt.{WritesOnOk};
+ghost use Rattle.mb_trace.specs.Entries.{arrival_text, entry_text, outcome_text};
+
+use crate::effect_lines::EffectLines;
+use crate::standing::{Standing, write_change};
+use crate::words::{EnvelopeWords, SystemWords};
+use mb_actor::Answer;
+use mb_journal::{EntryRef, Received};
+use std::fmt;
+
+/// An entry, with how its actor stood before it and after it. Its `Display` is its lines.
+#[derive(Clone, Copy)]
+pub(crate) struct EntryLines<'a> {
+    pub(crate) names: &'a [String],
+    pub(crate) entry: EntryRef<'a>,
+    pub(crate) before: Standing,
+    pub(crate) after: Standing,
+}
+
+impl fmt::Display for EntryLines<'_> {
+    ghost output = { λ e. Some (entry_text (map string_bytes e.names.now) e.before e.after e.entry) };
+
+    fn fmt<W: fmt::Write>(&self, f: &mut fmt::Formatter<W>) -> fmt::Result {
+        f.write_str("  ")?;
+        write_arrival(f, self.names, self.entry.arrival)?;
+        write_change(f, self.before, self.after)?;
+        let effects = EffectLines {
+            names: self.names,
+            effects: self.entry.effects,
+        };
+        write!(f, "\n{effects}")
+    }
+}
+
+/// What came, and what became of it.
+#[tactic(auto, unfolding(crate::specs::Entries::arrival_text))]
+fn write_arrival<W: fmt::Write>(
+    f: &mut fmt::Formatter<W>,
+    names: &[String],
+    arrival: Received,
+) -> fmt::Result
+    ensures { WritesOnOk W.write_str_gives f.old result (arrival_text (map string_bytes names.now) arrival) f.new }
+{
+    match arrival {
+        Received::Handled {
+            answer,
+            envelope,
+            ..
+        } => {
+            let words = EnvelopeWords { names, envelope };
+            write!(f, "{words}: {}", Outcome { answer })
+        }
+        Received::System {
+            answer,
+            number,
+            message,
+        } => {
+            let words = SystemWords { names, message };
+            write!(f, "system #{number} {words}: {}", Outcome { answer })
+        }
+        Received::SetAside { number, message } => {
+            let words = SystemWords { names, message };
+            write!(f, "system #{number} {words}")?;
+            f.write_str(": set aside")
+        }
+        Received::Dropped { envelope } => {
+            let words = EnvelopeWords { names, envelope };
+            write!(f, "{words}: dropped")
+        }
+    }
+}
+
+/// What an actor answered, as it is printed: `handled` also where it was not called.
+#[derive(Clone, Copy)]
+struct Outcome {
+    answer: Option<Answer>,
+}
+
+impl fmt::Display for Outcome {
+    ghost output = { λ o. Some (outcome_text o.answer) };
+
+    fn fmt<W: fmt::Write>(&self, f: &mut fmt::Formatter<W>) -> fmt::Result {
+        match self.answer {
+            None | Some(Answer::Handled) => f.write_str("handled"),
+            Some(Answer::Unhandled) => f.write_str("unhandled"),
+            Some(Answer::Failed(number)) => write!(f, "failed {number}"),
+        }
+    }
+}

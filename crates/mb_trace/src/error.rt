@@ -1,0 +1,37 @@
+//! Why a trace was not written.
+ghost use Rattle.std.specs.Prelude.{◌≡◌};
+
+use std::alloc::AllocError;
+use std::io;
+use std::io::ErrorKind;
+
+/// Why a trace was not written to its end.
+#[derive(Clone, Copy, Debug, PartialEq, Eq)]
+pub enum TraceError {
+    /// Memory was refused.
+    NoMemory,
+    /// Whoever reads the output has closed it.
+    Closed,
+    /// Writing failed.
+    Os,
+}
+
+impl From<AllocError> for TraceError {
+    ghost use Rattle.mb_trace.specs.declared.error.TraceError.TheVariants.{NoMemory};
+
+    ghost from_gives = { λ _ error. error ≡ NoMemory };
+
+    fn from(_refused: AllocError) -> TraceError {
+        TraceError::NoMemory
+    }
+}
+
+impl From<io::Error> for TraceError {
+    fn from(error: io::Error) -> TraceError {
+        match error.kind() {
+            ErrorKind::BrokenPipe => TraceError::Closed,
+            ErrorKind::OutOfMemory => TraceError::NoMemory,
+            _ => TraceError::Os,
+        }
+    }
+}

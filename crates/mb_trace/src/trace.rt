@@ -1,0 +1,29 @@
+//! What a trace is made of.
+use mb_msg::{ActorId, Plan};
+use mb_report::Report;
+use mb_script::Script;
+
+/// A run, and what is needed to tell of it in the words of its scenario. The actor n + 1 has the name, the plan and the script at the
+/// place n.
+#[derive(Clone, Copy)]
+pub struct Trace<'a> {
+    /// The names of the actors beside the guardian.
+    pub names: &'a [String],
+    /// The plan of the system.
+    pub plan: &'a Plan,
+    /// The scripts as they were read, before any call.
+    pub scripts: &'a [Script],
+    /// What the run came to.
+    pub report: &'a Report,
+    /// The runs of mailboxes, in order, where the run was quiet. A run on threads has none.
+    pub turns: Option<&'a [Turn]>,
+}
+
+/// A run of a mailbox, as a trace needs it.
+#[derive(Clone, Copy, Debug, PartialEq, Eq)]
+pub struct Turn {
+    /// Whose mailbox was run.
+    pub actor: ActorId,
+    /// How many entries its journal got: one for each system message and each envelope.
+    pub entries: u64,
+}

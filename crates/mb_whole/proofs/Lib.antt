@@ -1,5 +1,0 @@
-pub mod Sent
-pub mod Chosen
-pub mod WholeRun
-pub mod NoReport
-pub mod Breaking

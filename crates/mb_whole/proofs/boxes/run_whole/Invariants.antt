@@ -1,6 +1,0 @@
-use Rattle.mb_whole.specs.WholeRun.{after_at, gives_at}
-use Rattle.mb_whole.proofs.boxes.run_whole.Given as goal
-
--- what is known of each number is what the actor does that was handed in for it
-abbrev pub ghosts-run_planned : goal.ghosts-run_planned
-ghosts-run_planned g a = record { after = after_at a.actors.items g.A.Actor.after; gives = gives_at a.actors.items g.A.Actor.gives }

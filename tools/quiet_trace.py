@@ -1,0 +1,167 @@
+#!/usr/bin/env python3
+"""The trace of a quiet run by a second program: what docs/TRACE.md says of the form, over the rules as quiet_run.py has them. The traces
+beside the examples and the program's own are held to it. As a command it prints the trace: tools/quiet_trace.py SCENARIO."""
+
+import sys
+import tomllib
+
+sys.dont_write_bytecode = True
+from quiet_run import Cell, JournalFull, Script, System
+
+
+class Recorded(Script):
+    """A script of which the last call is kept: what it answered, if it answers, and what it asked for."""
+
+    called = None
+
+    def keep(self, answer, effects):
+        self.called = answer, list(effects)
+        return answer, effects
+
+    def begin(self, hook):
+        return self.keep(*super().begin(hook))
+
+    def receive(self, body):
+        return self.keep(*super().receive(body))
+
+    def stop(self):
+        return self.keep("handled", super().stop())[1]
+
+
+class Traced(Cell):
+    """A cell that tells the system of each of its entries."""
+
+    script_type = Recorded
+
+    def __init__(self, system, number, *others):
+        super().__init__(system, number, *others)
+        self.arrived, self.numbers_aside = 0, []
+
+    def standing(self):
+        return self.phase, self.suspensions, self.script.state if self.script else None
+
+    def entry(self, what, apply):
+        """Applies what came, and notes it with what became of it."""
+        before, waiting = self.standing(), len(self.aside)
+        if self.script:
+            self.script.called = None
+        apply()
+        answer, effects = self.script and self.script.called or ("handled", [])
+        outcome = f"failed {answer}" if isinstance(answer, int) else answer
+        if len(self.aside) > waiting:
+            outcome = "set aside"
+        return [before, self.standing(), what, outcome, effects]
+
+    def apply_system(self, message):
+        from_aside = len(self.aside) < len(self.numbers_aside)
+        number = self.numbers_aside.pop(0) if from_aside else self.arrived
+        self.arrived += not from_aside
+        made = self.entry(f"system #{number} {self.system.system_words(message)}", lambda: super(Traced, self).apply_system(message))
+        if made[3] == "set aside":
+            self.numbers_aside.append(number)
+        self.system.note(self, made)
+
+    def apply_envelope(self, sent, body):
+        is_dropped = body[0] == "terminated" and body[1] not in self.due
+        what = self.system.envelope_words(sent, body)
+        made = self.entry(what, lambda: super(Traced, self).apply_envelope(sent, body))
+        if is_dropped:
+            made[3] = "dropped"
+        self.system.note(self, made)
+
+
+class Trace(System):
+    """A run that keeps its lines."""
+
+    cell_type = Traced
+
+    def __init__(self, top):
+        self.lines, self.lost, self.owner = [], [], None
+        super().__init__(top)
+
+    # Words.
+
+    def name(self, number):
+        return self.cells[number].name
+
+    def envelope_words(self, sent, body):
+        by, number = sent
+        sender = f"outside {by - 64}" if by >= 64 else self.name(by)
+        return f"{sender} #{number} {self.body_words(body)}"
+
+    def body_words(self, body):
+        kind, *words = body
+        if kind in ("user", "control"):
+            return ("control " if kind == "control" else "") + f"kind {words[0]} value {words[1]}"
+        return f"terminated {self.name(words[0])}" if kind == "terminated" else kind
+
+    def system_words(self, message):
+        kind, *words = message
+        if kind == "recreate":
+            return f"restart after {cause_words(words[0])}"
+        if kind == "resume":
+            return "resume after its failure" if words[0] else "resume"
+        if kind in ("watch", "unwatch"):
+            return f"{kind} by {self.name(words[0])}"
+        if kind == "failed":
+            return f"failed {self.name(words[0])} after {cause_words(words[1])}"
+        return f"died {self.name(words[0])}" if kind == "died" else kind
+
+    def effect_words(self, effect):
+        kind, to, *rest = effect
+        if kind != "tell":
+            return f"{kind} {self.name(to)}"
+        what, number, value = rest[0]
+        return f"{'tell' if what == 'user' else what} {self.name(to)} kind {number} value {value}"
+
+    # Lines.
+
+    def run_mailbox(self, cell):
+        self.owner = None
+        super().run_mailbox(cell)
+
+    def note(self, cell, made):
+        before, after, what, outcome, effects = made
+        if self.owner is None:
+            self.lines.append(f"turn {cell.name}")
+            self.owner = cell
+        changes = [] if before[0] == after[0] else [after[0]]
+        changes += [] if before[1] == after[1] else [f"suspended {after[1]}"]
+        changes += [] if after[2] is None else [f"state {after[2]}"]
+        self.lines.append(f"  {what}: " + ", ".join([outcome, *changes]))
+        self.lines += [f"    {self.effect_words(effect)}" for effect in effects]
+
+    def lose(self, cell, envelope, why):
+        super().lose(cell, envelope, why)
+        sender = (1, cell.number) if why == "cleaned" else (0, envelope[0][0])
+        self.lost.append((sender, f"dead {self.envelope_words(*envelope)} to {cell.name}: {why}"))
+
+    def told(self):
+        """The whole trace, once the run has ended."""
+        lines = self.lines + [line for _, line in sorted(self.lost, key=lambda one: one[0])]
+        for cell in self.cells:
+            while envelope := cell.mailbox.take():
+                lines.append(f"left {self.envelope_words(*envelope)} to {cell.name}")
+        for cell in self.cells:
+            for number, message in zip(cell.numbers_aside, cell.aside) if not cell.closed else ():
+                lines.append(f"aside system #{number} {self.system_words(message)} to {cell.name}")
+        return "".join(line + "\n" for line in lines)
+
+
+def cause_words(cause):
+    return f"error {cause}" if isinstance(cause, int) else cause
+
+
+def trace_of(top):
+    """The trace of a scenario that passes all checks and is run quietly, or None where a journal becomes full."""
+    run = Trace(top)
+    try:
+        run.run()
+    except JournalFull:
+        return None
+    return run.told()
+
+
+if __name__ == "__main__":
+    with open(sys.argv[1], encoding="utf-8-sig") as file:
+        print(trace_of(tomllib.loads(file.read())), end="")
