@@ -1,0 +1,141 @@
+//! Where things stand in a picture, in its units.
+use crate::lanes::Lanes;
+use crate::rows::Rows;
+
+/// The height of a row.
+pub(crate) const ROW: u64 = 28;
+/// Where the boxes with the names begin, and how high they are.
+pub(crate) const HEAD: u64 = 16;
+
+pub(crate) const BOX: u64 = 28;
+/// The height of the foot without names, and of the legend.
+pub(crate) const FOOT: u64 = 72;
+
+pub(crate) const LEGEND: u64 = 126;
+/// With more rows than this the names stand at the foot again.
+const TALL: u64 = 24;
+/// The room on the right, for the longest message.
+const RIGHT: u64 = 220;
+/// The least width, for the legend.
+const LEAST_WIDTH: u64 = 700;
+
+/// Where things stand.
+#[derive(Clone, Copy)]
+pub(crate) struct Geometry {
+    left: u64,
+    /// From one lane to the next.
+    spacing: u64,
+    lanes: u64,
+    created: u64,
+    rows: u64,
+    letters: u64,
+}
+
+impl Geometry {
+    pub(crate) fn of(lanes: &Lanes, rows: &Rows<'_>) -> Self {
+        let spacing = spacing_of(lanes);
+        Geometry {
+            left: left_of(lanes, spacing),
+            spacing,
+            lanes: lanes.ids.len() as u64,
+            created: if rows.created.is_empty() { 0 } else { 1 },
+            rows: rows.rows.len() as u64,
+            letters: rows.letters.len() as u64,
+        }
+    }
+
+    /// The middle of a lane.
+    pub(crate) fn x(&self, lane: usize) -> u64 {
+        self.spacing
+            .saturating_mul(lane as u64)
+            .saturating_add(self.left)
+    }
+
+    /// The width of a box with a name.
+    pub(crate) fn box_width(&self) -> u64 {
+        self.spacing.saturating_sub(16)
+    }
+
+    /// The row of those that were created.
+    pub(crate) fn created_y(&self) -> u64 {
+        HEAD + BOX + 34
+    }
+
+    /// The row of this number.
+    pub(crate) fn row_y(&self, row: usize) -> u64 {
+        (row as u64)
+            .saturating_add(self.created)
+            .saturating_mul(ROW)
+            .saturating_add(HEAD + BOX + 34)
+    }
+
+    /// The line above the dead letters.
+    pub(crate) fn letters_top(&self) -> u64 {
+        self.row_y(0)
+            .saturating_add(self.rows.saturating_mul(ROW))
+            .saturating_sub(8)
+    }
+
+    /// The row of the dead letter of this number.
+    pub(crate) fn letter_y(&self, letter: usize) -> u64 {
+        self.letters_top()
+            .saturating_add(38)
+            .saturating_add((letter as u64).saturating_mul(ROW))
+    }
+
+    /// Where the lanes end.
+    pub(crate) fn lanes_end(&self) -> u64 {
+        if self.letters == 0 {
+            return self.letters_top();
+        }
+        self.letters_top()
+            .saturating_add(self.letters.saturating_mul(ROW))
+            .saturating_add(30)
+    }
+
+    /// Whether the names stand at the foot again.
+    pub(crate) fn is_tall(&self) -> bool {
+        self.rows.saturating_add(self.letters) > TALL
+    }
+
+    /// Where the lines begin that say what became of each actor.
+    pub(crate) fn standing_top(&self) -> u64 {
+        let room = if self.is_tall() { BOX } else { 0 };
+        self.lanes_end().saturating_add(room)
+    }
+
+    /// Where the legend begins.
+    pub(crate) fn legend_top(&self) -> u64 {
+        self.standing_top().saturating_add(FOOT)
+    }
+
+    pub(crate) fn width(&self) -> u64 {
+        self.spacing
+            .saturating_mul(self.lanes.saturating_sub(1))
+            .saturating_add(self.left)
+            .saturating_add(RIGHT)
+            .max(LEAST_WIDTH)
+    }
+
+    pub(crate) fn height(&self) -> u64 {
+        self.legend_top().saturating_add(LEGEND)
+    }
+}
+
+/// From one lane to the next: as much as the longest name needs.
+fn spacing_of(lanes: &Lanes) -> u64 {
+    lanes
+        .longest
+        .saturating_mul(8)
+        .saturating_add(30)
+        .clamp(150, 350)
+}
+
+/// The middle of the first lane: left of an actor's is room for what came of a message.
+fn left_of(lanes: &Lanes, spacing: u64) -> u64 {
+    let half = spacing / 2 + 8;
+    if lanes.begins_with_actor() {
+        return half.max(140);
+    }
+    half
+}

@@ -1,0 +1,26 @@
+//! A run as a picture: a sequence diagram in SVG, and a page in HTML that has it beside the journals.
+//!
+//! A picture shows each entry of the journals once. What is drawn is written as it is made, to any writer.
+#![tactic(auto)]
+
+mod arrow;
+mod created;
+mod dead_letters;
+mod escape;
+mod foot;
+mod geometry;
+mod head;
+mod html;
+mod journal;
+mod lanes;
+mod legend;
+mod picture;
+mod rows;
+mod sources;
+mod style;
+mod svg;
+mod words;
+
+pub use html::write_html;
+pub use picture::{Picture, Step};
+pub use svg::write_svg;

@@ -1,0 +1,217 @@
+//! The rows of a picture.
+use crate::picture::{Picture, Step};
+use crate::sources::Sources;
+use crate::words::Outcome;
+use mb_actor::Answer;
+use mb_journal::{EntryRef, Received};
+use mb_msg::{DeadLetter, Envelope, SysMsg};
+use std::alloc::{AllocError, Global};
+
+/// Entries that follow one another and differ in their numbers alone.
+#[derive(Clone, Copy)]
+pub(crate) struct Row<'a> {
+    /// The first.
+    pub(crate) step: Step<'a>,
+    /// Who sent it, if that is known.
+    pub(crate) source: Option<u32>,
+    /// How many they are.
+    pub(crate) times: u64,
+}
+
+/// Dead letters that follow one another and differ in their numbers alone.
+#[derive(Clone, Copy)]
+pub(crate) struct LetterRow {
+    /// The first.
+    pub(crate) letter: DeadLetter,
+    /// How many they are.
+    pub(crate) times: u64,
+}
+
+/// All rows, from top to bottom.
+#[derive(Drop)]
+pub(crate) struct Rows<'a> {
+    /// The actors that the guardian created and that started, and the guardian itself: one row, above the others.
+    pub(crate) created: Vec<u32>,
+    /// One for each other entry, or for some that are alike.
+    pub(crate) rows: Vec<Row<'a>>,
+    /// The dead letters.
+    pub(crate) letters: Vec<LetterRow>,
+}
+
+impl<'a> Rows<'a> {
+    /// The rows of a picture.
+    pub(crate) fn of(alloc: Global, picture: &Picture<'a>) -> Result<Self, AllocError> {
+        let mut sources = Sources::new(alloc, picture.report)?;
+        let mut rows = Rows {
+            created: Vec::new(alloc),
+            rows: Vec::new(alloc),
+            letters: Vec::new(alloc),
+        };
+        for step in picture.steps {
+            let source = sources.of(step);
+            sources.note(step);
+            rows.add(*step, source)?;
+        }
+        for letter in picture.letters {
+            rows.add_letter(*letter)?;
+        }
+        Ok(rows)
+    }
+
+    /// Adds an entry to the row of those that were created, to the last row, or in a row of its own.
+    fn add(&mut self, step: Step<'a>, source: Option<u32>) -> Result<(), AllocError> {
+        if is_plain_create(&step, source) {
+            self.created.push(step.actor.0)?;
+            return Ok(());
+        }
+        if let Some(last) = self.rows.last_mut() {
+            if is_alike(last, &step, source) {
+                last.times = last.times.saturating_add(1);
+                return Ok(());
+            }
+        }
+        let times = 1;
+        self.rows.push(Row {
+            step,
+            source,
+            times,
+        })?;
+        Ok(())
+    }
+
+    fn add_letter(&mut self, letter: DeadLetter) -> Result<(), AllocError> {
+        if let Some(last) = self.letters.last_mut() {
+            if is_like_letter(&last.letter, &letter) {
+                last.times = last.times.saturating_add(1);
+                return Ok(());
+            }
+        }
+        let times = 1;
+        self.letters.push(LetterRow { letter, times })?;
+        Ok(())
+    }
+}
+
+impl Row<'_> {
+    /// Whether it is one of an envelope.
+    pub(crate) fn is_user(&self) -> bool {
+        is_user(self.step.entry.arrival)
+    }
+
+    /// Whether the actor failed, or is told of a failure.
+    pub(crate) fn is_failure(&self) -> bool {
+        is_failure(self.step.entry.arrival)
+    }
+
+    /// Whether the actor began again.
+    pub(crate) fn is_restart(&self) -> bool {
+        match self.step.entry.arrival {
+            Received::System {
+                answer: Some(_),
+                message,
+                ..
+            } => may_restart(message),
+            _ => false,
+        }
+    }
+}
+
+fn may_restart(message: SysMsg) -> bool {
+    match message {
+        SysMsg::Recreate(_) | SysMsg::Resume { .. } => true,
+        _ => false,
+    }
+}
+
+/// Whether it is an envelope.
+pub(crate) fn is_user(came: Received) -> bool {
+    match came {
+        Received::Handled { .. } | Received::Dropped { .. } => true,
+        Received::System { .. } | Received::SetAside { .. } => false,
+    }
+}
+
+/// Whether the actor failed, is told of a failure, or is restarted after one.
+pub(crate) fn is_failure(came: Received) -> bool {
+    Outcome::of(came).is_failure() || tells_of_failure(came)
+}
+
+fn tells_of_failure(came: Received) -> bool {
+    match came {
+        Received::System { message, .. } | Received::SetAside { message, .. } => match message {
+            SysMsg::Failed(_, _) | SysMsg::Recreate(_) => true,
+            _ => false,
+        },
+        _ => false,
+    }
+}
+
+/// Whether this is an actor's first message from the guardian, or the guardian's own, and it did not fail.
+fn is_plain_create(step: &Step<'_>, source: Option<u32>) -> bool {
+    match step.entry.arrival {
+        Received::System {
+            answer,
+            message: SysMsg::Create,
+            ..
+        } => (source == None || source == Some(0)) && !has_failed(answer),
+        _ => false,
+    }
+}
+
+fn has_failed(answer: Option<Answer>) -> bool {
+    match answer {
+        Some(Answer::Failed(_)) => true,
+        _ => false,
+    }
+}
+
+/// Whether an entry is like those of a row but for its numbers.
+fn is_alike(row: &Row<'_>, step: &Step<'_>, source: Option<u32>) -> bool {
+    row.source == source
+        && row.step.actor == step.actor
+        && is_like_entry(&row.step.entry, &step.entry)
+}
+
+fn is_like_entry(one: &EntryRef<'_>, other: &EntryRef<'_>) -> bool {
+    without_numbers(one.arrival) == without_numbers(other.arrival) && one.effects == other.effects
+}
+
+fn is_like_letter(one: &DeadLetter, other: &DeadLetter) -> bool {
+    one.why == other.why && unnumbered(one.envelope) == unnumbered(other.envelope)
+}
+
+/// The same with the number 0.
+fn unnumbered(envelope: Envelope) -> Envelope {
+    Envelope {
+        number: 0,
+        ..envelope
+    }
+}
+
+/// The same with the number 0, and read at the status 0.
+fn without_numbers(came: Received) -> Received {
+    match came {
+        Received::Handled {
+            answer,
+            envelope,
+            ..
+        } => Received::Handled {
+            answer,
+            envelope: unnumbered(envelope),
+            reading: 0,
+        },
+        Received::System {
+            answer,
+            message,
+            ..
+        } => Received::System {
+            answer,
+            number: 0,
+            message,
+        },
+        Received::SetAside { message, .. } => Received::SetAside { number: 0, message },
+        Received::Dropped { envelope } => Received::Dropped {
+            envelope: unnumbered(envelope),
+        },
+    }
+}

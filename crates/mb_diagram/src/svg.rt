@@ -1,0 +1,33 @@
+//! The sequence diagram of a run.
+use crate::arrow::write_rows;
+use crate::created::write_created;
+use crate::dead_letters::write_letters;
+use crate::foot::write_foot;
+use crate::geometry::{Geometry, HEAD};
+use crate::head::{write_head, write_lanes, write_names};
+use crate::lanes::Lanes;
+use crate::legend::write_legend;
+use crate::picture::Picture;
+use crate::rows::Rows;
+use std::alloc::Global;
+use std::io;
+use std::io::Write;
+
+/// Writes the sequence diagram of a run, as an SVG document. Entries that follow one another and differ in their numbers alone share a
+/// row, which says how many they are, and so do the first messages that the guardian sends.
+///
+/// The errors are those of the writer, and `OutOfMemory`.
+pub fn write_svg<W: Write>(alloc: Global, w: &mut W, picture: &Picture<'_>) -> io::Result<()> {
+    let rows = Rows::of(alloc, picture)?;
+    let lanes = Lanes::of(alloc, picture, &rows)?;
+    let geometry = Geometry::of(&lanes, &rows);
+    write_head(w, &geometry)?;
+    write_lanes(w, picture, &rows, &lanes, &geometry)?;
+    write_names(w, picture, &lanes, &geometry, HEAD)?;
+    write_created(w, &rows, &lanes, &geometry)?;
+    write_rows(w, picture, &rows, &lanes, &geometry)?;
+    write_letters(w, picture, &rows, &lanes, &geometry)?;
+    write_foot(w, picture, &lanes, &geometry)?;
+    write_legend(w, geometry.legend_top(), geometry.width())?;
+    w.write_all(b"</svg>\n")
+}

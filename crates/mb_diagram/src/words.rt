@@ -1,0 +1,287 @@
+//! What came to an actor and what it asked for, in the words of a scenario.
+use crate::escape::Escaped;
+use mb_actor::{Answer, Effect, Phase};
+use mb_journal::Received;
+use mb_msg::limits::ACTORS;
+use mb_msg::{ActorId, Body, Cause, SysMsg, Why};
+use std::fmt;
+
+/// The name of a sender: of an actor, or of one outside.
+#[derive(Clone, Copy)]
+pub(crate) struct Name<'a> {
+    pub(crate) names: &'a [String],
+    /// The sender's number, which is an actor's own.
+    pub(crate) id: u32,
+}
+
+impl fmt::Display for Name<'_> {
+    fn fmt<W: fmt::Write>(&self, f: &mut fmt::Formatter<W>) -> fmt::Result {
+        if self.id >= ACTORS {
+            return write!(f, "outside {}", self.id - ACTORS);
+        }
+        if self.id == 0 {
+            return f.write_str("guardian");
+        }
+        match self.names.get(self.id as usize - 1) {
+            Some(name) => write!(f, "{}", Escaped(name.as_str())),
+            None => write!(f, "actor {}", self.id),
+        }
+    }
+}
+
+/// How many characters the name has, at most 40.
+pub(crate) fn length_of(names: &[String], id: u32) -> u64 {
+    if id == 0 || id >= ACTORS {
+        return 10;
+    }
+    match names.get(id as usize - 1) {
+        Some(name) => (name.as_str().len() as u64).min(40),
+        None => 10,
+    }
+}
+
+/// What came to an actor.
+#[derive(Clone, Copy)]
+pub(crate) struct Message<'a> {
+    pub(crate) names: &'a [String],
+    pub(crate) came: Received,
+}
+
+impl fmt::Display for Message<'_> {
+    fn fmt<W: fmt::Write>(&self, f: &mut fmt::Formatter<W>) -> fmt::Result {
+        match self.came {
+            Received::Handled { envelope, .. } | Received::Dropped { envelope } => {
+                write_body(f, self.names, envelope.body)
+            }
+            Received::System { message, .. } | Received::SetAside { message, .. } => {
+                write_system(f, self.names, message)
+            }
+        }
+    }
+}
+
+/// What an envelope carries.
+#[derive(Clone, Copy)]
+pub(crate) struct BodyWords<'a> {
+    pub(crate) names: &'a [String],
+    pub(crate) body: Body,
+}
+
+impl fmt::Display for BodyWords<'_> {
+    fn fmt<W: fmt::Write>(&self, f: &mut fmt::Formatter<W>) -> fmt::Result {
+        write_body(f, self.names, self.body)
+    }
+}
+
+fn write_body<W: fmt::Write>(
+    f: &mut fmt::Formatter<W>,
+    names: &[String],
+    body: Body,
+) -> fmt::Result {
+    match body {
+        Body::User { kind, value } => write!(f, "kind {kind} value {value}"),
+        Body::Control { kind, value } => write!(f, "control kind {kind} value {value}"),
+        Body::PoisonPill => f.write_str("poison"),
+        Body::Kill => f.write_str("kill"),
+        Body::Terminated(id) => write_of(f, "terminated", names, id),
+    }
+}
+
+fn write_system<W: fmt::Write>(
+    f: &mut fmt::Formatter<W>,
+    names: &[String],
+    message: SysMsg,
+) -> fmt::Result {
+    match message {
+        SysMsg::Create => f.write_str("create"),
+        SysMsg::Recreate(cause) => write!(f, "restart after {}", CauseWords(cause)),
+        SysMsg::Suspend => f.write_str("suspend"),
+        SysMsg::Resume { of_failure: true } => f.write_str("resume after its failure"),
+        SysMsg::Resume { of_failure: false } => f.write_str("resume"),
+        SysMsg::Terminate => f.write_str("terminate"),
+        SysMsg::Watch(id) => write_of(f, "watch by", names, id),
+        SysMsg::Unwatch(id) => write_of(f, "unwatch by", names, id),
+        SysMsg::Failed(id, cause) => write_failure(f, names, id, cause),
+        SysMsg::Died(id) => write_of(f, "died", names, id),
+    }
+}
+
+fn write_failure<W: fmt::Write>(
+    f: &mut fmt::Formatter<W>,
+    names: &[String],
+    id: ActorId,
+    cause: Cause,
+) -> fmt::Result {
+    write_of(f, "failed", names, id)?;
+    write!(f, " after {}", CauseWords(cause))
+}
+
+/// A word and the name of an actor.
+fn write_of<W: fmt::Write>(
+    f: &mut fmt::Formatter<W>,
+    word: &str,
+    names: &[String],
+    id: ActorId,
+) -> fmt::Result {
+    let name = Name { names, id: id.0 };
+    write!(f, "{word} {name}")
+}
+
+/// The cause of a failure.
+#[derive(Clone, Copy)]
+struct CauseWords(Cause);
+
+impl fmt::Display for CauseWords {
+    fn fmt<W: fmt::Write>(&self, f: &mut fmt::Formatter<W>) -> fmt::Result {
+        match self.0 {
+            Cause::Error(number) => write!(f, "error {number}"),
+            Cause::Init => f.write_str("init"),
+            Cause::Killed => f.write_str("killed"),
+            Cause::DeathPact => f.write_str("deathpact"),
+        }
+    }
+}
+
+/// What came of a message where that has to be told: nothing where it was handled, or applied with no call.
+#[derive(Clone, Copy, PartialEq, Eq)]
+pub(crate) enum Outcome {
+    Plain,
+    Unhandled,
+    Failed(u32),
+    Killed,
+    DeathPact,
+    SetAside,
+    Dropped,
+}
+
+impl Outcome {
+    pub(crate) fn of(came: Received) -> Self {
+        match came {
+            Received::Handled {
+                answer,
+                envelope,
+                ..
+            } => Outcome::of_envelope(answer, envelope.body),
+            Received::System { answer, .. } => Outcome::of_answer(answer),
+            Received::SetAside { .. } => Outcome::SetAside,
+            Received::Dropped { .. } => Outcome::Dropped,
+        }
+    }
+
+    /// A kill makes its receiver fail, and so does the end of a watched actor that it does not handle.
+    fn of_envelope(answer: Option<Answer>, body: Body) -> Self {
+        match (body, answer) {
+            (Body::Kill, _) => Outcome::Killed,
+            (Body::Terminated(_), Some(Answer::Unhandled)) => Outcome::DeathPact,
+            _ => Outcome::of_answer(answer),
+        }
+    }
+
+    /// Whether the actor failed.
+    pub(crate) fn is_failure(self) -> bool {
+        match self {
+            Outcome::Failed(_) | Outcome::Killed | Outcome::DeathPact => true,
+            _ => false,
+        }
+    }
+
+    fn of_answer(answer: Option<Answer>) -> Self {
+        match answer {
+            None | Some(Answer::Handled) => Outcome::Plain,
+            Some(Answer::Unhandled) => Outcome::Unhandled,
+            Some(Answer::Failed(number)) => Outcome::Failed(number),
+        }
+    }
+}
+
+impl fmt::Display for Outcome {
+    fn fmt<W: fmt::Write>(&self, f: &mut fmt::Formatter<W>) -> fmt::Result {
+        match *self {
+            Outcome::Plain => f.write_str("handled"),
+            Outcome::Unhandled => f.write_str("unhandled"),
+            Outcome::Failed(number) => write!(f, "failed {number}"),
+            Outcome::Killed => f.write_str("killed"),
+            Outcome::DeathPact => f.write_str("death pact"),
+            Outcome::SetAside => f.write_str("set aside"),
+            Outcome::Dropped => f.write_str("dropped"),
+        }
+    }
+}
+
+/// Something that an actor asked for.
+#[derive(Clone, Copy)]
+pub(crate) struct EffectWords<'a> {
+    pub(crate) names: &'a [String],
+    pub(crate) effect: Effect,
+}
+
+impl fmt::Display for EffectWords<'_> {
+    fn fmt<W: fmt::Write>(&self, f: &mut fmt::Formatter<W>) -> fmt::Result {
+        let names = self.names;
+        match self.effect {
+            Effect::Tell { to, kind, value } => {
+                write_of(f, "tell", names, to)?;
+                write!(f, " kind {kind} value {value}")
+            }
+            Effect::Control { to, kind, value } => {
+                write_of(f, "control", names, to)?;
+                write!(f, " kind {kind} value {value}")
+            }
+            Effect::Watch(id) => write_of(f, "watch", names, id),
+            Effect::Unwatch(id) => write_of(f, "unwatch", names, id),
+            Effect::Stop(id) => write_of(f, "stop", names, id),
+            Effect::Spawn(id) => write_of(f, "spawn", names, id),
+        }
+    }
+}
+
+/// How often something was repeated, with commas between thousands; nothing where it was not.
+#[derive(Clone, Copy)]
+pub(crate) struct Times(pub(crate) u64);
+
+impl fmt::Display for Times {
+    fn fmt<W: fmt::Write>(&self, f: &mut fmt::Formatter<W>) -> fmt::Result {
+        if self.0 <= 1 {
+            return Ok(());
+        }
+        f.write_str(" × ")?;
+        write_number(f, self.0)
+    }
+}
+
+fn write_number<W: fmt::Write>(f: &mut fmt::Formatter<W>, number: u64) -> fmt::Result {
+    if number < 1_000 {
+        return write!(f, "{number}");
+    }
+    if number < 1_000_000 {
+        return write!(f, "{},{:03}", number / 1_000, number % 1_000);
+    }
+    let thousands = number / 1_000 % 1_000;
+    write!(
+        f,
+        "{},{thousands:03},{:03}",
+        number / 1_000_000,
+        number % 1_000
+    )
+}
+
+/// Why an envelope is dead.
+pub(crate) fn why_word(why: Why) -> &'static str {
+    match why {
+        Why::Closed => "closed",
+        Why::Full => "full",
+        Why::NoMemory => "no memory",
+        Why::Cleaned => "cleaned",
+    }
+}
+
+/// The phase of a life.
+pub(crate) fn phase_word(phase: Phase) -> &'static str {
+    match phase {
+        Phase::Fresh => "fresh",
+        Phase::Live => "live",
+        Phase::Broken => "broken",
+        Phase::Ending => "ending",
+        Phase::Ended => "ended",
+    }
+}

@@ -1,0 +1,192 @@
+//! An entry of a journal.
+ghost use Rattle.std.specs.Prelude.{◌≡◌, IfOk, map, string_bytes};
+ghost use Rattle.serde_json.specs.Data.{null};
+ghost use Rattle.serde_json.specs.View.{view};
+ghost use Rattle.mb_journal.specs.JournalView.{entry_of};
+ghost use Rattle.mb_trace_json.specs.Effects.{effects_data};
+ghost use Rattle.mb_trace_json.specs.Entries.{answer_text, answer_error, whole_data, entry_data};
+ghost use Rattle.mb_trace_json.specs.Messages.{body_data, system_data};
+ghost use Rattle.mb_trace_json.specs.Names.{name_data};
+
+use crate::effect::effects_value;
+use crate::message::{body_value, system_value};
+use crate::names::name_value;
+use mb_actor::{Answer, Effect};
+use mb_journal::{EntryRef, Received};
+use mb_msg::{ActorId, Envelope, SysMsg};
+use serde_json::{Value, json};
+use std::alloc::{AllocError, Global};
+
+/// Whose journal has an entry, and where: from 0.
+#[derive(Clone, Copy)]
+pub(crate) struct Place {
+    pub(crate) actor: ActorId,
+    pub(crate) index: usize,
+}
+
+/// An entry.
+pub(crate) fn entry_value(
+    alloc: Global,
+    names: &[String],
+    place: Place,
+    entry: &EntryRef<'_>,
+) -> Result<Value, AllocError>
+    ensures { IfOk result (λ v. view v ≡ entry_data (map string_bytes names.now) place.actor.0 place.index (entry_of entry.now)) }
+{
+    match entry.arrival {
+        Received::Handled {
+            answer,
+            envelope,
+            reading,
+        } => {
+            let came = envelope_parts(alloc, names, envelope)?;
+            let told = answered(answer, Value::from(reading));
+            whole_value(alloc, names, place, came, told, entry.effects)
+        }
+        Received::System {
+            answer,
+            number,
+            message,
+        } => {
+            let came = system_parts(alloc, names, number, message)?;
+            let told = answered(answer, Value::Null);
+            whole_value(alloc, names, place, came, told, entry.effects)
+        }
+        Received::SetAside { number, message } => {
+            let came = system_parts(alloc, names, number, message)?;
+            whole_value(alloc, names, place, came, not_applied("set aside"), &[])
+        }
+        Received::Dropped { envelope } => {
+            let came = envelope_parts(alloc, names, envelope)?;
+            whole_value(alloc, names, place, came, not_applied("dropped"), &[])
+        }
+    }
+}
+
+/// What came of a message.
+#[derive(Drop)]
+struct Told {
+    outcome: &'static str,
+    error: Value,
+    /// The status word that was read before.
+    status: Value,
+}
+
+fn answered(answer: Option<Answer>, status: Value) -> Told
+    ensures outcome { result.outcome.now ≡ answer_text answer }
+    ensures error { view result.error ≡ answer_error answer }
+    ensures status { view result.status ≡ view status }
+{
+    Told {
+        outcome: answer_word(answer),
+        error: error_value(answer),
+        status,
+    }
+}
+
+fn not_applied(outcome: &'static str) -> Told
+    ensures outcome { result.outcome.now ≡ outcome.now }
+    ensures error { view result.error ≡ null }
+    ensures status { view result.status ≡ null }
+{
+    Told {
+        outcome,
+        error: Value::Null,
+        status: Value::Null,
+    }
+}
+
+/// What came: the message, who sent it if that is known, and its number.
+#[derive(Drop)]
+pub(crate) struct Came {
+    message: Value,
+    sender: Value,
+    number: u64,
+}
+
+fn envelope_parts(alloc: Global, names: &[String], envelope: Envelope) -> Result<Came, AllocError>
+    ensures message { IfOk result (λ came. view came.message ≡ body_data (map string_bytes names.now) envelope.body) }
+    ensures sender { IfOk result (λ came. view came.sender ≡ name_data (map string_bytes names.now) envelope.by.0) }
+    ensures number { IfOk result (λ came. came.number ≡ envelope.number) }
+{
+    let message = body_value(alloc, names, envelope.body)?;
+    let sender = name_value(alloc, names, envelope.by.0)?;
+    let number = envelope.number;
+    Ok(Came {
+        message,
+        sender,
+        number,
+    })
+}
+
+fn system_parts(
+    alloc: Global,
+    names: &[String],
+    number: u64,
+    message: SysMsg,
+) -> Result<Came, AllocError>
+    ensures message { IfOk result (λ came. view came.message ≡ system_data (map string_bytes names.now) message) }
+    ensures sender { IfOk result (λ came. view came.sender ≡ null) }
+    ensures number { IfOk result (λ came. came.number ≡ number) }
+{
+    let content = system_value(alloc, names, message)?;
+    Ok(Came {
+        message: content,
+        sender: Value::Null,
+        number,
+    })
+}
+
+/// The whole line of an entry.
+fn whole_value(
+    alloc: Global,
+    names: &[String],
+    place: Place,
+    came: Came,
+    told: Told,
+    effects: &[Effect],
+) -> Result<Value, AllocError>
+    ensures { IfOk result (λ v. view v ≡ whole_data (map string_bytes names.now) place.actor.0 place.index (view came.message)
+        (view came.sender) came.number told.outcome.now (view told.error) (effects_data (map string_bytes names.now) effects.now)
+        (view told.status)) }
+{
+    let actor = name_value(alloc, names, place.actor.0)?;
+    let entry = place.index;
+    let effects = effects_value(alloc, names, effects)?;
+    let Came {
+        message,
+        sender,
+        number,
+    } = came;
+    let Told {
+        outcome,
+        error,
+        status,
+    } = told;
+    json!(in alloc; {
+        "status": status, "sender": sender, "outcome": outcome, "number": number, "message": message, "line": "entry",
+        "error": error, "entry": entry, "effects": effects, "actor": actor
+    })
+}
+
+/// What the actor answered; `applied` where it was not called.
+fn answer_word(answer: Option<Answer>) -> &'static str
+    ensures { result.now ≡ answer_text answer }
+{
+    match answer {
+        None => "applied",
+        Some(Answer::Handled) => "handled",
+        Some(Answer::Unhandled) => "unhandled",
+        Some(Answer::Failed(_)) => "failed",
+    }
+}
+
+/// The number of a failure; null where the actor did not fail.
+fn error_value(answer: Option<Answer>) -> Value
+    ensures { view result ≡ answer_error answer }
+{
+    match answer {
+        Some(Answer::Failed(number)) => Value::from(number),
+        _ => Value::Null,
+    }
+}
