@@ -31,6 +31,7 @@ quick:
 	tools/check_schema
 	tools/check_scenarios
 	tools/check_traces
+	tools/check_trace_forms
 	tools/try_scenarios
 
 # Runs each scenario of examples/, and sees to it that the report is printed that stands beside it.
@@ -55,6 +56,7 @@ test:
 	tools/check_workers $(PROGRAM)
 	tools/check_commands $(PROGRAM)
 	tools/check_traces $(TRACE)
+	tools/check_trace_forms $(TRACE)
 	@if command -v "$${CC:-cc}" > /dev/null; then $(MAKE) --no-print-directory refuse; else echo 'no C compiler: no allocation was refused'; fi
 	tools/compare_with_a_model $(PROGRAM)
 

@@ -25,7 +25,8 @@ class Recorded(Script):
         return self.keep(*super().receive(body))
 
     def stop(self):
-        return self.keep("handled", super().stop())[1]
+        """A stop answers nothing."""
+        return self.keep(None, super().stop())[1]
 
 
 class Traced(Cell):
@@ -46,24 +47,23 @@ class Traced(Cell):
         if self.script:
             self.script.called = None
         apply()
-        answer, effects = self.script and self.script.called or ("handled", [])
-        outcome = f"failed {answer}" if isinstance(answer, int) else answer
+        answer, effects = self.script and self.script.called or (None, [])
         if len(self.aside) > waiting:
-            outcome = "set aside"
-        return [before, self.standing(), what, outcome, effects]
+            answer = "set aside"
+        return [before, self.standing(), what, answer, effects]
 
     def apply_system(self, message):
         from_aside = len(self.aside) < len(self.numbers_aside)
         number = self.numbers_aside.pop(0) if from_aside else self.arrived
         self.arrived += not from_aside
-        made = self.entry(f"system #{number} {self.system.system_words(message)}", lambda: super(Traced, self).apply_system(message))
+        made = self.entry(self.system.system_came(number, message), lambda: super(Traced, self).apply_system(message))
         if made[3] == "set aside":
             self.numbers_aside.append(number)
         self.system.note(self, made)
 
     def apply_envelope(self, sent, body):
         is_dropped = body[0] == "terminated" and body[1] not in self.due
-        what = self.system.envelope_words(sent, body)
+        what = self.system.envelope_came(sent, body)
         made = self.entry(what, lambda: super(Traced, self).apply_envelope(sent, body))
         if is_dropped:
             made[3] = "dropped"
@@ -84,10 +84,15 @@ class Trace(System):
     def name(self, number):
         return self.cells[number].name
 
-    def envelope_words(self, sent, body):
+    def sender(self, by):
+        return f"outside {by - 64}" if by >= 64 else self.name(by)
+
+    def system_came(self, number, message):
+        return f"system #{number} {self.system_words(message)}"
+
+    def envelope_came(self, sent, body):
         by, number = sent
-        sender = f"outside {by - 64}" if by >= 64 else self.name(by)
-        return f"{sender} #{number} {self.body_words(body)}"
+        return f"{self.sender(by)} #{number} {self.body_words(body)}"
 
     def body_words(self, body):
         kind, *words = body
@@ -121,30 +126,40 @@ class Trace(System):
         super().run_mailbox(cell)
 
     def note(self, cell, made):
-        before, after, what, outcome, effects = made
+        before, after, what, answer, effects = made
         if self.owner is None:
             self.lines.append(f"turn {cell.name}")
             self.owner = cell
         changes = [] if before[0] == after[0] else [after[0]]
         changes += [] if before[1] == after[1] else [f"suspended {after[1]}"]
         changes += [] if after[2] is None else [f"state {after[2]}"]
+        outcome = f"failed {answer}" if isinstance(answer, int) else answer or "handled"
         self.lines.append(f"  {what}: " + ", ".join([outcome, *changes]))
         self.lines += [f"    {self.effect_words(effect)}" for effect in effects]
 
     def lose(self, cell, envelope, why):
         super().lose(cell, envelope, why)
         sender = (1, cell.number) if why == "cleaned" else (0, envelope[0][0])
-        self.lost.append((sender, f"dead {self.envelope_words(*envelope)} to {cell.name}: {why}"))
+        self.lost.append((sender, self.dead_line(cell, envelope, why)))
+
+    def dead_line(self, cell, envelope, why):
+        return f"dead {self.envelope_came(*envelope)} to {cell.name}: {why}"
+
+    def left_line(self, cell, envelope):
+        return f"left {self.envelope_came(*envelope)} to {cell.name}"
+
+    def aside_line(self, cell, number, message):
+        return f"aside {self.system_came(number, message)} to {cell.name}"
 
     def told(self):
         """The whole trace, once the run has ended."""
         lines = self.lines + [line for _, line in sorted(self.lost, key=lambda one: one[0])]
         for cell in self.cells:
             while envelope := cell.mailbox.take():
-                lines.append(f"left {self.envelope_words(*envelope)} to {cell.name}")
+                lines.append(self.left_line(cell, envelope))
         for cell in self.cells:
             for number, message in zip(cell.numbers_aside, cell.aside) if not cell.closed else ():
-                lines.append(f"aside system #{number} {self.system_words(message)} to {cell.name}")
+                lines.append(self.aside_line(cell, number, message))
         return "".join(line + "\n" for line in lines)
 
 
@@ -152,9 +167,9 @@ def cause_words(cause):
     return f"error {cause}" if isinstance(cause, int) else cause
 
 
-def trace_of(top):
+def trace_of(top, form=Trace):
     """The trace of a scenario that passes all checks and is run quietly, or None where a journal becomes full."""
-    run = Trace(top)
+    run = form(top)
     try:
         run.run()
     except JournalFull:

@@ -2,12 +2,16 @@
 //! four, and prints the money that is there at the end.
 #![tactic(auto)]
 
-ghost use Rattle.std.specs.Prelude.{◌≡◌, []};
+ghost use Rattle.std.specs.Prelude.{◌≡◌, [], IfOk, map, pos};
+ghost use Rattle.mb_actor.specs.Behaviour.{Moment, Reply};
+ghost use Rattle.bank_actors.specs.BankAccount.{balance_after};
+ghost use Rattle.bank_actors.specs.Teller.{teller_gives};
+ghost use Rattle.bank.specs.Conserved.{IsConserved};
 
-use bank_actors::{Account, DEPOSIT, OVERDRAFT, TRANSFER, Teller, WITHDRAW};
+use bank_actors::{BankAccount, DEPOSIT, OVERDRAFT, TRANSFER, Teller, WITHDRAW};
 use heddleorange::{
-    Actor, ActorId, Body, Directive, Envelope, Error, Order, Pattern, PlannedSystem, Report,
-    SETTINGS, child_of, on_cause, state, stop, tell, with_strategy,
+    Actor, ActorId, ActorPlan, Body, Directive, Envelope, Error, Order, Pattern, PlannedSystem,
+    Report, SETTINGS, Strategy, state,
 };
 use std::alloc::{AllocError, Global};
 use std::sync::Wait;
@@ -25,12 +29,13 @@ const BOB: ActorId = ActorId(3);
 fn orders(alloc: Global, second: Vec<Order>) -> Result<Vec<Vec<Order>>, AllocError> {
     let mut first = Vec::new(alloc);
     for amount in [30, 50, 40] {
-        first.push(tell(TELLER, TRANSFER, amount))?;
+        first.push(Order::tell(TELLER, TRANSFER, amount))?;
     }
     Ok(vec![in alloc; first, second]?)
 }
 
-/// Runs a bank: on this thread if it has one worker, else on threads. An overdrawn account goes on, one that fails otherwise restarts.
+/// Runs a bank of a teller and two accounts: on this thread if it has one worker, else on threads. An overdrawn account goes on, one
+/// that fails otherwise restarts. No money is lost but by a restart, or where an amount does not fit a balance.
 fn run<R: Threads + Wait + Sync>(
     rt: &R,
     workers: u32,
@@ -41,17 +46,23 @@ fn run<R: Threads + Wait + Sync>(
     alloc: Global,
 ) -> Result<Report, Error>
     requires unused { (content teller ≡ after teller []) × (content alice ≡ after alice []) × (content bob ≡ after bob []) }
+    requires teller { (moment : Moment) (reply : Reply) → gives teller moment reply → teller_gives (record { 0 = 2 }) (record { 0 = 3 }) moment reply }
+    requires accounts { (after alice ≡ balance_after (pos 100)) × (after bob ≡ balance_after (pos 100)) }
+    requires alice_sends_nothing { (moment : Moment) (reply : Reply) → gives alice moment reply → reply.effects ≡ [] }
+    requires bob_sends_nothing { (moment : Moment) (reply : Reply) → gives bob moment reply → reply.effects ≡ [] }
+    ensures conserved { IfOk result (IsConserved (pos 100) (map (λ orders. orders.items) sends.now)) }
 {
     let mut settings = SETTINGS;
     settings.workers = workers;
     settings.senders = 2;
-    let none = child_of(alloc, TELLER).strategy;
-    let resuming = on_cause(none, Pattern::Error(OVERDRAFT), Directive::Resume)?;
-    let strategy = on_cause(resuming, Pattern::AnyError, Directive::Restart)?;
+    let strategy = Strategy::new(alloc)
+        .on_cause(Pattern::Error(OVERDRAFT), Directive::Resume)?
+        .on_cause(Pattern::AnyError, Directive::Restart)?;
+    let teller_plan = ActorPlan::child_of(alloc, GUARDIAN).with_strategy(strategy);
     let mut bank = PlannedSystem::new(alloc, settings);
-    bank.add(with_strategy(child_of(alloc, GUARDIAN), strategy), teller)?;
-    bank.add(child_of(alloc, TELLER), alice)?;
-    bank.add(child_of(alloc, TELLER), bob)?;
+    bank.add(teller_plan, teller)?;
+    bank.add(ActorPlan::child_of(alloc, TELLER), alice)?;
+    bank.add(ActorPlan::child_of(alloc, TELLER), bob)?;
     if workers == 1 {
         bank.run_here(rt, alloc, sends)
     } else {
@@ -68,8 +79,8 @@ fn run_new<R: Threads + Wait + Sync>(
 ) -> Result<Report, Error> {
     let sends = orders(alloc, second)?;
     let teller: Box<dyn Actor + Send> = Box::new(alloc, Teller::new(ALICE, BOB))?;
-    let alice: Box<dyn Actor + Send> = Box::new(alloc, Account::new(100))?;
-    let bob: Box<dyn Actor + Send> = Box::new(alloc, Account::new(100))?;
+    let alice: Box<dyn Actor + Send> = Box::new(alloc, BankAccount::new(100))?;
+    let bob: Box<dyn Actor + Send> = Box::new(alloc, BankAccount::new(100))?;
     run(rt, workers, &sends, teller, alice, bob, alloc)
 }
 
@@ -107,7 +118,7 @@ fn main(rt: HostRuntime) -> anyhow::Result<()> {
             println!(rt; "{workers} at work: Alice {alice}, Bob {bob}, together {money}")?;
         }
     }
-    let report = run_new(&rt, rt.alloc(), 4, vec![in rt.alloc(); stop(BOB)]?)?;
+    let report = run_new(&rt, rt.alloc(), 4, vec![in rt.alloc(); Order::stop(BOB)]?)?;
     let money = total(&report);
     println!(rt; "4 at work, and Bob's account closes: all the money is {money}")?;
     Ok(())

@@ -5,7 +5,7 @@ use Rattle.std.proofs.lemmas.Bool.{false≢true}
 use Rattle.std.proofs.lemmas.List.Sums.{sum_by-cons}
 use Rattle.mb_actor.specs.declared.message.Message.{Message}
 use Rattle.mb_actor.specs.declared.message.Message.TheVariants.{User, Control, Terminated}
-use Rattle.bank_actors.specs.Account.{balance_after, booked, is_balance, sum_with}
+use Rattle.bank_actors.specs.BankAccount.{balance_after, booked, is_balance, sum_with}
 use Rattle.bank_actors.specs.Bookings.{AreBooked, IsBooked, above, added_by, all_given, all_taken, below}
 use Rattle.bank_actors.specs.Money.{deposit, withdraw}
 

@@ -4,7 +4,7 @@ use Rattle.mb_actor.specs.declared.effect.Effect.{Effect}
 use Rattle.mb_actor.specs.declared.effect.Effect.TheVariants as effect
 use Rattle.mb_actor.specs.declared.message.Message.{Message}
 use Rattle.mb_actor.specs.declared.message.Message.TheVariants.{User, Control, Terminated}
-use Rattle.bank_actors.specs.Account.{booked, is_balance, sum_with}
+use Rattle.bank_actors.specs.BankAccount.{booked, is_balance, sum_with}
 use Rattle.bank_actors.specs.Money.{worth}
 
 -- what a number is above zero, and what it is below

@@ -1,4 +1,4 @@
-pub mod Account
+pub mod BankAccount
 pub mod Bookings
 pub mod Failures
 pub mod Money

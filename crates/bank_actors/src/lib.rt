@@ -4,10 +4,10 @@
 //! answers and asks for. A teller's transfer takes as much from one account as it gives to the other.
 #![tactic(auto)]
 
-mod account;
+mod bank_account;
 mod kinds;
 mod teller;
 
-pub use account::{Account, adds_up};
+pub use bank_account::{BankAccount, adds_up};
 pub use kinds::{DEPOSIT, NO_ACCOUNT, OUT_OF_RANGE, OVERDRAFT, TRANSFER, WITHDRAW};
 pub use teller::{Teller, gives_what_it_takes};

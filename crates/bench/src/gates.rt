@@ -62,7 +62,7 @@ fn two_threads<R: Clock + Threads + Sync + Print + Eprint>(
     alloc: Global,
 ) -> io::Result<()> {
     let (gates, mut first) = two(alloc)?;
-    let second = gates.another(&mut first);
+    let second = gates.split_pass(&mut first);
     show_paired(rt, measure_paired(rt, &gates, first, second))
 }
 

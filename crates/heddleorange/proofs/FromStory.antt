@@ -1,10 +1,8 @@
 -- What the story of a run says to whoever reads its report.
 use Rattle.std.proofs.Common.{◌≡◌, ◌<◌, ℕ, suc, ◌+◌, ℤ, List, [], length, map, refl, sym, ap, ◌∙◌, subst, Some, None, arith, if◌then◌else◌, Bool}
 use Rattle.std.specs.Prelude.{Err, IfOk, Ok, OnOk, Option, Result, slice_get}
-use Rattle.std.proofs.lemmas.List.{length-map}
 use Rattle.mb_actor.specs.Behaviour.{Moment, Reply}
 use Rattle.mb_actor.specs.declared.message.Message.{Message}
-use Rattle.mb_build.proofs.NewHomesLemmas.{length-who}
 use Rattle.mb_build.specs.Planned.{actors_in}
 use Rattle.mb_home.specs.Directory.{DirectoryEntry}
 use Rattle.mb_journal.specs.Entry.{Entry}
@@ -20,15 +18,14 @@ use Rattle.heddleorange.specs.Reading.{entries_in, entries_of, journal_of, state
 use Rattle.heddleorange.specs.States.{ShowsStates}
 use Rattle.heddleorange.specs.WholeRun.{IsReportOfRun, after_at, after_of}
 use Rattle.heddleorange.specs.declared.error.Error.{Error}
-use Rattle.heddleorange.proofs.Identified.{actor-at, as-planned}
+use Rattle.heddleorange.proofs.Identified.{actor-at}
+use Rattle.heddleorange.proofs.Ledger.{line-count}
 
 module _ {A : Type 0} (actors : List A) (after : A → List Message → ℤ) (gives : ℕ → Moment → Reply → Type 0) (plan : Plan) (orders : List (List Order))
   where
     module _ (report : Report) (right : IsRight plan (length actors) orders) (story : IsReportOfRun (after_at actors after) gives plan orders report) where
       lines : length report.actors.items ≡ length actors + 1
-      lines =
-          story.whole.same_count.0 ∙ sym (length-map story.directory (λ (e : DirectoryEntry). e.who)) ∙ ap length story.planned.who
-          ∙ length-who plan.journal_limit plan.actors.items ∙ ap (λ n. n + 1) (as-planned plan (length actors) right.0)
+      lines = line-count (after_at actors after) gives plan (length actors) orders report right story
 
       states : ShowsStates after actors plan report
       states place actor handed =

@@ -7,3 +7,9 @@ pub mod Jobs
 pub mod HasRunLemmas
 pub mod Identified
 pub mod FromStory
+pub mod Sums
+pub mod Recipients
+pub mod Ledger
+pub mod Told
+pub mod Lives
+pub mod Weighed

@@ -8,6 +8,7 @@ use Rattle.mb_startup.specs.Begun.{IsBegun}
 use Rattle.mb_system.specs.Members.{IsEndOf}
 use Rattle.mb_system.specs.declared.built.Built.{Built}
 use Rattle.mb_system.specs.declared.end.WorkerEnd.{WorkerEnd}
+use Rattle.mb_system.specs.declared.failure.RunError.TheVariants as Fault
 use Rattle.mb_msg.specs.declared.order.Order.{Order}
 use Rattle.mb_shutdown.specs.Refused.{DisagreesIfSaid, IsRefusal}
 use Rattle.mb_shutdown.specs.declared.ending.FinishError.{FinishError}
@@ -24,7 +25,9 @@ pub unfit : (gives : ℕ → Moment → Reply → Type 0) (plan : Plan) (actors 
 unfit gives plan actors orders (BadPlan reason) refused = refused
 unfit gives plan actors orders Sends refused = refused
 unfit gives plan actors orders NoMemory refused = absurd refused
-unfit gives plan actors orders (Run error) refused = absurd refused
+unfit gives plan actors orders (Run Fault.NoSuchActor) refused = refused
+unfit gives plan actors orders (Run Fault.NoMemory) refused = absurd refused
+unfit gives plan actors orders (Run Fault.JournalFull) refused = absurd refused
 unfit gives plan actors orders (NotQuiet id) refused = absurd refused
 unfit gives plan actors orders (Mismatch what) refused = absurd refused
 

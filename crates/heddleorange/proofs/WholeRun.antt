@@ -50,7 +50,7 @@ module _ {A K : Type 0} (gates : Gates (Box Contents)) where
   -- the sender at this place, as it began
   new-at : (number : ℕ) (rows : List (List SendPassView)) (senders : List (Sender A K)) (place : ℕ) (s : Sender A K)
       → AreNewSenders gates number rows senders → slice_get senders place ≡ Some s
-      → (s.inner.send_log.by.0 ≡ number + place) × (s.inner.send_log.posted ≡ []) × ((pass_view s.inner.registrar.pass).said ≡ [])
+      → (s.inner.send_log.by.0 ≡ number + place) × (s.inner.send_log.posted ≡ []) × ((pass_view s.inner.registrar.pass).sent_system ≡ [])
   new-at number [] [] place s are is = absurd (omega (arith, slice_get_within {A = Sender A K} [] place s is))
   new-at number [] (x ∷ senders) place s are is = absurd are
   new-at number (row ∷ rows) [] place s are is = absurd are
@@ -58,7 +58,7 @@ module _ {A K : Type 0} (gates : Gates (Box Contents)) where
       let same = sym (same_Some x s is) in (
         ap (λ (y : Sender A K). y.inner.send_log.by.0) same ∙ ap (λ n. n.0) are.0.by ∙ (omega arith),
         ap (λ (y : Sender A K). y.inner.send_log.posted) same ∙ are.0.posted,
-        ap (λ (y : Sender A K). (pass_view y.inner.registrar.pass).said) same ∙ are.0.silent,
+        ap (λ (y : Sender A K). (pass_view y.inner.registrar.pass).sent_system) same ∙ are.0.silent,
       )
   new-at number (row ∷ rows) (x ∷ senders) (suc place) s are is =
       let rest = new-at (number + 1) rows senders place s are.1 is in (rest.0 ∙ (omega arith), rest.1, rest.2)
@@ -108,7 +108,7 @@ module _ {A K : Type 0} (gives : ℕ → Moment → Reply → Type 0) (plan : Pl
         ∙ one.posted ∙ ap (λ l. l ++ one.more) new.1 in
         let terminates = reverse (terminates_of of) in record {
           accepted_are = ap (λ l. addressed (accepted l)) posted ∙ one.accepted_are;
-          said = ap (λ (v : View). addressed_system v.said) (sym after.2) ∙ one.system_sent ∙ ap (λ l. terminates ++ addressed_system l) new.2 ∙ append-nil terminates;
+          sent_system = ap (λ (v : View). addressed_system v.sent_system) (sym after.2) ∙ one.system_sent ∙ ap (λ l. terminates ++ addressed_system l) new.2 ∙ append-nil terminates;
         }
 
     pub story : (after : ℕ → List Message → ℤ) (report : Report) (log : List Observation) (answers : List (List SentEnvelope))
@@ -131,7 +131,7 @@ module _ {A K : Type 0} (gives : ℕ → Moment → Reply → Type 0) (plan : Pl
               (ap (λ s. s.gates) system) whole;
           homes = record {
             first = (first_home built.system.gates).value;
-            rolled = refl;
+            same_directory = refl;
             view = home.view;
             home = subst (λ (n : ℕ). HomesReturned gives (first_home built.system.gates).value n home.view report) (sym built.system.directory)
                 (subst (λ (g : Gates (Box Contents)). HomesReturned gives (first_home g).value (actors_of g) home.view report)

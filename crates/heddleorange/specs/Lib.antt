@@ -2,6 +2,6 @@ pub mod Sent
 pub mod WholeRun
 pub mod NoReport
 pub mod HasRun
-pub mod Plans
 pub mod Reading
 pub mod States
+pub mod Ledger

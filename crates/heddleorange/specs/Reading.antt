@@ -1,9 +1,11 @@
 -- What a report says of one actor.
-use Rattle.std.specs.Prelude.{ℕ, ℤ, Bool, true, false, List, [], count_by, Option, Some, None, slice_get}
+use Rattle.std.specs.Prelude.{ℕ, ℤ, List, [], ◌∷◌, ◌++◌, count_by, Option, Some, None, slice_get}
 use Rattle.mb_msg.specs.declared.dead_letter.DeadLetter.{DeadLetter}
+use Rattle.mb_actor.specs.declared.message.Message.{Message}
 use Rattle.mb_journal.specs.Entry.{Entry}
-use Rattle.mb_journal.specs.Entry.Entry.{Handled, System, Dropped}
+use Rattle.mb_journal.specs.Incarnation.{entry_messages}
 use Rattle.mb_journal.specs.JournalView.{JournalView}
+use Rattle.mb_report.specs.Counts.{tells_of_envelope}
 use Rattle.mb_report.specs.declared.report.ActorReport.{ActorReport}
 use Rattle.mb_report.specs.declared.report.Report.{Report}
 use Rattle.mb_report.specs.declared.report.SenderReport.{SenderReport}
@@ -23,16 +25,15 @@ abbrev pub entries_of : Option JournalView → List Entry
 entries_of None = []
 entries_of (Some journal) = journal.entries
 
--- The entry is of an envelope that the actor handled.
-abbrev pub is_handled : Entry → Bool
-is_handled (Handled envelope reading outcome) = true
-is_handled (System number message outcome) = false
-is_handled (Dropped envelope) = false
+-- The messages of all envelopes that an actor handled, over all its lives, the earliest first.
+abbrev pub handled_messages : List Entry → List Message
+handled_messages [] = []
+handled_messages (e ∷ before) = handled_messages before ++ entry_messages e
 
--- How many envelopes a journal has that were handled, if there is one.
+-- How many envelopes a journal has that were handled or dropped, if there is one.
 abbrev pub handled_of : Option JournalView → Option ℕ
 handled_of None = None
-handled_of (Some journal) = Some (count_by is_handled journal.entries)
+handled_of (Some journal) = Some (count_by tells_of_envelope journal.entries)
 
 -- The dead letters of this sender, if there is one.
 abbrev pub dead_of : Option SenderReport → Option (List DeadLetter)
@@ -51,7 +52,7 @@ journal_in report id = journal_of (slice_get report.actors.items id)
 abbrev pub entries_in : Report → ℕ → List Entry
 entries_in report id = entries_of (journal_in report id)
 
--- How many envelopes the actor of this number handled.
+-- How many envelopes the actor of this number handled or dropped.
 abbrev pub handled_in : Report → ℕ → Option ℕ
 handled_in report id = handled_of (journal_in report id)
 

@@ -6,7 +6,7 @@ use Rattle.mb_gate.specs.Accessors.{actors_of}
 use Rattle.mb_gate.specs.declared.gates.Gates.{Gates}
 use Rattle.mb_home.specs.Contents.{Contents}
 use Rattle.mb_pool.specs.Moves.{WasEmpty}
-use Rattle.mb_pool.specs.Places.{looks}
+use Rattle.mb_pool.specs.Places.{ports_of}
 use Rattle.mb_home.specs.Fresh.{IsFreshClaim}
 use Rattle.mb_register.specs.Owed.{IsNobody}
 use Rattle.mb_system.specs.Obligations.{KeepsObligations, HasNoObligationTo, OwesNobody}
@@ -43,7 +43,7 @@ module _ {A K : Type 0} where
     pub are : ends ≡ (first ∷ rest)
     pub nobody : IsNobody first.registrar.owed
     pub settled : HasNoObligationTo (actors_of gates) (end_caller first.registrar)
-    pub empty : All (WasEmpty (IsFreshClaim gives)) (looks first.registrar.run_queue.end)
+    pub empty : All (WasEmpty (IsFreshClaim gives)) (ports_of first.registrar.run_queue.end)
 
   -- Sending is broken off for this reason, or the run of an end of this system is.
   abbrev pub BreaksOff : (ℕ → Moment → Reply → Type 0) → System A K → List (List Order) → RunError → Type 0

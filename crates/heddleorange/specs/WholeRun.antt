@@ -44,7 +44,7 @@ gives_at actors gives number moment reply = gives_of gives (handed_in actors num
 -- other system message. These stand newest first.
 pub record DidOrders (orders : List Order) (postings : List SentEnvelope) (knew : View) : Type 0 where
   pub accepted_are : addressed (accepted postings) ≡ envelopes_of orders
-  pub said : addressed_system knew.said ≡ reverse (terminates_of orders)
+  pub sent_system : addressed_system knew.sent_system ≡ reverse (terminates_of orders)
 
 -- The report of a whole run. It tells of all actors of this plan, and of the plan's senders outside, each of which carried out the orders of its
 -- place. It tells of all that the senders and the workers' ends saw, and extends that; and they saw that a Create went into the guardian's list. It

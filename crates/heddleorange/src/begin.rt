@@ -1,15 +1,16 @@
 //! Building the system of a run.
 ghost use Rattle.std.specs.Prelude.{◌≡◌, IfErr, IfOk, MatchResult, OnOk, length, map};
+ghost use Rattle.std.specs.List.{list_any};
 ghost use Rattle.mb_build.specs.BehavesAsPlanned.{BehaveAsPlanned};
 ghost use Rattle.mb_startup.specs.Begun.{IsBegun};
-ghost use Rattle.heddleorange.specs.NoReport.{IsErrorOfRun, IsRight, IsUnfit};
+ghost use Rattle.heddleorange.specs.NoReport.{IsErrorOfRun, IsRight, IsUnfit, has_nobody, has_one_for_nobody};
 
 use crate::error::Error;
 use mb_actor::{Actor, Behaviours};
 use mb_build::check_plan;
-use mb_msg::{Order, Plan};
+use mb_msg::{ActorId, Order, OrderKind, Plan};
 use mb_startup::{BuildError, build};
-use mb_system::Built;
+use mb_system::{Built, RunError};
 use std::alloc::Global;
 use std::sync::Wait;
 
@@ -45,5 +46,49 @@ fn check(plan: &Plan, actors: usize, sends: &[Vec<Order>]) -> Result<(), Error>
     if sends.len() != plan.senders as usize {
         return Err(Error::Sends);
     }
+    if has_one_for_nobody(actors, sends) {
+        return Err(Error::Run(RunError::NoSuchActor));
+    }
     Ok(())
+}
+
+// Whether one of the orders of these senders can go to none of so many actors.
+fn has_one_for_nobody(actors: usize, sends: &[Vec<Order>]) -> bool
+    ensures { result ≡ has_one_for_nobody actors (map (λ orders. orders.items) sends.now) }
+{
+    has_such_a_sender(actors, sends)
+}
+
+// The same, of the lists as they stand.
+fn has_such_a_sender(actors: usize, sends: &[Vec<Order>]) -> bool
+    ensures { result ≡ list_any (λ orders. list_any (has_nobody actors) orders.items) sends.now }
+{
+    sends.iter().any(|orders| has_such_an_order(actors, orders))
+}
+
+// Whether one of the orders of this sender can.
+fn has_such_an_order(actors: usize, orders: &Vec<Order>) -> bool
+    ensures { result ≡ list_any (has_nobody actors) orders.now.items }
+{
+    has_one_of_these(actors, orders)
+}
+
+// Whether one of these can.
+fn has_one_of_these(actors: usize, orders: &[Order]) -> bool
+    ensures { result ≡ list_any (has_nobody actors) orders.now }
+{
+    orders.iter().any(|order| has_nobody(actors, order))
+}
+
+// Whether this is to be carried out and can go to none of them.
+fn has_nobody(actors: usize, order: &Order) -> bool
+    ensures { result ≡ has_nobody actors order.now }
+{
+    let ActorId(to) = order.to;
+    let is_beyond = to as usize > actors;
+    let is_for_nobody = match order.what {
+        OrderKind::Tell(_) => to == 0 || is_beyond,
+        OrderKind::Stop => is_beyond,
+    };
+    order.times > 0 && is_for_nobody
 }

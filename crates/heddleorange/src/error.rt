@@ -17,19 +17,19 @@ pub enum Error {
     /// There are fewer lists of orders than the plan has senders, or more. Nothing was done.
     #[error("there are not as many lists of orders as senders")]
     Sends,
-    /// Memory was refused as the system was built, or as it was to end. The system is let go, with all that it did.
+    /// Memory was refused as the system was built, or as it was to end. The system is dropped, with all that it did.
     #[error("memory was refused")]
     NoMemory,
-    /// What was to be sent could not be, or the run was broken off: `JournalFull` only where the journal of an actor has as many
-    /// entries as the plan allows, `NoSuchActor` only where something was to be sent to an actor that there is not, or an
-    /// envelope to the guardian. The system is let go, with all that it did.
-    #[error("the run was broken off: {0:?}")]
+    /// `NoSuchActor`: an order that is to be carried out goes to an actor that does not exist, or sends the guardian an envelope.
+    /// Nothing was done. `JournalFull`: the run was broken off, since the journal of an actor has as many entries as the plan
+    /// allows; `NoMemory`: since memory was refused. The system is dropped then, with all that it did.
+    #[error("not run, or not to its end: {0:?}")]
     Run(RunError),
     /// This actor has something to run still.
     #[error("an actor has something to run still: {0:?}")]
     NotQuiet(ActorId),
-    /// What came apart at the end does not agree.
-    #[error("what came apart at the end does not agree: {0:?}")]
+    /// At the end, the parts of the system did not agree.
+    #[error("at the end, the parts of the system did not agree: {0:?}")]
     Mismatch(Mismatch),
 }
 

@@ -15,7 +15,7 @@ use mb_shutdown::{FinishError, finish};
 use mb_system::Built;
 use std::sync::Wait;
 
-/// Ends a system that has run: its report, or why there is none. Both are said of each plan and orders of which it is the system.
+/// Ends a system that has run: its report, or why there is none. Both clauses hold for every plan and orders that made this system.
 pub(crate) fn finish_run<A: Actor, K: Behaviours, R: Wait>(
     rt: &R,
     built: Built<A, K>,
@@ -33,7 +33,7 @@ pub(crate) fn finish_run<A: Actor, K: Behaviours, R: Wait>(
     }
 }
 
-// How it is told why there is no report of a system that has all ends and senders that it began with.
+// The error for a system that gave no report although all its ends and senders came back.
 fn without_report<A: Actor, K: Behaviours>(error: &FinishError<A, K>) -> Error
     requires { (actors : ℕ) × IsOfWhole actors error.now }
     ensures { IsErrorFor error.now result }

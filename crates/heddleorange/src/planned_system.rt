@@ -3,6 +3,7 @@ ghost use Rattle.std.specs.Prelude.{◌≡◌, ◌+◌, ◌≤◌, ◌↔◌, []
 ghost use Rattle.mb_build.specs.declared.check.PlanError.TheVariants.{Actors};
 ghost use Rattle.mb_msg.specs.declared.pool_kind.PoolKind.TheVariants as pool_kind;
 ghost use Rattle.heddleorange.specs.declared.error.Error.TheVariants.{BadPlan, NoMemory};
+ghost use Rattle.heddleorange.specs.Ledger.{AddsUp};
 ghost use Rattle.heddleorange.specs.NoReport.{IsErrorOfRun, IsRight};
 ghost use Rattle.heddleorange.specs.States.{ShowsStates};
 ghost use Rattle.heddleorange.specs.WholeRun.{IsReportOfRun, after_at, gives_at};
@@ -131,6 +132,7 @@ impl<A: Actor> PlannedSystem<A> {
             (map (λ orders. orders.items) sends.now)) }
         ensures states { IfOk result (ShowsStates A.after self.actors.items self.plan) }
         ensures lines { IfOk result (λ report. length report.actors.items ≡ length self.actors.items + 1) }
+        ensures ledger { IfOk result (AddsUp self.plan (map (λ orders. orders.items) sends.now)) }
     {
         let PlannedSystem { plan, actors } = self;
         run_here::<A, R>(rt, alloc, plan, actors, sends)
@@ -153,6 +155,7 @@ impl<A: Actor + Send> PlannedSystem<A> {
             (map (λ orders. orders.items) sends.now)) }
         ensures states { IfOk result (ShowsStates A.after self.actors.items self.plan) }
         ensures lines { IfOk result (λ report. length report.actors.items ≡ length self.actors.items + 1) }
+        ensures ledger { IfOk result (AddsUp self.plan (map (λ orders. orders.items) sends.now)) }
     {
         let PlannedSystem { plan, actors } = self;
         run_on_threads::<A, R>(rt, alloc, plan, actors, sends)

@@ -1,7 +1,8 @@
 //! Reading a report, one actor at a time.
 ghost use Rattle.std.specs.Prelude.{◌≡◌, ◌+◌, ◌-◌, ◌<◌, ◌≤◌, ◌^◌, count_by, if◌then◌else◌, option_copied};
 ghost use Rattle.mb_journal.specs.JournalView.{entry_of};
-ghost use Rattle.heddleorange.specs.Reading.{dead_in, handled_in, is_handled, journal_in, state_in};
+ghost use Rattle.mb_report.specs.Counts.{tells_of_envelope};
+ghost use Rattle.heddleorange.specs.Reading.{dead_in, handled_in, journal_in, state_in};
 
 use mb_journal::{EntryRef, Journal, Received};
 use mb_msg::{ActorId, DeadLetter};
@@ -17,7 +18,11 @@ pub fn state(report: &Report, id: ActorId) -> Option<i64>
     }
 }
 
-/// How many envelopes this actor handled, over all its lives. `None` where there is no such actor.
+/// How many envelopes this actor handled or dropped, over all its lives, as the report's text counts them. `None` where there is
+/// no such actor.
+///
+/// What is dropped is a `Terminated` of an actor that it no longer watched. In Akka, too, the mailbox gives the actor's cell such
+/// a one, as one of its throughput, and `receive` is not called (`DeathWatch.receivedTerminated`); Akka keeps no such count.
 pub fn handled(report: &Report, id: ActorId) -> Option<usize>
     ensures { result ≡ handled_in report.now id.0 }
 {
@@ -28,7 +33,7 @@ pub fn handled(report: &Report, id: ActorId) -> Option<usize>
 }
 
 /// The envelopes that this actor sent and that were refused when it sent them, in order. `None` where there is no such actor.
-/// The senders outside come behind the actors: the first has the number of the first actor that there is not.
+/// The senders outside come behind the actors: the first has the number after the last actor's.
 pub fn dead_letters(report: &Report, id: ActorId) -> Option<&[DeadLetter]>
     ensures { option_copied result ≡ dead_in report.now id.0 }
 {
@@ -48,19 +53,19 @@ pub fn journal(report: &Report, id: ActorId) -> Option<&Journal>
     }
 }
 
-// How many entries are of envelopes that were handled.
+// How many entries are of envelopes.
 fn count_handled(journal: &Journal) -> usize
-    ensures { result ≡ count_by is_handled journal.now.entries }
+    ensures { result ≡ count_by tells_of_envelope journal.now.entries }
 {
     let mut count = 0;
     for index in 0..journal.len() {
         let record = journal.get(index);
-        count = plus_if(count, is_handled(&record));
+        count = plus_if(count, tells_of_envelope(&record));
     }
     count
 }
 
-// One more where it is so.
+// The count, plus one if the condition holds.
 fn plus_if(count: usize, is_so: bool) -> usize
     requires { count < 2 ^ 64 - 1 }
     ensures value { result ≡ count + (if is_so then 1 else 0) }
@@ -69,12 +74,12 @@ fn plus_if(count: usize, is_so: bool) -> usize
     if is_so { count + 1 } else { count }
 }
 
-// Whether the entry is of an envelope that was handled.
-fn is_handled(entry: &EntryRef<'_>) -> bool
-    ensures { result ≡ is_handled (entry_of entry.now) }
+// Whether the entry is of an envelope, which was handled or dropped.
+fn tells_of_envelope(entry: &EntryRef<'_>) -> bool
+    ensures { result ≡ tells_of_envelope (entry_of entry.now) }
 {
     match entry.arrival {
-        Received::Handled { .. } => true,
-        Received::Dropped { .. } | Received::System { .. } | Received::SetAside { .. } => false,
+        Received::Handled { .. } | Received::Dropped { .. } => true,
+        Received::System { .. } | Received::SetAside { .. } => false,
     }
 }

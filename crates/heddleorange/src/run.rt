@@ -1,6 +1,7 @@
 //! A whole run of actors, on one thread or on several.
 ghost use Rattle.std.specs.Prelude.{◌≡◌, ◌+◌, [], All, IfErr, IfOk, OnOk, length, map};
 ghost use Rattle.mb_build.specs.BehavesAsPlanned.{BehaveAsPlanned};
+ghost use Rattle.heddleorange.specs.Ledger.{AddsUp};
 ghost use Rattle.heddleorange.specs.NoReport.{IsErrorOfRun, IsRight};
 ghost use Rattle.heddleorange.specs.States.{ShowsStates};
 ghost use Rattle.heddleorange.specs.WholeRun.{IsReportOfRun, after_at, gives_at};
@@ -39,6 +40,7 @@ pub fn run_here<A: Actor, R: Wait>(
     ensures refused { IfErr result (IsErrorOfRun (gives_at actors.items A.gives) plan (length actors.items) (map (λ orders. orders.items) sends.now)) }
     ensures states { IfOk result (ShowsStates A.after actors.items plan) }
     ensures lines { IfOk result (λ report. length report.actors.items ≡ length actors.items + 1) }
+    ensures ledger { IfOk result (AddsUp plan (map (λ orders. orders.items) sends.now)) }
 {
     run_planned::<A, Brand, R>(rt, alloc, plan, actors, sends)
 }
@@ -59,6 +61,7 @@ pub fn run_on_threads<A: Actor + Send, R: Threads + Wait + Sync>(
     ensures refused { IfErr result (IsErrorOfRun (gives_at actors.items A.gives) plan (length actors.items) (map (λ orders. orders.items) sends.now)) }
     ensures states { IfOk result (ShowsStates A.after actors.items plan) }
     ensures lines { IfOk result (λ report. length report.actors.items ≡ length actors.items + 1) }
+    ensures ledger { IfOk result (AddsUp plan (map (λ orders. orders.items) sends.now)) }
 {
     run_planned_on_threads::<A, Brand, R>(rt, alloc, plan, actors, sends)
 }

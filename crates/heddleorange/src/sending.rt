@@ -21,7 +21,7 @@ pub(crate) fn send_and_run<A: Actor, K: Behaviours, R: Wait>(
     sends: &[Vec<Order>],
 ) -> Result<(), RunError>
     requires together { BelongsTogether built.old }
-    requires some { built.old.ends.items ≢ [] }
+    requires not_empty { built.old.ends.items ≢ [] }
     requires same_count { length built.old.senders.items ≡ length sends.now }
     ensures system { built.new.system ≡ built.old.system }
     ensures together { OnOk result (BelongsTogether built.new) }

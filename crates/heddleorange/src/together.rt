@@ -25,7 +25,7 @@ pub(crate) fn run_together<A: Actor + Send, K: Behaviours + Send, R: Threads + W
     sends: &[Vec<Order>],
 ) -> Result<(), RunError>
     requires together { BelongsTogether built.old }
-    requires some { built.old.ends.items ≢ [] }
+    requires not_empty { built.old.ends.items ≢ [] }
     requires same_count { length built.old.senders.items ≡ length sends.now }
     ensures system { built.new.system ≡ built.old.system }
     ensures together { OnOk result (BelongsTogether built.new) }

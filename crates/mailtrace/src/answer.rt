@@ -1,13 +1,15 @@
 //! Running a scenario and showing its run.
 ghost use Rattle.std.specs.Prelude.{◌≡◌, false};
 
+use crate::argument_error::ArgumentError;
 use crate::options::{Format, Options};
 use crate::refusal::{Failure, no_memory, not_written};
-use mb_dispatch::Turn as MailboxTurn;
+use mb_dispatch::Turn;
 use mb_program::{FinishedRun, TrackedStream, run_scenario};
 use mb_scenario::{Scenario, read};
 use mb_streams::read_input;
-use mb_trace::{Filter, Trace, TraceError, Turn, write_text};
+use mb_trace::{Filter, Trace, TraceError, TurnLength, write_text};
+use mb_trace_forms::{write_html, write_json, write_svg};
 use std::alloc::{AllocError, Global};
 use std::io::{BufWriter, Read, Write};
 use std::sync::Wait;
@@ -61,7 +63,7 @@ fn show_run<W: Write + Drop>(
 fn trace_of<'a>(
     scenario: &'a Scenario,
     run: &'a FinishedRun,
-    turns: Option<&'a [Turn]>,
+    turns: Option<&'a [TurnLength]>,
 ) -> Trace<'a> {
     Trace {
         names: scenario.names.as_slice(),
@@ -83,16 +85,19 @@ fn write<W: Write + Drop>(
     let mut out = BufWriter::new(alloc, writer)?;
     match format {
         Format::Text => write_text(alloc, trace, filter, &mut out)?,
+        Format::Json => write_json(alloc, trace, filter, &mut out)?,
+        Format::Svg => write_svg(alloc, trace, filter, &mut out)?,
+        Format::Html => write_html(alloc, trace, filter, &mut out)?,
     }
     out.flush()?;
     Ok(())
 }
 
 /// The turns as a trace needs them.
-fn turns_of(alloc: Global, turns: &[MailboxTurn]) -> Result<Vec<Turn>, AllocError> {
+fn turns_of(alloc: Global, turns: &[Turn]) -> Result<Vec<TurnLength>, AllocError> {
     let mut made = Vec::new(alloc);
     for turn in turns {
-        made.push(Turn {
+        made.push(TurnLength {
             actor: turn.actor,
             entries: turn.system.saturating_add(turn.envelopes),
         })?;
@@ -106,7 +111,10 @@ fn numbers_of(alloc: Global, wanted: &[String], names: &[String]) -> Result<Vec<
     for name in wanted {
         match number_of(name.as_str(), names) {
             Some(number) => numbers.push(number)?,
-            None => return Err(Failure::NoSuchActor),
+            None => {
+                let unknown = ArgumentError::UnknownName(name.clone()?);
+                return Err(Failure::Arguments(unknown));
+            }
         }
     }
     Ok(numbers)

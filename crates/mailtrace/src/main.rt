@@ -2,6 +2,7 @@
 #![tactic(auto)]
 
 mod answer;
+mod argument_error;
 mod options;
 mod refusal;
 mod running;

@@ -1,6 +1,8 @@
 //! The arguments of the program.
-use mb_trace::Only;
-use std::alloc::{AllocError, AllocFailed, Global};
+use crate::argument_error::ArgumentError;
+use crate::refusal::Failure;
+use mb_trace::EntryKinds;
+use std::alloc::Global;
 use std::env::Args;
 
 /// What the program is to do.
@@ -22,7 +24,7 @@ pub(crate) struct Options {
     /// The names of the actors whose entries are shown; all where there is none.
     pub(crate) actors: Vec<String>,
     /// Which kinds of entries.
-    pub(crate) only: Only,
+    pub(crate) only: EntryKinds,
     /// How many entries at most.
     pub(crate) limit: u64,
 }
@@ -30,28 +32,14 @@ pub(crate) struct Options {
 /// The forms of a trace.
 #[derive(Clone, Copy)]
 pub(crate) enum Format {
+    /// Lines of text.
     Text,
-}
-
-/// Why the arguments do not say what to do.
-#[derive(Clone, Copy)]
-pub(crate) enum ArgumentError {
-    /// They are none that the program takes.
-    Unknown,
-    /// Memory was refused.
-    NoMemory,
-}
-
-impl From<AllocError> for ArgumentError {
-    fn from(_refused: AllocError) -> ArgumentError {
-        ArgumentError::NoMemory
-    }
-}
-
-impl<T: Drop> From<AllocFailed<T>> for ArgumentError {
-    fn from(_refused: AllocFailed<T>) -> ArgumentError {
-        ArgumentError::NoMemory
-    }
+    /// Lines of JSON.
+    Json,
+    /// A sequence diagram.
+    Svg,
+    /// A page with the diagram and the journals.
+    Html,
 }
 
 /// What the next word is.
@@ -76,72 +64,83 @@ enum Awaited {
 }
 
 /// Reads the words, of which the first is the program's own path.
-pub(crate) fn command_of(alloc: Global, words: Args<Global>) -> Result<Command, ArgumentError> {
+pub(crate) fn command_of(alloc: Global, words: Args<Global>) -> Result<Command, Failure> {
     let mut options = Options {
         format: Format::Text,
         actors: Vec::new(alloc),
-        only: Only::All,
+        only: EntryKinds::All,
         limit: u64::MAX,
     };
     let mut awaited = Awaited::Path;
     for word in words {
         awaited = take(&mut options, awaited, word)?;
     }
+    Ok(command_at_end(options, awaited)?)
+}
+
+/// The command, once no word is left and this is awaited.
+fn command_at_end(options: Options, awaited: Awaited) -> Result<Command, ArgumentError> {
     match awaited {
         Awaited::Path | Awaited::Option => Ok(Command::Show(options)),
         Awaited::Help => Ok(Command::Help),
         Awaited::Version => Ok(Command::Version),
-        Awaited::Format | Awaited::Actor | Awaited::Only | Awaited::Limit => {
-            Err(ArgumentError::Unknown)
-        }
+        Awaited::Format => Err(ArgumentError::NoWordAfter("--format")),
+        Awaited::Actor => Err(ArgumentError::NoWordAfter("--actor")),
+        Awaited::Only => Err(ArgumentError::NoWordAfter("--only")),
+        Awaited::Limit => Err(ArgumentError::NoWordAfter("--limit")),
     }
 }
 
 /// Takes a word, and answers what the next one is.
-fn take(options: &mut Options, awaited: Awaited, word: String) -> Result<Awaited, ArgumentError> {
+fn take(options: &mut Options, awaited: Awaited, word: String) -> Result<Awaited, Failure> {
     match awaited {
         Awaited::Path => {}
-        Awaited::Option => return option_of(word.as_str()),
-        Awaited::Format => options.format = format_of(word.as_str())?,
+        Awaited::Option => return Ok(option_of(word)?),
+        Awaited::Format => options.format = format_of(word)?,
         Awaited::Actor => options.actors.push(word)?,
-        Awaited::Only => options.only = only_of(word.as_str())?,
-        Awaited::Limit => options.limit = limit_of(word.as_str())?,
-        Awaited::Help | Awaited::Version => return Err(ArgumentError::Unknown),
+        Awaited::Only => options.only = only_of(word)?,
+        Awaited::Limit => options.limit = limit_of(word)?,
+        Awaited::Help | Awaited::Version => {
+            return Err(Failure::Arguments(ArgumentError::UnknownOption(word)));
+        }
     }
     Ok(Awaited::Option)
 }
 
-fn option_of(word: &str) -> Result<Awaited, ArgumentError> {
-    match word {
+fn option_of(word: String) -> Result<Awaited, ArgumentError> {
+    match word.as_str() {
         "--format" => Ok(Awaited::Format),
         "--actor" => Ok(Awaited::Actor),
         "--only" => Ok(Awaited::Only),
         "--limit" => Ok(Awaited::Limit),
         "--help" => Ok(Awaited::Help),
         "--version" => Ok(Awaited::Version),
-        _ => Err(ArgumentError::Unknown),
+        _ => Err(ArgumentError::UnknownOption(word)),
     }
 }
 
-fn format_of(word: &str) -> Result<Format, ArgumentError> {
-    match word {
+fn format_of(word: String) -> Result<Format, ArgumentError> {
+    match word.as_str() {
         "text" => Ok(Format::Text),
-        _ => Err(ArgumentError::Unknown),
+        "json" => Ok(Format::Json),
+        "svg" => Ok(Format::Svg),
+        "html" => Ok(Format::Html),
+        _ => Err(ArgumentError::UnknownFormat(word)),
     }
 }
 
-fn only_of(word: &str) -> Result<Only, ArgumentError> {
-    match word {
-        "user" => Ok(Only::User),
-        "system" => Ok(Only::System),
-        "failures" => Ok(Only::Failures),
-        _ => Err(ArgumentError::Unknown),
+fn only_of(word: String) -> Result<EntryKinds, ArgumentError> {
+    match word.as_str() {
+        "user" => Ok(EntryKinds::User),
+        "system" => Ok(EntryKinds::System),
+        "failures" => Ok(EntryKinds::Failures),
+        _ => Err(ArgumentError::UnknownKind(word)),
     }
 }
 
-fn limit_of(word: &str) -> Result<u64, ArgumentError> {
-    match word.parse::<u64>() {
+fn limit_of(word: String) -> Result<u64, ArgumentError> {
+    match word.as_str().parse::<u64>() {
         Ok(limit) => Ok(limit),
-        Err(_) => Err(ArgumentError::Unknown),
+        Err(_) => Err(ArgumentError::BadLimit(word)),
     }
 }

@@ -1,5 +1,5 @@
 //! Printing why there is no trace, in the lines of `mailrun` under this program's name.
-use crate::options::ArgumentError;
+use crate::argument_error::ArgumentError;
 use mb_program::RunFault;
 use mb_scenario::ReadError;
 use mb_streams::ProgramError;
@@ -12,9 +12,7 @@ pub(crate) enum Failure {
     /// There is no report either, for this reason.
     Program(ProgramError),
     /// The arguments are none that the program takes.
-    Arguments,
-    /// An actor was named that the scenario has not.
-    NoSuchActor,
+    Arguments(ArgumentError),
 }
 
 impl From<ProgramError> for Failure {
@@ -31,10 +29,7 @@ impl From<ReadError> for Failure {
 
 impl From<ArgumentError> for Failure {
     fn from(error: ArgumentError) -> Failure {
-        match error {
-            ArgumentError::Unknown => Failure::Arguments,
-            ArgumentError::NoMemory => no_memory(),
-        }
+        Failure::Arguments(error)
     }
 }
 
@@ -68,18 +63,15 @@ pub(crate) fn print_failure<E: Write>(alloc: Global, errors: &mut E, failure: &F
             print_line(alloc, errors, error);
             error.status()
         }
-        Failure::Arguments => {
-            print(errors, "mailtrace: 12 BadScenario arguments: unknown key\n");
-            2
-        }
-        Failure::NoSuchActor => {
-            print(
-                errors,
-                "mailtrace: 12 BadScenario arguments: unknown name\n",
-            );
+        Failure::Arguments(error) => {
+            print_made(errors, argument_line(alloc, error));
             2
         }
     }
+}
+
+fn argument_line(alloc: Global, error: &ArgumentError) -> Result<String, AllocError> {
+    format!(in alloc; "mailtrace: 12 BadScenario arguments: {error}\n")
 }
 
 fn print_line<E: Write>(alloc: Global, errors: &mut E, error: &ProgramError) {

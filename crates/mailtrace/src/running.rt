@@ -2,8 +2,9 @@
 ghost use Rattle.std.specs.Prelude.{◌≡◌, ◌≤◌, false};
 
 use crate::answer::show;
+use crate::argument_error::ArgumentError;
 use crate::options::{Command, command_of};
-use crate::refusal::{Failure, not_written, print_failure};
+use crate::refusal::{Failure, no_memory, not_written, print_failure};
 use mb_program::TrackedStream;
 use std::alloc::Global;
 use std::env;
@@ -14,11 +15,11 @@ use std::thread::Threads;
 
 /// How the program is called.
 const HELP: &str =
-    "mailtrace [--format text] [--actor NAME].. [--only user|system|failures] [--limit N] < SCENARIO
+    "mailtrace [--format text|json|svg|html] [--actor NAME].. [--only user|system|failures] [--limit N] < SCENARIO
 
 Runs the scenario and shows what came to each actor and what became of it.
 
-  --format FORMAT  text (the default)
+  --format FORMAT  text (the default), json (a line for each entry), svg (a sequence diagram) or html (a page)
   --actor NAME     only the entries of this actor; may be given more than once
   --only KIND      only entries of envelopes (user), of system messages (system), or of failures (failures)
   --limit N        at most so many entries
@@ -65,10 +66,10 @@ fn answer<T: Threads + Wait + Sync + Env + AllocGlobal, R: Read, W: Write + Drop
 /// What the arguments say. One that is not UTF-8 is none that the program takes.
 fn command<T: Env + AllocGlobal>(rt: &T, alloc: Global) -> Result<Command, Failure> {
     match env::args(rt) {
-        Ok(words) => Ok(command_of(alloc, words)?),
+        Ok(words) => command_of(alloc, words),
         Err(error) => match error.kind() {
-            ErrorKind::OutOfMemory => Err(crate::refusal::no_memory()),
-            _ => Err(Failure::Arguments),
+            ErrorKind::OutOfMemory => Err(no_memory()),
+            _ => Err(Failure::Arguments(ArgumentError::NotUtf8)),
         },
     }
 }

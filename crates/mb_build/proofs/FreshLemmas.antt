@@ -60,12 +60,12 @@ module _ (gives : ℕ → Moment → Reply → Type 0) where
   -- one home more
   pub settled-more : (number : ℕ) (homes : List (Box Contents)) (h : Box Contents) → AreSettled number homes
       → AgreesWithJournal (gives (number + length homes)) [] h.value → HasNoBacklog h.value → AreSettled number (homes ++ h ∷ [])
-  settled-more number [] h are settled rested =
+  settled-more number [] h are settled no_backlog =
       let sum : number + 0 ≡ number = omega arith in
-      ((subst (λ n. AgreesWithJournal (gives n) [] h.value) sum settled, rested), tt)
-  settled-more number (x ∷ homes) h are settled rested =
+      ((subst (λ n. AgreesWithJournal (gives n) [] h.value) sum settled, no_backlog), tt)
+  settled-more number (x ∷ homes) h are settled no_backlog =
       let sum : number + suc (length homes) ≡ (number + 1) + length homes = omega arith in
-      (are.0, settled-more (number + 1) homes h are.1 (subst (λ n. AgreesWithJournal (gives n) [] h.value) sum settled) rested)
+      (are.0, settled-more (number + 1) homes h are.1 (subst (λ n. AgreesWithJournal (gives n) [] h.value) sum settled) no_backlog)
 
   -- the gates may begin with it, where this is the first
   abbrev pub IsFreshHome : Contents → ℕ → Box Contents → Type 0
@@ -76,9 +76,9 @@ module _ (gives : ℕ → Moment → Reply → Type 0) where
       → h.value ≡ at_first (unstarted who) t sends h.value.room directory → directory ≡ first.directory → IsPlanned actors number who
       → AgreesWithJournal (gives number) [] h.value → HasNoBacklog h.value
       → IsFreshHome first number h
-  fresh-first first actors number who t sends directory h is same planned settled rested =
+  fresh-first first actors number who t sends directory h is same planned settled no_backlog =
       let cell : h.value.cell ≡ unstarted who = ap (λ (c : Contents). c.cell) is in record {
-        own = record {
+        of_actor = record {
           directory = ap (λ (c : Contents). c.directory) is ∙ same;
           number = ap (λ (c : Contents). c.cell.who.this.0) is ∙ ap (λ (x : ActorId). x.0) planned.this;
           carried_out = ap (λ (c : Contents). c.cell.acts) is;
@@ -89,7 +89,7 @@ module _ (gives : ℕ → Moment → Reply → Type 0) where
         none_closed = ap (λ (c : Contents). closed_receivers c.dead) is;
         possible = subst (λ (c : Contents). IsTrue (is_possible (mailbox_at c.cell.who c.cell.journal))) (sym is) (possible-first who);
         free = subst (λ (c : Contents). IsFree (mailbox_at c.cell.who c.cell.journal)) (sym is) (open-first who);
-        rest = rested;
+        rest = no_backlog;
       }
 
   found : (directory : List DirectoryEntry) (others : List TakePassView) (first : Contents) (actors number : ℕ) (whos : List Identity) (takes : List TakePassView)

@@ -88,7 +88,7 @@ pub fn every_run_keeps_ended()
 {}
 
 /// A law, of the state and no event: where a party is split off another one and copies its debts or takes them over,
-/// each actor is owed what it was owed and held by whom it was held. So all other laws still hold.
+/// each actor is owed what it was owed, and has the same holder. So all other laws still hold.
 pub fn split_keeps_debts()
     ensures copied { (x : Actor) (party : ℕ) → IsOwedTheSame x (copied x party) }
     ensures moved { (x : Actor) (party : ℕ) → IsOwedTheSame x (moved x party) }

@@ -36,7 +36,7 @@ pub(crate) fn write_rows<W: Write>(
     geometry: &Geometry,
 ) -> io::Result<()> {
     for (index, row) in rows.rows.iter().enumerate() {
-        let to = geometry.x(lanes.position(row.step.actor.0));
+        let to = geometry.x(lanes.position(row.shown.actor.0));
         let y = geometry.row_y(index);
         let from = match row.source {
             Some(source) => geometry.x(lanes.position(source)),
@@ -52,7 +52,7 @@ fn write_row<W: Write>(w: &mut W, names: &[String], row: &Row<'_>, way: Way) -> 
     let failure = if row.is_failure() { " failure" } else { "" };
     let name = Name {
         names,
-        id: row.step.actor.0,
+        id: row.shown.actor.0,
     };
     write!(w, "<g class=\"row {kind}{failure}\" data-actor=\"{name}\"")?;
     if let Some(id) = row.source {
@@ -71,7 +71,7 @@ fn write_row<W: Write>(w: &mut W, names: &[String], row: &Row<'_>, way: Way) -> 
     }
     write_arrow(w, row.is_user(), way)?;
     write_label(w, names, row, way)?;
-    write_outcome(w, Outcome::of(row.step.entry.arrival), way)?;
+    write_outcome(w, Outcome::of(row.shown.entry.arrival), way)?;
     w.write_all(b"</g>\n")
 }
 
@@ -100,7 +100,7 @@ fn write_label<W: Write>(w: &mut W, names: &[String], row: &Row<'_>, way: Way) -
     let foot = way.y.saturating_sub(7);
     let message = Message {
         names,
-        came: row.step.entry.arrival,
+        came: row.shown.entry.arrival,
     };
     let times = Times(row.times);
     writeln!(

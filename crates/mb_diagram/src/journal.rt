@@ -1,5 +1,5 @@
 //! The journal of an actor, as a table in HTML.
-use crate::picture::{Picture, Step};
+use crate::picture::{Picture, ShownEntry};
 use crate::rows::{is_failure, is_user};
 use crate::words::{EffectWords, Message, Name, Outcome, phase_word};
 use mb_journal::Received;
@@ -24,9 +24,9 @@ pub(crate) fn write_journal<W: Write>(
     w.write_all(
         b"<table><tr><th>entry</th><th>message</th><th>from</th><th>outcome</th><th>asked for</th></tr>\n",
     )?;
-    for step in picture.steps {
-        if step.actor.0 == id {
-            write_entry(w, names, step)?;
+    for shown in picture.entries {
+        if shown.actor.0 == id {
+            write_entry(w, names, shown)?;
         }
     }
     w.write_all(b"</table></details>\n")
@@ -41,19 +41,19 @@ fn write_summary<W: Write>(w: &mut W, name: Name<'_>, actor: &ActorReport) -> io
     w.write_all(b"</summary>\n")
 }
 
-fn write_entry<W: Write>(w: &mut W, names: &[String], step: &Step<'_>) -> io::Result<()> {
-    let came = step.entry.arrival;
+fn write_entry<W: Write>(w: &mut W, names: &[String], shown: &ShownEntry<'_>) -> io::Result<()> {
+    let came = shown.entry.arrival;
     let kind = if is_user(came) { "user" } else { "system" };
     let failure = if is_failure(came) { " failure" } else { "" };
     let message = Message { names, came };
     write!(
         w,
         "<tr class=\"entry {kind}{failure}\"><td>{}</td><td>{message}</td><td>",
-        step.index
+        shown.index
     )?;
     write_number(w, names, came)?;
     write!(w, "</td><td>{}</td><td>", Outcome::of(came))?;
-    for (index, effect) in step.entry.effects.iter().enumerate() {
+    for (index, effect) in shown.entry.effects.iter().enumerate() {
         if index > 0 {
             w.write_all(b"<br>")?;
         }

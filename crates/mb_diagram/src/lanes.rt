@@ -73,7 +73,7 @@ fn mark_rows(used: &mut Vec<bool>, rows: &Rows<'_>) {
         mark(used, *id);
     }
     for row in &rows.rows {
-        mark(used, row.step.actor.0);
+        mark(used, row.shown.actor.0);
         if let Some(source) = row.source {
             mark(used, source);
         }
@@ -98,7 +98,7 @@ pub(crate) fn last_row(picture: &Picture<'_>, rows: &Rows<'_>, id: u32) -> Optio
     }
     let mut last = None;
     for (index, row) in rows.rows.iter().enumerate() {
-        if row.step.actor.0 == id {
+        if row.shown.actor.0 == id {
             last = Some(index);
         }
     }

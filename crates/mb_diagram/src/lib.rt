@@ -22,5 +22,5 @@ mod svg;
 mod words;
 
 pub use html::write_html;
-pub use picture::{Picture, Step};
+pub use picture::{Picture, ShownEntry};
 pub use svg::write_svg;

@@ -5,7 +5,7 @@ use mb_report::Report;
 
 /// An entry of a journal that is shown.
 #[derive(Clone, Copy)]
-pub struct Step<'a> {
+pub struct ShownEntry<'a> {
     /// Whose journal has it.
     pub actor: ActorId,
     /// Its place in that journal, from 0.
@@ -22,7 +22,7 @@ pub struct Picture<'a> {
     /// What the run came to.
     pub report: &'a Report,
     /// The entries that are shown, in the order in which they are drawn from top to bottom.
-    pub steps: &'a [Step<'a>],
+    pub entries: &'a [ShownEntry<'a>],
     /// The dead letters that are shown.
     pub letters: &'a [DeadLetter],
 }

@@ -1,5 +1,5 @@
 //! The rows of a picture.
-use crate::picture::{Picture, Step};
+use crate::picture::{Picture, ShownEntry};
 use crate::sources::Sources;
 use crate::words::Outcome;
 use mb_actor::Answer;
@@ -11,7 +11,7 @@ use std::alloc::{AllocError, Global};
 #[derive(Clone, Copy)]
 pub(crate) struct Row<'a> {
     /// The first.
-    pub(crate) step: Step<'a>,
+    pub(crate) shown: ShownEntry<'a>,
     /// Who sent it, if that is known.
     pub(crate) source: Option<u32>,
     /// How many they are.
@@ -47,10 +47,10 @@ impl<'a> Rows<'a> {
             rows: Vec::new(alloc),
             letters: Vec::new(alloc),
         };
-        for step in picture.steps {
-            let source = sources.of(step);
-            sources.note(step);
-            rows.add(*step, source)?;
+        for shown in picture.entries {
+            let source = sources.of(shown);
+            sources.note(shown);
+            rows.add(*shown, source)?;
         }
         for letter in picture.letters {
             rows.add_letter(*letter)?;
@@ -59,20 +59,20 @@ impl<'a> Rows<'a> {
     }
 
     /// Adds an entry to the row of those that were created, to the last row, or in a row of its own.
-    fn add(&mut self, step: Step<'a>, source: Option<u32>) -> Result<(), AllocError> {
-        if is_plain_create(&step, source) {
-            self.created.push(step.actor.0)?;
+    fn add(&mut self, shown: ShownEntry<'a>, source: Option<u32>) -> Result<(), AllocError> {
+        if is_plain_create(&shown, source) {
+            self.created.push(shown.actor.0)?;
             return Ok(());
         }
         if let Some(last) = self.rows.last_mut() {
-            if is_alike(last, &step, source) {
+            if is_alike(last, &shown, source) {
                 last.times = last.times.saturating_add(1);
                 return Ok(());
             }
         }
         let times = 1;
         self.rows.push(Row {
-            step,
+            shown,
             source,
             times,
         })?;
@@ -95,17 +95,17 @@ impl<'a> Rows<'a> {
 impl Row<'_> {
     /// Whether it is one of an envelope.
     pub(crate) fn is_user(&self) -> bool {
-        is_user(self.step.entry.arrival)
+        is_user(self.shown.entry.arrival)
     }
 
     /// Whether the actor failed, or is told of a failure.
     pub(crate) fn is_failure(&self) -> bool {
-        is_failure(self.step.entry.arrival)
+        is_failure(self.shown.entry.arrival)
     }
 
     /// Whether the actor began again.
     pub(crate) fn is_restart(&self) -> bool {
-        match self.step.entry.arrival {
+        match self.shown.entry.arrival {
             Received::System {
                 answer: Some(_),
                 message,
@@ -147,8 +147,8 @@ fn tells_of_failure(came: Received) -> bool {
 }
 
 /// Whether this is an actor's first message from the guardian, or the guardian's own, and it did not fail.
-fn is_plain_create(step: &Step<'_>, source: Option<u32>) -> bool {
-    match step.entry.arrival {
+fn is_plain_create(shown: &ShownEntry<'_>, source: Option<u32>) -> bool {
+    match shown.entry.arrival {
         Received::System {
             answer,
             message: SysMsg::Create,
@@ -166,10 +166,10 @@ fn has_failed(answer: Option<Answer>) -> bool {
 }
 
 /// Whether an entry is like those of a row but for its numbers.
-fn is_alike(row: &Row<'_>, step: &Step<'_>, source: Option<u32>) -> bool {
+fn is_alike(row: &Row<'_>, shown: &ShownEntry<'_>, source: Option<u32>) -> bool {
     row.source == source
-        && row.step.actor == step.actor
-        && is_like_entry(&row.step.entry, &step.entry)
+        && row.shown.actor == shown.actor
+        && is_like_entry(&row.shown.entry, &shown.entry)
 }
 
 fn is_like_entry(one: &EntryRef<'_>, other: &EntryRef<'_>) -> bool {

@@ -1,5 +1,5 @@
 //! Who sent a message.
-use crate::picture::Step;
+use crate::picture::ShownEntry;
 use mb_actor::Effect;
 use mb_journal::{Journal, Received};
 use mb_msg::limits::ACTORS;
@@ -18,7 +18,7 @@ pub(crate) struct Sources {
 }
 
 impl Sources {
-    /// What is known at the beginning: who spawns whom.
+    /// What is known at the beginning: which actor spawns which.
     pub(crate) fn new(alloc: Global, report: &Report) -> Result<Self, AllocError> {
         let mut parents = vec![in alloc; 0u32; ACTORS as usize]?;
         for (id, actor) in report.actors.iter().enumerate() {
@@ -29,13 +29,13 @@ impl Sources {
     }
 
     /// Who sent what came; `None` where that is not known, and for the first message of the guardian.
-    pub(crate) fn of(&self, step: &Step<'_>) -> Option<u32> {
-        match step.entry.arrival {
+    pub(crate) fn of(&self, shown: &ShownEntry<'_>) -> Option<u32> {
+        match shown.entry.arrival {
             Received::Handled { envelope, .. } | Received::Dropped { envelope } => {
                 Some(envelope.by.0)
             }
             Received::System { message, .. } | Received::SetAside { message, .. } => {
-                self.of_system(step.actor, message)
+                self.of_system(shown.actor, message)
             }
         }
     }
@@ -62,17 +62,17 @@ impl Sources {
         self.parents.get(actor.0 as usize).copied()
     }
 
-    /// Keeps whom this entry may stop.
-    pub(crate) fn note(&mut self, step: &Step<'_>) {
-        if may_stop_children(step.entry.arrival) {
-            self.note_children(step.actor.0);
+    /// Records the actors that this entry may stop.
+    pub(crate) fn note(&mut self, shown: &ShownEntry<'_>) {
+        if may_stop_children(shown.entry.arrival) {
+            self.note_children(shown.actor.0);
         }
-        if is_poison(step.entry.arrival) {
-            self.note_stopper(step.actor.0 as usize, step.actor.0);
+        if is_poison(shown.entry.arrival) {
+            self.note_stopper(shown.actor.0 as usize, shown.actor.0);
         }
-        for effect in step.entry.effects {
+        for effect in shown.entry.effects {
             if let Effect::Stop(id) = *effect {
-                self.note_stopper(id.0 as usize, step.actor.0);
+                self.note_stopper(id.0 as usize, shown.actor.0);
             }
         }
     }

@@ -43,9 +43,9 @@ module _ {A K : Type 0} (gives : ℕ → Moment → Reply → Type 0) (plan : Pl
   pub full-journal : (end : WorkerEnd A K) → CameToLimit gives system end → HasFullJournal gives plan
   full-journal end came =
       let home = came.claim.home.value in let who = home.cell.who in
-      let own = came.fresh.same_gates.own in
+      let own = came.fresh.same_gates.of_actor in
       let directory = (first_home system.gates).value.directory in
-      let at = ap (λ r. slice_get r who.this.0) (sym own.directory) ∙ own.settled.own.enrolled in
+      let at = ap (λ r. slice_get r who.this.0) (sym own.directory) ∙ own.settled.is_own.enrolled in
       let here : slice_get (actors_in plan) who.this.0 ≡ Some who =
       mapped-to (λ (e : DirectoryEntry). e.who) directory (actors_in plan) who.this.0 _ planned.who at in record {
         who = who;

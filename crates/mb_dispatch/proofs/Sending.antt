@@ -76,7 +76,7 @@ module _ {A K : Type 0} where
     accepted_are = accepted-append p.more q.more ∙ (λ i. p.accepted_are i ++ q.accepted_are i) ∙ sym (envelopes-append xs ys);
     system_sent =
         q.system_sent ∙ ap (λ l. reverse (terminates_of ys) ++ l) p.system_sent ∙ sym (append_assoc (reverse (terminates_of ys)) (reverse (terminates_of xs)) _)
-        ∙ ap (λ l. l ++ addressed_system (pass_view a.inner.registrar.pass).said)
+        ∙ ap (λ l. l ++ addressed_system (pass_view a.inner.registrar.pass).sent_system)
         (sym (reverse-append (terminates_of xs) (terminates_of ys)) ∙ ap reverse (sym (terminates-append xs ys)));
     log_kept = saw-then _ _ _ p.log_kept q.log_kept;
   }
@@ -88,7 +88,7 @@ module _ {A K : Type 0} where
     more = p.more;
     posted = p.posted;
     accepted_are = p.accepted_are ∙ envelopes;
-    system_sent = p.system_sent ∙ ap (λ l. reverse l ++ addressed_system (pass_view a.inner.registrar.pass).said) terminates;
+    system_sent = p.system_sent ∙ ap (λ l. reverse l ++ addressed_system (pass_view a.inner.registrar.pass).sent_system) terminates;
     log_kept = p.log_kept;
   }
 
@@ -106,7 +106,7 @@ module _ {A K : Type 0} where
 
   -- it sent no envelope and no system message since
   pub sent-still : (xs : List Order) (a b c : Sender A K) → c.inner.send_log ≡ b.inner.send_log
-      → (pass_view c.inner.registrar.pass).said ≡ (pass_view b.inner.registrar.pass).said
+      → (pass_view c.inner.registrar.pass).sent_system ≡ (pass_view b.inner.registrar.pass).sent_system
       → IsPart (pass_view b.inner.registrar.pass).log (pass_view c.inner.registrar.pass).log → HasSent xs a b → HasSent xs a c
   sent-still xs a b c send_log same saw p = record {
     by = ap (λ k. k.by) send_log ∙ p.by;
@@ -140,25 +140,25 @@ module _ (by : SenderId) (number : ℕ) (to : ActorId) (body : Body) (posted pos
   IsOnePosted = (refused : Option Why) × (posted' ≡ posted ++ posting (envelope_of by to number body) refused ∷ [])
 
   pub one-posted : (sends : List SendPassView) (old new : View) (put : Put) → IsTold by number to body posted posted' sends old new put
-      → IsOnePosted × (new.said ≡ old.said) × GoesOnAt to.0 old new
+      → IsOnePosted × (new.sent_system ≡ old.sent_system) × GoesOnAt to.0 old new
   one-posted sends old new put told = by_look told.look told.follows
     where
-      same : told.between.said ≡ old.said
-      same = ap (λ (v : View). v.said) told.seen.read
+      same : told.between.sent_system ≡ old.sent_system
+      same = ap (λ (v : View). v.sent_system) told.seen.read
 
       read : GoesOnAt to.0 old told.between
       read = does-at to.0 [] [] old told.between (looks-read to.0 (word_of told.seen.seen) old told.between told.seen.read)
 
       by_look : (look : Look) → FollowsLook by number to body posted posted' sends told.between new put look
-          → IsOnePosted × (new.said ≡ old.said) × GoesOnAt to.0 old new
+          → IsOnePosted × (new.sent_system ≡ old.sent_system) × GoesOnAt to.0 old new
       by_look (Open ticket) sent = (
         (sent.refused, sent.posted_is),
-        sent.counted.said ∙ same,
+        sent.counted.sent_system ∙ same,
         then-at to.0 old told.between new read (does-at to.0 (counts to.0 sent.refused) [] told.between new sent.counted),
       )
       by_look Closed is_dead = (
         (_, is_dead.0.posted_is),
-        ap (λ (v : View). v.said) is_dead.1 ∙ same,
+        ap (λ (v : View). v.sent_system) is_dead.1 ∙ same,
         subst (GoesOnAt to.0 old) (sym is_dead.1) read,
       )
 
@@ -180,9 +180,9 @@ module _ {A K : Type 0} where
 
 -- a Terminate was sent
 sent-terminate : (id : ℕ) (old new : View) (stopped : Bool) → Stops id old new stopped
-    → (addressed_system new.said ≡ (id, Terminate) ∷ addressed_system old.said) × GoesOnAt id old new
-sent-terminate id old new true s = (ap addressed_system s.1.said, does-at id _ _ old new s.1)
-sent-terminate id old new false s = (ap addressed_system s.said, does-at id _ _ old new s)
+    → (addressed_system new.sent_system ≡ (id, Terminate) ∷ addressed_system old.sent_system) × GoesOnAt id old new
+sent-terminate id old new true s = (ap addressed_system s.1.sent_system, does-at id _ _ old new s.1)
+sent-terminate id old new false s = (ap addressed_system s.sent_system, does-at id _ _ old new s)
 
 module _ {A K : Type 0} where
   pub sent-stopped : (to : ActorId) (stopped : Bool) (a b : Sender A K) → b.inner.send_log ≡ a.inner.send_log

@@ -61,5 +61,5 @@ module _ {A K : Type 0} where
     pub more : List SentEnvelope
     pub posted : new.inner.send_log.posted ≡ old.inner.send_log.posted ++ more
     pub accepted_are : addressed (accepted more) ≡ envelopes_of orders
-    pub system_sent : addressed_system (pass_view new.inner.registrar.pass).said ≡ reverse (terminates_of orders) ++ addressed_system (pass_view old.inner.registrar.pass).said
+    pub system_sent : addressed_system (pass_view new.inner.registrar.pass).sent_system ≡ reverse (terminates_of orders) ++ addressed_system (pass_view old.inner.registrar.pass).sent_system
     pub log_kept : IsPart (pass_view old.inner.registrar.pass).log (pass_view new.inner.registrar.pass).log

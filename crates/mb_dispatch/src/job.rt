@@ -32,7 +32,7 @@ impl<A: Actor, K: Behaviours> Job<A, K> {
     ) -> Result<(), RunError>
         requires same_gates { IsSenderOf system.now.gates self.old.sender.inner }
         ensures same_gates { IsSenderOf system.now.gates self.new.sender.inner }
-        ensures by { self.new.sender.inner.send_log.by ≡ self.old.sender.inner.send_log.by }
+        ensures same_sender { self.new.sender.inner.send_log.by ≡ self.old.sender.inner.send_log.by }
         ensures sends { self.new.sends ≡ self.old.sends }
         ensures sent { OnOk result (HasSent self.old.sends.items self.old.sender self.new.sender × OwesNobody system.now.gates self.new.sender) }
         ensures obligations { OnOk result (KeepsObligations (actors_of system.now.gates) (sender_caller self.old.sender.inner.registrar)
@@ -69,7 +69,7 @@ impl<A: Actor, K: Behaviours> Task<System<A, K>> for Job<A, K> {
     }
 }
 
-// Sends all, and leaves nobody who is owed a look.
+// Sends all, then looks after each actor that is owed a look.
 fn send_and_retry<A: Actor, K: Behaviours, R: Wait>(
     rt: &R,
     system: &System<A, K>,
@@ -78,7 +78,7 @@ fn send_and_retry<A: Actor, K: Behaviours, R: Wait>(
 ) -> Result<(), RunError>
     requires same_gates { IsSenderOf system.now.gates sender.old.inner }
     ensures same_gates { IsSenderOf system.now.gates sender.new.inner }
-    ensures by { sender.new.inner.send_log.by ≡ sender.old.inner.send_log.by }
+    ensures same_sender { sender.new.inner.send_log.by ≡ sender.old.inner.send_log.by }
     ensures sent { OnOk result (HasSent orders.now sender.old sender.new × OwesNobody system.now.gates sender.new) }
     ensures obligations { OnOk result (KeepsObligations (actors_of system.now.gates) (sender_caller sender.old.inner.registrar)
         (sender_caller sender.new.inner.registrar)) }

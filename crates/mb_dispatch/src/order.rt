@@ -13,8 +13,9 @@ use mb_system::{RunError, Sender, System};
 use std::sync::Wait;
 
 /// Carries out all these orders, each as often as it says, in their order. It stops at the first fault: `NoSuchActor` or
-/// `NoMemory` as a tell or a stop answers it. What was sent before stays sent. Whom the sender owes a look then, a `retry_refused` looks
-/// after: those whom it owed one, and besides only actors whose claims the pool refused.
+/// `NoMemory` as a tell or a stop answers it. What was sent before stays sent. Call `retry_refused` then: it looks
+/// after the actors to which the sender owes a look. These are those to which it owed one before, and actors whose claims the
+/// pool refused.
 pub fn send_all<A: Actor, K: Behaviours, R: Wait>(
     rt: &R,
     system: &System<A, K>,
@@ -23,7 +24,7 @@ pub fn send_all<A: Actor, K: Behaviours, R: Wait>(
 ) -> Result<(), RunError>
     requires same_gates { IsSenderOf system.now.gates sender.old.inner }
     ensures same_gates { IsSenderOf system.now.gates sender.new.inner }
-    ensures by { sender.new.inner.send_log.by ≡ sender.old.inner.send_log.by }
+    ensures same_sender { sender.new.inner.send_log.by ≡ sender.old.inner.send_log.by }
     ensures sent { OnOk result (HasSent orders.now sender.old sender.new) }
     ensures obligations { OnOk result (KeepsObligations (actors_of system.now.gates) (sender_caller sender.old.inner.registrar)
         (sender_caller sender.new.inner.registrar)) }
@@ -45,7 +46,7 @@ fn send_often<A: Actor, K: Behaviours, R: Wait>(
 ) -> Result<(), RunError>
     requires same_gates { IsSenderOf system.now.gates sender.old.inner }
     ensures same_gates { IsSenderOf system.now.gates sender.new.inner }
-    ensures by { sender.new.inner.send_log.by ≡ sender.old.inner.send_log.by }
+    ensures same_sender { sender.new.inner.send_log.by ≡ sender.old.inner.send_log.by }
     ensures sent { OnOk result (HasSent (order ∷ []) sender.old sender.new) }
     ensures obligations { OnOk result (KeepsObligations (actors_of system.now.gates) (sender_caller sender.old.inner.registrar)
         (sender_caller sender.new.inner.registrar)) }
@@ -69,7 +70,7 @@ fn send<A: Actor, K: Behaviours, R: Wait>(
 ) -> Result<(), RunError>
     requires same_gates { IsSenderOf system.now.gates sender.old.inner }
     ensures same_gates { IsSenderOf system.now.gates sender.new.inner }
-    ensures by { sender.new.inner.send_log.by ≡ sender.old.inner.send_log.by }
+    ensures same_sender { sender.new.inner.send_log.by ≡ sender.old.inner.send_log.by }
     ensures sent { OnOk result (HasSent (order_for to what 1 ∷ []) sender.old sender.new) }
     ensures obligations { OnOk result (KeepsObligations (actors_of system.now.gates) (sender_caller sender.old.inner.registrar)
         (sender_caller sender.new.inner.registrar)) }

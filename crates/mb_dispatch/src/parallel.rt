@@ -70,8 +70,8 @@ pub fn both_in_parallel<R: Threads + Wait + Sync, S: Sync, T: Task<S> + Send, U:
     these: &mut [T],
     those: &mut [U],
 ) -> (Result<(), RunError>, Result<(), RunError>)
-    requires same_origin { All (T.ready shared.now) these.old }
-    requires those { All (U.ready shared.now) those.old }
+    requires these_ready { All (T.ready shared.now) these.old }
+    requires those_ready { All (U.ready shared.now) those.old }
     ensures keeps { AllZip (T.keeps shared.now) these.old these.new × AllZip (U.keeps shared.now) those.old those.new }
     ensures done { OnOk result.0 (AllZip (T.done shared.now) these.old these.new)
         × OnOk result.1 (AllZip (U.done shared.now) those.old those.new) }

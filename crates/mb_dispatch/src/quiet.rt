@@ -20,7 +20,7 @@ use std::sync::Wait;
 ///
 /// It answers `JournalFull` or `NoMemory` as a run of a mailbox does, and `NoMemory` also if there was no room for one more
 /// answer, or if the run queue refused a claim again. What was done stays done, and the same call goes on. Whatever is
-/// answered, each actor is owed nothing by the end, or is in its set of owed looks.
+/// answered, each actor is owed nothing by the end, or is in the set of actors that it owes a look.
 pub fn run_quietly<A: Actor, K: Behaviours, R: Wait>(
     rt: &R,
     system: &System<A, K>,

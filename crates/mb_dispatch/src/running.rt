@@ -29,7 +29,7 @@ pub fn run<A: Actor + Send, K: Behaviours + Send, R: Threads + Wait + Sync>(
     requires jobs { AreJobsOf system.now.gates jobs.old }
     ensures ends { AreEndsOf system.now.gates ends.new × (ends_numbers ends.new ≡ ends_numbers ends.old) }
     ensures jobs { AreJobsOf system.now.gates jobs.new × (length jobs.new ≡ length jobs.old) }
-    ensures by { jobs_senders jobs.new ≡ jobs_senders jobs.old }
+    ensures same_sender { jobs_senders jobs.new ≡ jobs_senders jobs.old }
     ensures log_kept { StillSee ends.old ends.new }
     ensures discharged { OnOk result (OweNobody system.now.gates ends.new) }
     ensures obligations { KeepAllObligations system.now.gates ends.old ends.new }

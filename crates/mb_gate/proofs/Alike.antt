@@ -78,6 +78,6 @@ alike claim pass actor journal = record {
   seen = λ s. (swapped s (Saw actor journal) pass.log claim.log, swapped s (Saw actor journal) claim.log pass.log);
   on = λ a. swapped_total (counted_on a) (Saw actor journal) pass.log claim.log;
   off = λ a. swapped_total (counted_off a) (Saw actor journal) pass.log claim.log;
-  said = refl;
+  sent_system = refl;
   owed = owed_by claim pass actor journal;
 }

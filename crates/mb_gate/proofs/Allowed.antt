@@ -314,12 +314,12 @@ module _ {H : Type 0} (is_of : ℕ → H → Type 0) (facts : H → HomeFacts) w
         | Ended a given ↦ (λ h e. unshut (ended (h e).0))
       ]) k.seen
 
-  shown_by : (x : Place) (keeper : Option (ℕ × Lent)) → ListPlace is_of facts x keeper
+  shown_by : (x : Place) (lent_to : Option (ℕ × Lent)) → ListPlace is_of facts x lent_to
       → has_work x.ghost ≡ shows_work (x.row Gate)
   shown_by x None k = sym (ap shows_work k.word ∙ marked false x.ghost.listed x.ghost.gave)
   shown_by x (Some h) k = sym (ap shows_work k.word ∙ marked true x.ghost.listed x.ghost.gave)
 
-  ends_by : (x : Place) (keeper : Option (ℕ × Lent)) → ListPlace is_of facts x keeper → x.row Gate / 8 % 2 ≡ 1
+  ends_by : (x : Place) (lent_to : Option (ℕ × Lent)) → ListPlace is_of facts x lent_to → x.row Gate / 8 % 2 ≡ 1
       → IsTrue
       x.ghost.listed.closed
   ends_by x None k e = end_mark (is_some_item x.ghost.listed.messages) x.ghost.gave x.ghost.listed.closed false (ap (λ z. z / 8 % 2)
@@ -327,7 +327,7 @@ module _ {H : Type 0} (is_of : ℕ → H → Type 0) (facts : H → HomeFacts) w
   ends_by x (Some h) k e = end_mark (is_some_item x.ghost.listed.messages) x.ghost.gave x.ghost.listed.closed true (ap (λ z. z / 8 % 2) (sym
       k.word) ∙ e)
 
-  gave_by : (x : Place) (keeper : Option (ℕ × Lent)) → ListPlace is_of facts x keeper → x.row Gate % 8 ≡ 0
+  gave_by : (x : Place) (lent_to : Option (ℕ × Lent)) → ListPlace is_of facts x lent_to → x.row Gate % 8 ≡ 0
       → (is_some_item
       x.ghost.listed.messages ≡ false) × (x.ghost.gave ≡ false)
   gave_by x None k e = no_marks (is_some_item x.ghost.listed.messages) x.ghost.gave x.ghost.listed.closed false (ap (λ z. z % 8) (sym k.word) ∙ e)
@@ -398,16 +398,16 @@ module _ {H : Type 0} (is_of : ℕ → H → Type 0) (facts : H → HomeFacts) w
       Home home,
     ) ∷ [] → is_of actor home → Extends (facts home).journal c.journal → (facts home).given ≡ c.given
         → Each (λ b. IsKnownClosed b c.closed_to me.0) (facts home).closed_to
-        → c.word ≢ 1 → IsTrue (is_valid new) → new % 4 ≡ 0 → new ≡ word_of (facts home).mailbox → (c.gave ≡ false → (facts home).rested)
+        → c.word ≢ 1 → IsTrue (is_valid new) → new % 4 ≡ 0 → new ≡ word_of (facts home).mailbox → (c.gave ≡ false → (facts home).no_backlog)
         → is_some_item me.0.share ≡ true
         → Allows (Rule n) slots id me i (λ _. new) (λ _. Idles facts (step slots i new 0 none) me new)
-    idles_allowed c home new e has of carried own longer count known unshut valid free word rest share = subst (λ j. Allows (Rule n) slots id me j
+    idles_allowed c home new e has of carried of_actor longer count known unshut valid free word rest share = subst (λ j. Allows (Rule n) slots id me j
         (λ _. new) (λ _.
         Idles facts (step slots j new 0 none) me new)) (sym e)
         (allows word_offset slot_offset words_few slots_few n (F n) slots id me actor Status (λ _. new) (λ _. Idles facts
         (step slots (word_at actor 8) new 0 none) me new) inside
         (λ x vs f at fits. idles is_of facts n actor id me c home new (Idles facts (step slots (word_at
-        actor 8) new 0 none) me new) x vs f at has of carried own longer count known unshut valid free word rest share
+        actor 8) new 0 none) me new) x vs f at has of carried of_actor longer count known unshut valid free word rest share
         (told_idle home (step slots (word_at actor 8) new 0 none) new carried)))
 
     pub idles_closed_allowed : (c : Held) (home : H) → i ≡ word_at actor 7 → me.0.claim ≡ Some c → c.actor ≡ actor → me.1 ≡ (
@@ -415,14 +415,14 @@ module _ {H : Type 0} (is_of : ℕ → H → Type 0) (facts : H → HomeFacts) w
       Home home,
     ) ∷ [] → is_of actor home → Extends (facts home).journal c.journal → (facts home).given ≡ c.given
         → Each (λ b. IsKnownClosed b c.closed_to me.0) (facts home).closed_to
-        → c.word ≡ 1 → 1 ≡ word_of (facts home).mailbox → (facts home).rested → is_some_item me.0.share ≡ true
+        → c.word ≡ 1 → 1 ≡ word_of (facts home).mailbox → (facts home).no_backlog → is_some_item me.0.share ≡ true
         → Allows (Rule n) slots id me i (λ _. 1) (λ _. Idles facts (step slots i 1 0 none) me 1)
-    idles_closed_allowed c home e has of carried own longer count known closed word rest share = subst (λ j. Allows (Rule n) slots id me j (λ _. 1)
+    idles_closed_allowed c home e has of carried of_actor longer count known closed word rest share = subst (λ j. Allows (Rule n) slots id me j (λ _. 1)
         (λ _. Idles facts (step slots j 1 0 none) me 1)) (sym e)
         (allows word_offset slot_offset words_few slots_few n (F n) slots id me actor Flag (λ _. 1) (λ _. Idles facts (step
         slots (word_at actor 7) 1 0 none) me 1) inside
         (λ x vs f at fits. idles_closed is_of facts n actor id me c home (Idles facts (step slots (word_at
-        actor 7) 1 0 none) me 1) x vs f at has of carried own longer count known closed word rest share
+        actor 7) 1 0 none) me 1) x vs f at has of carried of_actor longer count known closed word rest share
         (told_idle home (step slots (word_at actor 7) 1 0 none) 1 carried)))
 
     pub sends_allowed : (g : ℕ → ℕ) (k : ℕ) → ((w : ℕ) → g w % 2 ^ 64 ≡ (w + k) % 2 ^ 64) → is_some_item me.0.share ≡ true → i ≡ word_at actor 0
@@ -474,7 +474,7 @@ module _ {H : Type 0} (is_of : ℕ → H → Type 0) (facts : H → HomeFacts) w
         me) inside
         (λ x vs f at fits. looks is_of facts n actor id me (shows_work (x.row Gate)) (ReadsGate (step slots
         (word_at actor 9) 0 0
-        none) me (x.row Gate)) x vs (shown_by x x.ghost.keeper f.list_place) f at
+        none) me (x.row Gate)) x vs (shown_by x x.ghost.lent_to f.list_place) f at
         (λ a w z. (looking (same_actor actor a 9 w z) (shows_work (x.row Gate)) me.0, me.1))))
 
     pub grips_allowed : (old new : ℕ) → i ≡ word_at actor 9 → old % 2 ≡ 0 → new ≡ old + 1 → me.0.list ≡ None → may_lock_list actor me.0 ≡ true
@@ -604,7 +604,7 @@ module _ {H : Type 0} (is_of : ℕ → H → Type 0) (facts : H → HomeFacts) w
         (λ a c w has of bare. let who : actor ≡ a = same_actor actor a 9 w in
         let gave : c.gave ≡ false = (is_held is_of facts n actor id x vs me.0 c f at has (of ∙ sym who)).1.gave
         ∙ (gave_by x
-        x.ghost.keeper f.list_place hit).1 in
+        x.ghost.lent_to f.list_place hit).1 in
         let small : c.given < 2 ^ 64 = (let one = (is_held is_of facts n actor id x vs me.0 c f at has (of ∙ sym
         who)).1.count in let two = f.listing.counted in omega arith) in (
           (λ _ z. ((drained_nothing actor c me.0 has bare gave small ∙ (λ j. draining (who j) [] false me.0)) z, me.1)),
@@ -626,13 +626,13 @@ module _ {H : Type 0} (is_of : ℕ → H → Type 0) (facts : H → HomeFacts) w
         (λ x vs f at fits. let tell = Refuses (step slots (word_at actor 9) old old (some (Note m))) me (x.row Gate) in
         exchanged (x.row Gate) old old (λ k. RuledStep word_offset slot_offset (F n) actor id me Gate k tell x vs)
         (λ hit. subst (λ k. RuledStep word_offset slot_offset (F n) actor id me Gate k tell x vs) hit
-        (let ended = ends_by x x.ghost.keeper f.list_place (ap (λ k. k / 8 % 2) hit ∙ shut) in
+        (let ended = ends_by x x.ghost.lent_to f.list_place (ap (λ k. k / 8 % 2) hit ∙ shut) in
         refuses is_of facts n actor id me m tell x vs f at ended
-        (λ a m' w said. let who : actor ≡ a = same_actor actor a 9 w in let what : m ≡ m' = note_same {H = H} m m' said in
+        (λ a m' w sent_system. let who : actor ≡ a = same_actor actor a 9 w in let what : m ≡ m' = note_same {H = H} m m' sent_system in
         let had : WasHeldBy actor me.0 = (λ whole. was_held is_of facts n actor x vs id me.0 f at whole
         (f.ended ended)) in
         ((λ _. ((λ z. (refusing (who z) (what z) me.0, me.1)), subst (λ b. WasHeldBy b me.0) who had)), (λ miss. absurd (miss hit))))))
-        (λ miss. glances is_of facts n actor id Gate me tell x vs f at (λ a m' w said. (
+        (λ miss. glances is_of facts n actor id Gate me tell x vs f at (λ a m' w sent_system. (
           (λ hit. absurd
               (miss hit)),
           (λ _. refl),
@@ -652,10 +652,10 @@ module _ {H : Type 0} (is_of : ℕ → H → Type 0) (facts : H → HomeFacts) w
         (λ e l r. record { fits = halves_fit e v.share l; amounts = halves_amount e v.share l })
         (λ a bare. absurd (no_share (halved v.share) (some_halved v.share share) bare)) (λ a bare. absurd (no_share (half_of v.share) (some_half
         v.share share) bare))
-        (λ b. vouches_without b v.log) (λ a x k. record { seen = k.seen; said = k.said }) (λ a x k. record {
+        (λ b. vouches_without b v.log) (λ a x k. record { seen = k.seen; sent_system = k.sent_system }) (λ a x k. record {
           seen = each_without (ObservationHolds a x) v.log
               k.seen;
-          said = k.said;
+          sent_system = k.sent_system;
         }))
 
     -- a pass that knows nothing is split off, with a half of the share
@@ -674,7 +674,7 @@ module _ {H : Type 0} (is_of : ℕ → H → Type 0) (facts : H → HomeFacts) w
         })
         (λ a bare. absurd (no_share (half_of v.share) (some_half v.share share) bare)) (λ a bare. absurd (no_share (halved v.share) (some_halved
         v.share share) bare))
-        (λ b p. p) (λ a x k. record { seen = tt; said = tt }) (λ a x k. record { seen = k.seen; said = k.said }))
+        (λ b p. p) (λ a x k. record { seen = tt; sent_system = tt }) (λ a x k. record { seen = k.seen; sent_system = k.sent_system }))
 
     -- the claim gets a view of its own
     pub claims_allowed : (v : View) → v.list ≡ None → is_some_item v.share ≡ true → Splits (Rule n) id v (claim_alone v) (without_claim v)
@@ -688,19 +688,19 @@ module _ {H : Type 0} (is_of : ℕ → H → Type 0) (facts : H → HomeFacts) w
         })
         (λ e l r. record { fits = r; amounts = none_more (amount e v.share) })
         (λ a bare. record { got = refl; back = refl; on = refl; rest = λ _. (refl, refl) }) (λ a bare. absurd (no_share v.share share bare))
-        (λ b p. p) (λ a x k. record { seen = tt; said = tt }) (λ a x k. record { seen = k.seen; said = k.said }))
+        (λ b p. p) (λ a x k. record { seen = tt; sent_system = tt }) (λ a x k. record { seen = k.seen; sent_system = k.sent_system }))
 
     pub joins_allowed : (v : View) (other : ℕ) (w : View) → w.claim ≡ None → w.list ≡ None → is_some_item w.share ≡ true → Joins (Rule n) id v other
         w (taking_over v w) blank
     joins_allowed v other w bare no_list share = joins word_offset slot_offset words_few slots_few n (F n) id v other w (taking_over v w) blank
-        (takes_over is_of facts n id v other w v.said (inl refl) bare no_list share)
+        (takes_over is_of facts n id v other w v.sent_system (inl refl) bare no_list share)
 
     -- and a claim's seat takes in a pass
     pub takes_in_allowed : (v : View) (other : ℕ) (w : View) → w.claim ≡ None → w.list ≡ None → is_some_item w.share ≡ true
         → Joins (Rule n) id v other w (taking_in v w) blank
     takes_in_allowed v other w bare no_list share = joins word_offset slot_offset words_few slots_few n (F n) id v other w (taking_in v w) blank
         (takes_over
-        is_of facts n id v other w w.said (inr refl) bare no_list share)
+        is_of facts n id v other w w.sent_system (inr refl) bare no_list share)
 
 module _ {H : Type 0} (all_of : H → ℕ → H → Type 0) (first : Snapshot (Snapshot H)) (facts : H → HomeFacts) where
   abbrev G : ℕ → ℕ → Spot Word SlotName (Slot H) Ghost → List View → Type 0
@@ -726,17 +726,17 @@ module _ {H : Type 0} (all_of : H → ℕ → H → Type 0) (first : Snapshot (S
         (all_of first.value.value) facts n actor x vs f here in
         subst (λ k. RuledStep word_offset slot_offset (G n) actor id me Status k tell x vs) (sym is_new)
         (schedules (all_of first.value.value) facts n actor id me old tell x vs f at here hit bare share
-        (λ a other w said. subst (λ (b : ℕ × Snapshot (Snapshot H)). (let now : N = (
+        (λ a other w sent_system. subst (λ (b : ℕ × Snapshot (Snapshot H)). (let now : N = (
           taking actor x.ghost.journal x.ghost.closed_to old x.ghost.gave
               x.ghost.listed.given me.0,
           (slot_at actor 0, Home h.1.home) ∷ me.1,
         ) in
         (x.row Status ≡ old → Won (all_of b.1.value.value) facts b.0 (x.row Status) me now)
         × (x.row Status ≢ old → (now ≡ (reading b.0 (x.row Status) me.0, me.1)) × IsTrue (is_valid (x.row Status)) × StaysClosed b.0 (x.row Status)
-        me.0))) (λ z. (same_actor actor a 8 w z, first_same_home first other (sym (ap (λ (y : Slot H). some y) is_note) ∙ said) z)) (
+        me.0))) (λ z. (same_actor actor a 8 w z, first_same_home first other (sym (ap (λ (y : Slot H). some y) is_note) ∙ sent_system) z)) (
           (λ _. record {
             home = h.1.home;
-            own = h.1.own;
+            of_actor = h.1.of_actor;
             word = h.1.word;
             gave = x.ghost.gave;
             rest = λ no. h.1.rest (inr no);
@@ -749,7 +749,7 @@ module _ {H : Type 0} (all_of : H → ℕ → H → Type 0) (first : Snapshot (S
           }),
           (λ miss. absurd (miss hit)),
         ))))
-        (λ miss. reads (all_of first.value.value) facts n actor id me tell x vs f at (λ a other w said. (
+        (λ miss. reads (all_of first.value.value) facts n actor id me tell x vs f at (λ a other w sent_system. (
           (λ hit. absurd (miss hit)),
           (λ _. told_read (all_of first.value.value) facts n slots id me actor i inside x vs f at a
               w),

@@ -101,7 +101,7 @@ module _ {H : Type 0} (is_of : ℕ → H → Type 0) (facts : H → HomeFacts) w
       → is_of actor home × (x.row Status ≡ word_of (facts home).mailbox)
   its_own actor x None kept home there =
       let same : kept.home ≡ home = home_there actor x kept home there in
-      (subst (is_of actor) same kept.own, kept.word ∙ ap (λ (h : H). word_of (facts h).mailbox) same)
+      (subst (is_of actor) same kept.of_actor, kept.word ∙ ap (λ (h : H). word_of (facts h).mailbox) same)
   its_own actor x (Some h) kept home there = absurd (not_home x home kept.out there)
 
   pub shows_claims : ShowsClaims is_of facts

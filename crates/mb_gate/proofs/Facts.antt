@@ -227,7 +227,7 @@ module _ {H : Type 0} (is_of : ℕ → H → Type 0) (facts : H → HomeFacts) (
   still_kept x y status flag slot tale shut count gave None k = record {
     home = k.home;
     present = slot ∙ k.present;
-    own = k.own;
+    of_actor = k.of_actor;
     fold = k.fold ∙ sym tale;
     count = k.count ∙ sym count;
     known_closed = k.known_closed ∙ sym shut;
@@ -237,7 +237,7 @@ module _ {H : Type 0} (is_of : ℕ → H → Type 0) (facts : H → HomeFacts) (
     rest = λ r. k.rest (⊎_elim (λ h. inl (sym status ∙ h)) (λ h. inr (sym gave ∙ h)) r);
   }
   still_kept x y status flag slot tale shut count gave (Some h) k = record {
-    own = k.own;
+    of_actor = k.of_actor;
     taken = k.taken ∙ sym tale;
     known_closed = k.known_closed ∙ sym shut;
     count = k.count ∙ sym count;
@@ -250,8 +250,8 @@ module _ {H : Type 0} (is_of : ℕ → H → Type 0) (facts : H → HomeFacts) (
 
   pub still_shelved : (x y : Place) → y.row Gate ≡ x.row Gate → y.slot ListSlot ≡ x.slot ListSlot → y.ghost.listed ≡ x.ghost.listed →
       y.ghost.gave ≡ x.ghost.gave
-      → (keeper : Option (ℕ × Lent)) → ListPlace is_of facts x keeper
-      → ListPlace is_of facts y keeper
+      → (lent_to : Option (ℕ × Lent)) → ListPlace is_of facts x lent_to
+      → ListPlace is_of facts y lent_to
   still_shelved x y gate slot items gave None k = record {
     present = slot ∙ (k.present ∙ ap (λ (l : MessageList). some (some (Listing l))) (sym items));
     word = gate ∙ (k.word ∙ (λ i. gate_word false (sym items i) (sym gave i)));
@@ -271,7 +271,7 @@ module _ {H : Type 0} (is_of : ℕ → H → Type 0) (facts : H → HomeFacts) (
     valid = f.valid;
     claims = stays_locked (claim_for actor) x.ghost.holder vs id v w at claim f.claims;
     cell = f.cell;
-    lists = stays_locked (list_for actor) x.ghost.keeper vs id v w at list f.lists;
+    lists = stays_locked (list_for actor) x.ghost.lent_to vs id v w at list f.lists;
     list_place = f.list_place;
     ended = f.ended;
     listing = f.listing;
@@ -281,8 +281,8 @@ module _ {H : Type 0} (is_of : ℕ → H → Type 0) (facts : H → HomeFacts) (
     held = still_held actor (x.row Status) (x.row Status) vs id v w at account.got (λ one. one) f.held;
     shares = shares_stay (λ (u : View). u.share) vs id v w at account.share f.shares;
     bare = still_bare actor vs id v w at account (λ c. sym claim ∙ c) (λ c. list ∙ c) f.bare;
-    vouched = λ other. still_owed (HasSeenClosed other) (IsAmong other x.ghost.closed_to) (IsAmong other x.ghost.closed_to) vs id v w at (λ d. d) (λ _.
-        vouches other) (f.vouched other);
+    was_seen_closed = λ other. still_owed (HasSeenClosed other) (IsAmong other x.ghost.closed_to) (IsAmong other x.ghost.closed_to) vs id v w at (λ d. d) (λ _.
+        vouches other) (f.was_seen_closed other);
     message = still_owed (HasMessageObligation actor) (MessageDue x) (MessageDue x) vs id v w at (λ d. d) message f.message;
     system = still_owed (HasSystemObligation actor) (SystemDue x) (SystemDue x) vs id v w at (λ d. d) system f.system;
     seen = learns (Knows actor x) (Knows actor x) vs id w (λ u k. k) (knows (f.seen id v at)) f.seen;

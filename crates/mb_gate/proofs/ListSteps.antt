@@ -43,7 +43,7 @@ use Rattle.atomic_table.specs.Table.{rest as tail_of}
 use Rattle.mb_ghost.specs.Layout.{Spot, slot_at, write, fill}
 use Rattle.mb_ghost.specs.Locked.{Locked}
 use Rattle.mb_ghost.specs.Ruled.{RuledStep, stays, takes_from, gives_to}
-use Rattle.mb_ghost.proofs.LockedLemmas.{stays_locked, takes_up, turns_over, puts_back, is_holder}
+use Rattle.mb_ghost.proofs.LockedLemmas.{stays_locked, takes_up, changes_ticket, puts_back, is_holder}
 use Rattle.mb_ghost.proofs.OwedLemmas.{pays, still_owed}
 use Rattle.mb_ghost.proofs.SeenLemmas.{learns}
 use Rattle.mb_ghost.proofs.SharesLemmas.{shares_stay}
@@ -130,27 +130,27 @@ module _ {H : Type 0} (is_of : ℕ → H → Type 0) (facts : H → HomeFacts) (
   abbrev Place : Type 0
   Place = Spot Word SlotName (Slot H) Ghost
 
-  no_keeper : (x : Place) (keeper : Option (ℕ × Lent)) → x.row Gate % 2 ≡ 0 → ListPlace is_of facts x keeper
-      → keeper ≡ None
+  no_keeper : (x : Place) (lent_to : Option (ℕ × Lent)) → x.row Gate % 2 ≡ 0 → ListPlace is_of facts x lent_to
+      → lent_to ≡ None
   no_keeper x None even k = refl
   no_keeper x (Some h) even k = absurd (let w = k.word in let o = gate_out x.ghost.listed x.ghost.gave in let e = gate_even x.ghost.listed
       x.ghost.gave in omega arith)
 
   -- the list is in its slot where the gate's word is even
-  pub is_shelved : (actor : ℕ) (x : Place) (vs : List View) → F actor x vs → x.row Gate % 2 ≡ 0 → (x.ghost.keeper ≡ None) × IsListInSlot is_of
+  pub is_shelved : (actor : ℕ) (x : Place) (vs : List View) → F actor x vs → x.row Gate % 2 ≡ 0 → (x.ghost.lent_to ≡ None) × IsListInSlot is_of
       facts x
-  is_shelved actor x vs f even = let nobody = no_keeper x x.ghost.keeper even f.list_place in (
+  is_shelved actor x vs f even = let nobody = no_keeper x x.ghost.lent_to even f.list_place in (
     nobody,
     subst (ListPlace is_of facts x)
         nobody f.list_place,
   )
 
-  -- who has the list is its keeper
+  -- who has the list is its lent_to
   pub is_lent : (actor id : ℕ) (x : Place) (vs : List View) (v : View) (l : Lent) → F actor x vs → get_elem? vs id ≡ some v → v.list ≡ Some l →
       l.actor ≡ actor
-      → (x.ghost.keeper ≡ Some (id, l)) × IsListOut is_of facts x l
+      → (x.ghost.lent_to ≡ Some (id, l)) × IsListOut is_of facts x l
   is_lent actor id x vs v l f at has of =
-      let kept = is_holder (list_for actor) x.ghost.keeper vs id v l at (ap (lent_of actor) has ∙ lent_here actor l of) f.lists in
+      let kept = is_holder (list_for actor) x.ghost.lent_to vs id v l at (ap (lent_of actor) has ∙ lent_here actor l of) f.lists in
       (kept, subst (ListPlace is_of facts x) kept f.list_place)
 
   -- a seat takes the list out
@@ -163,7 +163,7 @@ module _ {H : Type 0} (is_of : ℕ → H → Type 0) (facts : H → HomeFacts) (
       let h = is_shelved actor x vs f even in
       let l : Lent = record { actor = actor; listed = x.ghost.listed; gave = x.ghost.gave } in
       let w = lending actor x.ghost.listed x.ghost.gave v in
-      let g : Ghost = record x.ghost { keeper = Some (id, l) } in
+      let g : Ghost = record x.ghost { lent_to = Some (id, l) } in
       let y : Place = record { row = write word_offset x.row Gate (old + 1); slot = fill slot_offset x.slot ListSlot none; ghost = g } in
       let grows = grown x y (λ e. e) (λ one. one) (extends_self x.ghost.journal) refl in record {
         view = w;
@@ -186,12 +186,12 @@ module _ {H : Type 0} (is_of : ℕ → H → Type 0) (facts : H → HomeFacts) (
           held = still_held actor (x.row Status) (x.row Status) vs id v w at refl (λ one. one) f.held;
           shares = shares_stay (λ (u : View). u.share) vs id v w at refl f.shares;
           bare = gripper_bare actor vs id v w at refl refl refl (refl, refl) may f.bare;
-          vouched = λ b. still_owed (HasSeenClosed b) (IsAmong b x.ghost.closed_to) (IsAmong b x.ghost.closed_to) vs id v w at (λ d. d) (λ _ p. p)
-              (f.vouched b);
+          was_seen_closed = λ b. still_owed (HasSeenClosed b) (IsAmong b x.ghost.closed_to) (IsAmong b x.ghost.closed_to) vs id v w at (λ d. d) (λ _ p. p)
+              (f.was_seen_closed b);
           message = still_owed (HasMessageObligation actor) (MessageDue x) (MessageDue y) vs id v w at (λ d. d) (λ _ p. p) f.message;
           system = still_owed (HasSystemObligation actor) (SystemDue x) (SystemDue y) vs id v w at (λ d. d) (λ _ p. p) f.system;
           seen = let k = goes_on actor x y v grows (f.seen id v at) in
-              learns (Knows actor x) (Knows actor y) vs id w (λ u. goes_on actor x y u grows) (record { seen = k.seen; said = k.said }) f.seen;
+              learns (Knows actor x) (Knows actor y) vs id w (λ u. goes_on actor x y u grows) (record { seen = k.seen; sent_system = k.sent_system }) f.seen;
         };
         others = λ a n z k. elsewhere is_of facts actors a z vs id v w at
             (record {
@@ -203,7 +203,7 @@ module _ {H : Type 0} (is_of : ℕ → H → Type 0) (facts : H → HomeFacts) (
               knows = λ _ s. record {
                 seen
                     = s.seen;
-                said = s.said;
+                sent_system = s.sent_system;
               };
             }) k;
         tells = told;
@@ -223,14 +223,14 @@ module _ {H : Type 0} (is_of : ℕ → H → Type 0) (facts : H → HomeFacts) (
       let u : View = record v {
         log = Pushed actor (pushed l.listed) m ∷ v.log;
         list = None;
-        said = record {
+        sent_system = record {
           to = actor;
           message = m;
           was_ended =
               false;
-        } ∷ v.said;
+        } ∷ v.sent_system;
       } in
-      let g : Ghost = record x.ghost { keeper = None; listed = with_last l.listed m; pushed = x.ghost.pushed ++ m ∷ [] } in
+      let g : Ghost = record x.ghost { lent_to = None; listed = with_last l.listed m; pushed = x.ghost.pushed ++ m ∷ [] } in
       let same_end : IsTrue x.ghost.listed.closed → IsTrue l.listed.closed = (λ e. ap (λ (z : MessageList). z.closed) h.1.taken ∙ e) in
       let y : Place = record {
         row = write word_offset x.row Gate n;
@@ -269,15 +269,15 @@ module _ {H : Type 0} (is_of : ℕ → H → Type 0) (facts : H → HomeFacts) (
           shares = shares_stay (λ (u : View). u.share) vs id v w at refl f.shares;
           bare = still_bare actor vs id v w at (counts_no_more actor (Pushed actor (pushed l.listed) m) v w refl (refl, refl) refl refl refl)
               (λ c. c) (λ c. refl) f.bare;
-          vouched = λ b. still_owed (HasSeenClosed b) (IsAmong b x.ghost.closed_to) (IsAmong b x.ghost.closed_to) vs id v w at (λ d. d)
-              (λ _. among_more (Read b 1) (Pushed actor (pushed l.listed) m) v.log) (f.vouched b);
+          was_seen_closed = λ b. still_owed (HasSeenClosed b) (IsAmong b x.ghost.closed_to) (IsAmong b x.ghost.closed_to) vs id v w at (λ d. d)
+              (λ _. among_more (Read b 1) (Pushed actor (pushed l.listed) m) v.log) (f.was_seen_closed b);
           message = still_owed (HasMessageObligation actor) (MessageDue x) (MessageDue y) vs id v w at (λ z. z) (λ _. subst (λ (z : WakeObligation). IsTrue
               (z.message || z.sending)) (sym (owes_here actor d u))) f.message;
           system = pays (HasSystemObligation actor) (SystemDue y) vs id v w at (subst (λ (z : WakeObligation). IsTrue z.system) (sym (owes_here actor d u)) refl);
           seen = let k = goes_on actor x y v grows (f.seen id v at) in
               learns (Knows actor x) (Knows actor y) vs id w (λ u. goes_on actor x y u grows) (record {
                 seen = ((λ _. pushed_so x.ghost l.listed m h.1.taken f.listing), k.seen);
-                said = (
+                sent_system = (
                   (λ _. (
                     (λ e. absurd (cc)),
                     (λ _. record {
@@ -286,7 +286,7 @@ module _ {H : Type 0} (is_of : ℕ → H → Type 0) (facts : H → HomeFacts) (
                       joined = refl;
                     }),
                   )),
-                  k.said,
+                  k.sent_system,
                 );
               }) f.seen;
         };
@@ -298,7 +298,7 @@ module _ {H : Type 0} (is_of : ℕ → H → Type 0) (facts : H → HomeFacts) (
               account = counts_no_more a (Pushed actor (pushed l.listed) m) v w refl (refl, refl) refl refl refl;
               vouches = λ b. among_more (Read b 1) (Pushed actor (pushed l.listed) m) v.log;
               knows
-                  = λ _ t. record { seen = ((λ e. absurd (k (sym e))), t.seen); said = ((λ e. absurd (k (sym e))), t.said) };
+                  = λ _ t. record { seen = ((λ e. absurd (k (sym e))), t.seen); sent_system = ((λ e. absurd (k (sym e))), t.sent_system) };
             }) s;
         tells = told;
       }
@@ -323,7 +323,7 @@ module _ {H : Type 0} (is_of : ℕ → H → Type 0) (facts : H → HomeFacts) (
       let w = unloading s given gave v in
       let still : IsTrue x.ghost.listed.closed → IsTrue new.closed = (λ e. stays_closed (ap (λ (z : MessageList). z.closed) k.1.taken ∙ e)) in
       let c' : Held = record c { gave = gave; given = given_after c.given given; drained = c.drained ++ given } in
-      let g : Ghost = record x.ghost { holder = Some (id, c'); keeper = None; listed = new; gave = gave } in
+      let g : Ghost = record x.ghost { holder = Some (id, c'); lent_to = None; listed = new; gave = gave } in
       let y : Place = record { row = write word_offset x.row Gate n; slot = fill slot_offset x.slot ListSlot (some (Listing new)); ghost = g } in
       let same_given : l.listed.given ≡ x.ghost.listed.given = ap (λ (z : MessageList). z.given) k.1.taken in
       let grows = grown x y still (λ one. one) (extends_self x.ghost.journal) refl in record {
@@ -333,10 +333,10 @@ module _ {H : Type 0} (is_of : ℕ → H → Type 0) (facts : H → HomeFacts) (
         able = (tail_of me.1, carried);
         here = record {
           valid = f.valid;
-          claims = turns_over (claim_for actor) vs id v w c c' at (ap (λ z. held_of actor (regiven given gave z)) has ∙ held_here actor c' of)
+          claims = changes_ticket (claim_for actor) vs id v w c c' at (ap (λ z. held_of actor (regiven given gave z)) has ∙ held_here actor c' of)
               (subst (λ o. Locked (claim_for actor) o vs) h.0 f.claims);
           cell = record {
-            own = of;
+            of_actor = of;
             taken = h.1.taken;
             known_closed = h.1.known_closed;
             count = ap (λ z. given_after z given) (h.1.count ∙ sym same_given) ∙ sym counts;
@@ -365,14 +365,14 @@ module _ {H : Type 0} (is_of : ℕ → H → Type 0) (facts : H → HomeFacts) (
           shares = shares_stay (λ (u : View). u.share) vs id v w at refl f.shares;
           bare = claimed_bare actor vs id v w c' at (ap (λ z. held_of actor (regiven given gave z)) has ∙ held_here actor c' of) refl refl refl
               (counts_no_more actor s v w refl (uncounted actor) refl refl refl).on f.bare;
-          vouched = λ b. still_owed (HasSeenClosed b) (IsAmong b x.ghost.closed_to) (IsAmong b x.ghost.closed_to) vs id v w at (λ d. d)
-              (λ _. among_more (Read b 1) s v.log) (f.vouched b);
+          was_seen_closed = λ b. still_owed (HasSeenClosed b) (IsAmong b x.ghost.closed_to) (IsAmong b x.ghost.closed_to) vs id v w at (λ d. d)
+              (λ _. among_more (Read b 1) s v.log) (f.was_seen_closed b);
           message = still_owed (HasMessageObligation actor) (MessageDue x) (MessageDue y) vs id v w at (λ z. z) (λ _ p. p) f.message;
           system = λ due. absurd (let z = due.0 in ⊎_elim (λ b. omega arith) (λ b. omega arith) h.1.busy);
           seen = let k = goes_on actor x y v grows (f.seen id v at) in
               learns (Knows actor x) (Knows actor y) vs id w (λ u. goes_on actor x y u grows) (record {
                 seen = (so actor y (λ _. (refl, part_so x.ghost l.listed lent.1.taken f.listing)), k.seen);
-                said = k.said;
+                sent_system = k.sent_system;
               }) f.seen;
         };
         others = λ a i z p. elsewhere is_of facts actors a z vs id v w at (record {
@@ -382,7 +382,7 @@ module _ {H : Type 0} (is_of : ℕ → H → Type 0) (facts : H → HomeFacts) (
           debt = refl;
           account = counts_no_more a s v w refl (uncounted a) refl refl refl;
           vouches = λ b. among_more (Read b 1) s v.log;
-          knows = λ q t. record { seen = (so a q (λ e. absurd (i e)), t.seen); said = t.said };
+          knows = λ q t. record { seen = (so a q (λ e. absurd (i e)), t.seen); sent_system = t.sent_system };
         }) p;
         tells = told;
       }
@@ -399,8 +399,8 @@ module _ {H : Type 0} (is_of : ℕ → H → Type 0) (facts : H → HomeFacts) (
     here = load_here is_of facts actors actor x (set vs id w) Gate (views_change is_of facts actors actor x vs id v w at refl
         refl (record { on = refl; off = refl; share = refl; got = refl; back = refl }) (λ _ p. p) (λ _ p. p) (λ k. record {
           seen = k.seen;
-          said =
-              ((λ _. ((λ _. shut), (λ e. absurd (cc)))), k.said);
+          sent_system =
+              ((λ _. ((λ _. shut), (λ e. absurd (cc)))), k.sent_system);
         }) (λ b p. p) f);
     others = λ a n y g. elsewhere is_of facts actors a y vs id v w at (record {
       claim = refl;
@@ -409,7 +409,7 @@ module _ {H : Type 0} (is_of : ℕ → H → Type 0) (facts : H → HomeFacts) (
       account = record { on = refl; off = refl; share = refl; got = refl; back = refl };
       vouches = λ b p. p;
       knows = λ _ t.
-          record { seen = t.seen; said = ((λ e. absurd (n (sym e))), t.said) };
+          record { seen = t.seen; sent_system = ((λ e. absurd (n (sym e))), t.sent_system) };
     }) g;
     tells = told;
   }

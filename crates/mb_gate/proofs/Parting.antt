@@ -230,7 +230,7 @@ module _ {H : Type 0} (is_of : ℕ → H → Type 0) (facts : H → HomeFacts) (
         claims = splits_locked (claim_for actor) x.ghost.holder vs id v left right at (ap (held_of actor) claim) (ap (held_of actor) no_claim)
             f.claims;
         cell = f.cell;
-        lists = splits_locked (list_for actor) x.ghost.keeper vs id v left right at (ap (lent_of actor) no_list ∙ sym (ap (lent_of actor) list)) (ap
+        lists = splits_locked (list_for actor) x.ghost.lent_to vs id v left right at (ap (lent_of actor) no_list ∙ sym (ap (lent_of actor) list)) (ap
             (lent_of actor) no_list_2) f.lists;
         list_place = f.list_place;
         ended = f.ended;
@@ -243,7 +243,7 @@ module _ {H : Type 0} (is_of : ℕ → H → Type 0) (facts : H → HomeFacts) (
         held = λ one. subst (λ k. 0 < k) (sym (total_splits (claims_got actor) vs id v left right at (account actor).got)) (f.held one);
         shares = splits_shares (λ (u : View). u.share) vs id v left right at (λ e l r. let s = share e l r in (s.fits, s.amounts)) f.shares;
         bare = splits_seen (λ (u : View). u.share ≡ [] → IsBare actor u) vs id left right (bare_left actor) (bare_right actor) f.bare;
-        vouched = λ b. splits_owed (HasSeenClosed b) (IsAmong b x.ghost.closed_to) vs id v left right at (λ p. inr (vouches b p)) (f.vouched b);
+        was_seen_closed = λ b. splits_owed (HasSeenClosed b) (IsAmong b x.ghost.closed_to) vs id v left right at (λ p. inr (vouches b p)) (f.was_seen_closed b);
         message = splits_owed (HasMessageObligation actor) (MessageDue x) vs id v left right at (λ p. inr (subst (λ ds. IsTrue ((obligation_of actor ds).message ||
             (obligation_of actor ds).sending)) (sym obligations) p)) f.message;
         system = splits_owed (HasSystemObligation actor) (SystemDue x) vs id v left right at (λ p. inr (subst (λ ds. IsTrue (obligation_of actor ds).system) (sym
@@ -252,19 +252,19 @@ module _ {H : Type 0} (is_of : ℕ → H → Type 0) (facts : H → HomeFacts) (
       }
 
   -- a seat takes over the view of one that has no claim and no list, and what one of the two sent
-  pub takes_over : (id : ℕ) (v : View) (other : ℕ) (w : View) (said : List SentSystem) → (said ≡ v.said) ⊎ (said ≡ w.said) → w.claim ≡ None
+  pub takes_over : (id : ℕ) (v : View) (other : ℕ) (w : View) (sent_system : List SentSystem) → (sent_system ≡ v.sent_system) ⊎ (sent_system ≡ w.sent_system) → w.claim ≡ None
       → w.list ≡ None →
       is_some_item w.share ≡ true
       → (actor : ℕ) (x : Place) (vs : List View) → get_elem? vs id ≡ some v → ¬ (other ≡ id)
-      → get_elem? (set vs id (record (taking_over v w) { said = said })) other ≡ some w
-      → F actor x vs → F actor x (set (set vs id (record (taking_over v w) { said = said })) other blank)
-  takes_over id v other w said whose bare bare_list sharer actor x vs at apart there f =
-      let both : View = record (taking_over v w) { said = said } in
+      → get_elem? (set vs id (record (taking_over v w) { sent_system = sent_system })) other ≡ some w
+      → F actor x vs → F actor x (set (set vs id (record (taking_over v w) { sent_system = sent_system })) other blank)
+  takes_over id v other w sent_system whose bare bare_list sharer actor x vs at apart there f =
+      let both : View = record (taking_over v w) { sent_system = sent_system } in
       let at_other : get_elem? vs other ≡ some w = sym (set_else vs id other both apart) ∙ there in record {
         valid = f.valid;
         claims = joins_locked (claim_for actor) x.ghost.holder vs id other v w both blank at there refl (ap (held_of actor) bare) refl f.claims;
         cell = f.cell;
-        lists = joins_locked (list_for actor) x.ghost.keeper vs id other v w both blank at there refl (ap (lent_of actor) bare_list) refl f.lists;
+        lists = joins_locked (list_for actor) x.ghost.lent_to vs id other v w both blank at there refl (ap (lent_of actor) bare_list) refl f.lists;
         list_place = f.list_place;
         ended = f.ended;
         listing = f.listing;
@@ -280,8 +280,8 @@ module _ {H : Type 0} (is_of : ℕ → H → Type 0) (facts : H → HomeFacts) (
         shares = joins_shares (λ (u : View). u.share) vs id other v w both blank at apart there refl refl f.shares;
         bare = joins_seen (λ (u : View). u.share ≡ [] → IsBare actor u) vs id other both blank (λ none. absurd (no_share (w.share ++ v.share)
             (some_left w.share v.share sharer) none)) (λ _. record { got = refl; back = refl; on = refl; rest = λ _. (refl, refl) }) f.bare;
-        vouched = λ b. joins_owed (HasSeenClosed b) (IsAmong b x.ghost.closed_to) vs id other v w both blank at apart there
-            (λ p. among_right (Read b 1) w.log v.log p) (λ p. among_left (Read b 1) w.log v.log p) (f.vouched b);
+        was_seen_closed = λ b. joins_owed (HasSeenClosed b) (IsAmong b x.ghost.closed_to) vs id other v w both blank at apart there
+            (λ p. among_right (Read b 1) w.log v.log p) (λ p. among_left (Read b 1) w.log v.log p) (f.was_seen_closed b);
         message = joins_owed (HasMessageObligation actor) (MessageDue x) vs id other v w both blank at apart there
             (λ p. subst (λ (d : WakeObligation). IsTrue (d.message || d.sending)) (sym (debt_of-added actor w.obligations v.obligations)) (either_message (obligation_to actor
             w) (obligation_to actor v) (inr p)))
@@ -295,7 +295,7 @@ module _ {H : Type 0} (is_of : ℕ → H → Type 0) (facts : H → HomeFacts) (
         seen = joins_seen (Knows actor x) vs id other both blank
             (record {
               seen = each_append (ObservationHolds actor x) w.log v.log (f.seen other w at_other).seen (f.seen id v at).seen;
-              said = ⊎_elim (λ e. subst (Each (SentSystemHolds actor x)) (sym e) (f.seen id v at).said) (λ e. subst (Each (SentSystemHolds actor x)) (sym e)
-                  (f.seen other w at_other).said) whose;
-            }) (record { seen = tt; said = tt }) f.seen;
+              sent_system = ⊎_elim (λ e. subst (Each (SentSystemHolds actor x)) (sym e) (f.seen id v at).sent_system) (λ e. subst (Each (SentSystemHolds actor x)) (sym e)
+                  (f.seen other w at_other).sent_system) whose;
+            }) (record { seen = tt; sent_system = tt }) f.seen;
       }

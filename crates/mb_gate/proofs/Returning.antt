@@ -179,7 +179,7 @@ module _ {H : Type 0} (is_of : ℕ → H → Type 0) (facts : H → HomeFacts) w
         let list : here.ghost.listed ≡ t.2.0 = list_same {H = H} here.ghost.listed t.2.0 (some-injective _ _ (sym (same (slot_at actor 1) (Listing
         here.ghost.listed) l.present) ∙ t.2.1)) in
         let given : left.given ≡ here.ghost.listed.given = t.2.2 ∙ ap (λ (z : MessageList). z.given) (sym list) in (
-          subst (is_of actor) home k.own,
+          subst (is_of actor) home k.of_actor,
           k.word ∙ ap (λ h. word_of (facts h).mailbox) home,
           subst (λ j. Each (IsKept actor j (here.row Status)) v.log) (sym k.fold
               ∙ ap (λ (h : H). (facts h).journal) home) (each_weaker (ObservationHolds actor here) (IsKept actor
@@ -199,7 +199,7 @@ module _ {H : Type 0} (is_of : ℕ → H → Type 0) (facts : H → HomeFacts) w
           given,
           t.2.3 ∙ ap (λ (z : MessageList). is_some_item z.messages) (sym list),
           ap (λ (h : H). (facts h).given) (sym home) ∙ (k.count ∙ sym given),
-          (λ why. subst (λ (h : H). (facts h).rested) home (k.rest why)),
+          (λ why. subst (λ (h : H). (facts h).no_backlog) home (k.rest why)),
         )
 
     -- and nobody holds the actor
@@ -222,15 +222,15 @@ module _ {H : Type 0} (is_of : ℕ → H → Type 0) (facts : H → HomeFacts) w
         subst (IsAmong other) k.known_closed (subst (λ h. IsAmong other (facts h).closed_to) (sym home) is)
 
     none_left : IsTakenOut ws xs actor None → IsReturned is_of facts actor here v None
-    none_left t = let f = r.each actor inside in cases here.ghost.holder here.ghost.keeper f.cell f.list_place
+    none_left t = let f = r.each actor inside in cases here.ghost.holder here.ghost.lent_to f.cell f.list_place
       where
         at : (k : ℕ) → k < 16 * n → get_elem? ws k ≡ some (slice_index s.words k)
         at k l = subst (λ z. get_elem? z k ≡ some (slice_index s.words k)) words (word_there s.words k (let wide = r.wide in omega arith))
 
-        cases : (holder : Option (ℕ × Held)) (keeper : Option (ℕ × Lent)) → CellPlace is_of facts actor here
+        cases : (holder : Option (ℕ × Held)) (lent_to : Option (ℕ × Lent)) → CellPlace is_of facts actor here
             holder → ListPlace is_of
-            facts here keeper → (holder ≢ None) ⊎ (keeper ≢ None)
-        cases (Some h) keeper k l = inl (λ e. cc)
+            facts here lent_to → (holder ≢ None) ⊎ (lent_to ≢ None)
+        cases (Some h) lent_to k l = inl (λ e. cc)
         cases None (Some h) k l = inr (λ e. cc)
         cases None None k l = absurd (t k.home here.ghost.listed (record {
           status = here.row Status;

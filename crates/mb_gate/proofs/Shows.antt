@@ -161,7 +161,7 @@ module _ {H : Type 0} (is_of : ℕ → H → Type 0) (facts : H → HomeFacts) w
   -- whom a home says to be closed some seat has seen closed, so it is
   pub shows_closed : ShowsClosed is_of facts
   shows_closed n s r actor other inside there is =
-      let p = (r.each actor inside).vouched other is in
+      let p = (r.each actor inside).was_seen_closed other is in
       let k = (r.each other there).seen p.seat p.view p.present in
       each_among (ObservationHolds other (spot_of word_offset slot_offset s r.ghosts other)) (Read other 1) p.view.log k.seen p.pays refl refl
 

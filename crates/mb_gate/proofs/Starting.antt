@@ -132,7 +132,7 @@ module _ {H : Type 0} (is_of : ℕ → H → Type 0) (facts : H → HomeFacts) w
     holder = None;
     journal = journal_at facts hs a;
     closed_to = [];
-    keeper = None;
+    lent_to = None;
     listed = no_messages;
     gave =
         false;
@@ -155,7 +155,7 @@ module _ {H : Type 0} (is_of : ℕ → H → Type 0) (facts : H → HomeFacts) w
           cell = record {
             home = b.0;
             present = b.1.cell;
-            own = f.own;
+            of_actor = f.of_actor;
             fold = sym b.1.tale;
             count = f.none_given;
             known_closed = f.none_closed;
@@ -174,9 +174,9 @@ module _ {H : Type 0} (is_of : ℕ → H → Type 0) (facts : H → HomeFacts) w
           held = λ one. absurd (let z = free_word m f.free in let s = b.1.status in omega arith);
           shares = first_shares (λ (u : View). u.share) alone refl;
           bare = only_alone (λ (u : View). u.share ≡ [] → IsBare a u) (λ empty. absurd (no_share (0 ∷ []) refl empty));
-          vouched = λ other is. absurd (none_among other is);
+          was_seen_closed = λ other is. absurd (none_among other is);
           message = λ due. absurd (let w = b.1.waiting in let d = due.1 in omega arith);
           system = λ due. absurd (let d = due.1 in cc);
-          seen = only_alone (Knows a _) (record { seen = tt; said = tt });
+          seen = only_alone (Knows a _) (record { seen = tt; sent_system = tt });
         };
       }

@@ -41,7 +41,7 @@ use Rattle.atomic_table.specs.Table.{rest as tail_of}
 use Rattle.mb_ghost.specs.Locked.{Locked}
 use Rattle.mb_ghost.specs.Layout.{Spot, slot_at, write, fill}
 use Rattle.mb_ghost.specs.Ruled.{RuledStep, stays, takes_from, gives_to}
-use Rattle.mb_ghost.proofs.LockedLemmas.{stays_locked, takes_up, turns_over, puts_back, is_holder}
+use Rattle.mb_ghost.proofs.LockedLemmas.{stays_locked, takes_up, changes_ticket, puts_back, is_holder}
 use Rattle.mb_ghost.specs.Owed.{Owed}
 use Rattle.mb_ghost.specs.Seen.{Each}
 use Rattle.mb_ghost.proofs.OwedLemmas.{pays, still_owed}
@@ -140,7 +140,7 @@ module _ {H : Type 0} (is_of : ℕ → H → Type 0) (facts : H → HomeFacts) (
         v)) (reading_pays_message r (obligation_to actor v) due.0 owed))
         (λ due owed. subst (λ (d : WakeObligation). IsTrue d.system) (sym (owes_here actor (after_reading (mailbox_of r) (obligation_to actor v)) v))
         (reading_pays_system r (obligation_to actor v) due.0 owed))
-        (λ k. record { seen = ((λ _ one. one), k.seen); said = k.said }) (λ b. among_more (Read b 1) (Read actor r) v.log) f);
+        (λ k. record { seen = ((λ _ one. one), k.seen); sent_system = k.sent_system }) (λ b. among_more (Read b 1) (Read actor r) v.log) f);
     others = λ a n y g. elsewhere is_of facts actors a y vs id v (reading actor r v) at
         (reading_elsewhere actor a r v n) g;
     tells = told;
@@ -205,7 +205,7 @@ module _ {H : Type 0} (is_of : ℕ → H → Type 0) (facts : H → HomeFacts) (
           valid = subst (λ n. IsTrue (is_valid (n + 2))) is (scheduled_valid (x.row Status) free f.valid);
           claims = takes_up (claim_for actor) vs id v w c at (held_here actor c refl) (subst (λ o. Locked (claim_for actor) o vs) h.0 f.claims);
           cell = record {
-            own = refl;
+            of_actor = refl;
             taken = refl;
             known_closed = refl;
             count = refl;
@@ -216,8 +216,8 @@ module _ {H : Type 0} (is_of : ℕ → H → Type 0) (facts : H → HomeFacts) (
                 else 0) (ne_eqb (x.row Status) 1 (λ e. omega arith));
             out = refl;
           };
-          lists = stays_locked (list_for actor) x.ghost.keeper vs id v w at refl f.lists;
-          list_place = still_shelved is_of facts actors actor x y refl refl refl refl x.ghost.keeper f.list_place;
+          lists = stays_locked (list_for actor) x.ghost.lent_to vs id v w at refl f.lists;
+          list_place = still_shelved is_of facts actors actor x y refl refl refl refl x.ghost.lent_to f.list_place;
           ended = λ e. absurd (let one = f.ended e in omega arith);
           listing = f.listing;
           named = f.named;
@@ -226,12 +226,12 @@ module _ {H : Type 0} (is_of : ℕ → H → Type 0) (facts : H → HomeFacts) (
           held = λ one. absurd (let z : old + 2 ≡ 1 = one in omega arith);
           shares = shares_stay (λ (u : View). u.share) vs id v w at refl f.shares;
           bare = sharer_bare actor vs id w share f.bare;
-          vouched = λ b. still_owed (HasSeenClosed b) (IsAmong b x.ghost.closed_to) (IsAmong b x.ghost.closed_to) vs id v w at (λ d. d) (λ _ p. p)
-              (f.vouched b);
+          was_seen_closed = λ b. still_owed (HasSeenClosed b) (IsAmong b x.ghost.closed_to) (IsAmong b x.ghost.closed_to) vs id v w at (λ d. d) (λ _ p. p)
+              (f.was_seen_closed b);
           message = λ due. absurd (let z = due.0 in omega arith);
           system = λ due. absurd (let z = due.0 in omega arith);
           seen = let k = goes_on actor x y v grows (f.seen id v at) in
-              learns (Knows actor x) (Knows actor y) vs id w (λ u. goes_on actor x y u grows) (record { seen = k.seen; said = k.said }) f.seen;
+              learns (Knows actor x) (Knows actor y) vs id w (λ u. goes_on actor x y u grows) (record { seen = k.seen; sent_system = k.sent_system }) f.seen;
         };
         others = λ a n z g. elsewhere is_of facts actors a z vs id v w at
             (taking_elsewhere actor a old x.ghost.listed.given x.ghost.journal
@@ -258,10 +258,10 @@ module _ {H : Type 0} (is_of : ℕ → H → Type 0) (facts : H → HomeFacts) (
         able = tt;
         here = record {
           valid = valid;
-          claims = turns_over (claim_for actor) vs id v w c d at (ap (λ z. held_of actor (rewritten new z)) has ∙ held_here actor d of)
+          claims = changes_ticket (claim_for actor) vs id v w c d at (ap (λ z. held_of actor (rewritten new z)) has ∙ held_here actor d of)
               (subst (λ o. Locked (claim_for actor) o vs) h.0 f.claims);
           cell = record {
-            own = of;
+            of_actor = of;
             taken = h.1.taken;
             known_closed = h.1.known_closed;
             count = h.1.count;
@@ -272,8 +272,8 @@ module _ {H : Type 0} (is_of : ℕ → H → Type 0) (facts : H → HomeFacts) (
                 h.1.flag;
             out = h.1.out;
           };
-          lists = stays_locked (list_for actor) x.ghost.keeper vs id v w at refl f.lists;
-          list_place = still_shelved is_of facts actors actor x y refl refl refl refl x.ghost.keeper f.list_place;
+          lists = stays_locked (list_for actor) x.ghost.lent_to vs id v w at refl f.lists;
+          list_place = still_shelved is_of facts actors actor x y refl refl refl refl x.ghost.lent_to f.list_place;
           ended = λ e. shut (f.ended e);
           listing = f.listing;
           named = f.named;
@@ -282,14 +282,14 @@ module _ {H : Type 0} (is_of : ℕ → H → Type 0) (facts : H → HomeFacts) (
           held = now_held actor new x.ghost.holder vs id v w at refl (ap claims_out h.0) f.claims_balance;
           shares = shares_stay (λ (u : View). u.share) vs id v w at refl f.shares;
           bare = claimed_bare actor vs id v w d at (ap (λ z. held_of actor (rewritten new z)) has ∙ held_here actor d of) refl refl refl refl f.bare;
-          vouched = λ b. still_owed (HasSeenClosed b) (IsAmong b x.ghost.closed_to) (IsAmong b x.ghost.closed_to) vs id v w at (λ d. d) (λ _ p. p)
-              (f.vouched b);
+          was_seen_closed = λ b. still_owed (HasSeenClosed b) (IsAmong b x.ghost.closed_to) (IsAmong b x.ghost.closed_to) vs id v w at (λ d. d) (λ _ p. p)
+              (f.was_seen_closed b);
           message = λ due. absurd (let z : new ≡ 0 = due.0 in ⊎_elim (λ b. omega arith) (λ b. omega arith) busy);
           system = λ due. absurd (let z : new % 4 ≡ 0 = due.0 in ⊎_elim (λ b. omega arith) (λ b. omega arith) busy);
           seen = let k = goes_on actor x y v grows (f.seen id v at) in
               learns (Knows actor x) (Knows actor y) vs id w (λ u. goes_on actor x y u grows) (record {
                 seen = k.seen;
-                said = k.said;
+                sent_system = k.sent_system;
               }) f.seen;
         };
         others = λ a n z g. elsewhere is_of facts actors a z vs id v w at
@@ -301,9 +301,9 @@ module _ {H : Type 0} (is_of : ℕ → H → Type 0) (facts : H → HomeFacts) (
   vouches_home : (actor : ℕ) (j : List Entry) (v : View) (c : Held) (before after : List ℕ) (vs : List View) (id : ℕ) → get_elem? vs id ≡ some v
       → c.closed_to ≡ before → Each (λ b. IsKnownClosed b c.closed_to v) after → ((b : ℕ) → Owed (IsAmong b before) (HasSeenClosed b) vs)
       → (b : ℕ) → Owed (IsAmong b after) (HasSeenClosed b) (set vs id (idling actor j v))
-  vouches_home actor j v c before after vs id at same known vouched b is =
+  vouches_home actor j v c before after vs id at same known was_seen_closed b is =
       ⊎_elim (λ was. still_owed (HasSeenClosed b) (IsAmong b before) (IsAmong b before) vs id v (idling actor j v) at (λ d. d)
-      (λ _. among_more (Read b 1) (Saw actor j) v.log) (vouched b) (subst (IsAmong b) same was))
+      (λ _. among_more (Read b 1) (Saw actor j) v.log) (was_seen_closed b) (subst (IsAmong b) same was))
       (λ sees. pays (HasSeenClosed b) (IsAmong b after) vs id v (idling actor j v) at (among_more (Read b 1) (Saw actor j) v.log sees) is)
       (each_among (λ a. IsKnownClosed a c.closed_to v) b after known is)
 
@@ -312,9 +312,9 @@ module _ {H : Type 0} (is_of : ℕ → H → Type 0) (facts : H → HomeFacts) (
       vs id ≡ some me.0 → me.0.claim ≡ Some c → c.actor ≡ actor
       → me.1 ≡ (slot_at actor 0, Home home) ∷ [] → is_of actor home → Extends (facts home).journal c.journal → (facts home).given ≡ c.given
       → Each (λ b. IsKnownClosed b c.closed_to me.0) (facts home).closed_to → c.word ≢ 1 → IsTrue (is_valid new) → new
-      % 4 ≡ 0 → new ≡ word_of (facts home).mailbox → (c.gave ≡ false → (facts home).rested) → is_some_item me.0.share ≡ true
+      % 4 ≡ 0 → new ≡ word_of (facts home).mailbox → (c.gave ≡ false → (facts home).no_backlog) → is_some_item me.0.share ≡ true
       → tell (idling actor (facts home).journal me.0, []) → RuledStep word_offset slot_offset F actor id me Status new tell x vs
-  idles actor id me c home new tell x vs f at has of carried own longer count known unshut valid free word rest share told =
+  idles actor id me c home new tell x vs f at has of carried of_actor longer count known unshut valid free word rest share told =
       let v = me.0 in
       let h = is_held actor id x vs v c f at has of in
       let j = (facts home).journal in
@@ -335,7 +335,7 @@ module _ {H : Type 0} (is_of : ℕ → H → Type 0) (facts : H → HomeFacts) (
           cell = record {
             home = home;
             present = refl;
-            own = own;
+            of_actor = of_actor;
             fold = refl;
             count = count ∙ h.1.count;
             known_closed = refl;
@@ -344,8 +344,8 @@ module _ {H : Type 0} (is_of : ℕ → H → Type 0) (facts : H → HomeFacts) (
             flag = h.1.flag ∙ sym (ap (λ b. if b then 1 else 0) (ne_eqb new 1 (λ e. omega arith)));
             rest = ⊎_elim (λ one. absurd (omega arith)) (λ gave. rest (h.1.gave ∙ gave));
           };
-          lists = stays_locked (list_for actor) x.ghost.keeper vs id v w at refl f.lists;
-          list_place = still_shelved is_of facts actors actor x y refl refl refl refl x.ghost.keeper f.list_place;
+          lists = stays_locked (list_for actor) x.ghost.lent_to vs id v w at refl f.lists;
+          list_place = still_shelved is_of facts actors actor x y refl refl refl refl x.ghost.lent_to f.list_place;
           ended = λ e. shut (f.ended e);
           listing = f.listing;
           named = f.named;
@@ -354,7 +354,7 @@ module _ {H : Type 0} (is_of : ℕ → H → Type 0) (facts : H → HomeFacts) (
           held = λ one. absurd (let z : new ≡ 1 = one in omega arith);
           shares = shares_stay (λ (u : View). u.share) vs id v w at refl f.shares;
           bare = sharer_bare actor vs id w share f.bare;
-          vouched = vouches_home actor j v c x.ghost.closed_to (facts home).closed_to vs id at h.1.known_closed known f.vouched;
+          was_seen_closed = vouches_home actor j v c x.ghost.closed_to (facts home).closed_to vs id at h.1.known_closed known f.was_seen_closed;
           message = pays (HasMessageObligation actor) (MessageDue y) vs id v w at (subst (λ (d : WakeObligation). IsTrue (d.message || d.sending)) (sym (owes_here
               actor debt (record v { log = Saw actor j ∷ v.log; claim = None; returned = actor ∷ v.returned }))) refl);
           system = pays (HasSystemObligation actor) (SystemDue y) vs id v w at (subst (λ (d : WakeObligation). IsTrue d.system) (sym (owes_here actor debt (record v
@@ -366,7 +366,7 @@ module _ {H : Type 0} (is_of : ℕ → H → Type 0) (facts : H → HomeFacts) (
                       extends_self j),
                   k.seen,
                 );
-                said = k.said;
+                sent_system = k.sent_system;
               }) f.seen;
         };
         others = λ a n z k. elsewhere is_of facts actors a z vs id v w at
@@ -379,9 +379,9 @@ module _ {H : Type 0} (is_of : ℕ → H → Type 0) (facts : H → HomeFacts) (
       id ≡ some me.0 → me.0.claim ≡ Some c → c.actor ≡ actor
       → me.1 ≡ (slot_at actor 0, Home home) ∷ [] → is_of actor home → Extends (facts home).journal c.journal → (facts home).given ≡ c.given
       → Each (λ b. IsKnownClosed b c.closed_to me.0) (facts home).closed_to → c.word ≡ 1 → 1 ≡ word_of (facts home).mailbox
-      → (facts home).rested → is_some_item me.0.share ≡ true
+      → (facts home).no_backlog → is_some_item me.0.share ≡ true
       → tell (idling actor (facts home).journal me.0, []) → RuledStep word_offset slot_offset F actor id me Flag 1 tell x vs
-  idles_closed actor id me c home tell x vs f at has of carried own longer count known closed word rest share told =
+  idles_closed actor id me c home tell x vs f at has of carried of_actor longer count known closed word rest share told =
       let v = me.0 in
       let h = is_held actor id x vs v c f at has of in
       let j = (facts home).journal in
@@ -402,7 +402,7 @@ module _ {H : Type 0} (is_of : ℕ → H → Type 0) (facts : H → HomeFacts) (
           cell = record {
             home = home;
             present = refl;
-            own = own;
+            of_actor = of_actor;
             fold = refl;
             count = count ∙ h.1.count;
             known_closed = refl;
@@ -411,8 +411,8 @@ module _ {H : Type 0} (is_of : ℕ → H → Type 0) (facts : H → HomeFacts) (
             flag = sym (ap (λ b. if b then 1 else 0) (eq-eqb (x.row Status) 1 shut));
             rest = λ _. rest;
           };
-          lists = stays_locked (list_for actor) x.ghost.keeper vs id v w at refl f.lists;
-          list_place = still_shelved is_of facts actors actor x y refl refl refl refl x.ghost.keeper f.list_place;
+          lists = stays_locked (list_for actor) x.ghost.lent_to vs id v w at refl f.lists;
+          list_place = still_shelved is_of facts actors actor x y refl refl refl refl x.ghost.lent_to f.list_place;
           ended = f.ended;
           listing = f.listing;
           named = f.named;
@@ -421,7 +421,7 @@ module _ {H : Type 0} (is_of : ℕ → H → Type 0) (facts : H → HomeFacts) (
           held = still_held actor (x.row Status) (x.row Status) vs id v w at refl (λ one. one) f.held;
           shares = shares_stay (λ (u : View). u.share) vs id v w at refl f.shares;
           bare = sharer_bare actor vs id w share f.bare;
-          vouched = vouches_home actor j v c x.ghost.closed_to (facts home).closed_to vs id at h.1.known_closed known f.vouched;
+          was_seen_closed = vouches_home actor j v c x.ghost.closed_to (facts home).closed_to vs id at h.1.known_closed known f.was_seen_closed;
           message = pays (HasMessageObligation actor) (MessageDue y) vs id v w at (subst (λ (d : WakeObligation). IsTrue (d.message || d.sending)) (sym (owes_here
               actor debt (record v { log = Saw actor j ∷ v.log; claim = None; returned = actor ∷ v.returned }))) refl);
           system = pays (HasSystemObligation actor) (SystemDue y) vs id v w at (subst (λ (d : WakeObligation). IsTrue d.system) (sym (owes_here actor debt (record v
@@ -433,7 +433,7 @@ module _ {H : Type 0} (is_of : ℕ → H → Type 0) (facts : H → HomeFacts) (
                       extends_self j),
                   k.seen,
                 );
-                said = k.said;
+                sent_system = k.sent_system;
               }) f.seen;
         };
         others = λ a n z k. elsewhere is_of facts actors a z vs id v w at

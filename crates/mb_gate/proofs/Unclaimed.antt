@@ -28,4 +28,4 @@ module _ {H : Type 0} (is_of : ℕ → H → Type 0) (facts : H → HomeFacts) w
       (unheld is_of facts n actor x s.views p v f at whole unclaimed) f.cell in
       let open_yet : x.row Status ≢ 1 = (λ one. no_more_than_none _ unclaimed
       (was_held is_of facts n actor x s.views p v f at whole one)) in
-      ((home.home, home.present, home.own, home.word), open_yet, not_true x.ghost.listed.closed (λ ended. open_yet (f.ended ended)))
+      ((home.home, home.present, home.of_actor, home.word), open_yet, not_true x.ghost.listed.closed (λ ended. open_yet (f.ended ended)))

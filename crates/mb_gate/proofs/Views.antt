@@ -191,8 +191,8 @@ module _ {H : Type 0} where
     vouches = λ a. among_more (Read a 1) s v.log;
     knows = λ x k. record {
       seen = (so other x, k.seen);
-      said =
-          k.said;
+      sent_system =
+          k.sent_system;
     };
   }
 
@@ -207,7 +207,7 @@ module _ {H : Type 0} where
     knows = λ x k. record {
       seen =
           (so other x, k.seen);
-      said = k.said;
+      sent_system = k.sent_system;
     };
   }
 
@@ -218,7 +218,7 @@ module _ {H : Type 0} where
     debt = owes_else actor other (after_reading (mailbox_of word) (obligation_to actor v)) v n;
     account = counts_no_more other (Read actor word) v (reading actor word v) refl (refl, refl) refl refl refl;
     vouches = λ a. among_more (Read a 1) (Read actor word) v.log;
-    knows = λ x k. record { seen = ((λ e _. absurd (n (sym e))), k.seen); said = k.said };
+    knows = λ x k. record { seen = ((λ e _. absurd (n (sym e))), k.seen); sent_system = k.sent_system };
   }
 
   pub taking_elsewhere : (actor other word given : ℕ) (j : List Entry) (shut : List ℕ) (gave : Bool) (v : View) → other ≢ actor → v.claim ≡ None
@@ -232,7 +232,7 @@ module _ {H : Type 0} where
     debt = owes_else actor other nothing v n;
     account = record { on = refl; off = refl; share = refl; got = times_else actor other v.got n; back = refl };
     vouches = λ a k. k;
-    knows = λ x k. record { seen = k.seen; said = k.said };
+    knows = λ x k. record { seen = k.seen; sent_system = k.sent_system };
   }
 
   pub writing_elsewhere : (actor other word : ℕ) (c : Held) (v : View) → other ≢ actor → v.claim ≡ Some c → c.actor ≡ actor → Elsewhere H other v
@@ -244,7 +244,7 @@ module _ {H : Type 0} where
     debt = refl;
     account = record { on = refl; off = refl; share = refl; got = refl; back = refl };
     vouches = λ a k. k;
-    knows = λ x k. record { seen = k.seen; said = k.said };
+    knows = λ x k. record { seen = k.seen; sent_system = k.sent_system };
   }
 
   pub idling_elsewhere : (actor other : ℕ) (j : List Entry) (c : Held) (v : View) → other ≢ actor → v.claim ≡ Some c → c.actor ≡ actor →
@@ -255,7 +255,7 @@ module _ {H : Type 0} where
     debt = owes_else actor other (record (obligation_to actor v) { system = true; message = true }) v n;
     account = counts_no_more other (Saw actor j) v (idling actor j v) refl (refl, refl) refl refl (times_else actor other v.returned n);
     vouches = λ a. among_more (Read a 1) (Saw actor j) v.log;
-    knows = λ x k. record { seen = ((λ e. absurd (n (sym e))), k.seen); said = k.said };
+    knows = λ x k. record { seen = ((λ e. absurd (n (sym e))), k.seen); sent_system = k.sent_system };
   }
 
   -- The place goes on: what was closed is closed, its journal goes on, and so does what was ever listed.
@@ -310,7 +310,7 @@ module _ {H : Type 0} where
   pub goes_on : (actor : ℕ) (x y : Spot Word SlotName (Slot H) Ghost) (v : View) → Grown x y → Knows actor x v → Knows actor y v
   goes_on actor x y v g k = record {
     seen = each_weaker (ObservationHolds actor x) (ObservationHolds actor y) v.log (seen_on actor x y g) k.seen;
-    said = each_weaker (SentSystemHolds actor x) (SentSystemHolds actor y) v.said (told_on actor x y g) k.said;
+    sent_system = each_weaker (SentSystemHolds actor x) (SentSystemHolds actor y) v.sent_system (told_on actor x y g) k.sent_system;
   }
 
 chosen_rest : (b : Bool) (v w u : View) → (w.claim ≡ v.claim) × (w.list ≡ v.list) → (u.claim ≡ v.claim) × (u.list ≡ v.list)

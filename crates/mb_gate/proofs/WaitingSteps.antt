@@ -167,8 +167,8 @@ module _ {H : Type 0} (is_of : ℕ → H → Type 0) (facts : H → HomeFacts) (
           claims = stays_locked (claim_for actor) x.ghost.holder vs id v w at refl f.claims;
           cell =
               still_kept is_of facts actors actor x y refl refl refl refl refl refl refl x.ghost.holder f.cell;
-          lists = stays_locked (list_for actor) x.ghost.keeper vs id v w at refl f.lists;
-          list_place = still_shelved is_of facts actors actor x y refl refl refl refl x.ghost.keeper f.list_place;
+          lists = stays_locked (list_for actor) x.ghost.lent_to vs id v w at refl f.lists;
+          list_place = still_shelved is_of facts actors actor x y refl refl refl refl x.ghost.lent_to f.list_place;
           ended = f.ended;
           listing = f.listing;
           named = f.named;
@@ -177,8 +177,8 @@ module _ {H : Type 0} (is_of : ℕ → H → Type 0) (facts : H → HomeFacts) (
           held = still_held actor (x.row Status) (x.row Status) vs id v w at refl (λ one. one) f.held;
           shares = shares_stay (λ (u : View). u.share) vs id v w at refl f.shares;
           bare = sharer_bare actor vs id w share f.bare;
-          vouched = λ b. still_owed (HasSeenClosed b) (IsAmong b x.ghost.closed_to) (IsAmong b x.ghost.closed_to) vs id v w at (λ d. d)
-              (λ _. among_more (Read b 1) s v.log) (f.vouched b);
+          was_seen_closed = λ b. still_owed (HasSeenClosed b) (IsAmong b x.ghost.closed_to) (IsAmong b x.ghost.closed_to) vs id v w at (λ d. d)
+              (λ _. among_more (Read b 1) s v.log) (f.was_seen_closed b);
           message = pays (HasMessageObligation actor) (MessageDue y) vs id v w at (subst (λ (z : WakeObligation). IsTrue (z.message || z.sending)) (sym (owes_here
               actor d v)) owed);
           system = still_owed (HasSystemObligation actor) (SystemDue x) (SystemDue y) vs id v w at (λ due. due) (λ _ p. subst (λ (z : WakeObligation). IsTrue
@@ -187,7 +187,7 @@ module _ {H : Type 0} (is_of : ℕ → H → Type 0) (facts : H → HomeFacts) (
               learns (Knows actor x) (Knows actor y) vs id w (λ u. goes_on actor x y u grows) (record {
                 seen =
                     (so actor y, k.seen);
-                said = k.said;
+                sent_system = k.sent_system;
               }) f.seen;
         };
         others = λ a z y g. elsewhere is_of facts actors a y vs id v w at (owing_elsewhere actor a d s v z so
@@ -238,8 +238,8 @@ module _ {H : Type 0} (is_of : ℕ → H → Type 0) (facts : H → HomeFacts) (
           claims = stays_locked (claim_for actor) x.ghost.holder vs id v w at refl f.claims;
           cell =
               still_kept is_of facts actors actor x y refl refl refl refl refl refl refl x.ghost.holder f.cell;
-          lists = stays_locked (list_for actor) x.ghost.keeper vs id v w at refl f.lists;
-          list_place = still_shelved is_of facts actors actor x y refl refl refl refl x.ghost.keeper f.list_place;
+          lists = stays_locked (list_for actor) x.ghost.lent_to vs id v w at refl f.lists;
+          list_place = still_shelved is_of facts actors actor x y refl refl refl refl x.ghost.lent_to f.list_place;
           ended = f.ended;
           listing = f.listing;
           named = f.named;
@@ -248,15 +248,15 @@ module _ {H : Type 0} (is_of : ℕ → H → Type 0) (facts : H → HomeFacts) (
           held = still_held actor (x.row Status) (x.row Status) vs id v w at refl (λ one. one) f.held;
           shares = shares_stay (λ (u : View). u.share) vs id v w at refl f.shares;
           bare = claimed_bare actor vs id v w c at (ap (held_of actor) has ∙ held_here actor c of) refl refl refl (none_more (on_by actor v)) f.bare;
-          vouched = λ b. still_owed (HasSeenClosed b) (IsAmong b x.ghost.closed_to) (IsAmong b x.ghost.closed_to) vs id v w at (λ d. d)
-              (λ _. among_more (Read b 1) s v.log) (f.vouched b);
+          was_seen_closed = λ b. still_owed (HasSeenClosed b) (IsAmong b x.ghost.closed_to) (IsAmong b x.ghost.closed_to) vs id v w at (λ d. d)
+              (λ _. among_more (Read b 1) s v.log) (f.was_seen_closed b);
           message = λ due. absurd (let z = due.0 in ⊎_elim (λ b. omega arith) (λ b. omega arith) h.1.busy);
           system = still_owed (HasSystemObligation actor) (SystemDue x) (SystemDue y) vs id v w at (λ due. due) (λ _ p. p) f.system;
           seen = let so = goes_on actor x y v grows (f.seen id v at) in
               learns (Knows actor x) (Knows actor y) vs id w (λ u. goes_on actor x y u grows) (record {
                 seen =
                     (tt, so.seen);
-                said = so.said;
+                sent_system = so.sent_system;
               }) f.seen;
         };
         others = λ a z y g. elsewhere is_of facts actors a y vs id v w at (seeing_elsewhere a s v (λ b q. tt)
@@ -280,7 +280,7 @@ module _ {H : Type 0} (is_of : ℕ → H → Type 0) (facts : H → HomeFacts) (
         (none actor) refl refl refl)
         (λ due p. subst (λ (z : WakeObligation). IsTrue (z.message || z.sending)) (sym (owes_here actor d v)) (message due p))
         (λ due p. subst (λ (z : WakeObligation). IsTrue z.system) (sym (owes_here actor d v)) (system due p))
-        (λ k. record { seen = (so actor x, k.seen); said = k.said }) (λ b. among_more (Read b 1) s v.log) f);
+        (λ k. record { seen = (so actor x, k.seen); sent_system = k.sent_system }) (λ b. among_more (Read b 1) s v.log) f);
     others = λ a n y g. elsewhere is_of facts actors a y vs id v w at
         (owing_elsewhere actor a d s v n so (none a)) g;
     tells = told;
@@ -300,7 +300,7 @@ module _ {H : Type 0} (is_of : ℕ → H → Type 0) (facts : H → HomeFacts) (
         refl (counts_no_more actor s v w refl (none actor) refl refl refl) (λ _ p. p) (λ _ p. p) (λ k. record {
           seen =
               (so actor x, k.seen);
-          said = k.said;
+          sent_system = k.sent_system;
         }) (λ b. among_more (Read b 1) s v.log) f);
     others = λ a n y g. elsewhere is_of facts actors a y vs id v w at (seeing_elsewhere a s v so (none a)) g;
     tells = told;
@@ -316,7 +316,7 @@ module _ {H : Type 0} (is_of : ℕ → H → Type 0) (facts : H → HomeFacts) (
     able = tt;
     here = load_here is_of facts actors actor x (set vs id v) name (views_change is_of facts actors actor x vs id v v at refl
         refl (record { on = refl; off = refl; share = refl; got = refl; back = refl }) (λ _ p. p) (λ _ p. p)
-        (λ k. record { seen = k.seen; said = k.said }) (λ b p. p) f);
+        (λ k. record { seen = k.seen; sent_system = k.sent_system }) (λ b p. p) f);
     others = λ a n y g. elsewhere is_of facts actors a y vs id v v at (record {
       claim = refl;
       list = refl;
@@ -324,7 +324,7 @@ module _ {H : Type 0} (is_of : ℕ → H → Type 0) (facts : H → HomeFacts) (
       account = record { on = refl; off = refl; share = refl; got = refl; back = refl };
       vouches = λ b p. p;
       knows = λ _ k.
-          record { seen = k.seen; said = k.said };
+          record { seen = k.seen; sent_system = k.sent_system };
     }) g;
     tells = told;
   }

@@ -53,7 +53,7 @@ module _ {H : Type 0} (is_of : ℕ → H → Type 0) (facts : H → HomeFacts) (
   unclaimed : x.ghost.holder ≡ None → (q : ℕ) (u : View) → get_elem? vs q ≡ some u → claim_for actor u ≡ None
   unclaimed free q u there = sym (ticket_here (claim_for actor) vs q u there) ∙ (f.claims q ∙ ap (λ (h : Option (ℕ × Held)). held_by h q) free)
 
-  no_list_out : v.list ≡ None → x.ghost.holder ≡ None → (keeper : Option (ℕ × Lent)) → Locked (list_for actor) keeper vs → keeper ≡ None
+  no_list_out : v.list ≡ None → x.ghost.holder ≡ None → (lent_to : Option (ℕ × Lent)) → Locked (list_for actor) lent_to vs → lent_to ≡ None
   no_list_out bare free None lists = refl
   no_list_out bare free (Some k) lists =
       let has = ticket_has (list_for actor) vs k.0 k.1 (lists k.0 ∙ ap (λ (b : Bool). if b then Some k.1 else None) (eq-eqb k.0 k.0 refl)) in
@@ -66,9 +66,9 @@ module _ {H : Type 0} (is_of : ℕ → H → Type 0) (facts : H → HomeFacts) (
       none_some l e = cc
 
   -- an actor of which there is no home left has a claim out
-  pub is_out : v.list ≡ None → (x.ghost.holder ≢ None) ⊎ (x.ghost.keeper ≢ None) → claims_got actor v ≡ claims_returned actor v + 1
+  pub is_out : v.list ≡ None → (x.ghost.holder ≢ None) ⊎ (x.ghost.lent_to ≢ None) → claims_got actor v ≡ claims_returned actor v + 1
   is_out bare why = own_claims ∙ ap (λ k. claims_returned actor v + k) (one_out x.ghost.holder (λ free. ⊎_elim (λ h. h free) (λ k. k (no_list_out bare free
-      x.ghost.keeper f.lists)) why))
+      x.ghost.lent_to f.lists)) why))
 
   -- and one that nobody holds has none
   pub is_back : x.ghost.holder ≡ None → claims_got actor v ≡ claims_returned actor v

@@ -105,10 +105,10 @@ module _ {H : Type 0} (is_of : ℕ → H → Type 0) (facts : H → HomeFacts) (
         found = free;
         of = of;
         status = status;
-        own = subst (is_of actor) same w.own;
+        of_actor = subst (is_of actor) same w.of_actor;
         word = ap (λ h. word_of (facts h).mailbox) (sym same) ∙ (sym w.word ∙ is_seen);
         continues = subst (λ h. ExtendsSeen actor (facts h).journal m.0) same w.seen;
-        rest = λ no. subst (λ (h : H). (facts h).rested) same (w.rest (sym gave ∙ no));
+        rest = λ no. subst (λ (h : H). (facts h).no_backlog) same (w.rest (sym gave ∙ no));
         known = all ∙ (λ i. claimed actor (facts (same i)).journal (facts (same i)).closed_to (word i) (sym gave i) (facts (same i)).given);
         recorded = none;
         pass = rest ∙ (ap (λ (z : Me (Slot H) View). without_claim z.0) w.now ∙ (λ i. record (winning actor m.0) { claim = sym bare i }));

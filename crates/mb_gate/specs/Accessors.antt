@@ -81,10 +81,10 @@ module _ {H : Type 0} where
     pub recorded : recorded_by new ≡ recorded_by old
 
   -- Nothing of the claim changed but its record, to which this was added.
-  pub record IsRecorded (old new : Claim H) (said : SentSystem) : Type 0 where
+  pub record IsRecorded (old new : Claim H) (sent_system : SentSystem) : Type 0 where
     pub id : claim_id new ≡ claim_id old
     pub known : claim_view new ≡ claim_view old
     pub actor : held_actor new ≡ held_actor old
     pub status : status_of new ≡ status_of old
     pub home : new.home ≡ old.home
-    pub record_is : recorded_by new ≡ recorded_by old ++ said ∷ []
+    pub record_is : recorded_by new ≡ recorded_by old ++ sent_system ∷ []

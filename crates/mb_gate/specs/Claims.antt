@@ -58,12 +58,12 @@ module _ {H : Type 0} (is_of : ℕ → H → Type 0) (facts : H → HomeFacts) w
     pub has : me.0.claim ≡ Some (held_in me.0)
     pub of : (held_in me.0).actor ≡ actor
     pub word : (held_in me.0).word ≡ word_of status
-    pub own : is_of actor home
+    pub of_actor : is_of actor home
     pub longer : Extends (facts home).journal (held_in me.0).journal
     pub fold : word_of (facts home).mailbox ≡ word_of (idle status)
     pub count : (facts home).given ≡ (held_in me.0).given
     pub known_closed : Each (λ other. IsKnownClosed other (held_in me.0).closed_to me.0) (facts home).closed_to
-    pub rest : (status.closed ≡ true) ⊎ ((held_in me.0).gave ≡ false) → (facts home).rested
+    pub rest : (status.closed ≡ true) ⊎ ((held_in me.0).gave ≡ false) → (facts home).no_backlog
     pub share : is_some_item me.0.share ≡ true
 
 -- the cell that the seat carried went home

@@ -11,7 +11,7 @@ pub record HomeFacts : Type 1 where
   -- closed or not, how often suspended, and not scheduled
   pub mailbox : Mailbox
   -- nothing is left beside the cell that is to be applied, and nothing set aside waits to be applied in front
-  pub rested : Type 0
+  pub no_backlog : Type 0
   -- how many system messages its list gave, modulo 2^64: those that were applied, those that are dead, and those left beside the cell
   pub given : ℕ
   -- the receivers of the dead letters that have this reason

@@ -64,8 +64,8 @@ module _ {H : Type 0} (is_of : ℕ → H → Type 0) (facts : H → HomeFacts) w
   IsReturned actor x v (Some left) = is_of actor left.home × (x.row Status ≡ word_of (facts left.home).mailbox)
       × Each (IsKept actor (facts left.home).journal
       (x.row Status)) v.log × (left.given ≡ x.ghost.listed.given) × (left.listed ≡ is_some_item x.ghost.listed.messages)
-      × ((facts left.home).given ≡ left.given) × ((x.row Status ≡ 1) ⊎ (x.ghost.gave ≡ false) → (facts left.home).rested)
-  IsReturned actor x v None = (x.ghost.holder ≢ None) ⊎ (x.ghost.keeper ≢ None)
+      × ((facts left.home).given ≡ left.given) × ((x.row Status ≡ 1) ⊎ (x.ghost.gave ≡ false) → (facts left.home).no_backlog)
+  IsReturned actor x v None = (x.ghost.holder ≢ None) ⊎ (x.ghost.lent_to ≢ None)
 
   -- of each actor, in a last state of the table that meets the rule, in which the pass has this view; and each actor of which a home that
   -- is left says that it is closed is closed. A pass that has taken in all others knows which actors have no home left: those of which a

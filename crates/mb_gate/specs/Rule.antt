@@ -69,12 +69,12 @@ slot_offset CellSlot = 0
 slot_offset ListSlot = 1
 
 -- What is kept of an actor besides its words and slots: who has its claim; its journal, and the actors of which its home says that they are closed,
--- as at home or as taken; who has its list; what is listed; whether the last drain gave something; and all messages that were ever listed, in order.
+-- as they are in its slot, or were when its home was taken; who has its list; what is listed; whether the last drain gave something; and all messages that were ever listed, in order.
 pub record Ghost : Type 0 where
   pub holder : Option (ℕ × Held)
   pub journal : List Entry
   pub closed_to : List ℕ
-  pub keeper : Option (ℕ × Lent)
+  pub lent_to : Option (ℕ × Lent)
   pub listed : MessageList
   pub gave : Bool
   pub pushed : List SysMsg
@@ -190,7 +190,7 @@ SentSystemHolds actor x s = s.to ≡ actor → (s.was_ended ≡ true → IsTrue 
 -- All that the view has seen of the actor, and sent to it, is so.
 pub record Knows {H : Type 0} (actor : ℕ) (x : Spot Word SlotName (Slot H) Ghost) (v : View) : Type 0 where
   pub seen : Each (ObservationHolds actor x) v.log
-  pub said : Each (SentSystemHolds actor x) v.said
+  pub sent_system : Each (SentSystemHolds actor x) v.sent_system
 
 -- All that was ever listed is what was given and what is listed still; how many were given is known modulo 2^64.
 pub record IsListing (pushed : List SysMsg) (listed : MessageList) : Type 0 where
@@ -204,23 +204,23 @@ HasSeenClosed actor v = IsAmong (Read actor 1) v.log
 
 module _ {H : Type 0} (is_of : ℕ → H → Type 0) (facts : H → HomeFacts) where
   -- The cell is at home: it is the actor's own, its word is that of its journal, it knows how many its list gave, and only an open actor
-  -- of which the last drain gave something may have something left beside its cell that is to be applied. The flag tells it of a closed
-  -- one.
+  -- of which the last drain gave something may have something left beside its cell that is to be applied. For a closed actor the flag
+  -- says so.
   pub record IsHome (actor : ℕ) (x : Spot Word SlotName (Slot H) Ghost) : Type 0 where
     pub home : H
     pub present : x.slot CellSlot ≡ some (some (Home home))
-    pub own : is_of actor home
+    pub of_actor : is_of actor home
     pub fold : (facts home).journal ≡ x.ghost.journal
     pub count : (facts home).given ≡ x.ghost.listed.given
     pub known_closed : (facts home).closed_to ≡ x.ghost.closed_to
     pub word : x.row Status ≡ word_of (facts home).mailbox
     pub idle : (x.row Status % 4 ≡ 0) ⊎ (x.row Status ≡ 1)
     pub flag : x.row Flag ≡ (if x.row Status == 1 then 1 else 0)
-    pub rest : (x.row Status ≡ 1) ⊎ (x.ghost.gave ≡ false) → (facts home).rested
+    pub rest : (x.row Status ≡ 1) ⊎ (x.ghost.gave ≡ false) → (facts home).no_backlog
 
   -- A claim has the cell: it is not in its slot, and the claim knows the status word, which says that the actor is scheduled or closed.
   pub record IsHeld (actor : ℕ) (x : Spot Word SlotName (Slot H) Ghost) (claim : Held) : Type 0 where
-    pub own : claim.actor ≡ actor
+    pub of_actor : claim.actor ≡ actor
     pub taken : claim.journal ≡ x.ghost.journal
     pub known_closed : claim.closed_to ≡ x.ghost.closed_to
     pub count : claim.given ≡ x.ghost.listed.given
@@ -246,7 +246,7 @@ module _ {H : Type 0} (is_of : ℕ → H → Type 0) (facts : H → HomeFacts) w
     pub gave : lent.gave ≡ x.ghost.gave
     pub word : x.row Gate ≡ gate_word true x.ghost.listed x.ghost.gave
 
-  -- The list is where its keeper says: in its slot if there is none, else with the keeper.
+  -- The list is where its lent_to says: in its slot if there is none, else with the lent_to.
   abbrev pub ListPlace : Spot Word SlotName (Slot H) Ghost → Option (ℕ × Lent) → Type 0
   ListPlace x None = IsListInSlot x
   ListPlace x (Some k) = IsListOut x k.1
@@ -257,8 +257,8 @@ module _ {H : Type 0} (is_of : ℕ → H → Type 0) (facts : H → HomeFacts) w
     pub valid : IsTrue (is_valid (x.row Status))
     pub claims : Locked (claim_for actor) x.ghost.holder vs
     pub cell : CellPlace actor x x.ghost.holder
-    pub lists : Locked (list_for actor) x.ghost.keeper vs
-    pub list_place : ListPlace x x.ghost.keeper
+    pub lists : Locked (list_for actor) x.ghost.lent_to vs
+    pub list_place : ListPlace x x.ghost.lent_to
     pub ended : IsTrue x.ghost.listed.closed → x.row Status ≡ 1
     pub listing : IsListing x.ghost.pushed x.ghost.listed
     pub named : All (NamesBelow actors) x.ghost.listed.messages
@@ -267,7 +267,7 @@ module _ {H : Type 0} (is_of : ℕ → H → Type 0) (facts : H → HomeFacts) w
     pub held : WasHeld actor (x.row Status) vs
     pub shares : AreShares (λ (v : View). v.share) vs
     pub bare : EachBare actor vs
-    pub vouched : (other : ℕ) → Owed (IsAmong other x.ghost.closed_to) (HasSeenClosed other) vs
+    pub was_seen_closed : (other : ℕ) → Owed (IsAmong other x.ghost.closed_to) (HasSeenClosed other) vs
     pub message : Owed (MessageDue x) (HasMessageObligation actor) vs
     pub system : Owed (SystemDue x) (HasSystemObligation actor) vs
     pub seen : EachView (Knows actor x) vs

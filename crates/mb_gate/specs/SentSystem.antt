@@ -67,14 +67,14 @@ IsRightPart actor closed (Parting whom ended) = closed ≡ true
 
 -- What was sent, the earliest first, is the messages that were due, in their order. Each that found its list ended is followed at once by its notice.
 -- Besides there are only notices of the actor's own end, where it is closed.
-pub record HasSentDue (actor : ℕ) (closed : Bool) (due : List (ℕ × SysMsg)) (said : List SentSystem) : Type 0 where
+pub record HasSentDue (actor : ℕ) (closed : Bool) (due : List (ℕ × SysMsg)) (sent_system : List SentSystem) : Type 0 where
   pub parts : List SplitClaim
-  pub said_is : said ≡ flat_map (sent_by_part actor) parts
+  pub sent_system_is : sent_system ≡ flat_map (sent_by_part actor) parts
   pub due_is : due ≡ flat_map due_of_part parts
   pub right : Each (IsRightPart actor closed) parts
 
 -- What was sent is what the entries that are newer than the journal before have to send.
-pub record HasSentDueSince (who : Identity) (actor : ℕ) (closed : Bool) (journal before : List Entry) (said : List SentSystem) : Type 0 where
+pub record HasSentDueSince (who : Identity) (actor : ℕ) (closed : Bool) (journal before : List Entry) (sent_system : List SentSystem) : Type 0 where
   pub newer : List Entry
   pub joined : journal ≡ newer ++ before
-  pub told : HasSentDue actor closed (due_since who newer before) said
+  pub told : HasSentDue actor closed (due_since who newer before) sent_system

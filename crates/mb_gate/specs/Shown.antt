@@ -72,7 +72,7 @@ ShowsClaims {H} is_of facts =
     × ((home : H) → x.slot CellSlot ≡ some (some (Home home)) → is_of actor home × (x.row Status ≡ word_of (facts home).mailbox)))
 
 -- What each seat has seen of an actor is so: the actor is closed if it was seen closed, or its list was ended, and the journal that its cell
--- has at home, or had as it was taken, goes on from each that was seen.
+-- has at home, or had as it was taken, extends each that was seen.
 abbrev pub ShowsSeen : {H : Type 0} → (ℕ → H → Type 0) → (H → HomeFacts) → Type 0
 ShowsSeen {H} is_of facts =
     (n : ℕ) (s : State (Slot H) View) (r : Ruled word_offset slot_offset n (Fact is_of facts n) s) (actor : ℕ)
@@ -82,7 +82,7 @@ ShowsSeen {H} is_of facts =
     × ((q : ℕ) (w : View) (claim : Held) → get_elem? s.views q ≡ some w → claim_for actor w ≡ Some claim
     → Each (IsKept actor claim.journal (x.row Status)) v.log))
 
--- Each actor of which another's home says that it is closed is closed, as that home is in its place or was taken: its word says so.
+-- Each actor that some home calls closed is closed, as its word says: whether that home is in its slot or was taken out of it.
 abbrev pub ShowsClosed : {H : Type 0} → (ℕ → H → Type 0) → (H → HomeFacts) → Type 0
 ShowsClosed {H} is_of facts =
     (n : ℕ) (s : State (Slot H) View) (r : Ruled word_offset slot_offset n (Fact is_of facts n) s)
@@ -90,8 +90,8 @@ ShowsClosed {H} is_of facts =
     → actor < n → other < n → IsAmong other (spot_of word_offset slot_offset s r.ghosts actor).ghost.closed_to
     → (spot_of word_offset slot_offset s r.ghosts other).row Status ≡ 1
 
--- An actor of which who has the whole of all shares got no claim is at home and open: in its slot is its own home, whose journal says the
--- word, and neither the actor nor its list is closed.
+-- If the party with the whole share got no claim of an actor, the actor's own home is in its slot, its journal says the word, and neither
+-- the actor nor its list is closed.
 abbrev pub ShowsUnclaimed : {H : Type 0} → (ℕ → H → Type 0) → (H → HomeFacts) → Type 0
 ShowsUnclaimed {H} is_of facts =
     (n : ℕ) (s : State (Slot H) View) (r : Ruled word_offset slot_offset n (Fact is_of facts n) s) (actor : ℕ)
@@ -121,7 +121,7 @@ pub record KnowsTheSame (v w : View) : Type 0 where
   pub seen : (s : Observation) → IsAmong s v.log ↔ IsAmong s w.log
   pub on : (actor : ℕ) → on_by actor v ≡ on_by actor w
   pub off : (actor : ℕ) → off_by actor v ≡ off_by actor w
-  pub said : v.said ≡ w.said
+  pub sent_system : v.sent_system ≡ w.sent_system
   pub owed : (actor : ℕ) → obligation_to actor v ≡ obligation_to actor w
 
 -- It makes no difference whether a claim's seat takes in the pass before it gives the cell home, or the pass takes over afterwards what the claim's

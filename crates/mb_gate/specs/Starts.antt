@@ -39,9 +39,9 @@ module _ {H : Type 0} where
   -- a home with which the gates may begin at this actor: its own, neither closed nor scheduled, that knows of no message given and of no
   -- actor closed, and with nothing left beside its cell
   pub record IsFresh (is_of : ℕ → H → Type 0) (facts : H → HomeFacts) (actor : ℕ) (h : H) : Type 0 where
-    pub own : is_of actor h
+    pub of_actor : is_of actor h
     pub none_given : (facts h).given ≡ 0
     pub none_closed : (facts h).closed_to ≡ []
     pub possible : IsTrue (is_possible (facts h).mailbox)
     pub free : IsFree (facts h).mailbox
-    pub rest : (facts h).rested
+    pub rest : (facts h).no_backlog

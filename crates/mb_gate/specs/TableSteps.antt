@@ -165,10 +165,10 @@ module _ {H : Type 0} (is_of : ℕ → H → Type 0) (facts : H → HomeFacts) w
   -- is left beside it.
   pub record Won (actor found : ℕ) (m m' : Me (Slot H) View) : Type 0 where
     pub home : H
-    pub own : is_of actor home
+    pub of_actor : is_of actor home
     pub word : found ≡ word_of (facts home).mailbox
     pub gave : Bool
-    pub rest : gave ≡ false → (facts home).rested
+    pub rest : gave ≡ false → (facts home).no_backlog
     pub seen : ExtendsSeen actor (facts home).journal m.0
     pub now : m' ≡ (taking actor (facts home).journal (facts home).closed_to found gave (facts home).given m.0, (slot_at actor 0, Home home) ∷ m.1)
 

@@ -52,10 +52,10 @@ module _ {H : Type 0} (is_of : ℕ → H → Type 0) (facts : H → HomeFacts) (
     pub found : IsFree seen
     pub of : held_actor claim ≡ actor
     pub status : status_of claim ≡ record seen { scheduled = true }
-    pub own : is_of actor claim.home
+    pub of_actor : is_of actor claim.home
     pub word : word_of (facts claim.home).mailbox ≡ word_of seen
     pub continues : ExtendsSeen actor (facts claim.home).journal before
-    pub rest : gave_last claim ≡ false → (facts claim.home).rested
+    pub rest : gave_last claim ≡ false → (facts claim.home).no_backlog
     pub known : claim_view claim ≡ claimed actor (facts claim.home).journal (facts claim.home).closed_to (word_of (status_of claim)) (gave_last claim)
         (facts claim.home).given
     pub recorded : recorded_by claim ≡ []

@@ -23,7 +23,7 @@ module _ {H : Type 0} (is_of : H → ℕ → H → Type 0) (facts : H → HomeFa
   pub record IsOurs (origin : Origin H) (claim : Claim H) : Type 0 where
     pub gates : claim_id claim ≡ origin.gates
     pub present : held_actor claim < origin.actors
-    pub own : is_of origin.first (held_actor claim) claim.home
+    pub of_actor : is_of origin.first (held_actor claim) claim.home
 
   -- The claim is of these gates and as a try to schedule gave it: its status is the one that the home's journal says, and scheduled;
   -- unless the last drain gave something, nothing is left beside the cell; it knows what a claim knows that was just taken, and nothing
@@ -33,7 +33,7 @@ module _ {H : Type 0} (is_of : H → ℕ → H → Type 0) (facts : H → HomeFa
     pub open_yet : (status_of claim).closed ≡ false
     pub scheduled : (status_of claim).scheduled ≡ true
     pub word : word_of (facts claim.home).mailbox ≡ word_of (idle (status_of claim))
-    pub rest : gave_last claim ≡ false → (facts claim.home).rested
+    pub rest : gave_last claim ≡ false → (facts claim.home).no_backlog
     pub known : claim_view claim ≡ claimed (held_actor claim) (facts claim.home).journal (facts claim.home).closed_to (word_of (status_of claim))
         (gave_last claim)
         (facts claim.home).given

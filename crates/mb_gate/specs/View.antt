@@ -56,7 +56,7 @@ pub record SentSystem : Type 0 where
 pub record View : Type 0 where
   pub log : List Observation
   pub obligations : List (ℕ × WakeObligation)
-  pub said : List SentSystem
+  pub sent_system : List SentSystem
   pub claim : Option Held
   pub list : Option Lent
   pub share : List ℕ
@@ -74,7 +74,7 @@ obligation_to actor v = obligation_of actor v.obligations
 
 -- The view of a seat that knows nothing and owes nothing.
 abbrev pub blank : View
-blank = record { log = []; obligations = []; said = []; claim = None; list = None; share = []; got = []; returned = [] }
+blank = record { log = []; obligations = []; sent_system = []; claim = None; list = None; share = []; got = []; returned = [] }
 
 -- The view of the first pass, beside which there is no other.
 abbrev pub alone : View
@@ -199,7 +199,7 @@ taking_over v w = record v {
 
 -- The view of a claim's seat that takes in a whole pass: what the pass has seen and sent, and what it owes.
 abbrev pub taking_in : View → View → View
-taking_in v w = record (taking_over v w) { said = w.said }
+taking_in v w = record (taking_over v w) { sent_system = w.sent_system }
 
 -- The view after it took the list out.
 abbrev pub lending : ℕ → MessageList → Bool → View → View
@@ -212,12 +212,12 @@ enlisting actor number message v =
     (record v {
       log = Pushed actor number message ∷ v.log;
       list = None;
-      said = record { to = actor; message = message; was_ended = false } ∷ v.said;
+      sent_system = record { to = actor; message = message; was_ended = false } ∷ v.sent_system;
     })
 
 -- The view after it found the list ended, so that this message went nowhere.
 abbrev pub refusing : ℕ → SysMsg → View → View
-refusing actor message v = record v { said = record { to = actor; message = message; was_ended = true } ∷ v.said }
+refusing actor message v = record v { sent_system = record { to = actor; message = message; was_ended = true } ∷ v.sent_system }
 
 -- How many messages were given, modulo 2^64, once these are.
 abbrev pub given_after : ℕ → List (ℕ × SysMsg) → ℕ

@@ -108,7 +108,7 @@ impl<H: MailboxState> Gates<H> {
     pub fn release(&self, claim: Claim<H>, pass: &mut Pass<H>)
         requires same_gates { (claim_id claim ≡ gates_id self.now) × (pass_id pass.old ≡ gates_id self.now) }
         requires present { held_actor claim < actors_of self.now }
-        requires own { H.is_of (first_home self.now) (held_actor claim) claim.home }
+        requires home_of_actor { H.is_of (first_home self.now) (held_actor claim) claim.home }
         requires longer { Extends (H.facts claim.home).journal (taken_with claim) }
         requires fold { word_of (H.facts claim.home).mailbox ≡ word_of (idle (status_of claim)) }
         requires count { (H.facts claim.home).given ≡ given_to claim }
@@ -116,7 +116,7 @@ impl<H: MailboxState> Gates<H> {
             (H.facts claim.home).closed_to }
         requires told { HasSentDueSince (H.who claim.home) (held_actor claim) (status_of claim).closed (H.facts claim.home).journal
             (taken_with claim) (recorded_by claim) }
-        requires rest { ((status_of claim).closed ≡ true) ⊎ (gave_last claim ≡ false) → (H.facts claim.home).rested }
+        requires rest { ((status_of claim).closed ≡ true) ⊎ (gave_last claim ≡ false) → (H.facts claim.home).no_backlog }
         ensures same_gates { pass_id pass.new ≡ pass_id pass.old }
         ensures known { pass_view pass.new ≡ idling (held_actor claim) (H.facts claim.home).journal (taking_in (claim_view claim) (pass_view pass.old)) }
     {

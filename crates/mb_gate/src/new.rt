@@ -29,7 +29,7 @@ impl<H: MailboxState> Gates<H> {
     /// It answers `NoGates` with the homes if memory was refused. (This project's own profile: Akka makes each mailbox with its cell,
     /// `akka.dispatch.Dispatcher.createMailbox`.)
     pub fn new(alloc: Global, homes: Vec<H>) -> Result<(Gates<H>, Pass<H>), NoGates<H>>
-        requires some { 0 < vec_len homes }
+        requires not_empty { 0 < vec_len homes }
         requires within_limit { vec_len homes ≤ 4294967296 }
         requires fresh { (first : H) → slice_get homes.items 0 ≡ Some first → (actor : ℕ) (home : H) → slice_get homes.items actor ≡ Some home →
             IsFresh (H.is_of first) H.facts actor home }
@@ -70,7 +70,7 @@ impl<H: MailboxState> Gates<H> {
 
 // The first home, for proofs alone.
 fn first_home<H>(homes: &Vec<H>) -> Snapshot<H>
-    requires some { 0 < vec_len homes.now }
+    requires not_empty { 0 < vec_len homes.now }
     ensures { slice_get homes.now.items 0 ≡ Some result.value }
 {
     Snapshot::of(&homes[0])

@@ -12,7 +12,7 @@ use std::mem;
 impl<H: MailboxState> Gates<H> {
     /// A second pass, which knows and owes what this one does. What this one counted as sent or took back stays its own (this
     /// project's own profile).
-    pub fn another(&self, pass: &mut Pass<H>) -> Pass<H>
+    pub fn split_pass(&self, pass: &mut Pass<H>) -> Pass<H>
         requires same_gates { pass_id pass.old ≡ gates_id self.now }
         ensures same_gates { (pass_id pass.new ≡ pass_id pass.old) × (pass_id result ≡ pass_id pass.old) }
         ensures known { (pass_view pass.new ≡ halving (pass_view pass.old)) × (pass_view result ≡ copied (pass_view pass.old)) }
@@ -22,7 +22,7 @@ impl<H: MailboxState> Gates<H> {
     }
 
     /// A second pass, which knows nothing and owes nothing (this project's own profile).
-    pub fn apart(&self, pass: &mut Pass<H>) -> Pass<H>
+    pub fn new_pass(&self, pass: &mut Pass<H>) -> Pass<H>
         requires same_gates { pass_id pass.old ≡ gates_id self.now }
         ensures same_gates { (pass_id pass.new ≡ pass_id pass.old) × (pass_id result ≡ pass_id pass.old) }
         ensures known { (pass_view pass.new ≡ halving (pass_view pass.old)) × (pass_view result ≡ split_off (pass_view pass.old)) }

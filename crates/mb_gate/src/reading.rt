@@ -62,7 +62,7 @@ impl<H: MailboxState> Gates<H> {
         requires present { id.0 < actors_of self.now }
         ensures same_gates { pass_id pass.new ≡ pass_id pass.old }
         ensures known { pass_view pass.new ≡ counting id.0 result (pass_view pass.old) }
-        ensures own { IsOwnBalance id.0 result (pass_view pass.old) }
+        ensures own_balance { IsOwnBalance id.0 result (pass_view pass.old) }
     {
         self.count(&mut pass.seat, id)
     }
@@ -72,7 +72,7 @@ impl<H: MailboxState> Gates<H> {
         requires present { id.0 < actors_of self.now }
         ensures same_gates { seat.new.table_id ≡ seat.old.table_id }
         ensures known { seat.new.me ≡ (counting id.0 result seat.old.me.0, seat.old.me.1) }
-        ensures own { IsOwnBalance id.0 result seat.old.me.0 }
+        ensures own_balance { IsOwnBalance id.0 result seat.old.me.0 }
     {
         self.table
             .shared

@@ -90,7 +90,7 @@ impl<H: MailboxState> Gates<H> {
         }
     }
 
-    /// What the step that schedules is told: a snapshot of the home with which the first actor began.
+    /// What the step that schedules gets as an argument: a snapshot of the home with which the first actor began.
     fn first_note(&self) -> Slot<H>
         ensures { (first : Snapshot (Snapshot H)) × (result ≡ First first) × (first.value ≡ self.now.table.shared.key.first) }
     {

@@ -12,8 +12,8 @@ pub enum Slot<H> {
     Home(H),
     /// An actor's list of system messages.
     List(SysList),
-    /// A message that found its list ended. It lies in no slot: a step is told of it.
+    /// A message that found its list ended. It is never stored in a slot: a step gets it as an argument.
     Note(SysMsg),
-    /// A snapshot of the home with which the first actor began. It lies in no slot either.
+    /// A snapshot of the home with which the first actor began. It is never stored in a slot either.
     First(Snapshot<Snapshot<H>>),
 }

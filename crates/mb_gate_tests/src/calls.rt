@@ -15,7 +15,7 @@ pub fn second(gates: &Gates<TestHome>, pass: &mut Pass<TestHome>) -> Pass<TestHo
     requires same_gates { pass_id pass.old ≡ gates_id gates.now }
     ensures same_gates { (pass_id pass.new ≡ pass_id pass.old) × (pass_id result ≡ gates_id gates.now) }
 {
-    gates.another(pass)
+    gates.split_pass(pass)
 }
 
 /// The actor's status word.

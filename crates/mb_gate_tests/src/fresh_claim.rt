@@ -12,7 +12,7 @@ use std::sync::Wait;
 /// dropped, so that it can go to another thread.
 pub struct FreshClaim {
     pub(crate) claim: Claim<TestHome>,
-    ghost own: { (claim.home.actor ≡ held_actor claim) × (claim.home.given ≡ given_to claim) },
+    ghost of_actor: { (claim.home.actor ≡ held_actor claim) × (claim.home.given ≡ given_to claim) },
     ghost begun: { (taken_with claim ≡ []) × (recorded_by claim ≡ []) },
 }
 

@@ -35,7 +35,7 @@ impl MailboxState for TestHome {
     ghost facts = { λ desk. record {
       journal = [];
       mailbox = desk.status;
-      rested = Unit {0};
+      no_backlog = Unit {0};
       given = desk.given;
       closed_to = [];
     } };

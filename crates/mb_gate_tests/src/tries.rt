@@ -14,7 +14,7 @@ pub fn attempt(gates: &Gates<TestHome>, pass: &mut Pass<TestHome>) -> Option<Cla
     requires present { 0 < actors_of gates.now }
     ensures same_gates { pass_id pass.new ≡ pass_id pass.old }
     ensures got { IfSome result (λ claim. (claim_id claim ≡ gates_id gates.now) × (held_actor claim ≡ 0)) }
-    ensures own { IfSome result (λ claim. (claim.home.actor ≡ 0) × (claim.home.given ≡ given_to claim)) }
+    ensures of_actor { IfSome result (λ claim. (claim.home.actor ≡ 0) × (claim.home.given ≡ given_to claim)) }
     ensures begun { IfSome result (λ claim. (taken_with claim ≡ []) × (recorded_by claim ≡ [])) }
 {
     match gates.try_schedule(pass, GUARDIAN) {
@@ -29,7 +29,7 @@ pub fn got<R: Abort>(rt: &R, gates: &Gates<TestHome>, pass: &mut Pass<TestHome>)
     requires present { 0 < actors_of gates.now }
     ensures same_gates { pass_id pass.new ≡ pass_id pass.old }
     ensures got { (claim_id result ≡ gates_id gates.now) × (held_actor result ≡ 0) }
-    ensures own { (result.home.actor ≡ 0) × (result.home.given ≡ given_to result) }
+    ensures of_actor { (result.home.actor ≡ 0) × (result.home.given ≡ given_to result) }
     ensures begun { (taken_with result ≡ []) × (recorded_by result ≡ []) }
 {
     match attempt(gates, pass) {
@@ -43,7 +43,7 @@ pub fn got<R: Abort>(rt: &R, gates: &Gates<TestHome>, pass: &mut Pass<TestHome>)
 pub fn give(gates: &Gates<TestHome>, mut claim: Claim<TestHome>, pass: &mut Pass<TestHome>)
     requires same_gates { (claim_id claim ≡ gates_id gates.now) × (pass_id pass.old ≡ gates_id gates.now) }
     requires present { held_actor claim < actors_of gates.now }
-    requires own { (claim.home.actor ≡ held_actor claim) × (claim.home.given ≡ given_to claim) }
+    requires of_actor { (claim.home.actor ≡ held_actor claim) × (claim.home.given ≡ given_to claim) }
     requires begun { (taken_with claim ≡ []) × (recorded_by claim ≡ []) }
     ensures same_gates { pass_id pass.new ≡ pass_id pass.old }
 {
@@ -87,7 +87,7 @@ pub fn drain<R: Wait>(
     requires present { held_actor claim.old < actors_of gates.now }
     requires counts { claim.old.home.given ≡ given_to claim.old }
     ensures same_gates { (claim_id claim.new ≡ claim_id claim.old) × (held_actor claim.new ≡ held_actor claim.old) }
-    ensures own { claim.new.home.actor ≡ claim.old.home.actor }
+    ensures of_actor { claim.new.home.actor ≡ claim.old.home.actor }
     ensures same { (taken_with claim.new ≡ taken_with claim.old) × (recorded_by claim.new ≡ recorded_by claim.old) }
     ensures counts { claim.new.home.given ≡ given_to claim.new }
 {
@@ -107,7 +107,7 @@ pub fn close<R: Wait>(
     requires present { held_actor claim.old < actors_of gates.now }
     requires counts { claim.old.home.given ≡ given_to claim.old }
     ensures same_gates { (claim_id claim.new ≡ claim_id claim.old) × (held_actor claim.new ≡ held_actor claim.old) }
-    ensures own { claim.new.home.actor ≡ claim.old.home.actor }
+    ensures of_actor { claim.new.home.actor ≡ claim.old.home.actor }
     ensures same { (taken_with claim.new ≡ taken_with claim.old) × (recorded_by claim.new ≡ recorded_by claim.old) }
     ensures counts { claim.new.home.given ≡ given_to claim.new }
 {

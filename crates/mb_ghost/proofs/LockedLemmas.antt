@@ -83,9 +83,9 @@ module _ {V T : Type 0} (ticket : V → Option T) where
   takes_up vs id v w t at has locked = relock None (Some (id, t)) vs id v w at (λ q n. sym (held_else id q t n)) (has ∙ sym (held_here id t)) locked
 
   -- the holder's ticket changes
-  pub turns_over : (vs : List V) (id : ℕ) (v w : V) (t u : T) → get_elem? vs id ≡ some v → ticket w ≡ Some u → Locked ticket (Some (id, t)) vs →
+  pub changes_ticket : (vs : List V) (id : ℕ) (v w : V) (t u : T) → get_elem? vs id ≡ some v → ticket w ≡ Some u → Locked ticket (Some (id, t)) vs →
       Locked ticket (Some (id, u)) (set vs id w)
-  turns_over vs id v w t u at has locked =
+  changes_ticket vs id v w t u at has locked =
       relock (Some (id, t)) (Some (id, u)) vs id v w at (λ q n. held_else id q t n ∙ sym (held_else id q u n)) (has ∙ sym (held_here id u)) locked
 
   -- the holder puts it back

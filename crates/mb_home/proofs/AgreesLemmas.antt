@@ -120,9 +120,9 @@ pub settled-more : (h : Contents) (gives : Moment → Reply → Type 0) (e : Ent
     AgreesWithJournal gives (acts h.cell.who h.cell.journal e) (with_more h e take rest aside_dead)
 settled-more h gives e take rest aside_dead s not_ended lawful room same taken counted =
     let none : h.cleaned ≡ [] = s.open_keeps not_ended in
-    let fit = fit-acts h gives e s.own lawful room in
+    let fit = fit-acts h gives e s.is_own lawful room in
     record {
-      own = own-more h e take rest aside_dead same s.own;
+      is_own = own-more h e take rest aside_dead same s.is_own;
       lawful = lawful;
       taken = taken ∙ sym (append-nil (begun (e ∷ h.cell.journal))) ∙ ap (λ l. begun (e ∷ h.cell.journal) ++ l) (sym none);
       open_keeps = λ _. none;
@@ -144,16 +144,16 @@ settled-more h gives e take rest aside_dead s not_ended lawful room same taken c
 pub settled-acts : (h : Contents) (gives : Moment → Reply → Type 0) (pending left : List Act) → AgreesWithJournal gives pending h →
     AgreesWithJournal gives pending (record h { cell = record h.cell { acts = left } })
 settled-acts h gives pending left s = record {
-  own = record {
-    enrolled = s.own.enrolled;
-    all_there = s.own.all_there;
-    within_limit = s.own.within_limit;
-    not_zero = s.own.not_zero;
-    queues = s.own.queues;
-    by = s.own.by;
-    receivers = s.own.receivers;
-    receiver = s.own.receiver;
-    nobody = s.own.nobody;
+  is_own = record {
+    enrolled = s.is_own.enrolled;
+    all_there = s.is_own.all_there;
+    within_limit = s.is_own.within_limit;
+    not_zero = s.is_own.not_zero;
+    queues = s.is_own.queues;
+    by = s.is_own.by;
+    receivers = s.is_own.receivers;
+    receiver = s.is_own.receiver;
+    nobody = s.is_own.nobody;
   };
   lawful = s.lawful;
   taken = s.taken;
@@ -185,16 +185,16 @@ settled-dead h gives to body left why room s one_less reason =
     let ps = s.posted.postings in
     let e = next_envelope h to body in
     record {
-      own = record {
-        enrolled = s.own.enrolled;
-        all_there = s.own.all_there;
-        within_limit = s.own.within_limit;
-        not_zero = s.own.not_zero;
-        queues = s.own.queues;
-        by = s.own.by;
-        receivers = s.own.receivers;
-        receiver = s.own.receiver;
-        nobody = s.own.nobody;
+      is_own = record {
+        enrolled = s.is_own.enrolled;
+        all_there = s.is_own.all_there;
+        within_limit = s.is_own.within_limit;
+        not_zero = s.is_own.not_zero;
+        queues = s.is_own.queues;
+        by = s.is_own.by;
+        receivers = s.is_own.receivers;
+        receiver = s.is_own.receiver;
+        nobody = s.is_own.nobody;
       };
       lawful = s.lawful;
       taken = s.taken;
@@ -259,18 +259,18 @@ settled-pushed h gives to body left place pass s place_is was =
     let ps = s.posted.postings in
     let e = next_envelope h to body in
     record {
-      own = record {
-        enrolled = s.own.enrolled;
-        all_there = s.own.all_there;
-        within_limit = s.own.within_limit;
-        not_zero = s.own.not_zero;
-        queues = set-map (λ (p : SendPassView). p.queue) h.sends place pass (with_pushed e pass) was refl ∙ s.own.queues;
+      is_own = record {
+        enrolled = s.is_own.enrolled;
+        all_there = s.is_own.all_there;
+        within_limit = s.is_own.within_limit;
+        not_zero = s.is_own.not_zero;
+        queues = set-map (λ (p : SendPassView). p.queue) h.sends place pass (with_pushed e pass) was refl ∙ s.is_own.queues;
         by =
             All-set (λ (p : SendPassView). p.by ≡ h.cell.who.this.0) h.sends place (with_pushed e pass)
-            (all-at (λ (p : SendPassView). p.by ≡ h.cell.who.this.0) h.sends place pass s.own.by was) s.own.by;
+            (all-at (λ (p : SendPassView). p.by ≡ h.cell.who.this.0) h.sends place pass s.is_own.by was) s.is_own.by;
         receivers = receivers;
-        receiver = s.own.receiver;
-        nobody = s.own.nobody;
+        receiver = s.is_own.receiver;
+        nobody = s.is_own.nobody;
       };
       lawful = s.lawful;
       taken = s.taken;
@@ -304,8 +304,8 @@ settled-pushed h gives to body left place pass s place_is was =
         ≡ k + 1
     receivers k p there =
         elim (by_place k p there) [
-          | inl here ↦ ap (λ (q : SendPassView). q.queue.to) here.1 ∙ s.own.receivers place pass was ∙ ap (λ n. n + 1) (sym here.0)
-          | inr other ↦ s.own.receivers k p other.1
+          | inl here ↦ ap (λ (q : SendPassView). q.queue.to) here.1 ∙ s.is_own.receivers place pass was ∙ ap (λ n. n + 1) (sym here.0)
+          | inr other ↦ s.is_own.receivers k p other.1
         ]
 
     pushed : (k : ℕ) (p : SendPassView) → slice_get (slice_set h.sends place (with_pushed (next_envelope h to body) pass)) k ≡ Some p →
@@ -349,16 +349,16 @@ bounded-to h to place most pass own place_is was capacity = record {
 pub settled-take : (h : Contents) (gives : Moment → Reply → Type 0) (pending : List Act) (take : TakePassView) → AgreesWithJournal gives pending h →
     SameQueue take h.take → take.taken ≡ h.take.taken → AgreesWithJournal gives pending (record h { take = take })
 settled-take h gives pending take s same taken = record {
-  own = record {
-    enrolled = enrolled-same h take same s.own;
-    all_there = s.own.all_there;
-    within_limit = s.own.within_limit;
-    not_zero = s.own.not_zero;
-    queues = s.own.queues;
-    by = s.own.by;
-    receivers = s.own.receivers;
-    receiver = ap (λ (q : Queue). q.to) same.0 ∙ s.own.receiver;
-    nobody = λ guardian. ap (λ (q : Queue). q.senders) same.0 ∙ s.own.nobody guardian;
+  is_own = record {
+    enrolled = enrolled-same h take same s.is_own;
+    all_there = s.is_own.all_there;
+    within_limit = s.is_own.within_limit;
+    not_zero = s.is_own.not_zero;
+    queues = s.is_own.queues;
+    by = s.is_own.by;
+    receivers = s.is_own.receivers;
+    receiver = ap (λ (q : Queue). q.to) same.0 ∙ s.is_own.receiver;
+    nobody = λ guardian. ap (λ (q : Queue). q.senders) same.0 ∙ s.is_own.nobody guardian;
   };
   lawful = s.lawful;
   taken = taken ∙ s.taken;
@@ -375,16 +375,16 @@ pub settled-clean : (h : Contents) (gives : Moment → Reply → Type 0) (pendin
     closed h.cell.who h.cell.journal ≡ true → SameQueue take h.take → take.taken ≡ h.take.taken ++ e ∷ [] →
     AgreesWithJournal gives pending (record h { take = take; cleaned = h.cleaned ++ e ∷ [] })
 settled-clean h gives pending take e s ended same taken = record {
-  own = record {
-    enrolled = enrolled-same h take same s.own;
-    all_there = s.own.all_there;
-    within_limit = s.own.within_limit;
-    not_zero = s.own.not_zero;
-    queues = s.own.queues;
-    by = s.own.by;
-    receivers = s.own.receivers;
-    receiver = ap (λ (q : Queue). q.to) same.0 ∙ s.own.receiver;
-    nobody = λ guardian. ap (λ (q : Queue). q.senders) same.0 ∙ s.own.nobody guardian;
+  is_own = record {
+    enrolled = enrolled-same h take same s.is_own;
+    all_there = s.is_own.all_there;
+    within_limit = s.is_own.within_limit;
+    not_zero = s.is_own.not_zero;
+    queues = s.is_own.queues;
+    by = s.is_own.by;
+    receivers = s.is_own.receivers;
+    receiver = ap (λ (q : Queue). q.to) same.0 ∙ s.is_own.receiver;
+    nobody = λ guardian. ap (λ (q : Queue). q.senders) same.0 ∙ s.is_own.nobody guardian;
   };
   lawful = s.lawful;
   taken = taken ∙ ap (λ l. l ++ e ∷ []) s.taken ∙ append_assoc (begun h.cell.journal) h.cleaned (e ∷ []);
@@ -414,7 +414,7 @@ rest-changed : (h : Contents) (gives : Moment → Reply → Type 0) (pending : L
     AgreesWithJournal gives pending h →
     IsCounted (record h { rest = rest; dropped = dropped }) → AgreesWithJournal gives pending (record h { rest = rest; dropped = dropped })
 rest-changed h gives pending rest dropped s counted = record {
-  own = same-own h rest dropped s.own;
+  is_own = same-own h rest dropped s.is_own;
   lawful = s.lawful;
   taken = s.taken;
   open_keeps = s.open_keeps;

@@ -36,7 +36,7 @@ module _ (h : Contents) (gives : Moment → Reply → Type 0) (s : AgreesWithJou
   at_next =
       ap (λ d. (next_number h.cell.journal + d) % 2 ^ 64) none_dropped
       ∙ ap (λ n. n % 2 ^ 64) (let sum : next_number h.cell.journal + 0 ≡ next_number h.cell.journal = omega arith in sum)
-      ∙ mod-eq_of_lt (omega (arith, few-numbers h.cell.who gives h.cell.journal s.lawful.entries, s.lawful.within_limit, s.own.within_limit))
+      ∙ mod-eq_of_lt (omega (arith, few-numbers h.cell.who gives h.cell.journal s.lawful.entries, s.lawful.within_limit, s.is_own.within_limit))
 
   same-sum : (front : Option (ℕ × SysMsg)) (number : ℕ) (m : SysMsg) (outcome : Outcome) (left : List (ℕ × SysMsg)) →
       next_front h.cell.who h.cell.journal ≡ front → IsDue front h.rest number m left →

@@ -27,28 +27,28 @@ pub applied-leads : (h mid new : Contents) (own gives : Moment → Reply → Typ
 applied-leads h mid new own gives number m s same took lawful =
     let took' : TakesSystem h.cell new.cell number m =
     subst (λ (x : CellView). TakesSystem x new.cell number m) (ap (λ (x : Contents). x.cell) same) took in
-    entry-leads h.cell new.cell gives (System number m took'.outcome) s.own.within_limit took'.adds lawful
+    entry-leads h.cell new.cell gives (System number m took'.outcome) s.is_own.within_limit took'.adds lawful
 
 -- an envelope that was begun
 pub begun-leads : (h new : Contents) (own gives : Moment → Reply → Type 0) (envelope : Envelope) (reading : ℕ) → AgreesWithJournal own [] h →
     TakesEnvelope h.cell new.cell envelope reading → IsLawful new.cell.who gives new.cell.journal → LeadsOn h new
-begun-leads h new own gives envelope reading s took lawful = entry-leads h.cell new.cell gives took.entry s.own.within_limit took.adds lawful
+begun-leads h new own gives envelope reading s took lawful = entry-leads h.cell new.cell gives took.entry s.is_own.within_limit took.adds lawful
 
 -- ---- more room changes nothing else of the home
 
 pub settled-ready : (h : Contents) (gives : Moment → Reply → Type 0) (pending : List Act) (ready : Bool) (room : ℕ) → AgreesWithJournal gives pending h →
     h.room ≤ room → AgreesWithJournal gives pending (record h { cell = record h.cell { is_ready = ready }; room = room })
 settled-ready h gives pending ready room s more = record {
-  own = record {
-    enrolled = s.own.enrolled;
-    all_there = s.own.all_there;
-    within_limit = s.own.within_limit;
-    not_zero = s.own.not_zero;
-    queues = s.own.queues;
-    by = s.own.by;
-    receivers = s.own.receivers;
-    receiver = s.own.receiver;
-    nobody = s.own.nobody;
+  is_own = record {
+    enrolled = s.is_own.enrolled;
+    all_there = s.is_own.all_there;
+    within_limit = s.is_own.within_limit;
+    not_zero = s.is_own.not_zero;
+    queues = s.is_own.queues;
+    by = s.is_own.by;
+    receivers = s.is_own.receivers;
+    receiver = s.is_own.receiver;
+    nobody = s.is_own.nobody;
   };
   lawful = s.lawful;
   taken = s.taken;

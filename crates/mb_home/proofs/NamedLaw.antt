@@ -512,8 +512,8 @@ module _ (gives : Moment → Reply → Type 0) (h new : Contents) (n : NamesActo
       EachNamesBelow h.cell.who.actors new.rest → NamesActors new × SendsBelow new.cell.who.actors new.cell.acts
   named-entry e adds names rest =
       let who : new.cell.who ≡ h.cell.who = ap (λ (c : CellView). c.who) adds in
-      let within : new.cell.who.this.0 < length new.directory = slice_get_within new.directory new.cell.who.this.0 _ s.own.enrolled in
-      let there : new.cell.who.this.0 < new.cell.who.actors = omega (arith, within, s.own.all_there) in
+      let within : new.cell.who.this.0 < length new.directory = slice_get_within new.directory new.cell.who.this.0 _ s.is_own.enrolled in
+      let there : new.cell.who.this.0 < new.cell.who.actors = omega (arith, within, s.is_own.all_there) in
       let this_there : h.cell.who.this.0 < h.cell.who.actors = subst (λ (w : Identity). w.this.0 < w.actors) who there in
       let all : AreLawful h.cell.who gives (e ∷ h.cell.journal) =
       subst (λ (c : CellView). AreLawful c.who gives c.journal) adds s.lawful.entries in

@@ -47,6 +47,6 @@ numbered-from by n (t ∷ ts) few = (refl, mod-eq_of_lt (omega (arith, few)), nu
 pub told-numbered : (gives : Moment → Reply → Type 0) (pending : List Act) (h : Contents) → AgreesWithJournal gives pending h →
     NumbersCountUpFrom h.cell.who.this.0 0 (told h.cell.who h.cell.journal)
 told-numbered gives pending h s =
-    let there : h.cell.who.this.0 < h.cell.who.actors = omega (arith, slice_get_within h.directory h.cell.who.this.0 _ s.own.enrolled, s.own.all_there) in
-    let few = few-tells_of_journal h.cell.who gives s.own.not_zero there h.cell.journal s.lawful.entries in
-    numbered-from h.cell.who.this.0 0 (tells_of_journal h.cell.who h.cell.journal) (omega (arith, few, s.lawful.within_limit, s.own.within_limit))
+    let there : h.cell.who.this.0 < h.cell.who.actors = omega (arith, slice_get_within h.directory h.cell.who.this.0 _ s.is_own.enrolled, s.is_own.all_there) in
+    let few = few-tells_of_journal h.cell.who gives s.is_own.not_zero there h.cell.journal s.lawful.entries in
+    numbered-from h.cell.who.this.0 0 (tells_of_journal h.cell.who h.cell.journal) (omega (arith, few, s.lawful.within_limit, s.is_own.within_limit))

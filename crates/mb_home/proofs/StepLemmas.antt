@@ -41,7 +41,7 @@ module _ (h : Contents) (gives : Moment → Reply → Type 0) (s : AgreesWithJou
   none_dropped = s.counted.none not_ended
 
   small : next_number h.cell.journal < 2 ^ 64
-  small = omega (arith, few-numbers h.cell.who gives h.cell.journal s.lawful.entries, s.lawful.within_limit, s.own.within_limit)
+  small = omega (arith, few-numbers h.cell.who gives h.cell.journal s.lawful.entries, s.lawful.within_limit, s.is_own.within_limit)
 
   at_next : (next_number h.cell.journal + h.dropped) % 2 ^ 64 ≡ next_number h.cell.journal
   at_next =
@@ -174,7 +174,7 @@ pub settled-first : (gives : Moment → Reply → Type 0) (cell : CellView) (tak
     IsLawful cell.who gives cell.journal →
     AgreesWithJournal gives [] (at_first cell take sends room directory)
 settled-first gives cell take sends room directory untouched none_taken none_pushed own lawful = record {
-  own = record {
+  is_own = record {
     enrolled = own.enrolled;
     all_there = own.all_there;
     within_limit = own.within_limit;
@@ -201,9 +201,9 @@ settled-first gives cell take sends room directory untouched none_taken none_pus
 }
 
 -- nothing is to be applied to an actor to which nothing came
-pub rested-first : (cell : CellView) → cell.journal ≡ [] → next_front cell.who cell.journal ≡ None
+pub no_backlog-first : (cell : CellView) → cell.journal ≡ [] → next_front cell.who cell.journal ≡ None
 unfolding next_front aside ever_aside
-rested-first cell untouched = ap (λ j. next_front cell.who j) untouched ∙ by_tests (count cell.who [] == 0 && not (phase_is
+no_backlog-first cell untouched = ap (λ j. next_front cell.who j) untouched ∙ by_tests (count cell.who [] == 0 && not (phase_is
     (phase cell.who []) Ending)) (closed cell.who [])
   where
     by_tests : (b c : Bool) → (if b then first_of_list (if c then [] else []) else None) ≡ None
@@ -229,7 +229,7 @@ an-actor h gives by s known = by_test (is_guardian h.cell.who) refl
   where
     by_test : (b : Bool) → is_guardian h.cell.who ≡ b → b ≡ false
     by_test false an_actor = refl
-    by_test true guardian = absurd (let none : Contains [] by = subst (λ (l : List ℕ). Contains l by) (s.own.nobody guardian) known in
+    by_test true guardian = absurd (let none : Contains [] by = subst (λ (l : List ℕ). Contains l by) (s.is_own.nobody guardian) known in
         omega (arith, none.1))
 
 -- ---- a system message that is due

@@ -38,13 +38,13 @@ module _ (h : Contents) (gives : Moment → Reply → Type 0) (to : ActorId) (to
 
   by-it : (place : ℕ) (p : SendPassView) → slice_get h.sends place ≡ Some p → p.by ≡ h.cell.who.this.0
   by-it place p there =
-      ap (λ (q : SendPassView). q.by) (sym (get_or_from_slice_get h.sends place p p there)) ∙ s.own.by place p (slice_get_within h.sends place p there)
+      ap (λ (q : SendPassView). q.by) (sym (get_or_from_slice_get h.sends place p p there)) ∙ s.is_own.by place p (slice_get_within h.sends place p there)
 
   -- the pass of its place may push the next envelope
   pub fits-next : (p : SendPassView) → slice_get h.sends (to.0 - 1) ≡ Some p → Fits (next_envelope h to told) p
   fits-next p there = (
     sym (by-it (to.0 - 1) p there),
-    let place : p.queue.to ≡ to.0 - 1 + 1 = s.own.receivers (to.0 - 1) p there in omega (arith, place, told-there.0),
+    let place : p.queue.to ≡ to.0 - 1 + 1 = s.is_own.receivers (to.0 - 1) p there in omega (arith, place, told-there.0),
   )
 
   place-is : to.0 ≡ to.0 - 1 + 1
@@ -60,7 +60,7 @@ module _ (h : Contents) (gives : Moment → Reply → Type 0) (to : ActorId) (to
 
   reason-by : (p : SendPassView) (refused : PushError) → slice_get h.sends (to.0 - 1) ≡ Some p → IsRefusal p refused →
       IsReason h.directory (reason_of refused) to.0
-  reason-by p (Full e) was refusal = bounded-to h to.0 (to.0 - 1) refusal.0 p s.own place-is was refusal.1
+  reason-by p (Full e) was refusal = bounded-to h to.0 (to.0 - 1) refusal.0 p s.is_own place-is was refusal.1
   reason-by p (NoMemory e) was refusal = tt
 
   -- why it was refused is a reason that holds
@@ -77,7 +77,7 @@ may-handle h gives e reading s is_open ready none known addressed = record {
   ready = ready;
   carried_out = none;
   an_actor = an-actor h gives e.by.0 s known;
-  addressed = ap (λ n. let id : ActorId = record { 0 = n } in id) (addressed ∙ s.own.receiver);
+  addressed = ap (λ n. let id : ActorId = record { 0 = n } in id) (addressed ∙ s.is_own.receiver);
   live = (open-phase h gives reading s is_open).1;
   open_reading = is_open;
 }

@@ -76,7 +76,7 @@ IsReason directory why.Cleaned to = ⊥
 -- acts, which are still to be carried out: what was taken was begun or cleaned up, in order; what was told was pushed or is a dead letter, for a
 -- right reason; nothing is cleaned up unless the actor ended; and the system messages are counted.
 pub record AgreesWithJournal (gives : Moment → Reply → Type 0) (pending : List Act) (h : Contents) : Type 0 where
-  pub own : IsOwn h
+  pub is_own : IsOwn h
   pub lawful : IsLawful h.cell.who gives h.cell.journal
   pub taken : h.take.taken ≡ begun h.cell.journal ++ h.cleaned
   pub open_keeps : closed h.cell.who h.cell.journal ≡ false → h.cleaned ≡ []

@@ -50,7 +50,7 @@ abbrev pub facts_of : Contents → HomeFacts
 facts_of h = record {
   journal = h.cell.journal;
   mailbox = mailbox_at h.cell.who h.cell.journal;
-  rested = HasNoBacklog h;
+  no_backlog = HasNoBacklog h;
   given = given_of h;
   closed_to = closed_receivers h.dead;
 }

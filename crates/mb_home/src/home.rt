@@ -112,12 +112,12 @@ impl<A: Actor, K: Behaviours> Home<A, K> {
         requires untouched { (cell.journal ≡ []) × (cell.acts ≡ []) }
         requires none_taken { take.taken ≡ [] }
         requires none_pushed { All (λ (p : SendPassView). p.pushed ≡ []) sends.items }
-        requires own { IsOwn (at_first cell take sends.items 0
+        requires owner { IsOwn (at_first cell take sends.items 0
             (map (λ n. record { who = n.cell.value.who; queue = n.take.value.queue; discipline = n.take.value.discipline }) directory.now.items)) }
         ensures first { result ≡ at_first cell take sends.items result.room
             (map (λ n. record { who = n.cell.value.who; queue = n.take.value.queue; discipline = n.take.value.discipline }) directory.now.items) }
         ensures settled { AgreesWithJournal (K.gives cell.who.this.0) [] result }
-        ensures rested { HasNoBacklog result }
+        ensures no_backlog { HasNoBacklog result }
     {
         // Its contract shows that the journal is lawful, and that its limit is a number of 32 bits.
         let _ = cell.journal();

@@ -2,7 +2,7 @@
 //!
 //! Between two messages what is kept beside the cell agrees with its journal: what was taken from the actor's queue was begun
 //! or cleaned up, and what the actor told was pushed to its receiver or is a dead letter with its reason. Each step keeps that,
-//! but for the acts that are still to be carried out.
+//! except for the acts that are still to be carried out.
 #![tactic(auto)]
 
 mod boxed_home;

@@ -1,5 +1,5 @@
 -- Small journals whose phase, count, messages and acts were worked out by hand.
-use Rattle.std.specs.Prelude.{Bool, false, ◌≡◌, refl, ℤ, pos, negsuc, ℕ, true, List, [], ◌∷◌, Option, Some, None}
+use Rattle.std.specs.Prelude.{Bool, false, ◌≡◌, refl, ℤ, pos, ℕ, true, List, [], ◌∷◌, Option, Some, None}
 use Rattle.mb_msg.specs.declared.envelope.Body.{Body}
 use Rattle.mb_msg.specs.declared.envelope.Body.TheVariants as body
 use Rattle.mb_msg.specs.declared.id.ActorId.{ActorId}
@@ -32,14 +32,12 @@ use Rattle.mb_journal.specs.Suspension.{count, marks, pluses, minuses, greatest_
 use Rattle.mb_journal.specs.Watching.{watchers, watching, due}
 use Rattle.mb_actor.specs.declared.phase.Phase.{Phase}
 use Rattle.mb_actor.specs.declared.phase.Phase.TheVariants.{Broken, Fresh, Live, Ending, Ended}
+use Rattle.mb_msg.specs.Strategy.{no_limit}
 use Rattle.mb_msg.specs.declared.strategy.Pattern.{Pattern}
 use Rattle.mb_msg.specs.declared.strategy.Pattern.TheVariants as cases
 
 abbrev the : ℕ → ActorId
 the n = record { 0 = n }
-
-abbrev no_limit : ℤ
-no_limit = negsuc 0
 
 -- an actor whose parent is the guardian, and which has children 2 and 3 and this strategy
 abbrev supervising : List (Pattern × Directive) → ℤ → Bool → Identity

@@ -38,9 +38,9 @@ asker-told actor (system.Died x) = refl
 module _ (gives : ℕ → Moment → Reply → Type 0) (origin : Origin (Box Contents)) (seen : List Observation) (rest : List Act) (to : ActorId)
     (message : SysMsg)
     (c mid new : Claim (Box Contents)) (r : IsRunning gives origin (Sys to message ∷ rest) seen (run_state c))
-    (said : IsRecorded c mid (record { to = to.0; message = message; was_ended = true })) where
+    (sent_system : IsRecorded c mid (record { to = to.0; message = message; was_ended = true })) where
   refused : run_state mid ≡ record (run_state c) { recorded = (run_state c).recorded ++ record { to = to.0; message = message; was_ended = true } ∷ [] }
-  refused = hold-recorded c mid (record { to = to.0; message = message; was_ended = true }) said
+  refused = hold-recorded c mid (record { to = to.0; message = message; was_ended = true }) sent_system
 
   -- a message that found its list ended was answered for, where somebody waits
   pub running-answer : (asked : Option ActorId) → answered_to (run_state c).actor message ≡ number_of asked → IsAnswered asked to.0 mid new →

@@ -24,9 +24,9 @@ module _ (h : RunState) (s : BacklogAgrees h) where
     rest =
         match-both h.status.closed (h.home.rest ≡ []) (h.gave ≡ false → HasNoBacklog h.home) (new.rest ≡ []) (h.gave ≡ false → HasNoBacklog new)
         (λ none. rest ∙ none)
-        (λ rested nothing. record {
-          no_rest = rest ∙ (rested nothing).no_rest;
-          no_front = (λ i. next_front (who i) (journal i)) ∙ (rested nothing).no_front;
+        (λ no_backlog nothing. record {
+          no_rest = rest ∙ (no_backlog nothing).no_rest;
+          no_front = (λ i. next_front (who i) (journal i)) ∙ (no_backlog nothing).no_front;
         })
         s.rest;
   }

@@ -97,9 +97,9 @@ module _ (ended : ℕ) (c new : Claim (Box Contents)) where
         subst (λ (x : Claim (Box Contents)). IsRunning gives origin x.home.value.cell.acts seen (run_state x)) (sym same) r
     running-departed (Some whom) n here shut r =
         let note : SentSystem = record { to = whom.0; message = notice (held_actor c); was_ended = n.was_ended } in
-        let said : IsRecorded c new note =
+        let sent_system : IsRecorded c new note =
         subst (λ k. IsRecorded c new (record { to = whom.0; message = notice k; was_ended = n.was_ended })) here n.recorded in
-        subst (λ (x : RunState). IsRunning gives origin x.home.cell.acts seen x) (sym (hold-recorded c new note said))
+        subst (λ (x : RunState). IsRunning gives origin x.home.cell.acts seen x) (sym (hold-recorded c new note sent_system))
         (running-parting gives origin seen (run_state c) c.home.value.cell.acts whom.0 n.was_ended shut r)
 
 -- ---- an envelope was counted as taken

@@ -114,8 +114,8 @@ pub counts-over : (actor : ℕ) (old new : View) (steps : List Observation) (n :
     total (counted_off actor) steps ≡ n → total (taken_of actor) new.log ≡ total (taken_of actor) old.log + n
 counts-over actor old new steps n over only_drained counted =
     let f = taken_of actor in
-    let joined : total f new.log ≡ total f over.own + (total f old.log + total f steps) =
-    ap (total f) over.joined ∙ total_append f over.own (old.log ++ steps) ∙ ap (λ k. total f over.own + k) (total_append f old.log steps) in
-    let none : total f over.own ≡ 0 = taken-none actor over.own over.took_none in
+    let joined : total f new.log ≡ total f over.own_log + (total f old.log + total f steps) =
+    ap (total f) over.joined ∙ total_append f over.own_log (old.log ++ steps) ∙ ap (λ k. total f over.own_log + k) (total_append f old.log steps) in
+    let none : total f over.own_log ≡ 0 = taken-none actor over.own_log over.took_none in
     let all : total f steps ≡ n = taken-all actor steps only_drained ∙ counted in
     omega (arith, joined, none, all)

@@ -77,11 +77,11 @@ module _ (c mid : Claim (Box Contents)) (ours : (claim_id mid ≡ claim_id c) ×
   drained-from count numbers =
       subst (λ n. IsNumberedFrom n result) (sym (ap (λ (b : Box Contents). given_of b.value) same.1 ∙ count)) numbers
 
-  module _ (rested : HasNoBacklog c.home.value) where
+  module _ (no_backlog : HasNoBacklog c.home.value) where
     rested_here : result ≡ [] → HasNoBacklog new
     rested_here none = record {
       no_rest = ap (λ (x : Contents). x.rest) kept_here ∙ none;
-      no_front = ap (λ (x : CellView). next_front x.who x.journal) cell ∙ rested.no_front;
+      no_front = ap (λ (x : CellView). next_front x.who x.journal) cell ∙ no_backlog.no_front;
     }
 
     pub backlog-drained : (status_of c).closed ≡ false → given_of c.home.value ≡ given_to c → BacklogAgrees (record (run_state mid) { home = new })
@@ -89,7 +89,7 @@ module _ (c mid : Claim (Box Contents)) (ours : (claim_id mid ≡ claim_id c) ×
         subst (λ (x : RunState). BacklogAgrees (record x { home = new })) (sym hold-drain)
         (record {
           count =
-              ap given_of kept_here ∙ given-kept c.home.value result rested.no_rest ∙ ap (λ n. given_after n result) count;
+              ap given_of kept_here ∙ given-kept c.home.value result no_backlog.no_rest ∙ ap (λ n. given_after n result) count;
           rest =
               subst (λ b. MatchBool b (new.rest ≡ []) (is_some_item result ≡ false → HasNoBacklog new)) (sym not_closed)
               (λ nothing. rested_here (none-item result nothing));

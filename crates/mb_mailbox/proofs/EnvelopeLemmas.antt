@@ -39,7 +39,7 @@ module _ (gives : ℕ → Moment → Reply → Type 0) (origin : Origin (Box Con
       by_test false open_yet = (
         NotOpen (4 * count h.home.cell.who h.home.cell.journal),
         (
-          shut-reading h.status h.home.cell.who h.home.cell.journal (status-at h r.leads) (gives h.actor) r.settled.lawful r.settled.own.within_limit open_yet
+          shut-reading h.status h.home.cell.who h.home.cell.journal (status-at h r.leads) (gives h.actor) r.settled.lawful r.settled.is_own.within_limit open_yet
               not_open,
           drained.none,
         ),

@@ -114,7 +114,7 @@ module _ (actor : ℕ) (journal : List Entry) (v w mid : View) (obligations : v.
     -- the claim's own steps, besides what it knew before and did itself
     pub steps-taken : {H : Type 0} (a b : Caller H) → b.view ≡ w → CallerAdvances a b → TakesOver a.view new v.log
     steps-taken a b here g = record {
-      own = (looks.looks ++ []) ++ Saw actor journal ∷ g.more;
+      own_log = (looks.looks ++ []) ++ Saw actor journal ∷ g.more;
       took_none = each_append TakesNothing (looks.looks ++ []) (Saw actor journal ∷ g.more)
           (each_append TakesNothing looks.looks [] (looks-take-none actor looks.looks looks.only) tt) (tt, g.took_none);
       sends_open = sends-append (looks.looks ++ []) (Saw actor journal ∷ g.more)

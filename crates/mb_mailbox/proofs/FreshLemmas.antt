@@ -81,7 +81,7 @@ module _ (gives : ℕ → Moment → Reply → Type 0) (origin : Origin (Box Con
         let h = c.home.value in
         let same = same-word (mailbox_at h.cell.who h.cell.journal) (status_of c) refl u.open_yet u.word in
         let open_yet : closed h.cell.who h.cell.journal ≡ false = sym (ap (λ (m : Mailbox). m.closed) same) ∙ u.open_yet in
-        u.same_gates.own.settled.taken ∙ ap (λ l. begun h.cell.journal ++ l) (u.same_gates.own.settled.open_keeps open_yet)
+        u.same_gates.of_actor.settled.taken ∙ ap (λ l. begun h.cell.journal ++ l) (u.same_gates.of_actor.settled.open_keeps open_yet)
         ∙ append-nil (begun h.cell.journal)
 
     pub running-fresh : (seen : List Observation) → length origin.first.value.directory ≡ origin.actors → IsRunning gives origin [] seen (run_state c)
@@ -91,17 +91,17 @@ module _ (gives : ℕ → Moment → Reply → Type 0) (origin : Origin (Box Con
         (record {
           same_gates = u.same_gates.gates;
           present = u.same_gates.present;
-          directory = u.same_gates.own.directory;
-          number = u.same_gates.own.number;
-          settled = u.same_gates.own.settled;
+          directory = u.same_gates.of_actor.directory;
+          number = u.same_gates.of_actor.number;
+          settled = u.same_gates.of_actor.settled;
           leads = record {
             ends = same-word (mailbox_at h.cell.who h.cell.journal) (status_of c) refl u.open_yet u.word;
             counts = tt;
           };
           told = told-first h.cell.who (held_actor c) h.cell.journal (status_of c).closed;
           known_closed = each-of (IsKnownClosedTo seen fresh_hold) (closed_receivers h.dead) (λ other among. inl among);
-          same_count = u.same_gates.own.settled.own.all_there ∙ ap (λ (l : List DirectoryEntry). length l) u.same_gates.own.directory ∙ many;
-          named = u.same_gates.own.named;
+          same_count = u.same_gates.of_actor.settled.is_own.all_there ∙ ap (λ (l : List DirectoryEntry). length l) u.same_gates.of_actor.directory ∙ many;
+          named = u.same_gates.of_actor.named;
           sends = tt;
           only_drained = tt;
           owes_nothing = refl;

@@ -59,9 +59,9 @@ same-aside before (System n m o) envelope reading of_it = absurd of_it
 same-aside before (Dropped x) envelope reading of_it = refl
 
 -- nothing is left beside the cell after an envelope, where nothing was before
-pub begun-rested : (old new : Contents) (reading : ℕ) (gives : Moment → Reply → Type 0) → AreLawful old.cell.who gives old.cell.journal →
+pub begun-no_backlog : (old new : Contents) (reading : ℕ) (gives : Moment → Reply → Type 0) → AreLawful old.cell.who gives old.cell.journal →
     count old.cell.who old.cell.journal ≡ 0 → closed old.cell.who old.cell.journal ≡ false → Begins old new reading → HasNoBacklog old → HasNoBacklog new
-begun-rested old new reading gives lawful none not_closed b r = record {
+begun-no_backlog old new reading gives lawful none not_closed b r = record {
   no_rest = ap (λ (h : Contents). h.rest) b.same ∙ r.no_rest;
   no_front =
       ap (λ (c : CellView). next_front c.who c.journal) b.taken.adds

@@ -104,9 +104,9 @@ module _ (c new : Claim (Box Contents)) (ours : (claim_id new ≡ claim_id c) ×
     }
 
 -- a system message was sent in the run
-pub hold-recorded : (c new : Claim (Box Contents)) (said : SentSystem) → IsRecorded c new said →
-    run_state new ≡ record (run_state c) { recorded = recorded_by c ++ said ∷ [] }
-hold-recorded c new said r = λ i. record {
+pub hold-recorded : (c new : Claim (Box Contents)) (sent_system : SentSystem) → IsRecorded c new sent_system →
+    run_state new ≡ record (run_state c) { recorded = recorded_by c ++ sent_system ∷ [] }
+hold-recorded c new sent_system r = λ i. record {
   gates = r.id i;
   actor = r.actor i;
   status = r.status i;

@@ -26,7 +26,7 @@ use Rattle.mb_gate.specs.Untouched.{Origin}
 use Rattle.mb_mailbox.specs.RunState.{RunState}
 use Rattle.mb_mailbox.specs.Running.{IsRunning, BacklogAgrees, IsKnownClosedTo}
 use Rattle.mb_mailbox.specs.SentDue.{HasSentDueExcept}
-use Rattle.mb_mailbox.proofs.RestLemmas.{begun-rested}
+use Rattle.mb_mailbox.proofs.RestLemmas.{begun-no_backlog}
 use Rattle.mb_mailbox.proofs.SentDueLemmas.{told-entry}
 
 -- between two messages the status is the one of the journal
@@ -80,8 +80,8 @@ module _ (gives : ℕ → Moment → Reply → Type 0) (origin : Origin (Box Con
     open_rest = subst (λ b. MatchBool b (h.home.rest ≡ []) (h.gave ≡ false → HasNoBacklog h.home)) not_closed s.rest
 
     none-next : HasNoBacklog h.home → HasNext h.home → HasNoBacklog new
-    none-next rested (inl some) = absurd (cc (subst (λ (x : Option (ℕ × SysMsg)). IsSome x) rested.no_front some))
-    none-next rested (inr left) = absurd (left rested.no_rest)
+    none-next no_backlog (inl some) = absurd (cc (subst (λ (x : Option (ℕ × SysMsg)). IsSome x) no_backlog.no_front some))
+    none-next no_backlog (inr left) = absurd (left no_backlog.no_rest)
 
     backlog-open : given_of new ≡ h.given → (h.gave ≡ false → HasNoBacklog new) → BacklogAgrees (record h { home = new })
     backlog-open count rest = record {
@@ -98,5 +98,5 @@ module _ (gives : ℕ → Moment → Reply → Type 0) (origin : Origin (Box Con
         BacklogAgrees (record h { home = new })
     backlog-begun reading none b =
         backlog-open (given-begun h.home new reading b ∙ s.count)
-        (λ nothing. begun-rested h.home new reading (gives h.actor) r.settled.lawful.entries none (journal-open h r.leads not_closed) b
+        (λ nothing. begun-no_backlog h.home new reading (gives h.actor) r.settled.lawful.entries none (journal-open h r.leads not_closed) b
         (open_rest nothing))

@@ -10,18 +10,18 @@ use Rattle.mb_journal.specs.Identity.{Identity}
 use Rattle.mb_ghost.proofs.SeenLemmas.{each_weaker}
 use Rattle.mb_gate.specs.SentSystem.{SplitClaim, Listed, Dropped, Answered, Parting, IsRightPart, HasSentDue, HasSentDueSince, answered_to, messages_of, notice}
 use Rattle.mb_gate.specs.View.{SentSystem}
-use Rattle.mb_gate.proofs.SentSystemLemmas.{said_nothing, said_listed, said_dropped, said_answered, said_parting}
+use Rattle.mb_gate.proofs.SentSystemLemmas.{sent_nothing, said_listed, said_dropped, said_answered, said_parting}
 use Rattle.mb_mailbox.specs.SentDue.{HasSentDueExcept}
 
 module _ (who : Identity) (actor : ℕ) (before : List Entry) where
   -- when a claim was taken, nothing was due and nothing sent
   pub told-first : (shut : Bool) → HasSentDueExcept who actor shut before before [] []
-  told-first shut = record { newer = []; joined = refl; due = []; due_is = refl; told = said_nothing actor shut }
+  told-first shut = record { newer = []; joined = refl; due = []; due_is = refl; told = sent_nothing actor shut }
 
   -- an entry more: its acts are to be carried out
-  pub told-entry : (shut : Bool) (journal : List Entry) (said : List SentSystem) (e : Entry) → HasSentDueExcept who actor shut journal before [] said →
-      HasSentDueExcept who actor shut (e ∷ journal) before (acts who journal e) said
-  told-entry shut journal said e t = record {
+  pub told-entry : (shut : Bool) (journal : List Entry) (sent_system : List SentSystem) (e : Entry) → HasSentDueExcept who actor shut journal before [] sent_system →
+      HasSentDueExcept who actor shut (e ∷ journal) before (acts who journal e) sent_system
+  told-entry shut journal sent_system e t = record {
     newer = e ∷ t.newer;
     joined = ap (λ j. e ∷ j) t.joined;
     due = t.due;
@@ -31,18 +31,18 @@ module _ (who : Identity) (actor : ℕ) (before : List Entry) where
     told = t.told;
   }
 
-  module _ (journal : List Entry) (pending : List Act) (said : List SentSystem) where
+  module _ (journal : List Entry) (pending : List Act) (sent_system : List SentSystem) where
     -- acts that send no system message say nothing
-    pub told-tell : (shut : Bool) (to : ActorId) (body : Body) → HasSentDueExcept who actor shut journal before (Tell to body ∷ pending) said →
-        HasSentDueExcept who actor shut journal before pending said
+    pub told-tell : (shut : Bool) (to : ActorId) (body : Body) → HasSentDueExcept who actor shut journal before (Tell to body ∷ pending) sent_system →
+        HasSentDueExcept who actor shut journal before pending sent_system
     told-tell shut to body t = record { newer = t.newer; joined = t.joined; due = t.due; due_is = t.due_is; told = t.told }
 
-    pub told-suspend : (shut : Bool) → HasSentDueExcept who actor shut journal before (SuspendSelf ∷ pending) said →
-        HasSentDueExcept who actor shut journal before pending said
+    pub told-suspend : (shut : Bool) → HasSentDueExcept who actor shut journal before (SuspendSelf ∷ pending) sent_system →
+        HasSentDueExcept who actor shut journal before pending sent_system
     told-suspend shut t = record { newer = t.newer; joined = t.joined; due = t.due; due_is = t.due_is; told = t.told }
 
-    pub told-resume : (shut : Bool) → HasSentDueExcept who actor shut journal before (ResumeSelf ∷ pending) said →
-        HasSentDueExcept who actor shut journal before pending said
+    pub told-resume : (shut : Bool) → HasSentDueExcept who actor shut journal before (ResumeSelf ∷ pending) sent_system →
+        HasSentDueExcept who actor shut journal before pending sent_system
     told-resume shut t = record { newer = t.newer; joined = t.joined; due = t.due; due_is = t.due_is; told = t.told }
 
     right-closed : (shut : Bool) (p : SplitClaim) → IsRightPart actor shut p → IsRightPart actor true p
@@ -52,8 +52,8 @@ module _ (who : Identity) (actor : ℕ) (before : List Entry) where
     right-closed shut (Parting whom ended) r = refl
 
     -- an actor that closes says no less
-    pub told-close : (shut : Bool) → HasSentDueExcept who actor shut journal before (CloseSelf ∷ pending) said →
-        HasSentDueExcept who actor true journal before pending said
+    pub told-close : (shut : Bool) → HasSentDueExcept who actor shut journal before (CloseSelf ∷ pending) sent_system →
+        HasSentDueExcept who actor true journal before pending sent_system
     told-close shut t = record {
       newer = t.newer;
       joined = t.joined;
@@ -61,40 +61,40 @@ module _ (who : Identity) (actor : ℕ) (before : List Entry) where
       due_is = t.due_is;
       told = record {
         parts = t.told.parts;
-        said_is = t.told.said_is;
+        sent_system_is = t.told.sent_system_is;
         due_is = t.told.due_is;
         right = each_weaker (IsRightPart actor shut) (IsRightPart actor true) t.told.parts (right-closed shut) t.told.right;
       };
     }
 
     -- a system message that a list took
-    pub told-listed : (shut : Bool) (to : ActorId) (message : SysMsg) → HasSentDueExcept who actor shut journal before (Sys to message ∷ pending) said →
-        HasSentDueExcept who actor shut journal before pending (said ++ record { to = to.0; message = message; was_ended = false } ∷ [])
+    pub told-listed : (shut : Bool) (to : ActorId) (message : SysMsg) → HasSentDueExcept who actor shut journal before (Sys to message ∷ pending) sent_system →
+        HasSentDueExcept who actor shut journal before pending (sent_system ++ record { to = to.0; message = message; was_ended = false } ∷ [])
     told-listed shut to message t = record {
       newer = t.newer;
       joined = t.joined;
       due = t.due ++ (to.0, message) ∷ [];
       due_is = t.due_is ∙ sym (append_assoc t.due ((to.0, message) ∷ []) (messages_of pending));
-      told = said_listed actor shut t.due said t.told to.0 message;
+      told = said_listed actor shut t.due sent_system t.told to.0 message;
     }
 
     -- one that found its list ended, of which nobody is told
     pub told-dropped : (shut : Bool) (to : ActorId) (message : SysMsg) → answered_to actor message ≡ None →
-        HasSentDueExcept who actor shut journal before (Sys to message ∷ pending) said →
-        HasSentDueExcept who actor shut journal before pending (said ++ record { to = to.0; message = message; was_ended = true } ∷ [])
+        HasSentDueExcept who actor shut journal before (Sys to message ∷ pending) sent_system →
+        HasSentDueExcept who actor shut journal before pending (sent_system ++ record { to = to.0; message = message; was_ended = true } ∷ [])
     told-dropped shut to message nobody t = record {
       newer = t.newer;
       joined = t.joined;
       due = t.due ++ (to.0, message) ∷ [];
       due_is = t.due_is ∙ sym (append_assoc t.due ((to.0, message) ∷ []) (messages_of pending));
-      told = said_dropped actor shut t.due said t.told to.0 message nobody;
+      told = said_dropped actor shut t.due sent_system t.told to.0 message nobody;
     }
 
     -- one that found its list ended, and was answered at once
     pub told-answered : (shut : Bool) (to : ActorId) (message : SysMsg) (whom : ℕ) (ended : Bool) → answered_to actor message ≡ Some whom →
-        HasSentDueExcept who actor shut journal before (Sys to message ∷ pending) said →
+        HasSentDueExcept who actor shut journal before (Sys to message ∷ pending) sent_system →
         HasSentDueExcept who actor shut journal before pending
-        ((said ++ record { to = to.0; message = message; was_ended = true } ∷ [])
+        ((sent_system ++ record { to = to.0; message = message; was_ended = true } ∷ [])
         ++ record { to = whom; message = notice to.0; was_ended = ended } ∷ [])
     told-answered shut to message whom ended right t = record {
       newer = t.newer;
@@ -103,27 +103,27 @@ module _ (who : Identity) (actor : ℕ) (before : List Entry) where
       due_is = t.due_is ∙ sym (append_assoc t.due ((to.0, message) ∷ []) (messages_of pending));
       told =
           subst (λ s. HasSentDue actor shut (t.due ++ (to.0, message) ∷ []) s)
-          (sym (append_assoc said (record { to = to.0; message = message; was_ended = true } ∷ [])
+          (sym (append_assoc sent_system (record { to = to.0; message = message; was_ended = true } ∷ [])
           (record { to = whom; message = notice to.0; was_ended = ended } ∷ [])))
-          (said_answered actor shut t.due said t.told to.0 message whom ended right);
+          (said_answered actor shut t.due sent_system t.told to.0 message whom ended right);
     }
 
     -- a closed actor's notice of its own end
-    pub told-parting : (whom : ℕ) (ended : Bool) → HasSentDueExcept who actor true journal before pending said →
-        HasSentDueExcept who actor true journal before pending (said ++ record { to = whom; message = notice actor; was_ended = ended } ∷ [])
+    pub told-parting : (whom : ℕ) (ended : Bool) → HasSentDueExcept who actor true journal before pending sent_system →
+        HasSentDueExcept who actor true journal before pending (sent_system ++ record { to = whom; message = notice actor; was_ended = ended } ∷ [])
     told-parting whom ended t = record {
       newer = t.newer;
       joined = t.joined;
       due = t.due;
       due_is = t.due_is;
-      told = said_parting actor true t.due said t.told whom ended refl;
+      told = said_parting actor true t.due sent_system t.told whom ended refl;
     }
 
   -- once all is carried out, all that was due was sent
-  pub told-all : (shut : Bool) (journal : List Entry) (said : List SentSystem) → HasSentDueExcept who actor shut journal before [] said →
-      HasSentDueSince who actor shut journal before said
-  told-all shut journal said t = record {
+  pub told-all : (shut : Bool) (journal : List Entry) (sent_system : List SentSystem) → HasSentDueExcept who actor shut journal before [] sent_system →
+      HasSentDueSince who actor shut journal before sent_system
+  told-all shut journal sent_system t = record {
     newer = t.newer;
     joined = t.joined;
-    told = subst (λ d. HasSentDue actor shut d said) (sym (t.due_is ∙ append-nil t.due)) t.told;
+    told = subst (λ d. HasSentDue actor shut d sent_system) (sym (t.due_is ∙ append-nil t.due)) t.told;
   }

@@ -10,7 +10,7 @@ use Rattle.mb_home.specs.AgreesWithJournal.{AgreesWithJournal}
 pub settled-silent : (gives : Moment → Reply → Type 0) (a b : List Act) (h : Contents) → tells a ≡ tells b → AgreesWithJournal gives a h →
     AgreesWithJournal gives b h
 settled-silent gives a b h same s = record {
-  own = s.own;
+  is_own = s.is_own;
   lawful = s.lawful;
   taken = s.taken;
   open_keeps = s.open_keeps;

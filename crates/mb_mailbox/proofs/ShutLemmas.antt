@@ -40,7 +40,7 @@ pub shut-more : (newer seen : List Observation) (h : RunState) (dead : List ℕ)
 shut-more newer seen h dead known = each_weaker (IsKnownClosedTo seen h) (IsKnownClosedTo (newer ++ seen) h) dead later known
   where
     later : (other : ℕ) → IsKnownClosedTo seen h other → IsKnownClosedTo (newer ++ seen) h other
-    later other (inl said) = inl said
+    later other (inl sent_system) = inl sent_system
     later other (inr read) =
         inr (subst (IsAmong (Read other 1)) (sym (append_assoc newer seen h.log)) (among_right (Read other 1) newer (seen ++ h.log) read))
 
@@ -55,7 +55,7 @@ shut-own more seen h new dead log same known = each_weaker (IsKnownClosedTo seen
         among_right (Read other 1) seen new.log (subst (IsAmong (Read other 1)) (sym log) (among_right (Read other 1) more h.log read))
 
     later : (other : ℕ) → IsKnownClosedTo seen h other → IsKnownClosedTo seen new other
-    later other (inl said) = inl (subst (IsAmong other) (sym same) said)
+    later other (inl sent_system) = inl (subst (IsAmong other) (sym same) sent_system)
     later other (inr read) = inr (by_place other (among-split (Read other 1) seen h.log read))
 
 -- one that was read closed just now is known to be

@@ -144,7 +144,7 @@ module _ (gives : ℕ → Moment → Reply → Type 0) (origin : Origin (Box Con
   pub told-below : to.0 < origin.actors
   told-below =
       let there = told-there h.home (gives h.actor) to body h.home.cell.acts r.settled in
-      omega (arith, there.0, there.1, many-sends h.home r.settled.own, r.settled.own.all_there, r.same_count)
+      omega (arith, there.0, there.1, many-sends h.home r.settled.is_own, r.settled.is_own.all_there, r.same_count)
 
   module _ (new : Contents) (settled : AgreesWithJournal (gives new.cell.who.this.0) new.cell.acts new) where
     -- the acts that are left, with what is dead known

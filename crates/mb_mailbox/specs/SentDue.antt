@@ -8,9 +8,9 @@ use Rattle.mb_gate.specs.SentSystem.{HasSentDue, due_since, messages_of}
 use Rattle.mb_gate.specs.View.{SentSystem}
 
 -- The journal extends the one before. What was sent is what the new entries have to send, but for what these acts will send.
-pub record HasSentDueExcept (who : Identity) (actor : ℕ) (shut : Bool) (journal before : List Entry) (pending : List Act) (said : List SentSystem) : Type 0 where
+pub record HasSentDueExcept (who : Identity) (actor : ℕ) (shut : Bool) (journal before : List Entry) (pending : List Act) (sent_system : List SentSystem) : Type 0 where
   pub newer : List Entry
   pub joined : journal ≡ newer ++ before
   pub due : List (ℕ × SysMsg)
   pub due_is : due_since who newer before ≡ due ++ messages_of pending
-  pub told : HasSentDue actor shut due said
+  pub told : HasSentDue actor shut due sent_system

@@ -73,7 +73,7 @@ fn drop_systems<A: Actor, K: Behaviours, W: RunQueue<BoxedHome<A, K>>, R: Wait>(
     }
 }
 
-// TakesOnce out the envelopes that are still queued.
+// Takes out the envelopes that are still queued.
 fn clean_envelopes<A: Actor, K: Behaviours, R: Wait>(
     rt: &R,
     gates: &Gates<BoxedHome<A, K>>,

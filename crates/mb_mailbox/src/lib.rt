@@ -1,7 +1,7 @@
 //! One run of a mailbox: the system messages of a claimed actor, and then some of its envelopes, each with the acts that it
 //! asks for (`akka.dispatch.Mailbox.run`).
 //!
-//! Between two steps what lies at the claim's home agrees with its journal, but for the acts that are still to be carried out.
+//! Between two steps what lies at the claim's home agrees with its journal, except for the acts that are still to be carried out.
 //! After the last step the home goes back, and the actor is registered again where it has to be.
 #![tactic(auto)]
 

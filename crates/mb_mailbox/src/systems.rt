@@ -128,7 +128,7 @@ fn drain<A: Actor, K: Behaviours, R: Wait>(
     gates: &Gates<BoxedHome<A, K>>,
     claim: &mut Claim<BoxedHome<A, K>>,
 ) -> bool
-    requires rested { HasNoBacklog claim.old.home.value }
+    requires no_backlog { HasNoBacklog claim.old.home.value }
     requires not_closed { (status_of claim.old).closed ≡ false }
     requires running { (seen : List Observation) × IsRunning K.gives (origin_of gates.now) [] seen (run_state claim.old) }
     requires backlog { BacklogAgrees (run_state claim.old) }
@@ -140,7 +140,7 @@ fn drain<A: Actor, K: Behaviours, R: Wait>(
     ensures same { KeepsJournal (run_state claim.old) (run_state claim.new) }
     ensures cleared { IsCleared (run_state claim.old) (run_state claim.new) }
     ensures drained { result ≡ false → IsDrained (run_state claim.new) }
-    ensures some { result ≡ true → claim.new.home.value.rest ≢ [] }
+    ensures not_empty { result ≡ true → claim.new.home.value.rest ≢ [] }
 {
     let drained = gates.sys_drain(rt, claim);
     if drained.is_empty() {

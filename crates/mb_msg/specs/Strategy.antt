@@ -1,5 +1,5 @@
 -- What a strategy says about a child that failed (`akka.actor.SupervisorStrategy`).
-use Rattle.std.specs.Prelude.{◌==◌, Bool, true, false, if◌then◌else◌, List, [], ◌∷◌}
+use Rattle.std.specs.Prelude.{◌==◌, Bool, true, false, if◌then◌else◌, List, [], ◌∷◌, ℤ, negsuc}
 use Rattle.mb_msg.specs.declared.supervision.Cause.{Cause}
 use Rattle.mb_msg.specs.declared.supervision.Cause.TheVariants as cause
 use Rattle.mb_msg.specs.declared.supervision.Directive.{Directive}
@@ -30,3 +30,7 @@ default_directive cause.DeathPact = directive.Stop
 abbrev pub decided_by : List (Pattern × Directive) → Cause → Directive
 decided_by [] c = default_directive c
 decided_by (row ∷ rows) c = if matches row.0 c then row.1 else decided_by rows c
+
+-- no limit of restarts: a negative number (Akka's `maxNrOfRetries = -1`)
+abbrev pub no_limit : ℤ
+no_limit = negsuc 0

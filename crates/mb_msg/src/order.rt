@@ -1,4 +1,8 @@
 //! What senders outside the actors are to send.
+ghost use Rattle.std.specs.Prelude.{◌≡◌, ℤ};
+ghost use Rattle.mb_msg.specs.declared.envelope.Body.TheVariants.{User};
+ghost use Rattle.mb_msg.specs.declared.order.OrderKind.TheVariants.{Stop, Tell};
+
 use crate::envelope::Body;
 use crate::id::ActorId;
 
@@ -20,6 +24,30 @@ pub struct Order {
     pub what: OrderKind,
     /// How often, one after the other.
     pub times: u32,
+}
+
+impl Order {
+    /// The order to send this actor a message of this kind and value once (`ActorRef.tell`).
+    pub fn tell(to: ActorId, kind: u32, value: i64) -> Order
+        ensures { result ≡ record { to = to; what = Tell (User kind value); times = 1 } }
+    {
+        Order {
+            to,
+            what: OrderKind::Tell(Body::User { kind, value }),
+            times: 1,
+        }
+    }
+
+    /// The order to stop this actor (`ActorSystem.stop`).
+    pub fn stop(to: ActorId) -> Order
+        ensures { result ≡ record { to = to; what = Stop; times = 1 } }
+    {
+        Order {
+            to,
+            what: OrderKind::Stop,
+            times: 1,
+        }
+    }
 }
 
 /// An order, and the sender that is to carry it out.

@@ -1,8 +1,11 @@
 //! The supervision strategy of an actor (`akka.actor.SupervisorStrategy`).
-ghost use Rattle.std.specs.Prelude.{◌≡◌};
-ghost use Rattle.mb_msg.specs.Strategy.{matches, decided_by, default_directive};
+ghost use Rattle.std.specs.Prelude.{◌≡◌, [], ◌∷◌, ◌++◌, false, IfOk};
+ghost use Rattle.mb_msg.specs.Strategy.{matches, decided_by, default_directive, no_limit};
+ghost use Rattle.mb_msg.specs.declared.strategy.Pattern.TheVariants.{AnyError};
+ghost use Rattle.mb_msg.specs.declared.supervision.Directive.TheVariants.{Restart};
 
 use crate::supervision::{Cause, Directive};
+use std::alloc::{AllocError, Global};
 
 /// Which causes of failure a row of a strategy matches (the cases of a decider of Akka's `SupervisorStrategy`).
 #[derive(Clone, Copy, Debug, PartialEq, Eq)]
@@ -62,6 +65,42 @@ impl Pattern {
 }
 
 impl Strategy {
+    /// Akka's default (`SupervisorStrategy.defaultStrategy`): no row, so that the default decides, no limit of restarts, and
+    /// each child for itself. This takes no memory.
+    pub fn new(alloc: Global) -> Strategy
+        ensures rows { result.rows.items ≡ [] }
+        ensures retries { result.retries ≡ no_limit }
+        ensures one_for_one { result.all_for_one ≡ false }
+    {
+        Strategy {
+            rows: Vec::new(alloc),
+            retries: -1,
+            all_for_one: false,
+        }
+    }
+
+    /// The strategy that restarts a child that failed with an error of any number, without a limit, each child for itself
+    /// (`OneForOneStrategy` with one case). The only error: memory was refused.
+    pub fn restart_on_error(alloc: Global) -> Result<Strategy, AllocError>
+        ensures rows { IfOk result (λ strategy. strategy.rows.items ≡ (AnyError, Restart) ∷ []) }
+        ensures retries { IfOk result (λ strategy. strategy.retries ≡ no_limit) }
+        ensures one_for_one { IfOk result (λ strategy. strategy.all_for_one ≡ false) }
+    {
+        Strategy::new(alloc).on_cause(Pattern::AnyError, Directive::Restart)
+    }
+
+    /// The same with one row more, behind the others: what to do about causes that this pattern matches and no row before it
+    /// does. The only error: memory was refused. The strategy is dropped then.
+    pub fn on_cause(self, pattern: Pattern, directive: Directive) -> Result<Strategy, AllocError>
+        ensures rows { IfOk result (λ new. new.rows.items ≡ self.rows.items ++ (pattern, directive) ∷ []) }
+        ensures retries { IfOk result (λ new. new.retries ≡ self.retries) }
+        ensures all_for_one { IfOk result (λ new. new.all_for_one ≡ self.all_for_one) }
+    {
+        let mut strategy = self;
+        strategy.rows.push((pattern, directive))?;
+        Ok(strategy)
+    }
+
     /// What is done about a child that failed for this cause: what the first matching row says, and where no row
     /// matches, what Akka's default decider says (`SupervisorStrategy.defaultDecider`). Akka escalates where a user's
     /// decider is not defined at a cause, so that the default decides there is this project's own profile.

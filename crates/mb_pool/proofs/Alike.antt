@@ -68,7 +68,7 @@ pub push_goes_in : {H : Type 0} (IsFit : Option (Origin H) → Claim H → Type 
 push_goes_in {H} IsFit old new c p =
     let of : IndexedClaim (Claim H) → Claim H = λ t. t.claim in
     let first : List (PoolPort H) → List (Claim H) = λ ls. pushed_at (take 1 ls) in
-    let before = p.look.ledger.pushed in
+    let before = p.pool_port.ledger.pushed in
     ap first p.then' ∙ append-nil (map of p.after.pushed) ∙ ap (λ (l : Account H). map of l.pushed) p.last.2
     ∙ map-append of before (indexed_claim (length (p.last.1.gone ++ p.last.0)) c ∷ [])
     ∙ ap (λ cs. cs ++ c ∷ []) (sym (ap first p.found ∙ append-nil (map of before)))

@@ -10,7 +10,7 @@ use Rattle.mb_pool.specs.declared.end_deques.EndDeques.{EndDeques}
 use Rattle.mb_pool.specs.Begins.{AreEndDeques, AreNew, AreNewOf, borrowed, borrowed_next, bound_of, fresh, lent, new_shared_port, with_shares}
 use Rattle.mb_pool.specs.Made.{AreDeques, AreUnused, IsBegun, IsDeque, IsOfKind, IsWhole, spots_of}
 use Rattle.mb_gate.specs.Untouched.{Origin}
-use Rattle.mb_pool.specs.Places.{AreEnds, AreFeeds, PoolPort, Parts, QueueInfo, PoolEndpoint, PoolView, shared_port_part, looks}
+use Rattle.mb_pool.specs.Places.{AreEnds, AreFeeds, PoolPort, Parts, QueueInfo, PoolEndpoint, PoolView, shared_port_part, ports_of}
 use Rattle.mb_pool.specs.Places.{numbers, part_of, parts_of, pushed_at, taken_at}
 use Rattle.mb_pool.specs.Ledger.{claims_in, opened}
 use Rattle.mb_pool.specs.Endpoints.{AreOpen, IsOpen, next_of, of_feed, own_of, endpoint_of}
@@ -77,25 +77,25 @@ module _ {H : Type 0} where
   pub new_none : (o : Origin H) (shares : ℕ) → AreNew o shares 0 []
   new_none o shares = record { same_count = refl; unused = refl; deques = tt }
 
-  pub new_more : (o : Origin H) (shares count : ℕ) (owns : List (PoolPort H)) (own : PoolPort H) → AreNew o shares count owns → IsDeque count own.spot
-      → own ≡ fresh o shares shares own.spot
-      → AreNew o shares (count + 1) (owns ++ own ∷ [])
-  new_more o shares count owns own new is e =
-      let spots : spots_of (owns ++ own ∷ []) ≡ spots_of owns ++ own.spot ∷ [] = map_push (λ (l : PoolPort H). l.spot) owns own in
+  pub new_more : (o : Origin H) (shares count : ℕ) (owns : List (PoolPort H)) (own_deque : PoolPort H) → AreNew o shares count owns → IsDeque count own_deque.spot
+      → own_deque ≡ fresh o shares shares own_deque.spot
+      → AreNew o shares (count + 1) (owns ++ own_deque ∷ [])
+  new_more o shares count owns own_deque new is e =
+      let spots : spots_of (owns ++ own_deque ∷ []) ≡ spots_of owns ++ own_deque.spot ∷ [] = map_push (λ (l : PoolPort H). l.spot) owns own_deque in
       let there : count ≡ 0 + length (spots_of owns) = let l = length-map owns (λ (l : PoolPort H). l.spot) in let m = new.same_count in omega (arith, l, m) in
       record {
-        same_count = length_push owns own ∙ ap (λ n. n + 1) new.same_count;
-        unused = (λ k. new.unused k ++ e k ∷ []) ∙ sym (map_push (fresh o shares shares) (spots_of owns) own.spot)
+        same_count = length_push owns own_deque ∙ ap (λ n. n + 1) new.same_count;
+        unused = (λ k. new.unused k ++ e k ∷ []) ∙ sym (map_push (fresh o shares shares) (spots_of owns) own_deque.spot)
             ∙ ap (map (fresh o shares shares)) (sym spots);
-        deques = subst (AreDeques 0) (sym spots) (deques_push 0 (spots_of owns) own.spot new.deques (subst (λ n. IsDeque n own.spot) there is));
+        deques = subst (AreDeques 0) (sym spots) (deques_push 0 (spots_of owns) own_deque.spot new.deques (subst (λ n. IsDeque n own_deque.spot) there is));
       }
 
-  pub new_opened : (o : Origin H) (shares count : ℕ) (owns : List (PoolPort H)) (own own' : PoolPort H) → AreNew o shares count owns → IsDeque count own.spot
-      → own' ≡ record own { ledger = opened (Some o) shares shares }
-      → AreNew o shares (count + 1) (owns ++ own' ∷ [])
-  new_opened o shares count owns own own' new is e =
-      let spot : own'.spot ≡ own.spot = ap (λ (l : PoolPort H). l.spot) e in
-      new_more o shares count owns own' new (subst (IsDeque count) (sym spot) is) (e ∙ ap (fresh o shares shares) (sym spot))
+  pub new_opened : (o : Origin H) (shares count : ℕ) (owns : List (PoolPort H)) (own_deque own_deque' : PoolPort H) → AreNew o shares count owns → IsDeque count own_deque.spot
+      → own_deque' ≡ record own_deque { ledger = opened (Some o) shares shares }
+      → AreNew o shares (count + 1) (owns ++ own_deque' ∷ [])
+  new_opened o shares count owns own_deque own_deque' new is e =
+      let spot : own_deque'.spot ≡ own_deque.spot = ap (λ (l : PoolPort H). l.spot) e in
+      new_more o shares count owns own_deque' new (subst (IsDeque count) (sym spot) is) (e ∙ ap (fresh o shares shares) (sym spot))
 
   -- the ports after some ends borrowed of the next ones: rotated once for each end, with the shares that they have then
   abbrev pub rotated : List (PoolPort H) → ℕ → List (PoolPort H)
@@ -219,7 +219,7 @@ module _ {H : Type 0} where
     pub zip_parts : (shared_port : PoolPort H) (ms : List (Option (EndDeques H))) (ks : List ℕ) → map (own_of {H = H}) ms ≡ map fo ks
         → map (next_of {H = H}) ms ≡ map fn ks
         → map (λ m. parts_of (endpoint_of shared_port m)) ms ≡ map (λ (k : ℕ). let p : Parts H = record
-        { own = map (part_of {H = H}) (fo k); shared_port = part_of shared_port; next = map (part_of {H = H}) (fn k) } in p) ks
+        { own_deque = map (part_of {H = H}) (fo k); shared_port = part_of shared_port; next = map (part_of {H = H}) (fn k) } in p) ks
     zip_parts shared_port [] [] eo en = refl
     zip_parts shared_port [] (k ∷ ks) eo en = absurd (cons_nil (fo k) (map fo ks) (sym eo))
     zip_parts shared_port (m ∷ ms) [] eo en = absurd (cons_nil (own_of m) (map (own_of {H = H}) ms) eo)
@@ -228,7 +228,7 @@ module _ {H : Type 0} where
         let n : next_of m ≡ fn k = cons_head (next_of m) (fn k) (map (next_of {H = H}) ms) (map fn ks) en in
         let rest = zip_parts shared_port ms ks (cons_tail (own_of m) (fo k) (map (own_of {H = H}) ms) (map fo ks) eo)
         (cons_tail (next_of m) (fn k) (map (next_of {H = H}) ms) (map fn ks) en) in
-        (λ i. record { own = map (part_of {H = H}) (o i); shared_port = part_of shared_port; next = map (part_of {H = H}) (n i) } ∷ rest i)
+        (λ i. record { own_deque = map (part_of {H = H}) (o i); shared_port = part_of shared_port; next = map (part_of {H = H}) (n i) } ∷ rest i)
 
   -- nothing was pushed or taken through the port yet
   abbrev pub IsUnused : PoolPort H → Type 0
@@ -239,11 +239,11 @@ module _ {H : Type 0} where
   none_at (l ∷ ls) h = let one = All-head IsUnused l ls h in let rest = none_at ls (All-tail IsUnused l ls h) in
       (λ i. claims_in (one.0 i) ++ rest.0 i, λ i. claims_in (one.1 i) ++ rest.1 i)
 
-  pub none_by : (ws : List (PoolEndpoint H)) → All (λ (w : PoolEndpoint H). All IsUnused (looks w)) ws → AreUnused ws
+  pub none_by : (ws : List (PoolEndpoint H)) → All (λ (w : PoolEndpoint H). All IsUnused (ports_of w)) ws → AreUnused ws
   none_by [] h = (refl, refl)
   none_by (w ∷ ws) h =
-      let P : PoolEndpoint H → Type 0 = λ v. All IsUnused (looks v) in
-      let one = none_at (looks w) (All-head P w ws h) in let rest = none_by ws (All-tail P w ws h) in
+      let P : PoolEndpoint H → Type 0 = λ v. All IsUnused (ports_of v) in
+      let one = none_at (ports_of w) (All-head P w ws h) in let rest = none_by ws (All-tail P w ws h) in
       (λ i. one.0 i ++ rest.0 i, λ i. one.1 i ++ rest.1 i)
 
   module _ (pool : PoolView H) (ms : List (Option (EndDeques H))) (members : AreEndDeques pool ms) where
@@ -267,23 +267,23 @@ module _ {H : Type 0} where
         each [] = All-nil (λ s. IsReady (one s))
         each (s ∷ ss) = All-cons (λ s'. IsReady (one s')) s ss (record { share = omega arith; same = refl }, (refl, refl)) (each ss)
 
-    pub members_ready : All (λ m. All IsReady (looks (endpoint_of (new_shared_port pool) m))) ms
-    members_ready = zip_all own_at next_at (λ own next. All IsReady (own ++ new_shared_port pool ∷ next))
+    pub members_ready : All (λ m. All IsReady (ports_of (endpoint_of (new_shared_port pool) m))) ms
+    members_ready = zip_all own_at next_at (λ own_deque next. All IsReady (own_deque ++ new_shared_port pool ∷ next))
         (λ k. All-append IsReady (own_at k) (new_shared_port pool ∷ next_at k) (all_ready (take 1 (drop k pool.deques)))
         (All-cons IsReady (new_shared_port pool) (next_at k) (record { share = omega arith; same = refl }, (refl, refl))
         (all_ready (drop (k + 1) pool.deques ++ take k pool.deques))))
-        ms (numbers 0 pool.ends) members.own members.next
+        ms (numbers 0 pool.ends) members.own_deque members.next
 
     pub members_open : All (λ m. AreOpen (endpoint_of (new_shared_port pool) m)) ms
-    members_open = All-weaker (λ m. All IsReady (looks (endpoint_of (new_shared_port pool) m))) (λ m. AreOpen (endpoint_of (new_shared_port pool) m))
+    members_open = All-weaker (λ m. All IsReady (ports_of (endpoint_of (new_shared_port pool) m))) (λ m. AreOpen (endpoint_of (new_shared_port pool) m))
         (λ m h. All-weaker IsReady (λ (l : PoolPort H). IsOpen (Some pool.gates) (part_of l)) (λ l x. x.0)
-        (looks (endpoint_of (new_shared_port pool) m)) h) ms members_ready
+        (ports_of (endpoint_of (new_shared_port pool) m)) h) ms members_ready
 
     pub are_ends : (ends : List (PoolEndpoint H)) → ends ≡ map (endpoint_of (new_shared_port pool)) ms → AreEnds pool ends
     are_ends ends e = ap (map (parts_of {H = H})) e ∙ map_map (parts_of {H = H}) (endpoint_of (new_shared_port pool)) ms
-        ∙ zip_parts own_at next_at (new_shared_port pool) ms (numbers 0 pool.ends) members.own members.next
+        ∙ zip_parts own_at next_at (new_shared_port pool) ms (numbers 0 pool.ends) members.own_deque members.next
         ∙ (λ i. map (λ (k : ℕ). let p : Parts H = record {
-          own = map_map (part_of {H = H}) one (take 1 (drop k pool.deques)) i;
+          own_deque = map_map (part_of {H = H}) one (take 1 (drop k pool.deques)) i;
           shared_port = shared_port_part pool;
           next = map_map (part_of {H = H}) one (drop (k + 1) pool.deques ++ take k pool.deques) i;
         } in p) (numbers 0 pool.ends))
@@ -294,11 +294,11 @@ module _ {H : Type 0} where
     pub all_unused : (ends feeds : List (PoolEndpoint H)) → ends ≡ map (endpoint_of (new_shared_port pool)) ms → feeds ≡ replicate pool.feeds (of_feed (new_shared_port pool))
         → AreUnused (ends ++ feeds)
     all_unused ends feeds ee ef =
-        let P : PoolEndpoint H → Type 0 = λ w. All IsUnused (looks w) in
+        let P : PoolEndpoint H → Type 0 = λ w. All IsUnused (ports_of w) in
         none_by (ends ++ feeds) (All-append P ends feeds
         (subst (All P) (sym ee) (All-map P (endpoint_of (new_shared_port pool)) ms
-        (All-weaker (λ m. All IsReady (looks (endpoint_of (new_shared_port pool) m))) (λ m. P (endpoint_of (new_shared_port pool) m))
-        (λ m h. All-weaker IsReady IsUnused (λ l x. x.1) (looks (endpoint_of (new_shared_port pool) m)) h) ms members_ready)))
+        (All-weaker (λ m. All IsReady (ports_of (endpoint_of (new_shared_port pool) m))) (λ m. P (endpoint_of (new_shared_port pool) m))
+        (λ m h. All-weaker IsReady IsUnused (λ l x. x.1) (ports_of (endpoint_of (new_shared_port pool) m)) h) ms members_ready)))
         (subst (All P) (sym ef) (All-replicate P pool.feeds (of_feed (new_shared_port pool))
         (All-cons IsUnused (new_shared_port pool) [] (refl, refl) (All-nil IsUnused)))))
 
@@ -313,7 +313,7 @@ module _ {H : Type 0} where
     -- of a shared pool
     pub members_none : pool.deques ≡ [] → ms ≡ replicate pool.ends None → AreEndDeques pool ms
     members_none e is = record {
-      own = ap (map (own_of {H = H})) is ∙ map_replicate (own_of {H = H}) pool.ends None
+      own_deque = ap (map (own_of {H = H})) is ∙ map_replicate (own_of {H = H}) pool.ends None
           ∙ sym (const_numbers (λ (k : ℕ). map (fresh pool.gates pool.ends 1) (take 1 (drop k pool.deques))) []
           (λ k. nothing_taken k pool.deques e) 0 pool.ends);
       next = ap (map (next_of {H = H})) is ∙ map_replicate (next_of {H = H}) pool.ends None
@@ -325,13 +325,13 @@ module _ {H : Type 0} where
     pub members_some : (owns : List (PoolPort H)) → owns ≡ map (fresh pool.gates pool.ends pool.ends) pool.deques → length owns ≡ pool.ends
         → map (own_of {H = H}) ms ≡ map (λ (o : PoolPort H). with_shares 1 o ∷ []) owns
         → map (next_of {H = H}) ms ≡ map (borrowed_next owns) (numbers 0 (length owns)) → AreEndDeques pool ms
-    members_some owns e many own next =
+    members_some owns e many own_deque next =
         let whole : QueueInfo → PoolPort H = fresh pool.gates pool.ends pool.ends in
         let one' : QueueInfo → PoolPort H = fresh pool.gates pool.ends 1 in
         let ds : List QueueInfo = pool.deques in
         let count : length ds ≡ pool.ends = sym (length-map ds whole) ∙ ap length (sym e) ∙ many in
         record {
-          own = own ∙ ap (map (λ (o : PoolPort H). with_shares 1 o ∷ [])) e ∙ map_map (λ (o : PoolPort H). with_shares 1 o ∷ []) whole ds
+          own_deque = own_deque ∙ ap (map (λ (o : PoolPort H). with_shares 1 o ∷ [])) e ∙ map_map (λ (o : PoolPort H). with_shares 1 o ∷ []) whole ds
               ∙ singles one' [] ds ∙ ap (λ n. map (λ (k : ℕ). map one' (take 1 (drop k ds))) (numbers 0 n)) count;
           next = next ∙ (λ i. map (borrowed_next (e i)) (numbers 0 (many i)))
               ∙ (λ i. map (λ (k : ℕ). (ap (map (borrowed {H = H})) ((λ j. drop-map whole (k + 1) ds j ++ take-map whole k ds j)
@@ -360,8 +360,8 @@ module _ {H : Type 0} where
       where
         by_kind : (k : PoolKind) → AreNewOf k o workers owns → IsWhole made
         by_kind Shared e = let none : spots_of owns ≡ [] = ap spots_of e in
-            record { some = some; deques = subst (AreDeques 0) (sym none) tt; same_count = inl none }
-        by_kind Stealing n = record { some = some; deques = n.deques; same_count = inr (length-map owns (λ (l : PoolPort H). l.spot) ∙ n.same_count) }
+            record { not_empty = some; deques = subst (AreDeques 0) (sym none) tt; same_count = inl none }
+        by_kind Stealing n = record { not_empty = some; deques = n.deques; same_count = inr (length-map owns (λ (l : PoolPort H). l.spot) ∙ n.same_count) }
 
     pub made_kind : shared_port.capacity ≡ bound_of kind → IsOfKind kind made
     made_kind bound = by_kind kind new bound
@@ -373,15 +373,15 @@ module _ {H : Type 0} where
     pub made_members : (ms : List (Option (EndDeques H))) → (owns ≡ [] → ms ≡ replicate workers None)
         → (0 < length owns → map (own_of {H = H}) ms ≡ map (λ (l : PoolPort H). with_shares 1 l ∷ []) owns)
         → (0 < length owns → map (next_of {H = H}) ms ≡ map (borrowed_next owns) (numbers 0 (length owns))) → AreEndDeques made ms
-    made_members ms none own next = by_kind kind new
+    made_members ms none own_deque next = by_kind kind new
       where
         by_kind : (k : PoolKind) → AreNewOf k o workers owns → AreEndDeques made ms
         by_kind Shared e = members_none made ms (ap spots_of e) (none e)
         by_kind Stealing n = let many = n.same_count in let there : 0 < length owns = omega (arith, many, some) in
-            members_some made ms owns n.unused n.same_count (own there) (next there)
+            members_some made ms owns n.unused n.same_count (own_deque there) (next there)
 
     pub count_members : (ms : List (Option (EndDeques H))) → AreEndDeques made ms → length ms ≡ workers
-    count_members ms m = sym (length-map ms (own_of {H = H})) ∙ ap length m.own ∙ length-map (numbers 0 workers) (own_at made ms m)
+    count_members ms m = sym (length-map ms (own_of {H = H})) ∙ ap length m.own_deque ∙ length-map (numbers 0 workers) (own_at made ms m)
         ∙ length_numbers 0 workers
 
     pub begun : (ms : List (Option (EndDeques H))) (of_workers of_feeds : List (PoolEndpoint H)) → shared_port.capacity ≡ bound_of kind → AreEndDeques made ms

@@ -17,7 +17,7 @@ module _ {H : Type 0} (pool : PoolView H) (ends feeds now : List (PoolEndpoint H
 
   pub some_left : 0 < length now
   some_left =
-      let some : 0 < pool.ends = whole.some in
+      let some : 0 < pool.ends = whole.not_empty in
       let count : length ends ≡ pool.ends = count_of pool ends are_ends in
       let same : length now ≡ length ends = sym (length-map now (frame_of {H = H})) ∙ ap length gathered.frames
       ∙ length-map ends (frame_of {H = H}) in
@@ -29,7 +29,7 @@ module _ {H : Type 0} (pool : PoolView H) (ends feeds now : List (PoolEndpoint H
   module _ (first : PoolPort H) (is_first : IsAllOf (shared_ports_of now) first) where
     pub first_share : HasShare first
     first_share =
-        let some : 0 < pool.ends = whole.some in
+        let some : 0 < pool.ends = whole.not_empty in
         let sum : shares_in (shared_ports_of now) ≡ pool.ends = ap shares_in shared_ports_are ∙ sum_parts (shared_ports_of ends)
         ∙ ap (sum_by (λ (p : Part H). p.shares)) (end_shared_ports pool ends are_ends)
         ∙ sum_ones pool.ends (shared_port_part pool) refl in

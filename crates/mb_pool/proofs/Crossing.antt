@@ -25,7 +25,7 @@ use Rattle.mb_pool.specs.contracts.feed_queue_port.FeedQueuePort as inlet_port
 use Rattle.mb_pool.specs.contracts.feed_queue_port.FeedQueuePort.TheInside as feed_queue_inside
 use Rattle.mb_pool.specs.contracts.shared_port.SharedPort as shared_port
 use Rattle.mb_pool.specs.contracts.deque.Deque as deque
-use Rattle.mb_pool.specs.contracts.own_deque.OwnDeque as own
+use Rattle.mb_pool.specs.contracts.own_deque.OwnDeque as own_deque
 use Rattle.mb_pool.specs.contracts.own_deque.OwnDeque.TheInside as own_inside
 use Rattle.mb_pool.specs.contracts.thief.Thief as thief
 use Rattle.mb_pool.specs.contracts.thief.Thief.TheInside as thief_inside
@@ -86,7 +86,7 @@ module _ (H : RattleType) (g : resident.Ghosts H.Denot) (home : IsSend H) where
   deque_send = declared_send (deque.the_type H g)
       (search (sendable, std_crosses, heap_send, heap_sync, worker.the_field_send, worker.the_send, parked_send) depth 30, tt)
 
-  own_send : IsSend (own.the_row H g)
+  own_send : IsSend (own_deque.the_row H g)
   own_send = view_send _ _ _ _ _ (declared_send (own_inside.the_type H g)
       (search sendable depth 20, (deque_send, (search (sendable, std_crosses, apart.the_send) depth 20, tt))))
 

@@ -14,24 +14,24 @@ use Rattle.mb_pool.proofs.Ports.{all_right, all_unmap, shared_port_open, own_ope
 
 module _ {H : Type 0} where
   -- an end whose ports of the other deques were taken is still open
-  pub alone_open : (own shared_port : PoolPort H) (next none : List (PoolPort H)) → none ≡ [] → AreOpen (stealing own shared_port next) → AreOpen (stealing own shared_port none)
-  alone_open own shared_port next none e h =
+  pub alone_open : (own_deque shared_port : PoolPort H) (next none : List (PoolPort H)) → none ≡ [] → AreOpen (stealing own_deque shared_port next) → AreOpen (stealing own_deque shared_port none)
+  alone_open own_deque shared_port next none e h =
       let P : PoolPort H → Type 0 = λ l. IsOpen shared_port.ledger.gates (part_of l) in
-      let alone : All P (own ∷ shared_port ∷ []) =
-      All-cons P own (shared_port ∷ []) (All-head P own (shared_port ∷ next) h)
-      (All-cons P shared_port [] (All-head P shared_port next (All-tail P own (shared_port ∷ next) h)) (All-nil P)) in
-      subst (λ n. AreOpen (stealing own shared_port n)) (sym e) alone
+      let alone : All P (own_deque ∷ shared_port ∷ []) =
+      All-cons P own_deque (shared_port ∷ []) (All-head P own_deque (shared_port ∷ next) h)
+      (All-cons P shared_port [] (All-head P shared_port next (All-tail P own_deque (shared_port ∷ next) h)) (All-nil P)) in
+      subst (λ n. AreOpen (stealing own_deque shared_port n)) (sym e) alone
 
   -- and so is one that joined a port of its own deque
-  pub joined_open : (own own' thief shared_port : PoolPort H) (next : List (PoolPort H)) → own' ≡ joined own thief → AreOpen (stealing own shared_port next)
-      → AreOpen (stealing own' shared_port next)
-  joined_open own own' thief shared_port next e h =
+  pub joined_open : (own_deque own_deque' thief shared_port : PoolPort H) (next : List (PoolPort H)) → own_deque' ≡ joined own_deque thief → AreOpen (stealing own_deque shared_port next)
+      → AreOpen (stealing own_deque' shared_port next)
+  joined_open own_deque own_deque' thief shared_port next e h =
       let P : PoolPort H → Type 0 = λ l. IsOpen shared_port.ledger.gates (part_of l) in
-      let mine : IsOpen shared_port.ledger.gates (part_of own) = own_open own shared_port next h in
-      let some : 0 < own.ledger.shares = mine.share in
-      let more : 0 < own.ledger.shares + thief.ledger.shares = omega (arith, some) in
-      let first : IsOpen shared_port.ledger.gates (part_of (joined own thief)) = record { share = more; same = mine.same } in
-      subst (λ o. AreOpen (stealing o shared_port next)) (sym e) (All-cons P (joined own thief) (shared_port ∷ next) first (All-tail P own (shared_port ∷ next) h))
+      let mine : IsOpen shared_port.ledger.gates (part_of own_deque) = own_open own_deque shared_port next h in
+      let some : 0 < own_deque.ledger.shares = mine.share in
+      let more : 0 < own_deque.ledger.shares + thief.ledger.shares = omega (arith, some) in
+      let first : IsOpen shared_port.ledger.gates (part_of (joined own_deque thief)) = record { share = more; same = mine.same } in
+      subst (λ o. AreOpen (stealing o shared_port next)) (sym e) (All-cons P (joined own_deque thief) (shared_port ∷ next) first (All-tail P own_deque (shared_port ∷ next) h))
 
   -- the next port is of a deque of one of the ends
   pub among_now : (old now : List (PoolEndpoint H)) (all done rest : List (PoolPort H)) (t : PoolPort H) → done ++ t ∷ rest ≡ all
@@ -42,30 +42,30 @@ module _ {H : Type 0} where
 
   -- so that end may join it
   pub may_own : (now : List (PoolEndpoint H)) (t : PoolPort H) (n : ℕ) (d : PoolEndpoint H) → n ≡ owner_of t.spot → IsAmong now (part_of t)
-      → MayJoin (get_or now n d).own (part_of t)
-  may_own now t n d e among = subst (λ (k : ℕ). MayJoin (get_or now k d).own (part_of t)) (sym e) (among.1 d)
+      → MayJoin (get_or now n d).own_deque (part_of t)
+  may_own now t n d e among = subst (λ (k : ℕ). MayJoin (get_or now k d).own_deque (part_of t)) (sym e) (among.1 d)
 
   pub gathers_at : (old now : List (PoolEndpoint H)) (done : List (PoolPort H)) (t : PoolPort H) (n : ℕ) (d new : PoolEndpoint H) → n ≡ owner_of t.spot
-      → new ≡ record (get_or now n d) { own = joined_first (get_or now n d).own t } → Gathers old done now → IsAmong now (part_of t)
+      → new ≡ record (get_or now n d) { own_deque = joined_first (get_or now n d).own_deque t } → Gathers old done now → IsAmong now (part_of t)
       → Gathers old (done ++ t ∷ []) (set now n new)
   gathers_at old now done t n d new e is g among =
-      let with' : ℕ → PoolEndpoint H = λ k. record (get_or now k d) { own = joined_first (get_or now k d).own t } in
+      let with' : ℕ → PoolEndpoint H = λ k. record (get_or now k d) { own_deque = joined_first (get_or now k d).own_deque t } in
       let here : Gathers old (done ++ t ∷ []) (set now n (with' n)) =
       subst (λ (k : ℕ). Gathers old (done ++ t ∷ []) (set now k (with' k))) (sym e) (gathers_one old now done t d g among) in
       subst (λ (w : PoolEndpoint H). Gathers old (done ++ t ∷ []) (set now n w)) (sym is) here
 
   -- the ports of the next end were taken, which are of deques of these ends
   module _ (old now : List (PoolEndpoint H)) (k : ℕ) (d after : PoolEndpoint H) (given : List (PoolPort H)) (lt : k < length now) (g : Gathering old k now)
-      (nexts : given ≡ (get_or now k d).next)
+      (next_workers : given ≡ (get_or now k d).next)
       (rest : after ≡ record (get_or now k d) { next = [] }) where
     pub given_matched : AreMatched old → All (λ (l : PoolPort H). IsAmong (set now k after) (part_of l)) given
     given_matched h =
-        subst (λ (y : List (PoolPort H) × PoolEndpoint H). All (λ (l : PoolPort H). IsAmong (set now k y.1) (part_of l)) y.0) (λ i. (sym nexts i, sym rest i))
+        subst (λ (y : List (PoolPort H) × PoolEndpoint H). All (λ (l : PoolPort H). IsAmong (set now k y.1) (part_of l)) y.0) (λ i. (sym next_workers i, sym rest i))
         (still_matched old now k d lt g h)
 
     pub gathered_more : (new : List (PoolEndpoint H)) → Gathers (set now k after) given new → Gathering old (k + 1) new
     gathered_more new j =
-        gathering_more old now k d lt g new (subst (λ (y : List (PoolPort H) × PoolEndpoint H). Gathers (set now k y.1) y.0 new) (λ i. (nexts i, rest i)) j)
+        gathering_more old now k d lt g new (subst (λ (y : List (PoolPort H) × PoolEndpoint H). Gathers (set now k y.1) y.0 new) (λ i. (next_workers i, rest i)) j)
 
   -- the next end or feed has a port of the same queue
   pub alike_next : (base : PoolPort H) (all done rest : List (PoolEndpoint H)) (end : PoolEndpoint H) → done ++ end ∷ rest ≡ all
@@ -93,18 +93,18 @@ module _ {H : Type 0} where
 
   module _ (IsFit : Option (Origin H) → Claim H → Type 0) where
     -- an end with a deque of its own
-    pub emptied_own : (own shared_port : PoolPort H) (next : List (PoolPort H)) (end : PoolEndpoint H) (old new : List (Claim H)) → stealing own shared_port next ≡ end
-        → AreOpen (stealing own shared_port next)
-        → Empties IsFit own.ledger.gates (own ∷ []) old new → Empties IsFit (gates_of end) end.own old new
-    emptied_own own shared_port next end old new is h e =
-        let same : own.ledger.gates ≡ shared_port.ledger.gates = (own_open own shared_port next h).same in
-        let mine : Empties IsFit shared_port.ledger.gates (own ∷ []) old new =
-        empties_gates IsFit own.ledger.gates shared_port.ledger.gates (own ∷ []) old new same e in
-        subst (λ (w : PoolEndpoint H). Empties IsFit (gates_of w) w.own old new) is mine
+    pub emptied_own : (own_deque shared_port : PoolPort H) (next : List (PoolPort H)) (end : PoolEndpoint H) (old new : List (Claim H)) → stealing own_deque shared_port next ≡ end
+        → AreOpen (stealing own_deque shared_port next)
+        → Empties IsFit own_deque.ledger.gates (own_deque ∷ []) old new → Empties IsFit (gates_of end) end.own_deque old new
+    emptied_own own_deque shared_port next end old new is h e =
+        let same : own_deque.ledger.gates ≡ shared_port.ledger.gates = (own_open own_deque shared_port next h).same in
+        let mine : Empties IsFit shared_port.ledger.gates (own_deque ∷ []) old new =
+        empties_gates IsFit own_deque.ledger.gates shared_port.ledger.gates (own_deque ∷ []) old new same e in
+        subst (λ (w : PoolEndpoint H). Empties IsFit (gates_of w) w.own_deque old new) is mine
 
     -- an end without one
-    pub emptied_nothing : (shared_port : PoolPort H) (end : PoolEndpoint H) (old : List (Claim H)) → of_feed shared_port ≡ end → Empties IsFit (gates_of end) end.own old old
-    emptied_nothing shared_port end old is = subst (λ (w : PoolEndpoint H). Empties IsFit (gates_of w) w.own old old) is (empties_none IsFit shared_port.ledger.gates old)
+    pub emptied_nothing : (shared_port : PoolPort H) (end : PoolEndpoint H) (old : List (Claim H)) → of_feed shared_port ≡ end → Empties IsFit (gates_of end) end.own_deque old old
+    emptied_nothing shared_port end old is = subst (λ (w : PoolEndpoint H). Empties IsFit (gates_of w) w.own_deque old old) is (empties_none IsFit shared_port.ledger.gates old)
 
     -- the first end and all others
     module _ (all rest : List (PoolEndpoint H)) (first : PoolEndpoint H) (base last : PoolPort H) (is : all ≡ first ∷ rest) (same : base ≡ first.shared_port)
@@ -114,14 +114,14 @@ module _ {H : Type 0} where
           let mine : TakesIn first.shared_port (shared_ports_of rest) last = subst (λ (b : PoolPort H). TakesIn b (shared_ports_of rest) last) same took in
           subst (λ (ws : List (PoolEndpoint H)). IsAllOf (shared_ports_of ws) last) (sym is) mine
 
-      pub all_emptied : (old mid new : List (Claim H)) → Empties IsFit (gates_of first) first.own old mid
+      pub all_emptied : (old mid new : List (Claim H)) → Empties IsFit (gates_of first) first.own_deque old mid
           → Empties IsFit base.ledger.gates (owns_of rest) mid new
           → Empties IsFit last.ledger.gates (owns_of all) old new
       all_emptied old mid new p q =
           let gates : base.ledger.gates ≡ last.ledger.gates = sym (ap (λ (w : Where H). w.gates) took.same) in
           let gates' : gates_of first ≡ last.ledger.gates = sym (ap (λ (l : PoolPort H). l.ledger.gates) same) ∙ gates in
           let both : Empties IsFit last.ledger.gates (owns_of (first ∷ rest)) old new =
-          empties_append IsFit last.ledger.gates first.own (owns_of rest) old mid new
-          (empties_gates IsFit (gates_of first) last.ledger.gates first.own old mid gates' p)
+          empties_append IsFit last.ledger.gates first.own_deque (owns_of rest) old mid new
+          (empties_gates IsFit (gates_of first) last.ledger.gates first.own_deque old mid gates' p)
           (empties_gates IsFit base.ledger.gates last.ledger.gates (owns_of rest) mid new gates q) in
           subst (λ (ws : List (PoolEndpoint H)). Empties IsFit last.ledger.gates (owns_of ws) old new) (sym is) both

@@ -12,7 +12,7 @@ use Rattle.mb_gate.specs.declared.claim.Claim.{Claim}
 use Rattle.mb_pool.specs.Ends.{AreGathered, Frame, Gathers, IsAmong, MayJoin, Where, frame_of, joined, joined_first, nexts_of, owns_of, shares_in}
 use Rattle.mb_pool.specs.Ends.{where_is}
 use Rattle.mb_pool.specs.Ledger.{IndexedClaim, claims_in}
-use Rattle.mb_pool.specs.Places.{PoolPort, Part, QueueInfo, PoolEndpoint, looks, owner_of, part_of, pushed_by, taken_by}
+use Rattle.mb_pool.specs.Places.{PoolPort, Part, QueueInfo, PoolEndpoint, ports_of, owner_of, part_of, pushed_by, taken_by}
 use Rattle.mb_pool.proofs.Lists.{same_elements, from_left, behind, before}
 use Rattle.mb_pool.proofs.Begins.{take_suc, upto, upto_all, upto_at, upto_set}
 use Rattle.mb_pool.proofs.Emptying.{all_left}
@@ -46,11 +46,11 @@ same_set f [] p d w e = refl
 same_set f (v ∷ l) zero d w e = ap (λ x. x ∷ map f l) e
 same_set f (v ∷ l) (suc p) d w e = ap (λ xs. f v ∷ xs) (same_set f l p d w e)
 
-sum_flat : {H : Type 0} (ws : List (PoolEndpoint H)) → shares_in (owns_of ws) ≡ sum_by (λ (w : PoolEndpoint H). shares_in w.own) ws
+sum_flat : {H : Type 0} (ws : List (PoolEndpoint H)) → shares_in (owns_of ws) ≡ sum_by (λ (w : PoolEndpoint H). shares_in w.own_deque) ws
 sum_flat [] = refl
 sum_flat {H} (w ∷ ws) =
     let shares : PoolPort H → ℕ = λ l. l.ledger.shares in
-    let a = sum_by-append shares w.own (owns_of ws) in let b = sum_by-cons (λ (v : PoolEndpoint H). shares_in v.own) w ws in let r = sum_flat ws in
+    let a = sum_by-append shares w.own_deque (owns_of ws) in let b = sum_by-cons (λ (v : PoolEndpoint H). shares_in v.own_deque) w ws in let r = sum_flat ws in
     omega (arith, a, b, r)
 
 module _ {H : Type 0} where
@@ -75,38 +75,38 @@ module _ {H : Type 0} where
       let there : n < length old = h.0 in
       let there' : n < length new = omega (arith, count, there) in (
         there',
-        λ d. may_join (get_or old n d).own (get_or new n d).own t
-            (ap (λ (f : Frame H). f.own) (sym (get_or-map (frame_of {H = H}) new n d (frame_of d) there') ∙ ap (λ l. get_or l n (frame_of d)) e
+        λ d. may_join (get_or old n d).own_deque (get_or new n d).own_deque t
+            (ap (λ (f : Frame H). f.own_deque) (sym (get_or-map (frame_of {H = H}) new n d (frame_of d) there') ∙ ap (λ l. get_or l n (frame_of d)) e
             ∙ get_or-map (frame_of {H = H}) old n d (frame_of d) there)) (h.1 d),
       )
 
   -- one port more of this own deque
-  own_gain : (f : PoolPort H → List (Claim H)) (own : List (PoolPort H)) (t : PoolPort H) (rest : List (PoolPort H)) → MayJoin own (part_of t)
+  own_gain : (f : PoolPort H → List (Claim H)) (own_deque : List (PoolPort H)) (t : PoolPort H) (rest : List (PoolPort H)) → MayJoin own_deque (part_of t)
       → ((l : PoolPort H) → f (joined l t) ≡ f l ++ f t)
-      → IsPermutation (flat_map f (joined_first own t ++ rest)) (flat_map f (own ++ rest) ++ f t)
+      → IsPermutation (flat_map f (joined_first own_deque t ++ rest)) (flat_map f (own_deque ++ rest) ++ f t)
   own_gain f [] t rest may step = absurd may
-  own_gain f (o ∷ own) t rest may step =
-      let r = flat_map f (own ++ rest) in
+  own_gain f (o ∷ own_deque) t rest may step =
+      let r = flat_map f (own_deque ++ rest) in
       from_left (f (joined o t) ++ r) ((f o ++ f t) ++ r) ((f o ++ r) ++ f t) (ap (λ l. l ++ r) (step o))
       (from_left ((f o ++ f t) ++ r) (f o ++ (f t ++ r)) ((f o ++ r) ++ f t) (append_assoc (f o) (f t) r)
       (IsPermutation-trans (f o ++ (f t ++ r)) (f o ++ (r ++ f t)) ((f o ++ r) ++ f t)
       (behind (f o) (f t ++ r) (r ++ f t) (IsPermutation-append_comm (f t) r))
       (same_elements (f o ++ (r ++ f t)) ((f o ++ r) ++ f t) (sym (append_assoc (f o) r (f t))))))
 
-  own_shares : (own : List (PoolPort H)) (t : PoolPort H) → MayJoin own (part_of t) → shares_in (joined_first own t) ≡ shares_in own + t.ledger.shares
+  own_shares : (own_deque : List (PoolPort H)) (t : PoolPort H) → MayJoin own_deque (part_of t) → shares_in (joined_first own_deque t) ≡ shares_in own_deque + t.ledger.shares
   own_shares [] t may = absurd may
-  own_shares (o ∷ own) t may =
+  own_shares (o ∷ own_deque) t may =
       let shares : PoolPort H → ℕ = λ l. l.ledger.shares in
-      let a = sum_by-cons shares (joined o t) own in let b = sum_by-cons shares o own in omega (arith, a, b)
+      let a = sum_by-cons shares (joined o t) own_deque in let b = sum_by-cons shares o own_deque in omega (arith, a, b)
 
-  own_where : (own : List (PoolPort H)) (t : PoolPort H) → map (where_is {H = H}) (joined_first own t) ≡ map (where_is {H = H}) own
+  own_where : (own_deque : List (PoolPort H)) (t : PoolPort H) → map (where_is {H = H}) (joined_first own_deque t) ≡ map (where_is {H = H}) own_deque
   own_where [] t = refl
-  own_where (o ∷ own) t = refl
+  own_where (o ∷ own_deque) t = refl
 
   pub gathers_none : (old : List (PoolEndpoint H)) → Gathers old [] old
   gathers_none old = record {
     frames = refl;
-    nexts = refl;
+    next_workers = refl;
     pushed = same_elements (pushed_by old) (pushed_by old ++ []) (sym (append-nil (pushed_by old)));
     taken = same_elements (taken_by old) (taken_by old ++ []) (sym (append-nil (taken_by old)));
     shares = omega arith;
@@ -114,18 +114,18 @@ module _ {H : Type 0} where
 
   pub gathers_one : (old mid : List (PoolEndpoint H)) (more : List (PoolPort H)) (t : PoolPort H) (d : PoolEndpoint H) → Gathers old more mid → IsAmong mid (part_of t)
       → Gathers old (more ++ t ∷ []) (set mid (owner_of t.spot) (record (get_or mid (owner_of t.spot) d)
-      { own = joined_first (get_or mid (owner_of t.spot) d).own t }))
+      { own_deque = joined_first (get_or mid (owner_of t.spot) d).own_deque t }))
   gathers_one old mid more t d g among =
       let n : ℕ = owner_of t.spot in let lt : n < length mid = among.0 in
       let w : PoolEndpoint H = get_or mid n d in let may = among.1 d in
-      let w' : PoolEndpoint H = record w { own = joined_first w.own t } in
+      let w' : PoolEndpoint H = record w { own_deque = joined_first w.own_deque t } in
       let one : PoolPort H → List (PoolPort H) = λ l. l ∷ [] in
       let pushes : PoolPort H → List (Claim H) = λ l. claims_in l.ledger.pushed in
       let takes : PoolPort H → List (Claim H) = λ l. claims_in l.ledger.taken in
       let shares : PoolPort H → ℕ = λ l. l.ledger.shares in
       let step : (f : PoolPort H → List (Claim H)) → ((l : PoolPort H) → f (joined l t) ≡ f l ++ f t)
-      → IsPermutation (flat_map (λ (v : PoolEndpoint H). flat_map f (looks v)) (set mid n w')) (flat_map (λ (v : PoolEndpoint H). flat_map f (looks v)) mid ++ f t)
-      = λ f e. gain (λ (v : PoolEndpoint H). flat_map f (looks v)) mid n d w' (f t) lt (own_gain f w.own t (w.shared_port ∷ w.next) may e) in
+      → IsPermutation (flat_map (λ (v : PoolEndpoint H). flat_map f (ports_of v)) (set mid n w')) (flat_map (λ (v : PoolEndpoint H). flat_map f (ports_of v)) mid ++ f t)
+      = λ f e. gain (λ (v : PoolEndpoint H). flat_map f (ports_of v)) mid n d w' (f t) lt (own_gain f w.own_deque t (w.shared_port ∷ w.next) may e) in
       let add : (f : PoolPort H → List (Claim H)) (x y z : List (Claim H)) → IsPermutation z (y ++ f t) → IsPermutation y (x ++ flat_map f more)
       → IsPermutation z (x ++ flat_map f (more ++ t ∷ []))
       = λ f x y z h k. IsPermutation-trans z (y ++ f t) (x ++ flat_map f (more ++ t ∷ [])) h
@@ -136,14 +136,14 @@ module _ {H : Type 0} where
       (flat_map-append f more (t ∷ []) ∙ ap (λ l. flat_map f more ++ l) (append-nil (f t))))))) in
       let claims = λ (a b : List (IndexedClaim (Claim H))). map-append (λ (x : IndexedClaim (Claim H)). x.claim) a b in
       record {
-        frames = same_set (frame_of {H = H}) mid n d w' (ap (λ (o : List (Where H)). let f : Frame H = record { own = o; shared_port = w.shared_port } in f)
-            (own_where w.own t)) ∙ g.frames;
-        nexts = same_set (λ (v : PoolEndpoint H). v.next) mid n d w' refl ∙ g.nexts;
+        frames = same_set (frame_of {H = H}) mid n d w' (ap (λ (o : List (Where H)). let f : Frame H = record { own_deque = o; shared_port = w.shared_port } in f)
+            (own_where w.own_deque t)) ∙ g.frames;
+        next_workers = same_set (λ (v : PoolEndpoint H). v.next) mid n d w' refl ∙ g.next_workers;
         pushed = add pushes (pushed_by old) (pushed_by mid) (pushed_by (set mid n w'))
             (step pushes (λ l. claims l.ledger.pushed t.ledger.pushed)) g.pushed;
         taken = add takes (taken_by old) (taken_by mid) (taken_by (set mid n w')) (step takes (λ l. claims l.ledger.taken t.ledger.taken)) g.taken;
         shares = let a = sum_flat (set mid n w') in let b = sum_flat mid in
-            let c = gain_sum (λ (v : PoolEndpoint H). shares_in v.own) mid n d w' t.ledger.shares lt (own_shares w.own t may) in
+            let c = gain_sum (λ (v : PoolEndpoint H). shares_in v.own_deque) mid n d w' t.ledger.shares lt (own_shares w.own_deque t may) in
             let e = g.shares in let f = sum_by-append shares more (t ∷ []) in let h = sum_by-cons shares t [] in omega (arith, a, b, c, e, f, h);
       }
 
@@ -159,7 +159,7 @@ module _ {H : Type 0} where
   -- after the ports of the first ends were taken
   pub record Gathering (old : List (PoolEndpoint H)) (k : ℕ) (now : List (PoolEndpoint H)) : Type 0 where
     pub frames : map (frame_of {H = H}) now ≡ map (frame_of {H = H}) old
-    pub nexts : map next_in now ≡ upto nothing k (map next_in old)
+    pub next_workers : map next_in now ≡ upto nothing k (map next_in old)
     pub pushed : IsPermutation (pushed_by now) (pushed_by old)
     pub taken : IsPermutation (taken_by now) (taken_by old)
     pub shares : shares_in (owns_of now) ≡ shares_in (owns_of old) + shares_in (given_of (take k (map next_in old)))
@@ -167,7 +167,7 @@ module _ {H : Type 0} where
   pub gathering_none : (old : List (PoolEndpoint H)) → Gathering old 0 old
   gathering_none old = record {
     frames = refl;
-    nexts = refl;
+    next_workers = refl;
     pushed = IsPermutation-refl (pushed_by old);
     taken = IsPermutation-refl (taken_by old);
     shares = omega arith;
@@ -189,7 +189,7 @@ module _ {H : Type 0} where
       let l = length-map old next_in in
       let all : length (map next_in old) ≤ k = omega (arith, l, le) in record {
         frames = g.frames;
-        nexts = nexts_flat now ∙ ap given_of (g.nexts ∙ upto_all nothing (map next_in old) k all) ∙ flat_nothing (map next_in old);
+        next_workers = nexts_flat now ∙ ap given_of (g.next_workers ∙ upto_all nothing (map next_in old) k all) ∙ flat_nothing (map next_in old);
         pushed = g.pushed;
         taken = g.taken;
         shares = g.shares ∙ ap (λ x. shares_in (owns_of old) + shares_in x) (ap given_of (take_all k (map next_in old) all) ∙ sym (nexts_flat old));
@@ -215,7 +215,7 @@ module _ {H : Type 0} where
     pub still_matched : All (λ (l : PoolPort H). IsAmong old (part_of l)) (nexts_of old) → All (λ (l : PoolPort H). IsAmong mid (part_of l)) giver.next
     still_matched h =
         let count = count_ends old now g.frames in let lt' : k < length old = omega (arith, count, lt) in
-        let e : giver.next ≡ (get_or old k d).next = sym (get_or-map next_in now k d d.next lt) ∙ ap (λ l. get_or l k d.next) g.nexts
+        let e : giver.next ≡ (get_or old k d).next = sym (get_or-map next_in now k d d.next lt) ∙ ap (λ l. get_or l k d.next) g.next_workers
         ∙ upto_at nothing (map next_in old) k d.next ∙ get_or-map next_in old k d d.next lt' in
         let Among : PoolPort H → Type 0 = λ l. IsAmong old (part_of l) in let Still : PoolPort H → Type 0 = λ l. IsAmong mid (part_of l) in
         All-weaker Among Still (λ l x. still_among old mid (part_of l) (mid_frames ∙ g.frames) x) giver.next
@@ -231,27 +231,27 @@ module _ {H : Type 0} where
         let at : get_or mid k d ≡ w0 = get_or-set_same now k w0 d lt in
         let count' : length mid ≡ length now = length-set now k w0 in
         let lt' : k < length mid = omega (arith, count', lt) in
-        let split : (f : PoolPort H → List (Claim H)) → flat_map f (looks w) ≡ flat_map f (looks w0) ++ flat_map f w.next
-        = λ f. ap (flat_map f) (sym (append_assoc w.own (w.shared_port ∷ []) w.next)) ∙ flat_map-append f (w.own ++ w.shared_port ∷ []) w.next in
-        let loss : (f : PoolPort H → List (Claim H)) → IsPermutation (flat_map (λ (v : PoolEndpoint H). flat_map f (looks v)) now)
-        (flat_map (λ (v : PoolEndpoint H). flat_map f (looks v)) mid ++ flat_map f w.next)
-        = λ f. subst (λ l. IsPermutation (flat_map (λ (v : PoolEndpoint H). flat_map f (looks v)) l)
-        (flat_map (λ (v : PoolEndpoint H). flat_map f (looks v)) mid ++ flat_map f w.next)) back
-        (gain (λ (v : PoolEndpoint H). flat_map f (looks v)) mid k d w (flat_map f w.next) lt'
-        (same_elements (flat_map f (looks w)) (flat_map f (looks (get_or mid k d)) ++ flat_map f w.next)
-        (split f ∙ ap (λ (v : PoolEndpoint H). flat_map f (looks v) ++ flat_map f w.next) (sym at)))) in
-        let kept : (f : PoolPort H → List (Claim H)) → IsPermutation (flat_map (λ (v : PoolEndpoint H). flat_map f (looks v)) new)
-        (flat_map (λ (v : PoolEndpoint H). flat_map f (looks v)) mid ++ flat_map f w.next)
-        → IsPermutation (flat_map (λ (v : PoolEndpoint H). flat_map f (looks v)) now) (flat_map (λ (v : PoolEndpoint H). flat_map f (looks v)) old)
-        → IsPermutation (flat_map (λ (v : PoolEndpoint H). flat_map f (looks v)) new) (flat_map (λ (v : PoolEndpoint H). flat_map f (looks v)) old)
-        = λ f a b. let F = λ (l : List (PoolEndpoint H)). flat_map (λ (v : PoolEndpoint H). flat_map f (looks v)) l in
+        let split : (f : PoolPort H → List (Claim H)) → flat_map f (ports_of w) ≡ flat_map f (ports_of w0) ++ flat_map f w.next
+        = λ f. ap (flat_map f) (sym (append_assoc w.own_deque (w.shared_port ∷ []) w.next)) ∙ flat_map-append f (w.own_deque ++ w.shared_port ∷ []) w.next in
+        let loss : (f : PoolPort H → List (Claim H)) → IsPermutation (flat_map (λ (v : PoolEndpoint H). flat_map f (ports_of v)) now)
+        (flat_map (λ (v : PoolEndpoint H). flat_map f (ports_of v)) mid ++ flat_map f w.next)
+        = λ f. subst (λ l. IsPermutation (flat_map (λ (v : PoolEndpoint H). flat_map f (ports_of v)) l)
+        (flat_map (λ (v : PoolEndpoint H). flat_map f (ports_of v)) mid ++ flat_map f w.next)) back
+        (gain (λ (v : PoolEndpoint H). flat_map f (ports_of v)) mid k d w (flat_map f w.next) lt'
+        (same_elements (flat_map f (ports_of w)) (flat_map f (ports_of (get_or mid k d)) ++ flat_map f w.next)
+        (split f ∙ ap (λ (v : PoolEndpoint H). flat_map f (ports_of v) ++ flat_map f w.next) (sym at)))) in
+        let kept : (f : PoolPort H → List (Claim H)) → IsPermutation (flat_map (λ (v : PoolEndpoint H). flat_map f (ports_of v)) new)
+        (flat_map (λ (v : PoolEndpoint H). flat_map f (ports_of v)) mid ++ flat_map f w.next)
+        → IsPermutation (flat_map (λ (v : PoolEndpoint H). flat_map f (ports_of v)) now) (flat_map (λ (v : PoolEndpoint H). flat_map f (ports_of v)) old)
+        → IsPermutation (flat_map (λ (v : PoolEndpoint H). flat_map f (ports_of v)) new) (flat_map (λ (v : PoolEndpoint H). flat_map f (ports_of v)) old)
+        = λ f a b. let F = λ (l : List (PoolEndpoint H)). flat_map (λ (v : PoolEndpoint H). flat_map f (ports_of v)) l in
         IsPermutation-trans (F new) (F mid ++ flat_map f w.next) (F old) a
         (IsPermutation-trans (F mid ++ flat_map f w.next) (F now) (F old)
         (IsPermutation-sym (F now) (F mid ++ flat_map f w.next) (loss f)) b) in
         let same_own : shares_in (owns_of mid) ≡ shares_in (owns_of now) =
-        let a = sum_flat mid in let b = sum_flat now in let c = gain_sum (λ (v : PoolEndpoint H). shares_in v.own) now k d w0 0 lt
-        (let e : shares_in w0.own ≡ shares_in w.own + 0 = omega arith in e) in omega (arith, a, b, c) in
-        let mine : w.next ≡ get_or (map next_in old) k d.next = sym (get_or-map next_in now k d d.next lt) ∙ ap (λ l. get_or l k d.next) g.nexts
+        let a = sum_flat mid in let b = sum_flat now in let c = gain_sum (λ (v : PoolEndpoint H). shares_in v.own_deque) now k d w0 0 lt
+        (let e : shares_in w0.own_deque ≡ shares_in w.own_deque + 0 = omega arith in e) in omega (arith, a, b, c) in
+        let mine : w.next ≡ get_or (map next_in old) k d.next = sym (get_or-map next_in now k d d.next lt) ∙ ap (λ l. get_or l k d.next) g.next_workers
         ∙ upto_at nothing (map next_in old) k d.next in
         let more : given_of (take (suc k) (map next_in old)) ≡ given_of (take k (map next_in old)) ++ w.next =
         ap given_of (take_suc (map next_in old) k d.next there) ∙ flat_map-append (λ (l : List (PoolPort H)). l) (take k (map next_in old))
@@ -259,7 +259,7 @@ module _ {H : Type 0} where
         ∙ ap (λ l. given_of (take k (map next_in old)) ++ l) (append-nil (get_or (map next_in old) k d.next) ∙ sym mine) in
         record {
           frames = j.frames ∙ mid_frames ∙ g.frames;
-          nexts = j.nexts ∙ map-set next_in now k w0 ∙ ap (λ l. set l k []) g.nexts ∙ upto_set nothing (map next_in old) k d.next there
+          next_workers = j.next_workers ∙ map-set next_in now k w0 ∙ ap (λ l. set l k []) g.next_workers ∙ upto_set nothing (map next_in old) k d.next there
               ∙ ap (λ n. upto nothing n (map next_in old)) suc_is;
           pushed = kept (λ (l : PoolPort H). claims_in l.ledger.pushed) j.pushed g.pushed;
           taken = kept (λ (l : PoolPort H). claims_in l.ledger.taken) j.taken g.taken;

@@ -19,12 +19,12 @@ module _ {H : Type 0} (owns now : List (PoolPort H)) (k : ℕ) (d : PoolPort H) 
     may_lend_at h = subst (λ (l : PoolPort H). 1 < l.ledger.shares) (sym same) (All-get_or (λ (l : PoolPort H). 1 < l.ledger.shares) owns k d lt h)
 
     -- and lends it
-    pub lends_one : (own thief : PoolPort H) (thieves new : List (PoolPort H)) → thieves ≡ map (borrowed {H = H}) (take k owns) → own ≡ lent (get_or now k d)
+    pub lends_one : (own_deque thief : PoolPort H) (thieves new : List (PoolPort H)) → thieves ≡ map (borrowed {H = H}) (take k owns) → own_deque ≡ lent (get_or now k d)
         → thief ≡ borrowed (get_or now k d) → new ≡ thieves ++ thief ∷ []
-        → (set now k own ≡ upto (lent {H = H}) (k + 1) owns) × (new ≡ map (borrowed {H = H}) (take (k + 1) owns))
-    lends_one own thief thieves new h o t n =
+        → (set now k own_deque ≡ upto (lent {H = H}) (k + 1) owns) × (new ≡ map (borrowed {H = H}) (take (k + 1) owns))
+    lends_one own_deque thief thieves new h o t n =
         let one : suc k ≡ k + 1 = omega arith in
-        let o' : own ≡ lent (get_or owns k d) = o ∙ ap (lent {H = H}) same in
+        let o' : own_deque ≡ lent (get_or owns k d) = o ∙ ap (lent {H = H}) same in
         let t' : thief ≡ borrowed (get_or owns k d) = t ∙ ap (borrowed {H = H}) same in (
           (λ i. set (so i) k (o' i)) ∙ lend_one owns k d lt ∙ ap (λ (m : ℕ). upto (lent {H = H}) m owns) one,
           n ∙ (λ i. h i ++ t' i ∷ []) ∙ borrow_one owns k d lt ∙ ap (λ (m : ℕ). map (borrowed {H = H}) (take m owns)) one,

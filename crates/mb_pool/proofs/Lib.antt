@@ -9,12 +9,12 @@ pub mod Handing
 pub mod Lending
 pub mod Lent
 pub mod Lists
-pub mod Looks
 pub mod Loops
 pub mod Making
 pub mod Moves
 pub mod PoolPortCrossing
 pub mod PoolPortLemmas
+pub mod PortViews
 pub mod Ports
 pub mod SameGates
 pub mod Stealing

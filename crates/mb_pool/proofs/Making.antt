@@ -24,10 +24,10 @@ module _ {H : Type 0} (origin : Origin H) (kind : PoolKind) (workers feeds ports
   all_shares = subst (λ (l : PoolPort H). l.ledger ≡ opened l.ledger.gates l.ledger.members ports) (sym is) refl
 
   module _ (ms : List (Option (EndDeques H))) (none : owns ≡ [] → ms ≡ replicate workers None)
-      (own : 0 < length owns → map (own_of {H = H}) ms ≡ map (λ (l : PoolPort H). with_shares 1 l ∷ []) owns)
+      (own_deque : 0 < length owns → map (own_of {H = H}) ms ≡ map (λ (l : PoolPort H). with_shares 1 l ∷ []) owns)
       (next : 0 < length owns → map (next_of {H = H}) ms ≡ map (borrowed_next owns) (numbers 0 (length owns))) where
     pub are_members : AreEndDeques pool ms
-    are_members = made_members origin kind workers feeds owns shared_port.spot new some ms none own next
+    are_members = made_members origin kind workers feeds owns shared_port.spot new some ms none own_deque next
 
     pub are_open : All (λ m. AreOpen (endpoint_of (new_shared_port pool) m)) ms
     are_open = members_open pool ms are_members

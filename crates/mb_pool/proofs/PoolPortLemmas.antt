@@ -6,7 +6,7 @@ use Rattle.mb_gate.specs.declared.claim.Claim.{Claim}
 use Rattle.mb_gate.specs.Untouched.{Origin}
 use Rattle.mb_pool.specs.Ledger.{IndexedClaim, claims_in}
 use Rattle.mb_pool.specs.Moves.{Pushes, Takes}
-use Rattle.mb_pool.specs.Places.{PoolPort, Part, Parts, PoolEndpoint, gates_of, looks, parts_of}
+use Rattle.mb_pool.specs.Places.{PoolPort, Part, Parts, PoolEndpoint, gates_of, ports_of, parts_of}
 use Rattle.mb_pool.specs.PoolPorts.{pushed_first}
 
 module _ {H : Type 0} where
@@ -14,25 +14,25 @@ module _ {H : Type 0} where
   pub same-gates : (old new : PoolEndpoint H) → parts_of new ≡ parts_of old → gates_of new ≡ gates_of old
   same-gates old new same = ap (λ (p : Parts H). p.shared_port.gates) same
 
-  same-first : (before rest : List (PoolPort H)) (look look' : PoolPort H) → claims_in look'.ledger.pushed ≡ claims_in look.ledger.pushed
-      → pushed_first (before ++ look' ∷ rest) ≡ pushed_first (before ++ look ∷ rest)
-  same-first [] rest look look' same = same
-  same-first (l ∷ before) rest look look' same = refl
+  same-first : (before rest : List (PoolPort H)) (pool_port pool_port' : PoolPort H) → claims_in pool_port'.ledger.pushed ≡ claims_in pool_port.ledger.pushed
+      → pushed_first (before ++ pool_port' ∷ rest) ≡ pushed_first (before ++ pool_port ∷ rest)
+  same-first [] rest pool_port pool_port' same = same
+  same-first (l ∷ before) rest pool_port pool_port' same = refl
 
 module _ {H : Type 0} (IsFit : Option (Origin H) → Claim H → Type 0) where
-  pub pushes-first : (old new : PoolEndpoint H) (c : Claim H) → Pushes IsFit old c new → pushed_first (looks new) ≡ pushed_first (looks old) ++ c ∷ []
+  pub pushes-first : (old new : PoolEndpoint H) (c : Claim H) → Pushes IsFit old c new → pushed_first (ports_of new) ≡ pushed_first (ports_of old) ++ c ∷ []
   pushes-first old new c p =
       ap pushed_first p.then' ∙ ap (λ l. claims_in l.pushed) p.last.2
-      ∙ map-append (λ (t : IndexedClaim (Claim H)). t.claim) p.look.ledger.pushed _
+      ∙ map-append (λ (t : IndexedClaim (Claim H)). t.claim) p.pool_port.ledger.pushed _
       ∙ ap (λ l. l ++ c ∷ []) (sym (ap pushed_first p.found))
 
-  takes-first : (old new : PoolEndpoint H) (c : Claim H) → Takes IsFit old c new → pushed_first (looks new) ≡ pushed_first (looks old)
+  takes-first : (old new : PoolEndpoint H) (c : Claim H) → Takes IsFit old c new → pushed_first (ports_of new) ≡ pushed_first (ports_of old)
   takes-first old new c t =
-      ap pushed_first t.then' ∙ same-first t.before t.rest t.look _ (ap (λ l. claims_in l.pushed) t.first.2) ∙ sym (ap pushed_first t.found)
+      ap pushed_first t.then' ∙ same-first t.before t.rest t.pool_port _ (ap (λ l. claims_in l.pushed) t.first.2) ∙ sym (ap pushed_first t.found)
 
   pub taken-same : (A : Type 0) (r : Option (Claim H)) (old new : PoolEndpoint H) → MatchOption r ((new ≡ old) × A) (λ c. Takes IsFit old c new)
-      → pushed_first (looks new) ≡ pushed_first (looks old)
-  taken-same A None old new h = ap (λ w. pushed_first (looks w)) h.0
+      → pushed_first (ports_of new) ≡ pushed_first (ports_of old)
+  taken-same A None old new h = ap (λ w. pushed_first (ports_of w)) h.0
   taken-same A (Some c) old new h = takes-first old new c h
 
 -- what an answer of none says

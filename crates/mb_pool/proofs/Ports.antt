@@ -9,7 +9,7 @@ use Rattle.mb_pool.specs.declared.claim_refused.ClaimRefused.TheVariants.{NoMemo
 use Rattle.mb_pool.specs.Moves.{given_back, IsRefusal, IsRefusedBy, Pushes, PutsFirst, Takes, TakesOne, WasEmpty}
 use Rattle.mb_gate.specs.Untouched.{Origin}
 use Rattle.mb_pool.specs.Account.{Account}
-use Rattle.mb_pool.specs.Places.{PoolPort, Part, Parts, PoolEndpoint, gates_of, looks, part_of, parts_of}
+use Rattle.mb_pool.specs.Places.{PoolPort, Part, Parts, PoolEndpoint, gates_of, ports_of, part_of, parts_of}
 use Rattle.mb_pool.specs.Rule.{Moment, PutsLast, TakesFirst}
 use Rattle.mb_pool.specs.Endpoints.{AreOpen, HasShare, IsOpen, of_feed}
 
@@ -41,45 +41,45 @@ module _ {H : Type 0} where
   map_mid [] rest l l' e = ap (λ p. p ∷ map (part_of {H = H}) rest) e
   map_mid (b ∷ before) rest l l' e = ap (λ ps. part_of b ∷ ps) (map_mid before rest l l' e)
 
-  looks_parts : (own next : List (PoolPort H)) (shared_port : PoolPort H) → map (part_of {H = H}) (own ++ shared_port ∷ next) ≡ map
-      (part_of {H = H}) own ++ part_of shared_port ∷ map (part_of {H = H}) next
-  looks_parts [] next shared_port = refl
-  looks_parts (o ∷ own) next shared_port = ap (λ ps. part_of o ∷ ps) (looks_parts own next shared_port)
+  ports_of_parts : (own_deque next : List (PoolPort H)) (shared_port : PoolPort H) → map (part_of {H = H}) (own_deque ++ shared_port ∷ next) ≡ map
+      (part_of {H = H}) own_deque ++ part_of shared_port ∷ map (part_of {H = H}) next
+  ports_of_parts [] next shared_port = refl
+  ports_of_parts (o ∷ own_deque) next shared_port = ap (λ ps. part_of o ∷ ps) (ports_of_parts own_deque next shared_port)
 
   -- what no call changes says whether the ports are open
   pub still_open : (w w' : PoolEndpoint H) → parts_of w' ≡ parts_of w → AreOpen w → AreOpen w'
   still_open w w' e h =
-      let of_parts : Parts H → List (Part H) = λ p. p.own ++ p.shared_port ∷ p.next in
+      let of_parts : Parts H → List (Part H) = λ p. p.own_deque ++ p.shared_port ∷ p.next in
       let gates : gates_of w' ≡ gates_of w = ap (λ (p : Parts H). p.shared_port.gates) e in
-      let ports : map (part_of {H = H}) (looks w') ≡ map (part_of {H = H}) (looks w) = looks_parts w'.own w'.next w'.shared_port ∙ ap of_parts e
-      ∙ sym (looks_parts w.own w.next w.shared_port) in
-      all_unmap (IsOpen (gates_of w')) (part_of {H = H}) (looks w')
+      let ports : map (part_of {H = H}) (ports_of w') ≡ map (part_of {H = H}) (ports_of w) = ports_of_parts w'.own_deque w'.next w'.shared_port ∙ ap of_parts e
+      ∙ sym (ports_of_parts w.own_deque w.next w.shared_port) in
+      all_unmap (IsOpen (gates_of w')) (part_of {H = H}) (ports_of w')
       (subst (λ (y : Option (Origin H) × List (Part H)). All (IsOpen y.0) y.1) (λ i. (sym gates i, sym ports i))
-      (All-map (IsOpen (gates_of w)) (part_of {H = H}) (looks w) h))
+      (All-map (IsOpen (gates_of w)) (part_of {H = H}) (ports_of w) h))
 
   pub feed_parts : (shared_port door' : PoolPort H) → part_of door' ≡ part_of shared_port → parts_of (of_feed door') ≡ parts_of (of_feed shared_port)
-  feed_parts shared_port door' e = ap (λ (p : Part H). let ps : Parts H = record { own = []; shared_port = p; next = [] } in ps) e
+  feed_parts shared_port door' e = ap (λ (p : Part H). let ps : Parts H = record { own_deque = []; shared_port = p; next = [] } in ps) e
 
   -- an end of a stealing pool, by its ports
   abbrev pub stealing : PoolPort H → PoolPort H → List (PoolPort H) → PoolEndpoint H
-  stealing own shared_port next = record { own = own ∷ []; shared_port = shared_port; next = next }
+  stealing own_deque shared_port next = record { own_deque = own_deque ∷ []; shared_port = shared_port; next = next }
 
-  pub own_parts : (own own' shared_port : PoolPort H) (next : List (PoolPort H)) → part_of own' ≡ part_of own
-      → parts_of (stealing own' shared_port next) ≡ parts_of (stealing own shared_port next)
-  own_parts own own' shared_port next e = ap (λ (p : Part H). let ps : Parts H = record
-      { own = p ∷ []; shared_port = part_of shared_port; next = map (part_of {H = H}) next } in ps) e
+  pub own_parts : (own_deque own_deque' shared_port : PoolPort H) (next : List (PoolPort H)) → part_of own_deque' ≡ part_of own_deque
+      → parts_of (stealing own_deque' shared_port next) ≡ parts_of (stealing own_deque shared_port next)
+  own_parts own_deque own_deque' shared_port next e = ap (λ (p : Part H). let ps : Parts H = record
+      { own_deque = p ∷ []; shared_port = part_of shared_port; next = map (part_of {H = H}) next } in ps) e
 
   pub shared_port_open : (w : PoolEndpoint H) → AreOpen w → IsOpen (gates_of w) (part_of w.shared_port)
-  shared_port_open w h = let P : PoolPort H → Type 0 = λ l. IsOpen (gates_of w) (part_of l) in All-head P w.shared_port w.next (all_right P w.own (w.shared_port ∷ w.next) h)
+  shared_port_open w h = let P : PoolPort H → Type 0 = λ l. IsOpen (gates_of w) (part_of l) in All-head P w.shared_port w.next (all_right P w.own_deque (w.shared_port ∷ w.next) h)
 
-  pub own_open : (own shared_port : PoolPort H) (next : List (PoolPort H)) → AreOpen (stealing own shared_port next)
-      → IsOpen (gates_of (stealing own shared_port next)) (part_of own)
-  own_open own shared_port next h = All-head (λ (l : PoolPort H). IsOpen shared_port.ledger.gates (part_of l)) own (shared_port ∷ next) h
+  pub own_open : (own_deque shared_port : PoolPort H) (next : List (PoolPort H)) → AreOpen (stealing own_deque shared_port next)
+      → IsOpen (gates_of (stealing own_deque shared_port next)) (part_of own_deque)
+  own_open own_deque shared_port next h = All-head (λ (l : PoolPort H). IsOpen shared_port.ledger.gates (part_of l)) own_deque (shared_port ∷ next) h
 
-  pub next_open : (own shared_port : PoolPort H) (next : List (PoolPort H)) → AreOpen (stealing own shared_port next) → All (HasShare {H = H}) next
-  next_open own shared_port next h =
+  pub next_open : (own_deque shared_port : PoolPort H) (next : List (PoolPort H)) → AreOpen (stealing own_deque shared_port next) → All (HasShare {H = H}) next
+  next_open own_deque shared_port next h =
       let P : PoolPort H → Type 0 = λ l. IsOpen shared_port.ledger.gates (part_of l) in
-      All-weaker P (HasShare {H = H}) (λ l o. o.share) next (All-tail P shared_port next (All-tail P own (shared_port ∷ next) h))
+      All-weaker P (HasShare {H = H}) (λ l o. o.share) next (All-tail P shared_port next (All-tail P own_deque (shared_port ∷ next) h))
 
   module _ (IsFit : Option (Origin H) → Claim H → Type 0) where
     puts_part : (l : PoolPort H) (c : Claim H) (after : Account H) → PutsLast IsFit l.ledger c after → part_of (record l { ledger = after }) ≡ part_of l
@@ -98,7 +98,7 @@ module _ {H : Type 0} where
     pub puts_first : (l l' : PoolPort H) (rest : List (PoolPort H)) (c : Claim H) → l'.spot ≡ l.spot → PutsLast IsFit l.ledger c l'.ledger
         → PutsFirst IsFit (l ∷ rest) c (l' ∷ rest)
     puts_first l l' rest c s p = record {
-      look = l;
+      pool_port = l;
       rest = rest;
       after = l'.ledger;
       found = refl;
@@ -111,7 +111,7 @@ module _ {H : Type 0} where
         → TakesOne IsFit (before ++ l ∷ rest) c (before ++ l' ∷ rest)
     takes_here before l l' rest c empty s t = record {
       before = before;
-      look = l;
+      pool_port = l;
       rest = rest;
       after = l'.ledger;
       found = refl;
@@ -132,7 +132,7 @@ module _ {H : Type 0} where
         → TakesOne IsFit (first ∷ old) c (first ∷ new)
     takes_later first old new c empty t = record {
       before = first ∷ t.before;
-      look = t.look;
+      pool_port = t.pool_port;
       rest = t.rest;
       after = t.after;
       found = ap (λ l. first ∷ l) t.found;
@@ -142,8 +142,8 @@ module _ {H : Type 0} where
     }
 
     pub takes_parts : (old new : List (PoolPort H)) (c : Claim H) → TakesOne IsFit old c new → map (part_of {H = H}) new ≡ map (part_of {H = H}) old
-    takes_parts old new c t = ap (map (part_of {H = H})) t.then' ∙ map_mid t.before t.rest t.look (record t.look { ledger = t.after })
-        (takes_part t.look c t.after t.first)
+    takes_parts old new c t = ap (map (part_of {H = H})) t.then' ∙ map_mid t.before t.rest t.pool_port (record t.pool_port { ledger = t.after })
+        (takes_part t.pool_port c t.after t.first)
         ∙ sym (ap (map (part_of {H = H})) t.found)
 
     -- what was taken is of the gates of the ports
@@ -151,56 +151,56 @@ module _ {H : Type 0} where
         → TakesOne IsFit old c new → IsFit g c
     takes_fit g old new c opened t =
         let Open : PoolPort H → Type 0 = λ l. IsOpen g (part_of l) in
-        let mine : IsOpen g (part_of t.look) = All-head Open t.look t.rest
-        (all_right Open t.before (t.look ∷ t.rest) (subst (All Open) t.found opened)) in
+        let mine : IsOpen g (part_of t.pool_port) = All-head Open t.pool_port t.rest
+        (all_right Open t.before (t.pool_port ∷ t.rest) (subst (All Open) t.found opened)) in
         let m = t.first.1 in
-        subst (λ x. IsFit x c) mine.same (All-head (IsFit t.look.ledger.gates) c t.first.0
-        (all_right (IsFit t.look.ledger.gates) m.gone (c ∷ t.first.0) m.fit))
+        subst (λ x. IsFit x c) mine.same (All-head (IsFit t.pool_port.ledger.gates) c t.first.0
+        (all_right (IsFit t.pool_port.ledger.gates) m.gone (c ∷ t.first.0) m.fit))
 
     pub take_fits : (w new : PoolEndpoint H) (r : Option (Claim H)) (N : Type 0) → AreOpen w → MatchOption r N (λ c. Takes IsFit w c new)
         → IfSome r (λ c. IsFit (gates_of w) c)
     take_fits w new None N opened h = tt
-    take_fits w new (Some c) N opened t = takes_fit (gates_of w) (looks w) (looks new) c opened t
+    take_fits w new (Some c) N opened t = takes_fit (gates_of w) (ports_of w) (ports_of new) c opened t
 
     -- an end of a stealing pool looks in its own deque, in the injector, and in the next ends' deques
-    module _ (own own' shared_port door' : PoolPort H) (next next' : List (PoolPort H)) where
-      pub push_by_own : (c : Claim H) → own'.spot ≡ own.spot → PutsLast IsFit own.ledger c own'.ledger
-          → Pushes IsFit (stealing own shared_port next) c (stealing own' shared_port next)
-      push_by_own c s p = puts_first own own' (shared_port ∷ next) c s p
+    module _ (own_deque own_deque' shared_port door' : PoolPort H) (next next' : List (PoolPort H)) where
+      pub push_by_own : (c : Claim H) → own_deque'.spot ≡ own_deque.spot → PutsLast IsFit own_deque.ledger c own_deque'.ledger
+          → Pushes IsFit (stealing own_deque shared_port next) c (stealing own_deque' shared_port next)
+      push_by_own c s p = puts_first own_deque own_deque' (shared_port ∷ next) c s p
 
-      pub refused_by_own : (c : Claim H) → own.spot.capacity ≡ None → IsRefusedBy IsFit (stealing own shared_port next) (NoMemory c)
-      refused_by_own c none = (own, shared_port ∷ next, refl, none)
+      pub refused_by_own : (c : Claim H) → own_deque.spot.capacity ≡ None → IsRefusedBy IsFit (stealing own_deque shared_port next) (NoMemory c)
+      refused_by_own c none = (own_deque, shared_port ∷ next, refl, none)
 
-      pub took_own : (c : Claim H) → own'.spot ≡ own.spot → TakesFirst IsFit own.ledger c own'.ledger
-          → Takes IsFit (stealing own shared_port next) c (stealing own' shared_port next)
-      took_own c s t = takes_here [] own own' (shared_port ∷ next) c (All-nil (WasEmpty IsFit)) s t
+      pub took_own : (c : Claim H) → own_deque'.spot ≡ own_deque.spot → TakesFirst IsFit own_deque.ledger c own_deque'.ledger
+          → Takes IsFit (stealing own_deque shared_port next) c (stealing own_deque' shared_port next)
+      took_own c s t = takes_here [] own_deque own_deque' (shared_port ∷ next) c (All-nil (WasEmpty IsFit)) s t
 
-      module _ (still : own' ≡ own) (empty : WasEmpty IsFit own) where
+      module _ (still : own_deque' ≡ own_deque) (empty : WasEmpty IsFit own_deque) where
         pub took_shared_port : (c : Claim H) → door'.spot ≡ shared_port.spot → TakesFirst IsFit shared_port.ledger c door'.ledger
-            → Takes IsFit (stealing own shared_port next) c (stealing own' door' next)
-        took_shared_port c s t = subst (λ o. TakesOne IsFit (own ∷ shared_port ∷ next) c (o ∷ door' ∷ next)) (sym still)
-            (takes_later own (shared_port ∷ next) (door' ∷ next) c empty (takes_here [] shared_port door' next c (All-nil (WasEmpty IsFit)) s t))
+            → Takes IsFit (stealing own_deque shared_port next) c (stealing own_deque' door' next)
+        took_shared_port c s t = subst (λ o. TakesOne IsFit (own_deque ∷ shared_port ∷ next) c (o ∷ door' ∷ next)) (sym still)
+            (takes_later own_deque (shared_port ∷ next) (door' ∷ next) c empty (takes_here [] shared_port door' next c (All-nil (WasEmpty IsFit)) s t))
 
         pub took_shared_port_same : (c : Claim H) → door'.spot ≡ shared_port.spot → TakesFirst IsFit shared_port.ledger c door'.ledger
-            → parts_of (stealing own' door' next) ≡ parts_of (stealing own shared_port next)
-        took_shared_port_same c s t = (λ i. record { own = part_of (still i) ∷ []; shared_port = took_part shared_port door' c s t i; next = map (part_of {H = H}) next })
+            → parts_of (stealing own_deque' door' next) ≡ parts_of (stealing own_deque shared_port next)
+        took_shared_port_same c s t = (λ i. record { own_deque = part_of (still i) ∷ []; shared_port = took_part shared_port door' c s t i; next = map (part_of {H = H}) next })
 
         module _ (still' : door' ≡ shared_port) (empty' : WasEmpty IsFit shared_port) where
           pub took_next : (r : Option (Claim H)) → MatchOption r ((next' ≡ next) × All (WasEmpty IsFit) next) (λ c. TakesOne IsFit next c next')
-              → MatchOption r ((stealing own' door' next' ≡ stealing own shared_port next) × All (WasEmpty IsFit) (looks (stealing own shared_port next)))
-              (λ c. Takes IsFit (stealing own shared_port next) c (stealing own' door' next'))
+              → MatchOption r ((stealing own_deque' door' next' ≡ stealing own_deque shared_port next) × All (WasEmpty IsFit) (ports_of (stealing own_deque shared_port next)))
+              (λ c. Takes IsFit (stealing own_deque shared_port next) c (stealing own_deque' door' next'))
           took_next None h = (
-            (λ i. record { own = still i ∷ []; shared_port = still' i; next = h.0 i }),
-            All-cons (WasEmpty IsFit) own (shared_port ∷ next) empty (All-cons (WasEmpty IsFit) shared_port next empty' h.1),
+            (λ i. record { own_deque = still i ∷ []; shared_port = still' i; next = h.0 i }),
+            All-cons (WasEmpty IsFit) own_deque (shared_port ∷ next) empty (All-cons (WasEmpty IsFit) shared_port next empty' h.1),
           )
-          took_next (Some c) t = subst (λ (y : PoolPort H × PoolPort H). TakesOne IsFit (own ∷ shared_port ∷ next) c (y.0 ∷ y.1 ∷ next'))
+          took_next (Some c) t = subst (λ (y : PoolPort H × PoolPort H). TakesOne IsFit (own_deque ∷ shared_port ∷ next) c (y.0 ∷ y.1 ∷ next'))
               (λ i. (sym still i, sym still' i))
-              (takes_later own (shared_port ∷ next) (shared_port ∷ next') c empty (takes_later shared_port next next' c empty' t))
+              (takes_later own_deque (shared_port ∷ next) (shared_port ∷ next') c empty (takes_later shared_port next next' c empty' t))
 
           pub took_next_same : (r : Option (Claim H)) → MatchOption r ((next' ≡ next) × All (WasEmpty IsFit) next) (λ c. TakesOne IsFit next c next')
-              → parts_of (stealing own' door' next') ≡ parts_of (stealing own shared_port next)
-          took_next_same None h = (λ i. record { own = part_of (still i) ∷ []; shared_port = part_of (still' i); next = map (part_of {H = H}) (h.0 i) })
-          took_next_same (Some c) t = (λ i. record { own = part_of (still i) ∷ []; shared_port = part_of (still' i); next = takes_parts next next' c t i })
+              → parts_of (stealing own_deque' door' next') ≡ parts_of (stealing own_deque shared_port next)
+          took_next_same None h = (λ i. record { own_deque = part_of (still i) ∷ []; shared_port = part_of (still' i); next = map (part_of {H = H}) (h.0 i) })
+          took_next_same (Some c) t = (λ i. record { own_deque = part_of (still i) ∷ []; shared_port = part_of (still' i); next = takes_parts next next' c t i })
 
     -- by the port of the queue that all share alone
     module _ (shared_port door' : PoolPort H) (same : door'.spot ≡ shared_port.spot) where
@@ -219,7 +219,7 @@ module _ {H : Type 0} where
 
       pub take_by_shared_port : (r : Option (Claim H)) → MatchOption r ((door' ≡ shared_port) × Moment IsFit shared_port.ledger [])
           (λ c. TakesFirst IsFit shared_port.ledger c door'.ledger)
-          → MatchOption r ((of_feed door' ≡ of_feed shared_port) × All (WasEmpty IsFit) (looks (of_feed shared_port)))
+          → MatchOption r ((of_feed door' ≡ of_feed shared_port) × All (WasEmpty IsFit) (ports_of (of_feed shared_port)))
           (λ c. Takes IsFit (of_feed shared_port) c (of_feed door'))
       take_by_shared_port None h = (ap (of_feed {H = H}) h.0, All-cons (WasEmpty IsFit) shared_port [] h.1 (All-nil (WasEmpty IsFit)))
       take_by_shared_port (Some c) t = takes_here [] shared_port door' [] c (All-nil (WasEmpty IsFit)) same t

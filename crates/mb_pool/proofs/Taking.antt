@@ -35,6 +35,6 @@ module _ {H : Type 0} (IsFit : Option (Origin H) → Claim H → Type 0) (base s
 
   -- and its own deque was emptied
   pub empties_next : (old mid now : List (Claim H)) → Empties IsFit base.ledger.gates (owns_of done) old mid
-      → Empties IsFit (gates_of end) end.own mid now
+      → Empties IsFit (gates_of end) end.own_deque mid now
       → Empties IsFit base.ledger.gates (owns_of (done ++ end ∷ [])) old now
   empties_next old mid now p q = one_more_own IsFit base done end old mid now p end_here q

@@ -16,7 +16,7 @@ use Rattle.mb_pool.specs.Ends.{joined, nexts_of, owns_of, shares_in, where_is}
 use Rattle.mb_pool.specs.Ledger.{claims_in}
 use Rattle.mb_pool.specs.Made.{AreDeques, IsLeft, IsWhole}
 use Rattle.mb_gate.specs.Untouched.{Origin}
-use Rattle.mb_pool.specs.Places.{AreEnds, AreFeeds, PoolPort, Part, Parts, QueueInfo, PoolEndpoint, PoolView, deque_parts, shared_port_part, end_parts, feed_parts, looks}
+use Rattle.mb_pool.specs.Places.{AreEnds, AreFeeds, PoolPort, Part, Parts, QueueInfo, PoolEndpoint, PoolView, deque_parts, shared_port_part, end_parts, feed_parts, ports_of}
 use Rattle.mb_pool.specs.Places.{numbers, owner_of, part_of, parts_of, pushed_at, pushed_by, taken_at, taken_by}
 use Rattle.mb_pool.proofs.Begins.{cons_head, cons_tail, cons_nil, const_numbers, drop_length, length_numbers, map_map, map_replicate, singles}
 use Rattle.mb_pool.proofs.Lists.{same_elements, from_left, behind, before}
@@ -103,12 +103,12 @@ module _ {H : Type 0} where
       let number : owner_of s ≡ n = ap owner_of h.0.1 in
       let whole : length pool.deques ≡ length pre + suc (length post) = ap length is ∙ length_append pre (s ∷ post) in
       let lt : n < length ends = omega (arith, whole, few) in
-      let own : (d : PoolEndpoint H) → map (part_of {H = H}) (get_or ends n d).own ≡ deque_part pool s ∷ []
-      = λ d. ap (λ (p : Parts H). p.own) (end_at pool ends e n d lt) ∙ ap (λ l. deque_parts pool (take 1 (drop n l))) is
+      let own_deque : (d : PoolEndpoint H) → map (part_of {H = H}) (get_or ends n d).own_deque ≡ deque_part pool s ∷ []
+      = λ d. ap (λ (p : Parts H). p.own_deque) (end_at pool ends e n d lt) ∙ ap (λ l. deque_parts pool (take 1 (drop n l))) is
       ∙ ap (λ l. deque_parts pool (take 1 l)) (drop_length pre (s ∷ post)) in
       let here : IsAmong ends (deque_part pool s) = subst (λ k. (k < length ends)
-      × ((d : PoolEndpoint H) → MayJoin (get_or ends k d).own (deque_part pool s))) (sym number)
-      (lt, λ d. may_join_one (get_or ends n d).own (deque_part pool s) (own d) (omega arith)) in
+      × ((d : PoolEndpoint H) → MayJoin (get_or ends k d).own_deque (deque_part pool s))) (sym number)
+      (lt, λ d. may_join_one (get_or ends n d).own_deque (deque_part pool s) (own_deque d) (omega arith)) in
       let more : length (pre ++ s ∷ []) ≡ n + 1 = length_append pre (s ∷ []) in
       All-cons (λ t. IsAmong ends (deque_part pool t)) s post here
       (own_deques pool ends e (pre ++ s ∷ []) post (is ∙ sym (append_assoc pre (s ∷ []) post)) few (subst (λ k. AreDeques k post) (sym more) h.1))
@@ -154,14 +154,14 @@ module _ {H : Type 0} where
   sum_ones zero p e = refl
   sum_ones (suc n) p e = let a = sum_by-cons (λ (q : Part H). q.shares) p (replicate n p) in let r = sum_ones n p e in omega (arith, a, r, e)
 
-  totals : (ws : List (PoolEndpoint H)) (m : ℕ) → All (λ (w : PoolEndpoint H). shares_in w.own + shares_in w.next ≡ m) ws
+  totals : (ws : List (PoolEndpoint H)) (m : ℕ) → All (λ (w : PoolEndpoint H). shares_in w.own_deque + shares_in w.next ≡ m) ws
       → shares_in (owns_of ws) + shares_in (nexts_of ws) ≡ length ws * m
   totals [] m h = omega arith
   totals (w ∷ ws) m h =
-      let P : PoolEndpoint H → Type 0 = λ v. shares_in v.own + shares_in v.next ≡ m in
+      let P : PoolEndpoint H → Type 0 = λ v. shares_in v.own_deque + shares_in v.next ≡ m in
       let f : PoolPort H → ℕ = λ l. l.ledger.shares in
       let mine = All-head P w ws h in let r = totals ws m (All-tail P w ws h) in
-      let a = sum_by-append f w.own (owns_of ws) in let b = sum_by-append f w.next (nexts_of ws) in
+      let a = sum_by-append f w.own_deque (owns_of ws) in let b = sum_by-append f w.next (nexts_of ws) in
       let one : suc (length ws) * m ≡ length ws * m + m = suc-mul (length ws) m in omega (arith, mine, r, a, b, one)
 
   all_shares : (pool : PoolView H) (ends : List (PoolEndpoint H)) → AreEnds pool ends
@@ -169,16 +169,16 @@ module _ {H : Type 0} where
   all_shares pool ends e =
       let ds : List QueueInfo = pool.deques in
       let sum : List (Part H) → ℕ = sum_by (λ (p : Part H). p.shares) in
-      let Q : Parts H → Type 0 = λ p. sum p.own + sum p.next ≡ length ds in
+      let Q : Parts H → Type 0 = λ p. sum p.own_deque + sum p.next ≡ length ds in
       let each = each_end pool ends e Q (λ k. (λ i. sum_deques pool (take 1 (drop k ds)) i + sum_deques pool (drop (k + 1) ds ++ take k ds) i)
       ∙ cut ds k) in
-      let all = All-weaker (λ (w : PoolEndpoint H). Q (parts_of w)) (λ (w : PoolEndpoint H). shares_in w.own + shares_in w.next ≡ length ds)
-      (λ w h. (λ i. sum_parts w.own i + sum_parts w.next i) ∙ h) ends each in
+      let all = All-weaker (λ (w : PoolEndpoint H). Q (parts_of w)) (λ (w : PoolEndpoint H). shares_in w.own_deque + shares_in w.next ≡ length ds)
+      (λ w h. (λ i. sum_parts w.own_deque i + sum_parts w.next i) ∙ h) ends each in
       totals ends (length ds) all ∙ ap (λ n. n * length ds) (count_of pool ends e)
 
-  owns_flat : (ws : List (PoolEndpoint H)) → map (part_of {H = H}) (owns_of ws) ≡ flat_map (λ (p : Parts H). p.own) (map (parts_of {H = H}) ws)
+  owns_flat : (ws : List (PoolEndpoint H)) → map (part_of {H = H}) (owns_of ws) ≡ flat_map (λ (p : Parts H). p.own_deque) (map (parts_of {H = H}) ws)
   owns_flat [] = refl
-  owns_flat (w ∷ ws) = map-append (part_of {H = H}) w.own (owns_of ws) ∙ ap (λ l. map (part_of {H = H}) w.own ++ l) (owns_flat ws)
+  owns_flat (w ∷ ws) = map-append (part_of {H = H}) w.own_deque (owns_of ws) ∙ ap (λ l. map (part_of {H = H}) w.own_deque ++ l) (owns_flat ws)
 
   -- the ends' own deques are the deques of the pool
   own_parts : (pool : PoolView H) (ends : List (PoolEndpoint H)) → IsWhole pool → AreEnds pool ends
@@ -186,8 +186,8 @@ module _ {H : Type 0} where
   own_parts pool ends w e =
       let ds : List QueueInfo = pool.deques in
       let at : ℕ → List (Part H) = λ k. deque_parts pool (take 1 (drop k ds)) in
-      owns_flat ends ∙ ap (flat_map (λ (p : Parts H). p.own)) e ∙ flat_of (λ (p : Parts H). p.own) (map (end_parts pool) (numbers 0 pool.ends))
-      ∙ ap (flat_map (λ (l : List (Part H)). l)) (map_map (λ (p : Parts H). p.own) (end_parts pool) (numbers 0 pool.ends)) ∙ by_kind w.same_count
+      owns_flat ends ∙ ap (flat_map (λ (p : Parts H). p.own_deque)) e ∙ flat_of (λ (p : Parts H). p.own_deque) (map (end_parts pool) (numbers 0 pool.ends))
+      ∙ ap (flat_map (λ (l : List (Part H)). l)) (map_map (λ (p : Parts H). p.own_deque) (end_parts pool) (numbers 0 pool.ends)) ∙ by_kind w.same_count
     where
       by_kind : (pool.deques ≡ []) ⊎ (length pool.deques ≡ pool.ends)
           → flat_map (λ (l : List (Part H)). l) (map (λ (k : ℕ). deque_parts pool (take 1 (drop k pool.deques)))
@@ -202,11 +202,11 @@ module _ {H : Type 0} where
 
   owns_where : (old new : List (PoolEndpoint H)) → map (frame_of {H = H}) new ≡ map (frame_of {H = H}) old
       → map (where_is {H = H}) (owns_of new) ≡ map (where_is {H = H}) (owns_of old)
-  owns_where old new e = flat new ∙ ap (flat_map (λ (f : Frame H). f.own)) e ∙ sym (flat old)
+  owns_where old new e = flat new ∙ ap (flat_map (λ (f : Frame H). f.own_deque)) e ∙ sym (flat old)
     where
-      flat : (ws : List (PoolEndpoint H)) → map (where_is {H = H}) (owns_of ws) ≡ flat_map (λ (f : Frame H). f.own) (map (frame_of {H = H}) ws)
+      flat : (ws : List (PoolEndpoint H)) → map (where_is {H = H}) (owns_of ws) ≡ flat_map (λ (f : Frame H). f.own_deque) (map (frame_of {H = H}) ws)
       flat [] = refl
-      flat (w ∷ ws) = map-append (where_is {H = H}) w.own (owns_of ws) ∙ ap (λ l. map (where_is {H = H}) w.own ++ l) (flat ws)
+      flat (w ∷ ws) = map-append (where_is {H = H}) w.own_deque (owns_of ws) ∙ ap (λ l. map (where_is {H = H}) w.own_deque ++ l) (flat ws)
 
   pub shared_ports_same : (old new : List (PoolEndpoint H)) → map (frame_of {H = H}) new ≡ map (frame_of {H = H}) old → shared_ports_of new ≡ shared_ports_of old
   shared_ports_same old new e = sym (map_map (λ (f : Frame H). f.shared_port) (frame_of {H = H}) new) ∙ ap (map (λ (f : Frame H). f.shared_port)) e
@@ -267,22 +267,22 @@ module _ {H : Type 0} where
 
   -- all that is known of ends without ports of the other deques
   spread : (f : PoolPort H → List (Claim H)) (ws : List (PoolEndpoint H)) → nexts_of ws ≡ []
-      → IsPermutation (flat_map (λ (v : PoolEndpoint H). flat_map f (looks v)) ws) (flat_map f (owns_of ws) ++ flat_map f (shared_ports_of ws))
+      → IsPermutation (flat_map (λ (v : PoolEndpoint H). flat_map f (ports_of v)) ws) (flat_map f (owns_of ws) ++ flat_map f (shared_ports_of ws))
   spread f [] none = IsPermutation-refl []
   spread f (w ∷ ws) none =
       let mine : w.next ≡ [] = first_nil w.next (nexts_of ws) none in let rest : nexts_of ws ≡ [] = second_nil w.next (nexts_of ws) none in
-      let o : List (Claim H) = flat_map f w.own in let d : List (Claim H) = f w.shared_port in
+      let o : List (Claim H) = flat_map f w.own_deque in let d : List (Claim H) = f w.shared_port in
       let os : List (Claim H) = flat_map f (owns_of ws) in let ds : List (Claim H) = flat_map f (shared_ports_of ws) in
-      let all : List (Claim H) = flat_map (λ (v : PoolEndpoint H). flat_map f (looks v)) ws in
-      let here : flat_map f (looks w) ≡ o ++ d = ap (λ n. flat_map f (w.own ++ w.shared_port ∷ n)) mine ∙ flat_map-append f w.own (w.shared_port ∷ [])
+      let all : List (Claim H) = flat_map (λ (v : PoolEndpoint H). flat_map f (ports_of v)) ws in
+      let here : flat_map f (ports_of w) ≡ o ++ d = ap (λ n. flat_map f (w.own_deque ++ w.shared_port ∷ n)) mine ∙ flat_map-append f w.own_deque (w.shared_port ∷ [])
       ∙ ap (λ l. o ++ l) (append-nil d) in
-      let to : (o ++ os) ++ (d ++ ds) ≡ flat_map f (w.own ++ owns_of ws) ++ (d ++ ds) =
-      ap (λ l. l ++ (d ++ ds)) (sym (flat_map-append f w.own (owns_of ws))) in
-      from_left (flat_map f (looks w) ++ all) ((o ++ d) ++ all) (flat_map f (w.own ++ owns_of ws) ++ (d ++ ds)) (ap (λ l. l ++ all) here)
-      (IsPermutation-trans ((o ++ d) ++ all) ((o ++ d) ++ (os ++ ds)) (flat_map f (w.own ++ owns_of ws) ++ (d ++ ds))
+      let to : (o ++ os) ++ (d ++ ds) ≡ flat_map f (w.own_deque ++ owns_of ws) ++ (d ++ ds) =
+      ap (λ l. l ++ (d ++ ds)) (sym (flat_map-append f w.own_deque (owns_of ws))) in
+      from_left (flat_map f (ports_of w) ++ all) ((o ++ d) ++ all) (flat_map f (w.own_deque ++ owns_of ws) ++ (d ++ ds)) (ap (λ l. l ++ all) here)
+      (IsPermutation-trans ((o ++ d) ++ all) ((o ++ d) ++ (os ++ ds)) (flat_map f (w.own_deque ++ owns_of ws) ++ (d ++ ds))
       (behind (o ++ d) all (os ++ ds) (spread f ws rest))
-      (IsPermutation-trans ((o ++ d) ++ (os ++ ds)) ((o ++ os) ++ (d ++ ds)) (flat_map f (w.own ++ owns_of ws) ++ (d ++ ds)) (exchange o d os ds)
-      (same_elements ((o ++ os) ++ (d ++ ds)) (flat_map f (w.own ++ owns_of ws) ++ (d ++ ds)) to)))
+      (IsPermutation-trans ((o ++ d) ++ (os ++ ds)) ((o ++ os) ++ (d ++ ds)) (flat_map f (w.own_deque ++ owns_of ws) ++ (d ++ ds)) (exchange o d os ds)
+      (same_elements ((o ++ os) ++ (d ++ ds)) (flat_map f (w.own_deque ++ owns_of ws) ++ (d ++ ds)) to)))
     where
       first_nil : (xs ys : List (PoolPort H)) → xs ++ ys ≡ [] → xs ≡ []
       first_nil [] ys e = refl
@@ -295,7 +295,7 @@ module _ {H : Type 0} where
   -- feeds have ports of the queue that all share alone
   feeds_flat : (f : PoolPort H → List (Claim H)) (pool : PoolView H) (n : ℕ) (feeds : List (PoolEndpoint H))
       → map (parts_of {H = H}) feeds ≡ replicate n (feed_parts pool)
-      → flat_map (λ (v : PoolEndpoint H). flat_map f (looks v)) feeds ≡ flat_map f (shared_ports_of feeds)
+      → flat_map (λ (v : PoolEndpoint H). flat_map f (ports_of v)) feeds ≡ flat_map f (shared_ports_of feeds)
   feeds_flat f pool n [] e = refl
   feeds_flat f pool zero (w ∷ feeds) e = absurd (cons_nil (parts_of w) (map (parts_of {H = H}) feeds) e)
   feeds_flat f pool (suc n) (w ∷ feeds) e =
@@ -303,9 +303,9 @@ module _ {H : Type 0} where
       (replicate n (feed_parts pool)) e in
       let rest = feeds_flat f pool n feeds (cons_tail (parts_of w) (feed_parts pool) (map (parts_of {H = H}) feeds)
       (replicate n (feed_parts pool)) e) in
-      let own : w.own ≡ [] = no_parts w.own (ap (λ (p : Parts H). p.own) mine) in
+      let own_deque : w.own_deque ≡ [] = no_parts w.own_deque (ap (λ (p : Parts H). p.own_deque) mine) in
       let next : w.next ≡ [] = no_parts w.next (ap (λ (p : Parts H). p.next) mine) in
-      (λ i. flat_map f (own i ++ w.shared_port ∷ next i) ++ rest i) ∙ ap (λ l. l ++ flat_map f (shared_ports_of feeds)) (append-nil (f w.shared_port))
+      (λ i. flat_map f (own_deque i ++ w.shared_port ∷ next i) ++ rest i) ∙ ap (λ l. l ++ flat_map f (shared_ports_of feeds)) (append-nil (f w.shared_port))
     where
       no_parts : (xs : List (PoolPort H)) → map (part_of {H = H}) xs ≡ [] → xs ≡ []
       no_parts [] e = refl
@@ -372,21 +372,21 @@ module _ {H : Type 0} (IsFit : Option (Origin H) → Claim H → Type 0) (pool :
       both P Q R f (l ∷ ls) p q = All-cons R l ls (f l (All-head P l ls p) (All-head Q l ls q))
           (both P Q R f ls (All-tail P l ls p) (All-tail Q l ls q))
 
-  ports_know : (f : PoolPort H → List (Claim H)) → IsPermutation (flat_map (λ (v : PoolEndpoint H). flat_map f (looks v)) now)
-      (flat_map (λ (v : PoolEndpoint H). flat_map f (looks v)) ends) → f first ≡ flat_map f (shared_ports_of now)
+  ports_know : (f : PoolPort H → List (Claim H)) → IsPermutation (flat_map (λ (v : PoolEndpoint H). flat_map f (ports_of v)) now)
+      (flat_map (λ (v : PoolEndpoint H). flat_map f (ports_of v)) ends) → f first ≡ flat_map f (shared_ports_of now)
       → f last ≡ flat_map f (first ∷ shared_ports_of feeds) → IsPermutation (flat_map f ports)
-      (flat_map (λ (v : PoolEndpoint H). flat_map f (looks v)) (ends ++ feeds))
+      (flat_map (λ (v : PoolEndpoint H). flat_map f (ports_of v)) (ends ++ feeds))
   ports_know f same is_f is_l =
-      let F : List (PoolEndpoint H) → List (Claim H) = flat_map (λ (v : PoolEndpoint H). flat_map f (looks v)) in
+      let F : List (PoolEndpoint H) → List (Claim H) = flat_map (λ (v : PoolEndpoint H). flat_map f (ports_of v)) in
       let o : List (Claim H) = flat_map f (owns_of now) in let d : List (Claim H) = flat_map f (shared_ports_of now) in
       let e : List (Claim H) = flat_map f (shared_ports_of feeds) in
       let from : flat_map f ports ≡ (o ++ d) ++ e = flat_map-append f (owns_of now) (last ∷ [])
       ∙ ap (λ l. o ++ l) (append-nil (f last) ∙ is_l ∙ ap (λ l. l ++ e) is_f) ∙ sym (append_assoc o d e) in
-      let to : F (ends ++ feeds) ≡ F ends ++ e = flat_map-append (λ (v : PoolEndpoint H). flat_map f (looks v)) ends feeds
+      let to : F (ends ++ feeds) ≡ F ends ++ e = flat_map-append (λ (v : PoolEndpoint H). flat_map f (ports_of v)) ends feeds
       ∙ ap (λ l. F ends ++ l) (feeds_flat f pool pool.feeds feeds are_feeds) in
       from_left (flat_map f ports) ((o ++ d) ++ e) (F (ends ++ feeds)) from
       (IsPermutation-trans ((o ++ d) ++ e) (F now ++ e) (F (ends ++ feeds))
-      (before (o ++ d) (F now) e (IsPermutation-sym (F now) (o ++ d) (spread f now gathered.nexts)))
+      (before (o ++ d) (F now) e (IsPermutation-sym (F now) (o ++ d) (spread f now gathered.next_workers)))
       (IsPermutation-trans (F now ++ e) (F ends ++ e) (F (ends ++ feeds)) (before (F now) (F ends) e same)
       (same_elements (F ends ++ e) (F (ends ++ feeds)) (sym to))))
 
@@ -422,10 +422,10 @@ module _ {H : Type 0} (IsFit : Option (Origin H) → Claim H → Type 0) where
 
   pub one_more_own : (base : PoolPort H) (done : List (PoolEndpoint H)) (end : PoolEndpoint H) (a b c : List (Claim H))
       → Empties IsFit base.ledger.gates (owns_of done) a b → where_is end.shared_port ≡ where_is base
-      → Empties IsFit end.shared_port.ledger.gates end.own b c → Empties IsFit base.ledger.gates (owns_of (done ++ end ∷ [])) a c
+      → Empties IsFit end.shared_port.ledger.gates end.own_deque b c → Empties IsFit base.ledger.gates (owns_of (done ++ end ∷ [])) a c
   one_more_own base done end a b c p alike' q =
-      let owns : owns_of (done ++ end ∷ []) ≡ owns_of done ++ end.own = flat_map-append (λ (w : PoolEndpoint H). w.own) done (end ∷ [])
-      ∙ ap (λ l. owns_of done ++ l) (append-nil end.own) in
+      let owns : owns_of (done ++ end ∷ []) ≡ owns_of done ++ end.own_deque = flat_map-append (λ (w : PoolEndpoint H). w.own_deque) done (end ∷ [])
+      ∙ ap (λ l. owns_of done ++ l) (append-nil end.own_deque) in
       subst (λ l. Empties IsFit base.ledger.gates l a c) (sym owns)
-      (empties_append IsFit base.ledger.gates (owns_of done) end.own a b c p
-      (subst (λ g. Empties IsFit g end.own b c) (ap (λ (w : Where H). w.gates) alike') q))
+      (empties_append IsFit base.ledger.gates (owns_of done) end.own_deque a b c p
+      (subst (λ g. Empties IsFit g end.own_deque b c) (ap (λ (w : Where H). w.gates) alike') q))

@@ -56,6 +56,6 @@ borrowed_next {H} owns end = map (borrowed {H = H}) (drop (end + 1) owns ++ take
 -- What the ends of a new pool have beside their ports of the queue that all share: in a stealing pool, a port of the own
 -- deque and one of each of the next ends' deques, each with one share.
 pub record AreEndDeques {H : Type 0} (pool : PoolView H) (members : List (Option (EndDeques H))) : Type 0 where
-  pub own : map (own_of {H = H}) members ≡ map (λ (end : ℕ). map (fresh pool.gates pool.ends 1) (take 1 (drop end pool.deques))) (numbers 0 pool.ends)
+  pub own_deque : map (own_of {H = H}) members ≡ map (λ (end : ℕ). map (fresh pool.gates pool.ends 1) (take 1 (drop end pool.deques))) (numbers 0 pool.ends)
   pub next : map (next_of {H = H}) members
       ≡ map (λ (end : ℕ). map (fresh pool.gates pool.ends 1) (drop (end + 1) pool.deques ++ take end pool.deques)) (numbers 0 pool.ends)

@@ -21,7 +21,7 @@ joined_first (l ∷ ls) m = joined l m ∷ ls
 
 -- such a port may be joined by the owner of its deque, one of these ends
 abbrev pub IsAmong : {H : Type 0} → List (PoolEndpoint H) → Part H → Type 0
-IsAmong {H} ends p = (owner_of p.spot < length ends) × ((d : PoolEndpoint H) → MayJoin (get_or ends (owner_of p.spot) d).own p)
+IsAmong {H} ends p = (owner_of p.spot < length ends) × ((d : PoolEndpoint H) → MayJoin (get_or ends (owner_of p.spot) d).own_deque p)
 
 -- of a port, what joining others does not change
 pub record Where (H : Type 0) : Type 0 where
@@ -34,15 +34,15 @@ where_is l = record { spot = l.spot; gates = l.ledger.gates; members = l.ledger.
 
 -- the own deques of these ends and their ports of the queue that all share, without what they know
 pub record Frame (H : Type 0) : Type 0 where
-  pub own : List (Where H)
+  pub own_deque : List (Where H)
   pub shared_port : PoolPort H
 
 abbrev pub frame_of : {H : Type 0} → PoolEndpoint H → Frame H
-frame_of {H} w = record { own = map (where_is {H = H}) w.own; shared_port = w.shared_port }
+frame_of {H} w = record { own_deque = map (where_is {H = H}) w.own_deque; shared_port = w.shared_port }
 
 -- the ports that these ends have of their own deques
 abbrev pub owns_of : {H : Type 0} → List (PoolEndpoint H) → List (PoolPort H)
-owns_of {H} = flat_map (λ (w : PoolEndpoint H). w.own)
+owns_of {H} = flat_map (λ (w : PoolEndpoint H). w.own_deque)
 
 abbrev pub nexts_of : {H : Type 0} → List (PoolEndpoint H) → List (PoolPort H)
 nexts_of {H} = flat_map (λ (w : PoolEndpoint H). w.next)
@@ -54,7 +54,7 @@ shares_in {H} = sum_by (λ (l : PoolPort H). l.ledger.shares)
 -- their shares
 pub record Gathers {H : Type 0} (old : List (PoolEndpoint H)) (more : List (PoolPort H)) (new : List (PoolEndpoint H)) : Type 0 where
   pub frames : map (frame_of {H = H}) new ≡ map (frame_of {H = H}) old
-  pub nexts : map (λ (w : PoolEndpoint H). w.next) new ≡ map (λ (w : PoolEndpoint H). w.next) old
+  pub next_workers : map (λ (w : PoolEndpoint H). w.next) new ≡ map (λ (w : PoolEndpoint H). w.next) old
   pub pushed : IsPermutation (pushed_by new) (pushed_by old ++ pushed_at more)
   pub taken : IsPermutation (taken_by new) (taken_by old ++ taken_at more)
   pub shares : shares_in (owns_of new) ≡ shares_in (owns_of old) + shares_in more
@@ -62,7 +62,7 @@ pub record Gathers {H : Type 0} (old : List (PoolEndpoint H)) (more : List (Pool
 -- each end's ports of the next ones' deques were joined by the owners
 pub record AreGathered {H : Type 0} (old new : List (PoolEndpoint H)) : Type 0 where
   pub frames : map (frame_of {H = H}) new ≡ map (frame_of {H = H}) old
-  pub nexts : nexts_of new ≡ []
+  pub next_workers : nexts_of new ≡ []
   pub pushed : IsPermutation (pushed_by new) (pushed_by old)
   pub taken : IsPermutation (taken_by new) (taken_by old)
   pub shares : shares_in (owns_of new) ≡ shares_in (owns_of old) + shares_in (nexts_of old)

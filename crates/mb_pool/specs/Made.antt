@@ -28,7 +28,7 @@ IsOfKind Stealing pool = (pool.shared_port.capacity ≡ None) × (length pool.de
 
 -- there are ends, and each has a deque or none has
 pub record IsWhole {H : Type 0} (pool : PoolView H) : Type 0 where
-  pub some : 0 < pool.ends
+  pub not_empty : 0 < pool.ends
   pub deques : AreDeques 0 pool.deques
   pub same_count : (pool.deques ≡ []) ⊎ (length pool.deques ≡ pool.ends)
 

@@ -6,7 +6,7 @@ use Rattle.mb_gate.specs.declared.claim.Claim.{Claim}
 use Rattle.mb_gate.specs.Untouched.{Origin}
 use Rattle.mb_pool.specs.Account.{Account}
 use Rattle.mb_pool.specs.Rule.{Moment, PutsLast, TakesFirst}
-use Rattle.mb_pool.specs.Places.{PoolPort, PoolEndpoint, looks}
+use Rattle.mb_pool.specs.Places.{PoolPort, PoolEndpoint, ports_of}
 use Rattle.mb_pool.specs.declared.claim_refused.ClaimRefused.{ClaimRefused}
 use Rattle.mb_pool.specs.declared.claim_refused.ClaimRefused.TheVariants.{Full, NoMemory}
 
@@ -18,7 +18,7 @@ given_back (NoMemory c) = c
 module _ {H : Type 0} (IsFit : Option (Origin H) → Claim H → Type 0) where
   -- at one moment the queue was empty
   abbrev pub WasEmpty : PoolPort H → Type 0
-  WasEmpty look = Moment IsFit look.ledger []
+  WasEmpty pool_port = Moment IsFit pool_port.ledger []
 
   -- at one moment the queue was full: it held this many claims
   abbrev pub WasFull : ℕ → Account H → Type 0
@@ -26,38 +26,38 @@ module _ {H : Type 0} (IsFit : Option (Origin H) → Claim H → Type 0) where
 
   -- the claim was pushed into the queue of the first of these ports
   pub record PutsFirst (old : List (PoolPort H)) (c : Claim H) (new : List (PoolPort H)) : Type 0 where
-    pub look : PoolPort H
+    pub pool_port : PoolPort H
     pub rest : List (PoolPort H)
     pub after : Account H
-    pub found : old ≡ look ∷ rest
-    pub last : PutsLast IsFit look.ledger c after
-    pub then' : new ≡ record look { ledger = after } ∷ rest
+    pub found : old ≡ pool_port ∷ rest
+    pub last : PutsLast IsFit pool_port.ledger c after
+    pub then' : new ≡ record pool_port { ledger = after } ∷ rest
 
   -- the claim was the first of one of these queues, and each queue before that was empty at a moment of the call
   pub record TakesOne (old : List (PoolPort H)) (c : Claim H) (new : List (PoolPort H)) : Type 0 where
     pub before : List (PoolPort H)
-    pub look : PoolPort H
+    pub pool_port : PoolPort H
     pub rest : List (PoolPort H)
     pub after : Account H
-    pub found : old ≡ before ++ look ∷ rest
+    pub found : old ≡ before ++ pool_port ∷ rest
     pub empty : All WasEmpty before
-    pub first : TakesFirst IsFit look.ledger c after
-    pub then' : new ≡ before ++ record look { ledger = after } ∷ rest
+    pub first : TakesFirst IsFit pool_port.ledger c after
+    pub then' : new ≡ before ++ record pool_port { ledger = after } ∷ rest
 
   -- the claim was pushed into the queue that the end or the feed pushes to
   abbrev pub Pushes : PoolEndpoint H → Claim H → PoolEndpoint H → Type 0
-  Pushes old c new = PutsFirst (looks old) c (looks new)
+  Pushes old c new = PutsFirst (ports_of old) c (ports_of new)
 
   -- the claim was the first of a queue in which the take looked
   abbrev pub Takes : PoolEndpoint H → Claim H → PoolEndpoint H → Type 0
-  Takes old c new = TakesOne (looks old) c (looks new)
+  Takes old c new = TakesOne (ports_of old) c (ports_of new)
 
   -- why a push was refused: by a queue with a bound only since it was full, and by one without only since memory was
   -- refused
   abbrev pub IsRefusal : PoolPort H → ClaimRefused H → Type 0
-  IsRefusal look (Full c) = (most : ℕ) × (look.spot.capacity ≡ Some most) × WasFull most look.ledger
-  IsRefusal look (NoMemory c) = look.spot.capacity ≡ None
+  IsRefusal pool_port (Full c) = (most : ℕ) × (pool_port.spot.capacity ≡ Some most) × WasFull most pool_port.ledger
+  IsRefusal pool_port (NoMemory c) = pool_port.spot.capacity ≡ None
 
   -- the first port that a push goes to refused it, and the claim came back
   abbrev pub IsRefusedBy : PoolEndpoint H → ClaimRefused H → Type 0
-  IsRefusedBy w refused = (look : PoolPort H) × (rest : List (PoolPort H)) × (looks w ≡ look ∷ rest) × IsRefusal look refused
+  IsRefusedBy w refused = (pool_port : PoolPort H) × (rest : List (PoolPort H)) × (ports_of w ≡ pool_port ∷ rest) × IsRefusal pool_port refused

@@ -4,6 +4,6 @@ use Rattle.mb_pool.specs.declared.shared_port.SharedPort.TheVariants.{Bounded, U
 use Rattle.mb_pool.specs.Places.{PoolPort}
 
 -- a port of the queue that all share, as contracts see it
-abbrev pub look_of : {H : Type 0} → SharedPort H → PoolPort H
-look_of (Bounded port) = port
-look_of (Unbounded port) = port
+abbrev pub port_view : {H : Type 0} → SharedPort H → PoolPort H
+port_view (Bounded port) = port
+port_view (Unbounded port) = port

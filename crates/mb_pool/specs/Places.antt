@@ -37,13 +37,13 @@ pub record PoolPort (H : Type 0) : Type 0 where
 -- An end or a feed, by its ports: of its own deque, if it has one; of the queue that all share; and of the next ends'
 -- deques.
 pub record PoolEndpoint (H : Type 0) : Type 0 where
-  pub own : List (PoolPort H)
+  pub own_deque : List (PoolPort H)
   pub shared_port : PoolPort H
   pub next : List (PoolPort H)
 
 -- its ports in the order in which a take looks; it pushes by the first
-abbrev pub looks : {H : Type 0} → PoolEndpoint H → List (PoolPort H)
-looks w = w.own ++ w.shared_port ∷ w.next
+abbrev pub ports_of : {H : Type 0} → PoolEndpoint H → List (PoolPort H)
+ports_of w = w.own_deque ++ w.shared_port ∷ w.next
 
 -- whose gates' claims it handles
 abbrev pub gates_of : {H : Type 0} → PoolEndpoint H → Option (Origin H)
@@ -62,13 +62,13 @@ part_of l = record { spot = l.spot; gates = l.ledger.gates; members = l.ledger.m
 
 -- the same of an end or a feed
 pub record Parts (H : Type 0) : Type 0 where
-  pub own : List (Part H)
+  pub own_deque : List (Part H)
   pub shared_port : Part H
   pub next : List (Part H)
 
 -- what no call of an end or a feed changes of its ports
 abbrev pub parts_of : {H : Type 0} → PoolEndpoint H → Parts H
-parts_of {H} w = record { own = map (part_of {H = H}) w.own; shared_port = part_of w.shared_port; next = map (part_of {H = H}) w.next }
+parts_of {H} w = record { own_deque = map (part_of {H = H}) w.own_deque; shared_port = part_of w.shared_port; next = map (part_of {H = H}) w.next }
 
 -- all the claims that were pushed through these, and all that were taken
 abbrev pub pushed_at : {H : Type 0} → List (PoolPort H) → List (Claim H)
@@ -78,10 +78,10 @@ abbrev pub taken_at : {H : Type 0} → List (PoolPort H) → List (Claim H)
 taken_at {H} = flat_map (λ (l : PoolPort H). claims_in l.ledger.taken)
 
 abbrev pub pushed_by : {H : Type 0} → List (PoolEndpoint H) → List (Claim H)
-pushed_by {H} = flat_map (λ (w : PoolEndpoint H). pushed_at (looks w))
+pushed_by {H} = flat_map (λ (w : PoolEndpoint H). pushed_at (ports_of w))
 
 abbrev pub taken_by : {H : Type 0} → List (PoolEndpoint H) → List (Claim H)
-taken_by {H} = flat_map (λ (w : PoolEndpoint H). taken_at (looks w))
+taken_by {H} = flat_map (λ (w : PoolEndpoint H). taken_at (ports_of w))
 
 -- A pool: whose gates' claims it holds; the queue that all share; the deques, one for each end, or none in a shared pool;
 -- and how many ends and feeds there are.
@@ -103,13 +103,13 @@ deque_parts {H} pool = map (λ (spot : QueueInfo). record { spot = spot; gates =
 -- and one of each of the next ends' deques, in order
 abbrev pub end_parts : {H : Type 0} → PoolView H → ℕ → Parts H
 end_parts pool end = record {
-  own = deque_parts pool (take 1 (drop end pool.deques));
+  own_deque = deque_parts pool (take 1 (drop end pool.deques));
   shared_port = shared_port_part pool;
   next = deque_parts pool (drop (end + 1) pool.deques ++ take end pool.deques);
 }
 
 abbrev pub feed_parts : {H : Type 0} → PoolView H → Parts H
-feed_parts pool = record { own = []; shared_port = shared_port_part pool; next = [] }
+feed_parts pool = record { own_deque = []; shared_port = shared_port_part pool; next = [] }
 
 -- this many numbers in order, from the first on
 abbrev pub numbers : ℕ → ℕ → List ℕ

@@ -10,7 +10,7 @@ use Rattle.mb_pool.specs.declared.claim_refused.ClaimRefused.{ClaimRefused}
 -- the claims that were pushed into the queue of the first of these ports: an end or a feed pushes into no other
 abbrev pub pushed_first : {H : Type 0} → List (PoolPort H) → List (Claim H)
 pushed_first [] = []
-pushed_first (look ∷ rest) = claims_in look.ledger.pushed
+pushed_first (pool_port ∷ rest) = claims_in pool_port.ledger.pushed
 
 -- the pool refused this claim of an end or a feed, for a reason of its own
 abbrev pub IsRefusedByPool : {H : Type 0} → (Option (Origin H) → Claim H → Type 0) → PoolEndpoint H → Claim H → Type 0

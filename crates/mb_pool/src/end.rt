@@ -1,8 +1,8 @@
 //! A worker's end of a pool.
 ghost use Rattle.std.specs.Prelude.{◌≡◌, All, IfSome, MatchOption, MatchResult};
 ghost use Rattle.mb_pool.specs.Moves.{given_back, IsRefusedBy, Pushes, Takes, WasEmpty};
-ghost use Rattle.mb_pool.specs.Parts.{look_of};
-ghost use Rattle.mb_pool.specs.Places.{gates_of, looks, parts_of};
+ghost use Rattle.mb_pool.specs.Parts.{port_view};
+ghost use Rattle.mb_pool.specs.Places.{gates_of, ports_of, parts_of};
 ghost use Rattle.mb_gate.specs.Untouched.{IsUntouched};
 ghost use Rattle.mb_pool.specs.Endpoints.{AreOpen, endpoint_of};
 
@@ -47,12 +47,12 @@ impl<H: MailboxState> Model for PoolEnd<H> {
 
     ghost Value = { PoolEndpoint H };
 
-    ghost use Rattle.mb_pool.specs.Parts.{look_of};
+    ghost use Rattle.mb_pool.specs.Parts.{port_view};
     ghost use Rattle.mb_pool.specs.Endpoints.{AreOpen, endpoint_of};
 
-    ghost view = { λ e. endpoint_of (look_of e.shared_port) e.member };
+    ghost view = { λ e. endpoint_of (port_view e.shared_port) e.member };
 
-    ghost invariant = { λ e. AreOpen (endpoint_of (look_of e.shared_port) e.member) };
+    ghost invariant = { λ e. AreOpen (endpoint_of (port_view e.shared_port) e.member) };
 }
 
 impl<H: MailboxState> PoolEnd<H> {
@@ -80,7 +80,7 @@ impl<H: MailboxState> PoolEnd<H> {
     #[inline]
     pub fn take<R: Wait>(&mut self, rt: &R) -> Option<Claim<H>>
         ensures taken { MatchOption result
-            ((self.new ≡ self.old) × All (WasEmpty (IsUntouched H.is_of H.facts)) (looks self.old))
+            ((self.new ≡ self.old) × All (WasEmpty (IsUntouched H.is_of H.facts)) (ports_of self.old))
             (λ c. Takes (IsUntouched H.is_of H.facts) self.old c self.new) }
         ensures fit { IfSome result (λ c. IsUntouched H.is_of H.facts (gates_of self.old) c) }
         ensures same { parts_of self.new ≡ parts_of self.old }
@@ -90,8 +90,8 @@ impl<H: MailboxState> PoolEnd<H> {
 
     /// Its port of the queue that all share, and what it has beside that in a stealing pool.
     pub(crate) fn into_parts(self) -> (SharedPort<H>, Option<EndDeques<H>>)
-        ensures same { endpoint_of (look_of result.0) result.1 ≡ self }
-        ensures open { AreOpen (endpoint_of (look_of result.0) result.1) }
+        ensures same { endpoint_of (port_view result.0) result.1 ≡ self }
+        ensures open { AreOpen (endpoint_of (port_view result.0) result.1) }
     {
         let PoolEnd {
             before: _,
@@ -110,18 +110,18 @@ fn push_first<H: MailboxState, R: Wait>(
     member: &mut Option<EndDeques<H>>,
     claim: Claim<H>,
 ) -> Result<(), ClaimRefused<H>>
-    requires open { AreOpen (endpoint_of (look_of shared_port.old) member.old) }
-    requires fit { IsUntouched H.is_of H.facts (look_of shared_port.old).ledger.gates claim }
+    requires open { AreOpen (endpoint_of (port_view shared_port.old) member.old) }
+    requires fit { IsUntouched H.is_of H.facts (port_view shared_port.old).ledger.gates claim }
     ensures pushed { MatchResult result
-        (λ _. Pushes (IsUntouched H.is_of H.facts) (endpoint_of (look_of shared_port.old) member.old) claim
-        (endpoint_of (look_of shared_port.new) member.new))
-        (λ refused. (given_back refused ≡ claim) × (endpoint_of (look_of shared_port.new) member.new ≡ endpoint_of (look_of shared_port.old) member.old)
-        × IsRefusedBy (IsUntouched H.is_of H.facts) (endpoint_of (look_of shared_port.old) member.old) refused) }
-    ensures same { parts_of (endpoint_of (look_of shared_port.new) member.new) ≡ parts_of (endpoint_of (look_of shared_port.old) member.old) }
+        (λ _. Pushes (IsUntouched H.is_of H.facts) (endpoint_of (port_view shared_port.old) member.old) claim
+        (endpoint_of (port_view shared_port.new) member.new))
+        (λ refused. (given_back refused ≡ claim) × (endpoint_of (port_view shared_port.new) member.new ≡ endpoint_of (port_view shared_port.old) member.old)
+        × IsRefusedBy (IsUntouched H.is_of H.facts) (endpoint_of (port_view shared_port.old) member.old) refused) }
+    ensures same { parts_of (endpoint_of (port_view shared_port.new) member.new) ≡ parts_of (endpoint_of (port_view shared_port.old) member.old) }
 {
     match member {
         None => return shared_port.push(rt, claim),
-        Some(member) => match member.own.push(claim) {
+        Some(member) => match member.own_deque.push(claim) {
             Ok(()) => return Ok(()),
             Err(back) => return Err(ClaimRefused::NoMemory(back)),
         },
@@ -134,12 +134,12 @@ fn take_first<H: MailboxState, R: Wait>(
     shared_port: &mut SharedPort<H>,
     member: &mut Option<EndDeques<H>>,
 ) -> Option<Claim<H>>
-    requires { AreOpen (endpoint_of (look_of shared_port.old) member.old) }
-    ensures taken { MatchOption result ((endpoint_of (look_of shared_port.new) member.new ≡ endpoint_of (look_of shared_port.old) member.old)
-        × All (WasEmpty (IsUntouched H.is_of H.facts)) (looks (endpoint_of (look_of shared_port.old) member.old)))
-        (λ c. Takes (IsUntouched H.is_of H.facts) (endpoint_of (look_of shared_port.old) member.old) c
-        (endpoint_of (look_of shared_port.new) member.new)) }
-    ensures same { parts_of (endpoint_of (look_of shared_port.new) member.new) ≡ parts_of (endpoint_of (look_of shared_port.old) member.old) }
+    requires { AreOpen (endpoint_of (port_view shared_port.old) member.old) }
+    ensures taken { MatchOption result ((endpoint_of (port_view shared_port.new) member.new ≡ endpoint_of (port_view shared_port.old) member.old)
+        × All (WasEmpty (IsUntouched H.is_of H.facts)) (ports_of (endpoint_of (port_view shared_port.old) member.old)))
+        (λ c. Takes (IsUntouched H.is_of H.facts) (endpoint_of (port_view shared_port.old) member.old) c
+        (endpoint_of (port_view shared_port.new) member.new)) }
+    ensures same { parts_of (endpoint_of (port_view shared_port.new) member.new) ≡ parts_of (endpoint_of (port_view shared_port.old) member.old) }
 {
     match member {
         None => return shared_port.take(rt),

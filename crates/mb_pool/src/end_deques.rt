@@ -1,8 +1,8 @@
 //! The deques of an end of a stealing pool: its own, and its ports of the others.
 ghost use Rattle.std.specs.Prelude.{◌≡◌, All, MatchOption, Some};
 ghost use Rattle.mb_pool.specs.Moves.{TakesOne, WasEmpty};
-ghost use Rattle.mb_pool.specs.Parts.{look_of};
-ghost use Rattle.mb_pool.specs.Places.{looks, parts_of};
+ghost use Rattle.mb_pool.specs.Parts.{port_view};
+ghost use Rattle.mb_pool.specs.Places.{ports_of, parts_of};
 ghost use Rattle.mb_gate.specs.Untouched.{IsUntouched};
 ghost use Rattle.mb_pool.specs.Endpoints.{AreOpen, HasShare, endpoint_of};
 
@@ -15,7 +15,7 @@ use std::sync::Wait;
 /// An end's own deque, and its ports of the next ends' deques in order.
 pub struct EndDeques<H: MailboxState> {
     /// The deque to which the end pushes.
-    pub own: OwnDeque<H>,
+    pub own_deque: OwnDeque<H>,
     /// The ports of the deques of the ends after it, and then of those before it.
     pub thieves: Vec<Thief<H>>,
 }
@@ -24,17 +24,23 @@ pub struct EndDeques<H: MailboxState> {
 // dropped.
 impl<H: MailboxState> Drop for EndDeques<H> {
     fn drop(self) {
-        let EndDeques { own: _, thieves: _ } = self;
+        let EndDeques {
+            own_deque: _,
+            thieves: _,
+        } = self;
     }
 }
 
 impl<H: MailboxState> EndDeques<H> {
     /// The deque to which the end pushes.
     pub fn into_own(self) -> OwnDeque<H>
-        ensures { result ≡ self.own }
+        ensures { result ≡ self.own_deque }
     {
-        let EndDeques { own, thieves: _ } = self;
-        own
+        let EndDeques {
+            own_deque,
+            thieves: _,
+        } = self;
+        own_deque
     }
 }
 
@@ -46,15 +52,15 @@ pub fn take_somewhere<H: MailboxState, R: Wait>(
     member: &mut EndDeques<H>,
     shared_port: &mut SharedPort<H>,
 ) -> Option<Claim<H>>
-    requires { AreOpen (endpoint_of (look_of shared_port.old) (Some member.old)) }
+    requires { AreOpen (endpoint_of (port_view shared_port.old) (Some member.old)) }
     ensures taken { MatchOption result
-        ((endpoint_of (look_of shared_port.new) (Some member.new) ≡ endpoint_of (look_of shared_port.old) (Some member.old))
-        × All (WasEmpty (IsUntouched H.is_of H.facts)) (looks (endpoint_of (look_of shared_port.old) (Some member.old))))
-        (λ c. TakesOne (IsUntouched H.is_of H.facts) (looks (endpoint_of (look_of shared_port.old) (Some member.old))) c
-        (looks (endpoint_of (look_of shared_port.new) (Some member.new)))) }
-    ensures same { parts_of (endpoint_of (look_of shared_port.new) (Some member.new)) ≡ parts_of (endpoint_of (look_of shared_port.old) (Some member.old)) }
+        ((endpoint_of (port_view shared_port.new) (Some member.new) ≡ endpoint_of (port_view shared_port.old) (Some member.old))
+        × All (WasEmpty (IsUntouched H.is_of H.facts)) (ports_of (endpoint_of (port_view shared_port.old) (Some member.old))))
+        (λ c. TakesOne (IsUntouched H.is_of H.facts) (ports_of (endpoint_of (port_view shared_port.old) (Some member.old))) c
+        (ports_of (endpoint_of (port_view shared_port.new) (Some member.new)))) }
+    ensures same { parts_of (endpoint_of (port_view shared_port.new) (Some member.new)) ≡ parts_of (endpoint_of (port_view shared_port.old) (Some member.old)) }
 {
-    if let Some(claim) = member.own.take() {
+    if let Some(claim) = member.own_deque.take() {
         return Some(claim);
     }
     if let Some(claim) = shared_port.take(rt) {

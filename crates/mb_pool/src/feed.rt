@@ -1,7 +1,7 @@
 //! A feed of a pool: its port for threads that are not workers.
 ghost use Rattle.std.specs.Prelude.{◌≡◌, MatchResult};
 ghost use Rattle.mb_pool.specs.Moves.{given_back, IsRefusedBy, Pushes};
-ghost use Rattle.mb_pool.specs.Parts.{look_of};
+ghost use Rattle.mb_pool.specs.Parts.{port_view};
 ghost use Rattle.mb_pool.specs.Places.{gates_of, parts_of};
 ghost use Rattle.mb_gate.specs.Untouched.{IsUntouched};
 ghost use Rattle.mb_pool.specs.Endpoints.{HasShare, of_feed};
@@ -32,12 +32,12 @@ impl<H: MailboxState> Model for Feed<H> {
 
     ghost Value = { PoolEndpoint H };
 
-    ghost use Rattle.mb_pool.specs.Parts.{look_of};
+    ghost use Rattle.mb_pool.specs.Parts.{port_view};
     ghost use Rattle.mb_pool.specs.Endpoints.{HasShare, of_feed};
 
-    ghost view = { λ f. of_feed (look_of f.shared_port) };
+    ghost view = { λ f. of_feed (port_view f.shared_port) };
 
-    ghost invariant = { λ f. HasShare (look_of f.shared_port) };
+    ghost invariant = { λ f. HasShare (port_view f.shared_port) };
 }
 
 impl<H: MailboxState> Feed<H> {
@@ -59,8 +59,8 @@ impl<H: MailboxState> Feed<H> {
 
     /// Its port of the queue that all share.
     pub(crate) fn into_shared_port(self) -> SharedPort<H>
-        ensures same { of_feed (look_of result) ≡ self }
-        ensures share { HasShare (look_of result) }
+        ensures same { of_feed (port_view result) ≡ self }
+        ensures share { HasShare (port_view result) }
     {
         let Feed { shared_port } = self;
         shared_port

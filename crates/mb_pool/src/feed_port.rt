@@ -33,12 +33,12 @@ impl<H: MailboxState> RunQueue<H> for FeedPort<H> {
     ghost use Rattle.std.specs.Prelude.{[], ◌∷◌, ◌++◌, map, IfErr, MatchResult};
     ghost use Rattle.mb_gate.specs.Untouched.{IsUntouched};
     ghost use Rattle.mb_pool.specs.Moves.{Pushes};
-    ghost use Rattle.mb_pool.specs.Places.{gates_of, looks, parts_of};
+    ghost use Rattle.mb_pool.specs.Places.{gates_of, ports_of, parts_of};
     ghost use Rattle.mb_pool.specs.PoolPorts.{IsRefusedByPool, pushed_first};
 
     ghost origin = { λ port. gates_of port.feed };
 
-    ghost pushed = { λ port. pushed_first (looks port.feed) };
+    ghost pushed = { λ port. pushed_first (ports_of port.feed) };
 
     ghost refused = { λ port. map (λ claim. claim.value) port.refused };
 
@@ -47,9 +47,9 @@ impl<H: MailboxState> RunQueue<H> for FeedPort<H> {
         requires untouched { IsUntouched H.is_of H.facts (gates_of self.old.feed) claim }
         ensures same { gates_of self.new.feed ≡ gates_of self.old.feed }
         ensures pushed { MatchResult result
-            (λ _. (pushed_first (looks self.new.feed) ≡ pushed_first (looks self.old.feed) ++ claim ∷ [])
+            (λ _. (pushed_first (ports_of self.new.feed) ≡ pushed_first (ports_of self.old.feed) ++ claim ∷ [])
             × (map (λ c. c.value) self.new.refused ≡ map (λ c. c.value) self.old.refused))
-            (λ back. (back.claim ≡ claim) × (pushed_first (looks self.new.feed) ≡ pushed_first (looks self.old.feed))
+            (λ back. (back.claim ≡ claim) × (pushed_first (ports_of self.new.feed) ≡ pushed_first (ports_of self.old.feed))
             × (map (λ c. c.value) self.new.refused ≡ map (λ c. c.value) self.old.refused ++ claim ∷ [])) }
         ensures asked { IfErr result (λ _. IsRefusedByPool (IsUntouched H.is_of H.facts) self.old.feed claim) }
         ensures put { MatchResult result

@@ -34,9 +34,9 @@ impl<H: MailboxState> Model for FeedQueuePort<H> {
     ghost Value = { PoolPort H };
 
     ghost use Rattle.crossbeam_deque.specs.Injected.{IsInjectorPassOf};
-    ghost use Rattle.mb_pool.specs.Shared.{feed_queue_look};
+    ghost use Rattle.mb_pool.specs.Shared.{feed_queue_view};
 
-    ghost view = { λ p. feed_queue_look p.pass };
+    ghost view = { λ p. feed_queue_view p.pass };
 
     ghost invariant = { λ p. IsInjectorPassOf p.inlet.value.queue p.pass };
 }

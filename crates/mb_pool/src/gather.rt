@@ -23,7 +23,7 @@ pub fn gather<H: MailboxState>(alloc: Global, ends: &mut [PoolEnd<H>])
 
 /// Takes the end's ports of the other deques out of it.
 fn take_thieves<H: MailboxState>(alloc: Global, end: &mut PoolEnd<H>) -> Vec<Thief<H>>
-    ensures thieves { result.items ≡ end.old.next }
+    ensures stealers { result.items ≡ end.old.next }
     ensures rest { end.new ≡ record end.old { next = [] } }
 {
     match &mut end.member {
@@ -46,11 +46,11 @@ fn join_all<H: MailboxState>(ends: &mut [PoolEnd<H>], thieves: Vec<Thief<H>>)
 
 /// The end joins a port of its own deque.
 fn join_own<H: MailboxState>(end: &mut PoolEnd<H>, thief: Thief<H>)
-    requires { MayJoin end.old.own (part_of thief) }
-    ensures { end.new ≡ record end.old { own = joined_first end.old.own thief } }
+    requires { MayJoin end.old.own_deque (part_of thief) }
+    ensures { end.new ≡ record end.old { own_deque = joined_first end.old.own_deque thief } }
 {
     match &mut end.member {
-        Some(member) => member.own.join(thief),
+        Some(member) => member.own_deque.join(thief),
         None => unreachable!(),
     }
 }

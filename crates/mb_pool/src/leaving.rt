@@ -2,7 +2,7 @@
 ghost use Rattle.std.specs.Prelude.{◌≡◌, ◌<◌, [], ◌∷◌, ◌++◌, length, All, IfOk, MatchResult, Some};
 ghost use Rattle.mb_pool.specs.Ends.{AreAlike, shared_ports_of, Empties, IsAllOf, owns_of, TakesIn};
 ghost use Rattle.mb_pool.specs.Made.{IsLeft};
-ghost use Rattle.mb_pool.specs.Parts.{look_of};
+ghost use Rattle.mb_pool.specs.Parts.{port_view};
 ghost use Rattle.mb_pool.specs.Places.{AreEnds, AreFeeds, gates_of};
 ghost use Rattle.mb_gate.specs.Untouched.{IsUntouched};
 ghost use Rattle.mb_pool.specs.Endpoints.{HasShare};
@@ -62,10 +62,10 @@ fn empty_ends<H: MailboxState, R: Wait>(
     ends: Vec<PoolEnd<H>>,
     left: &mut Vec<Claim<H>>,
 ) -> SharedPort<H>
-    requires some { 0 < length ends.items }
-    requires alike { AreAlike (shared_ports_of ends.items) }
-    ensures shared_port { IsAllOf (shared_ports_of ends.items) (look_of result) }
-    ensures emptied { Empties (IsUntouched H.is_of H.facts) (look_of result).ledger.gates
+    requires not_empty { 0 < length ends.items }
+    requires same_pool { AreAlike (shared_ports_of ends.items) }
+    ensures shared_port { IsAllOf (shared_ports_of ends.items) (port_view result) }
+    ensures emptied { Empties (IsUntouched H.is_of H.facts) (port_view result).ledger.gates
         (owns_of ends.items) left.old.items left.new.items }
 {
     let mut ends = ends.into_iter();
@@ -81,9 +81,9 @@ fn empty_ends<H: MailboxState, R: Wait>(
 }
 
 fn join_feeds<H: MailboxState>(shared_port: SharedPort<H>, feeds: Vec<Feed<H>>) -> SharedPort<H>
-    requires share { HasShare (look_of shared_port) }
-    requires alike { AreAlike (look_of shared_port ∷ shared_ports_of feeds.items) }
-    ensures { TakesIn (look_of shared_port) (shared_ports_of feeds.items) (look_of result) }
+    requires share { HasShare (port_view shared_port) }
+    requires same_pool { AreAlike (port_view shared_port ∷ shared_ports_of feeds.items) }
+    ensures { TakesIn (port_view shared_port) (shared_ports_of feeds.items) (port_view result) }
 {
     let mut shared_port = shared_port;
     for feed in feeds {
@@ -98,10 +98,10 @@ fn empty_end<H: MailboxState, R: Wait>(
     end: PoolEnd<H>,
     left: &mut Vec<Claim<H>>,
 ) -> SharedPort<H>
-    ensures shared_port { look_of result ≡ end.shared_port }
+    ensures shared_port { port_view result ≡ end.shared_port }
     ensures share { HasShare end.shared_port }
     ensures emptied { Empties (IsUntouched H.is_of H.facts)
-        (gates_of end) end.own left.old.items left.new.items }
+        (gates_of end) end.own_deque left.old.items left.new.items }
 {
     let (shared_port, member) = end.into_parts();
     if let Some(member) = member {
@@ -112,13 +112,13 @@ fn empty_end<H: MailboxState, R: Wait>(
 }
 
 /// Takes all claims out of the deque.
-fn empty_own<H: MailboxState, R: Wait>(rt: &R, mut own: OwnDeque<H>, left: &mut Vec<Claim<H>>)
-    requires { HasShare own }
-    ensures { Empties (IsUntouched H.is_of H.facts) own.ledger.gates
-        (own ∷ []) left.old.items left.new.items }
+fn empty_own<H: MailboxState, R: Wait>(rt: &R, mut own_deque: OwnDeque<H>, left: &mut Vec<Claim<H>>)
+    requires { HasShare own_deque }
+    ensures { Empties (IsUntouched H.is_of H.facts) own_deque.ledger.gates
+        (own_deque ∷ []) left.old.items left.new.items }
 {
     for _ in rt.forever() {
-        match own.take() {
+        match own_deque.take() {
             Some(claim) => keep(rt, left, claim),
             None => return,
         }
@@ -132,9 +132,9 @@ fn empty_shared_port<H: MailboxState, R: Wait>(
     mut shared_port: SharedPort<H>,
     left: &mut Vec<Claim<H>>,
 )
-    requires { HasShare (look_of shared_port) }
-    ensures { Empties (IsUntouched H.is_of H.facts) (look_of shared_port).ledger.gates
-        (look_of shared_port ∷ []) left.old.items left.new.items }
+    requires { HasShare (port_view shared_port) }
+    ensures { Empties (IsUntouched H.is_of H.facts) (port_view shared_port).ledger.gates
+        (port_view shared_port ∷ []) left.old.items left.new.items }
 {
     for _ in rt.forever() {
         match shared_port.take(rt) {

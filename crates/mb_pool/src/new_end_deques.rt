@@ -36,9 +36,9 @@ fn new_deques<H: MailboxState>(
 {
     let mut owns = Vec::with_capacity(alloc, count)?;
     for number in 0..count {
-        let mut own = OwnDeque::new(alloc, number)?;
-        own.open(gates, count);
-        owns.push(own)?;
+        let mut own_deque = OwnDeque::new(alloc, number)?;
+        own_deque.open(gates, count);
+        owns.push(own_deque)?;
     }
     Ok(owns)
 }
@@ -51,7 +51,7 @@ pub fn end_deques_of<H: MailboxState>(
 ) -> Result<Vec<Option<EndDeques<H>>>, AllocError>
     requires { All (λ (l : PoolPort H). l.ledger.shares ≡ length owns.items) owns.items }
     ensures none { IfOk result (λ members. owns.items ≡ [] → members.items ≡ replicate count None) }
-    ensures own { IfOk result (λ members. 0 < length owns.items → map own_of members.items ≡ map (λ (o : PoolPort H). with_shares 1 o ∷ []) owns.items) }
+    ensures owners { IfOk result (λ members. 0 < length owns.items → map own_of members.items ≡ map (λ (o : PoolPort H). with_shares 1 o ∷ []) owns.items) }
     ensures next { IfOk result
         (λ members. 0 < length owns.items → map next_of members.items ≡ map (borrowed_next owns.items) (numbers 0 (length owns.items))) }
 {
@@ -103,12 +103,12 @@ fn lend_each<H: MailboxState>(
 ) -> Result<Vec<Thief<H>>, AllocError>
     requires { All (λ (l : PoolPort H). 1 < l.ledger.shares) owns.old }
     ensures owns { IfOk result (λ _. owns.new ≡ map lent owns.old) }
-    ensures thieves { IfOk result (λ thieves. thieves.items ≡ map borrowed owns.old) }
+    ensures stealers { IfOk result (λ thieves. thieves.items ≡ map borrowed owns.old) }
 {
     let mut thieves = Vec::with_capacity(alloc, owns.len())?;
     for index in 0..owns.len() {
-        let own = &mut owns[index];
-        let thief = own.lend()?;
+        let own_deque = &mut owns[index];
+        let thief = own_deque.lend()?;
         thieves.push(thief)?;
     }
     Ok(thieves)
@@ -121,16 +121,16 @@ fn pair<H: MailboxState>(
     lists: Vec<Vec<Thief<H>>>,
 ) -> Result<Vec<Option<EndDeques<H>>>, AllocError>
     requires { length owns.items ≡ length lists.items }
-    ensures own { IfOk result (λ members. map own_of members.items ≡ map (λ (o : PoolPort H). o ∷ []) owns.items) }
+    ensures owners { IfOk result (λ members. map own_of members.items ≡ map (λ (o : PoolPort H). o ∷ []) owns.items) }
     ensures next { IfOk result (λ members. map next_of members.items ≡ map (λ v. v.items) lists.items) }
 {
     let mut members = Vec::with_capacity(alloc, owns.len())?;
     let mut lists = lists.into_iter();
-    for own in owns {
+    for own_deque in owns {
         let Some(thieves) = lists.next() else {
             unreachable!()
         };
-        members.push(Some(EndDeques { own, thieves }))?;
+        members.push(Some(EndDeques { own_deque, thieves }))?;
     }
     Ok(members)
 }

@@ -40,9 +40,9 @@ impl<H: MailboxState> Model for OwnDeque<H> {
 
     ghost use Rattle.std.specs.Prelude.{◌≡◌};
     ghost use Rattle.crossbeam_deque.specs.Handles.{worker_flavor};
-    ghost use Rattle.mb_pool.specs.Deques.{own_look};
+    ghost use Rattle.mb_pool.specs.Deques.{own_deque_view};
 
-    ghost view = { λ o. own_look o.number o.deque.worker };
+    ghost view = { λ o. own_deque_view o.number o.deque.worker };
 
     ghost invariant = { λ o. worker_flavor o.deque.worker ≡ 0 };
 }
@@ -51,7 +51,7 @@ impl<H: MailboxState> OwnDeque<H> {
     /// An empty deque of the end with this number. Whose gates' claims go in is not fixed yet. The only error: memory
     /// was refused.
     pub fn new(alloc: Global, number: usize) -> Result<OwnDeque<H>, AllocError>
-        ensures { IfOk result (λ own. IsDeque number own.spot × (own.ledger ≡ unused)) }
+        ensures { IfOk result (λ own_deque. IsDeque number own_deque.spot × (own_deque.ledger ≡ unused)) }
     {
         let deque = Deque::new(alloc)?;
         let apart = Box::new(alloc, Padding::new())?;

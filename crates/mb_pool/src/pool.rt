@@ -3,7 +3,7 @@ ghost use Rattle.std.specs.Prelude.{◌≡◌, ◌+◌, ◌<◌, All, IfOk, leng
 ghost use Rattle.mb_pool.specs.Begins.{new_shared_port, whole_of};
 ghost use Rattle.mb_pool.specs.Made.{IsBegun, IsWhole};
 ghost use Rattle.mb_gate.specs.Untouched.{origin_of};
-ghost use Rattle.mb_pool.specs.Parts.{look_of};
+ghost use Rattle.mb_pool.specs.Parts.{port_view};
 ghost use Rattle.mb_pool.specs.Endpoints.{AreOpen, of_feed, endpoint_of};
 
 use crate::end::PoolEnd;
@@ -58,11 +58,11 @@ impl<H: MailboxState> Model for Pool<H> {
 
     ghost use Rattle.mb_pool.specs.Made.{IsWhole, spots_of};
     ghost use Rattle.mb_gate.specs.Untouched.{origin_of};
-    ghost use Rattle.mb_pool.specs.Parts.{look_of};
+    ghost use Rattle.mb_pool.specs.Parts.{port_view};
 
     ghost view = { λ p. record {
       gates = origin_of p.gates.value;
-      shared_port = (look_of p.shared_port.value).spot;
+      shared_port = (port_view p.shared_port.value).spot;
       deques = spots_of p.deques.value.items;
       ends = p.ends;
       feeds = p.feeds;
@@ -70,7 +70,7 @@ impl<H: MailboxState> Model for Pool<H> {
 
     ghost invariant = { λ p. IsWhole (record {
       gates = origin_of p.gates.value;
-      shared_port = (look_of p.shared_port.value).spot;
+      shared_port = (port_view p.shared_port.value).spot;
       deques = spots_of p.deques.value.items;
       ends = p.ends;
       feeds = p.feeds;
@@ -114,8 +114,8 @@ fn pool_of<H: MailboxState>(
     ends: usize,
     feeds: usize,
 ) -> Pool<H>
-    requires { IsWhole (whole_of (origin_of gates.now) (look_of shared_port.now) deques.now.items ends feeds) }
-    ensures { result ≡ whole_of (origin_of gates.now) (look_of shared_port.now) deques.now.items ends feeds }
+    requires { IsWhole (whole_of (origin_of gates.now) (port_view shared_port.now) deques.now.items ends feeds) }
+    ensures { result ≡ whole_of (origin_of gates.now) (port_view shared_port.now) deques.now.items ends feeds }
 {
     Pool {
         actors: gates.actors(),
@@ -134,9 +134,9 @@ fn ends_of<H: MailboxState>(
     doors: &mut Vec<SharedPort<H>>,
     members: Vec<Option<EndDeques<H>>>,
 ) -> Result<Vec<PoolEnd<H>>, AllocError>
-    requires doors { map look_of doors.old.items ≡ replicate (length members.items + pool.now.feeds) (new_shared_port pool.now) }
+    requires ports { map port_view doors.old.items ≡ replicate (length members.items + pool.now.feeds) (new_shared_port pool.now) }
     requires open { All (λ m. AreOpen (endpoint_of (new_shared_port pool.now) m)) members.items }
-    ensures doors { IfOk result (λ _. map look_of doors.new.items ≡ replicate pool.now.feeds (new_shared_port pool.now)) }
+    ensures ports { IfOk result (λ _. map port_view doors.new.items ≡ replicate pool.now.feeds (new_shared_port pool.now)) }
     ensures ends { IfOk result (λ ends. ends.items ≡ map (endpoint_of (new_shared_port pool.now)) members.items) }
 {
     // Only the contract uses it: how many feeds the pool has, and its ports.
@@ -163,7 +163,7 @@ fn feeds_of<H: MailboxState>(
     doors: &mut Vec<SharedPort<H>>,
     count: usize,
 ) -> Result<Vec<Feed<H>>, AllocError>
-    requires { map look_of doors.old.items ≡ replicate count (new_shared_port pool.now) }
+    requires { map port_view doors.old.items ≡ replicate count (new_shared_port pool.now) }
     ensures { IfOk result (λ feeds. feeds.items ≡ replicate count (of_feed (new_shared_port pool.now))) }
 {
     // Only the contract uses it: how many feeds the pool has, and its ports.

@@ -3,7 +3,7 @@ ghost use Rattle.std.specs.Prelude.{◌≡◌, ◌<◌, [], IsSome, None, Some, 
 ghost use Rattle.mb_pool.specs.Ledger.{borrowing, joining, lending, opened, unused};
 ghost use Rattle.mb_pool.specs.Moves.{given_back, IsRefusal};
 ghost use Rattle.mb_gate.specs.Untouched.{origin_of, IsUntouched};
-ghost use Rattle.mb_pool.specs.Parts.{look_of};
+ghost use Rattle.mb_pool.specs.Parts.{port_view};
 ghost use Rattle.mb_pool.specs.Rule.{Moment, PutsLast, TakesFirst};
 
 use crate::claim_refused::ClaimRefused;
@@ -37,14 +37,14 @@ impl<H: MailboxState> SharedPort<H> {
     /// Pushes the claim, or gives it back.
     #[inline(always)]
     pub fn push<R: Wait>(&mut self, rt: &R, claim: Claim<H>) -> Result<(), ClaimRefused<H>>
-        requires share { 0 < (look_of self.old).ledger.shares }
-        requires fit { IsUntouched H.is_of H.facts (look_of self.old).ledger.gates claim }
-        ensures spot { (look_of self.new).spot ≡ (look_of self.old).spot }
+        requires share { 0 < (port_view self.old).ledger.shares }
+        requires fit { IsUntouched H.is_of H.facts (port_view self.old).ledger.gates claim }
+        ensures spot { (port_view self.new).spot ≡ (port_view self.old).spot }
         ensures pushed { MatchResult result
-            (λ _. PutsLast (IsUntouched H.is_of H.facts) (look_of self.old).ledger claim
-            (look_of self.new).ledger)
-            (λ refused. (given_back refused ≡ claim) × (look_of self.new ≡ look_of self.old)
-            × IsRefusal (IsUntouched H.is_of H.facts) (look_of self.old) refused) }
+            (λ _. PutsLast (IsUntouched H.is_of H.facts) (port_view self.old).ledger claim
+            (port_view self.new).ledger)
+            (λ refused. (given_back refused ≡ claim) × (port_view self.new ≡ port_view self.old)
+            × IsRefusal (IsUntouched H.is_of H.facts) (port_view self.old) refused) }
     {
         match self {
             SharedPort::Bounded(port) => return port.push(rt, claim),
@@ -55,13 +55,13 @@ impl<H: MailboxState> SharedPort<H> {
     /// Takes the first claim. `None` only if the queue was empty at a moment of the call.
     #[inline(always)]
     pub fn take<R: Wait>(&mut self, rt: &R) -> Option<Claim<H>>
-        requires share { 0 < (look_of self.old).ledger.shares }
-        ensures spot { (look_of self.new).spot ≡ (look_of self.old).spot }
+        requires share { 0 < (port_view self.old).ledger.shares }
+        ensures spot { (port_view self.new).spot ≡ (port_view self.old).spot }
         ensures taken { MatchOption result
-            ((look_of self.new ≡ look_of self.old)
-            × Moment (IsUntouched H.is_of H.facts) (look_of self.old).ledger [])
-            (λ c. TakesFirst (IsUntouched H.is_of H.facts) (look_of self.old).ledger c
-            (look_of self.new).ledger) }
+            ((port_view self.new ≡ port_view self.old)
+            × Moment (IsUntouched H.is_of H.facts) (port_view self.old).ledger [])
+            (λ c. TakesFirst (IsUntouched H.is_of H.facts) (port_view self.old).ledger c
+            (port_view self.new).ledger) }
     {
         match self {
             SharedPort::Bounded(port) => return port.take(rt),
@@ -71,17 +71,17 @@ impl<H: MailboxState> SharedPort<H> {
 
     /// Fixes that only claims of these gates go in, and how many ports there are.
     pub fn open(&mut self, gates: &Gates<H>, members: usize)
-        requires { (look_of self.old).ledger ≡ unused }
-        ensures { look_of self.new ≡ record (look_of self.old) { ledger = opened (Some (origin_of gates.now)) members members } }
+        requires { (port_view self.old).ledger ≡ unused }
+        ensures { port_view self.new ≡ record (port_view self.old) { ledger = opened (Some (origin_of gates.now)) members members } }
     {
         self.open_as::<Brand>(gates, members);
     }
 
     /// The same under a brand that stands for the gates and the number of ports.
     fn open_as<S: Scoped<H>>(&mut self, gates: &Gates<H>, members: usize)
-        requires unused { (look_of self.old).ledger ≡ unused }
+        requires unused { (port_view self.old).ledger ≡ unused }
         requires same_origin { (S.gates ≡ Some (origin_of gates.now)) × (S.members ≡ members) }
-        ensures { look_of self.new ≡ record (look_of self.old) { ledger = opened (Some (origin_of gates.now)) members members } }
+        ensures { port_view self.new ≡ record (port_view self.old) { ledger = opened (Some (origin_of gates.now)) members members } }
     {
         // Only the contract uses them: `S` stands for them in it.
         let _ = gates;
@@ -94,11 +94,11 @@ impl<H: MailboxState> SharedPort<H> {
 
     /// A port of the same queue with one of its shares. The only error: memory was refused. Nothing has changed then.
     pub fn lend(&mut self) -> Result<SharedPort<H>, AllocError>
-        requires { 1 < (look_of self.old).ledger.shares }
+        requires { 1 < (port_view self.old).ledger.shares }
         ensures { MatchResult result
-            (λ shared_port. (look_of self.new ≡ record (look_of self.old) { ledger = lending 1 (look_of self.old).ledger })
-            × (look_of shared_port ≡ record (look_of self.old) { ledger = borrowing 1 (look_of self.old).ledger }))
-            (λ _. look_of self.new ≡ look_of self.old) }
+            (λ shared_port. (port_view self.new ≡ record (port_view self.old) { ledger = lending 1 (port_view self.old).ledger })
+            × (port_view shared_port ≡ record (port_view self.old) { ledger = borrowing 1 (port_view self.old).ledger }))
+            (λ _. port_view self.new ≡ port_view self.old) }
     {
         match self {
             SharedPort::Bounded(port) => match port.lend() {
@@ -114,9 +114,9 @@ impl<H: MailboxState> SharedPort<H> {
 
     /// Joins another port of the same queue, with its shares and its account.
     pub fn join(&mut self, other: SharedPort<H>)
-        requires place { (look_of other).spot ≡ (look_of self.old).spot }
-        requires shares { (0 < (look_of self.old).ledger.shares) × (0 < (look_of other).ledger.shares) }
-        ensures { look_of self.new ≡ record (look_of self.old) { ledger = joining (look_of self.old).ledger (look_of other).ledger } }
+        requires place { (port_view other).spot ≡ (port_view self.old).spot }
+        requires shares { (0 < (port_view self.old).ledger.shares) × (0 < (port_view other).ledger.shares) }
+        ensures { port_view self.new ≡ record (port_view self.old) { ledger = joining (port_view self.old).ledger (port_view other).ledger } }
     {
         match self {
             SharedPort::Bounded(port) => {
@@ -132,8 +132,8 @@ impl<H: MailboxState> SharedPort<H> {
 
     /// The port, of a shared pool.
     fn into_bounded(self) -> SlotsPort<H>
-        requires { IsSome (look_of self).spot.capacity }
-        ensures { result ≡ look_of self }
+        requires { IsSome (port_view self).spot.capacity }
+        ensures { result ≡ port_view self }
     {
         match self {
             SharedPort::Bounded(port) => port,
@@ -146,8 +146,8 @@ impl<H: MailboxState> SharedPort<H> {
 
     /// The port, of a stealing pool.
     fn into_unbounded(self) -> FeedQueuePort<H>
-        requires { (look_of self).spot.capacity ≡ None }
-        ensures { result ≡ look_of self }
+        requires { (port_view self).spot.capacity ≡ None }
+        ensures { result ≡ port_view self }
     {
         match self {
             SharedPort::Unbounded(port) => port,

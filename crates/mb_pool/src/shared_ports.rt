@@ -2,7 +2,7 @@
 ghost use Rattle.std.specs.Prelude.{◌≡◌, ◌<◌, IfOk, map, replicate};
 ghost use Rattle.mb_pool.specs.Begins.{borrowed, bound_of};
 ghost use Rattle.mb_pool.specs.Ledger.{opened, unused};
-ghost use Rattle.mb_pool.specs.Parts.{look_of};
+ghost use Rattle.mb_pool.specs.Parts.{port_view};
 
 use crate::feed_queue_port::FeedQueuePort;
 use crate::shared_port::SharedPort;
@@ -19,7 +19,7 @@ pub fn first_shared_port<H: MailboxState>(
     alloc: Global,
     kind: PoolKind,
 ) -> Result<SharedPort<H>, AllocError>
-    ensures { IfOk result (λ shared_port. ((look_of shared_port).spot.capacity ≡ bound_of kind) × ((look_of shared_port).ledger ≡ unused)) }
+    ensures { IfOk result (λ shared_port. ((port_view shared_port).spot.capacity ≡ bound_of kind) × ((port_view shared_port).ledger ≡ unused)) }
 {
     match kind {
         PoolKind::Shared => {
@@ -39,9 +39,9 @@ pub fn shared_ports_of<H: MailboxState>(
     first: SharedPort<H>,
     count: usize,
 ) -> Result<Vec<SharedPort<H>>, AllocError>
-    requires some { 0 < count }
-    requires shares { (look_of first).ledger ≡ opened (look_of first).ledger.gates (look_of first).ledger.members count }
-    ensures { IfOk result (λ doors. map look_of doors.items ≡ replicate count (borrowed (look_of first))) }
+    requires not_empty { 0 < count }
+    requires shares { (port_view first).ledger ≡ opened (port_view first).ledger.gates (port_view first).ledger.members count }
+    ensures { IfOk result (λ doors. map port_view doors.items ≡ replicate count (borrowed (port_view first))) }
 {
     let mut first = first;
     let mut doors = Vec::with_capacity(alloc, count)?;

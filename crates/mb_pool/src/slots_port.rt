@@ -34,9 +34,9 @@ impl<H: MailboxState> Model for SlotsPort<H> {
     ghost Value = { PoolPort H };
 
     ghost use Rattle.crossbeam_queue.specs.Passes.{IsPassOf};
-    ghost use Rattle.mb_pool.specs.Shared.{slots_look};
+    ghost use Rattle.mb_pool.specs.Shared.{slots_view};
 
-    ghost view = { λ p. slots_look p.slots.value p.pass };
+    ghost view = { λ p. slots_view p.slots.value p.pass };
 
     ghost invariant = { λ p. IsPassOf p.slots.value.queue p.pass };
 }

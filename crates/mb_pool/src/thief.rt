@@ -32,9 +32,9 @@ impl<H: MailboxState> Model for Thief<H> {
 
     ghost use Rattle.std.specs.Prelude.{◌≡◌};
     ghost use Rattle.crossbeam_deque.specs.Handles.{IsPassOf, stealer_deque, stealer_flavor};
-    ghost use Rattle.mb_pool.specs.Deques.{thief_look};
+    ghost use Rattle.mb_pool.specs.Deques.{thief_view};
 
-    ghost view = { λ t. thief_look t.number t.pass };
+    ghost view = { λ t. thief_view t.number t.pass };
 
     ghost invariant = { λ t. IsPassOf (stealer_deque t.stealer) t.pass × (stealer_flavor t.stealer ≡ 0) };
 }

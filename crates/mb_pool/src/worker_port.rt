@@ -2,7 +2,7 @@
 ghost use Rattle.std.specs.Prelude.{◌≡◌, All, IfNone, IfSome};
 ghost use Rattle.mb_gate.specs.Untouched.{IsUntouched};
 ghost use Rattle.mb_pool.specs.Moves.{Takes, WasEmpty};
-ghost use Rattle.mb_pool.specs.Places.{gates_of, looks, parts_of};
+ghost use Rattle.mb_pool.specs.Places.{gates_of, ports_of, parts_of};
 ghost use Rattle.mb_pool.specs.PoolPorts.{pushed_first};
 
 use crate::back::back;
@@ -41,8 +41,8 @@ impl<H: MailboxState> WorkerPort<H> {
             Takes (IsUntouched H.is_of H.facts) self.old.end claim self.new.end) }
         ensures parts { parts_of self.new.end ≡ parts_of self.old.end }
         ensures none { IfNone result ((self.new ≡ self.old)
-            × All (WasEmpty (IsUntouched H.is_of H.facts)) (looks self.old.end)) }
-        ensures same { (gates_of self.new.end ≡ gates_of self.old.end) × (pushed_first (looks self.new.end) ≡ pushed_first (looks self.old.end))
+            × All (WasEmpty (IsUntouched H.is_of H.facts)) (ports_of self.old.end)) }
+        ensures same { (gates_of self.new.end ≡ gates_of self.old.end) × (pushed_first (ports_of self.new.end) ≡ pushed_first (ports_of self.old.end))
             × (self.new.refused ≡ self.old.refused) }
     {
         self.end.take(rt)
@@ -53,12 +53,12 @@ impl<H: MailboxState> RunQueue<H> for WorkerPort<H> {
     ghost use Rattle.std.specs.Prelude.{[], ◌∷◌, ◌++◌, map, IfErr, MatchResult};
     ghost use Rattle.mb_gate.specs.Untouched.{IsUntouched};
     ghost use Rattle.mb_pool.specs.Moves.{Pushes};
-    ghost use Rattle.mb_pool.specs.Places.{gates_of, looks, parts_of};
+    ghost use Rattle.mb_pool.specs.Places.{gates_of, ports_of, parts_of};
     ghost use Rattle.mb_pool.specs.PoolPorts.{IsRefusedByPool, pushed_first};
 
     ghost origin = { λ port. gates_of port.end };
 
-    ghost pushed = { λ port. pushed_first (looks port.end) };
+    ghost pushed = { λ port. pushed_first (ports_of port.end) };
 
     ghost refused = { λ port. map (λ claim. claim.value) port.refused };
 
@@ -67,9 +67,9 @@ impl<H: MailboxState> RunQueue<H> for WorkerPort<H> {
         requires untouched { IsUntouched H.is_of H.facts (gates_of self.old.end) claim }
         ensures same { gates_of self.new.end ≡ gates_of self.old.end }
         ensures pushed { MatchResult result
-            (λ _. (pushed_first (looks self.new.end) ≡ pushed_first (looks self.old.end) ++ claim ∷ [])
+            (λ _. (pushed_first (ports_of self.new.end) ≡ pushed_first (ports_of self.old.end) ++ claim ∷ [])
             × (map (λ c. c.value) self.new.refused ≡ map (λ c. c.value) self.old.refused))
-            (λ back. (back.claim ≡ claim) × (pushed_first (looks self.new.end) ≡ pushed_first (looks self.old.end))
+            (λ back. (back.claim ≡ claim) × (pushed_first (ports_of self.new.end) ≡ pushed_first (ports_of self.old.end))
             × (map (λ c. c.value) self.new.refused ≡ map (λ c. c.value) self.old.refused ++ claim ∷ [])) }
         ensures asked { IfErr result (λ _. IsRefusedByPool (IsUntouched H.is_of H.facts) self.old.end claim) }
         ensures put { MatchResult result

@@ -105,10 +105,10 @@ fn four_work<R: Threads + Wait + Sync>(
     ensures third { parts_of result.1.0 ≡ parts_of third }
     ensures feed { parts_of result.1.1 ≡ parts_of feed }
 {
-    let a = gates.another(pass);
-    let b = gates.another(pass);
-    let c = gates.another(pass);
-    let d = gates.another(pass);
+    let a = gates.split_pass(pass);
+    let b = gates.split_pass(pass);
+    let c = gates.split_pass(pass);
+    let d = gates.split_pass(pass);
     join(
         rt,
         || -> (PoolEnd<StubHome>, PoolEnd<StubHome>)

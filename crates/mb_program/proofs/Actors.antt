@@ -18,9 +18,9 @@ abbrev AreNew : List Scripted → Type 0
 AreNew [] = Unit {0}
 AreNew (s ∷ scripts) = (s.state ≡ s.script.initial) × AreNew scripts
 
-new-items : (kin : List ActorEntryData) (items : Items) → AreNew (map_items (scripted_of kin) items)
-new-items kin no_items = tt
-new-items kin (item d items) = (refl, new-items kin items)
+new-items : (actor_entries : List ActorEntryData) (items : Items) → AreNew (map_items (scripted_of actor_entries) items)
+new-items actor_entries no_items = tt
+new-items actor_entries (item d items) = (refl, new-items actor_entries items)
 
 at-end : {A : Type 0} (xs ys : List A) (x : A) → slice_get (xs ++ x ∷ ys) (length xs) ≡ Some x
 at-end [] ys x = refl

@@ -62,7 +62,7 @@ module _ {A K : Type 0} (after : ℕ → List Message → ℤ) (gives : ℕ → 
   spoken log number s all part goes_on = record {
     told = ap (λ l. addressed (accepted l)) (all.sent.posted ∙ ap (λ l. l ++ all.sent.more) all.unused) ∙ all.sent.accepted_are;
     view = pass_view s.inner.registrar.pass;
-    said = all.sent.system_sent ∙ ap (λ l. reverse (terminates_of (orders_of number sends)) ++ addressed_system l) all.silent
+    sent_system = all.sent.system_sent ∙ ap (λ l. reverse (terminates_of (orders_of number sends)) ++ addressed_system l) all.silent
         ∙ append-nil (reverse (terminates_of (orders_of number sends)));
     among = (part, goes_on);
   }
@@ -100,7 +100,7 @@ module _ {A K : Type 0} (after : ℕ → List Message → ℤ) (gives : ℕ → 
         whole = ended.whole;
         homes = record {
           first = (first_home built.system.gates).value;
-          rolled = refl;
+          same_directory = refl;
           view = ended.home.view;
           home = subst (λ (n : ℕ). HomesReturned gives (first_home built.system.gates).value n ended.home.view report) (sym built.system.directory)
               ended.home.home;

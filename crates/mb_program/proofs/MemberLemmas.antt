@@ -87,4 +87,4 @@ module _ {A K : Type 0} where
 
   pub some-end : (orders : ℕ → List Order) (built : Built A K) → IsReady orders built → 0 < length built.ends.items
   some-end orders built ready =
-      let some = built.system.some in let many = many-ends orders built ready in omega (arith, some, many)
+      let some = built.system.not_empty in let many = many-ends orders built ready in omega (arith, some, many)

@@ -26,7 +26,7 @@ IsSeenIn log report view = IsPart view.log log × ReportExtendsAll report view
 pub record HasSentAsOrdered (sends : List SenderOrder) (log : List Observation) (report : Report) (number : ℕ) (postings : List SentEnvelope) : Type 0 where
   pub told : addressed (accepted postings) ≡ envelopes_of (orders_of number sends)
   pub view : View
-  pub said : addressed_system view.said ≡ reverse (terminates_of (orders_of number sends))
+  pub sent_system : addressed_system view.sent_system ≡ reverse (terminates_of (orders_of number sends))
   pub among : IsSeenIn log report view
 
 -- The report of a run. It tells of all actors of this plan, each of which does what is said of its number, and of senders outside each of which sent

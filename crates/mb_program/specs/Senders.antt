@@ -18,7 +18,7 @@ module _ {A K : Type 0} (gates : Gates (Box Contents)) where
     pub by : s.inner.send_log.by.0 ≡ most_actors + number
     pub first : Sender A K
     pub unused : first.inner.send_log.posted ≡ []
-    pub silent : (pass_view first.inner.registrar.pass).said ≡ []
+    pub silent : (pass_view first.inner.registrar.pass).sent_system ≡ []
     pub sent : HasSent orders first s
 
   -- Each of these senders did so; they are numbered on from this one.

@@ -110,7 +110,7 @@ fn report_of<A: Actor, K: Behaviours, R: Wait>(
     }
 }
 
-/// How it is told that there is no report of a system of which nothing is missing.
+/// The fault for a system that gave no report although nothing of it is missing.
 fn fault_of<A: Actor, K: Behaviours>(error: &FinishError<A, K>) -> RunFault
     requires { (actors : ℕ) × IsOfWhole actors error.now }
     ensures { IsFaultOfFinish error.now result }

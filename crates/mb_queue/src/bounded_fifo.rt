@@ -80,7 +80,7 @@ impl BoundedFifo {
         let _ = self.queue.another::<OpenFifo<S>>(pass);
     }
 
-    /// LendAccount the account of one sender to a pass of its own.
+    /// Lends the account of one sender to a pass of its own.
     pub fn lend<N: FifoSender>(&self, pass: &mut BoundedFifoPass) -> BoundedFifoPass
         requires queue { IsPassOf self.now.queue pass.old }
         requires may { MayLend N.by (view pass.old) }

@@ -116,7 +116,7 @@ impl Port {
     /// The same under a brand that knows the senders, the actor and the part.
     fn open_as<S: FifoScope>(&mut self, senders: &[SenderId], to: ActorId, part: QueuePart)
         requires unused { IsUnused self.old.ledger }
-        requires same_origin { S.scope ≡ scope_of senders.now to.0 part }
+        requires same_scope { S.scope ≡ scope_of senders.now to.0 part }
         ensures { self.new ≡ record self.old { ledger = Taker (scope_of senders.now to.0 part) [] [] } }
     {
         // Only the contract uses them: `S` stands for them in it.
@@ -143,7 +143,7 @@ impl Port {
     /// The same under a brand that knows the sender.
     fn lend_as<N: FifoSender>(&mut self, by: SenderId) -> Result<Port, AllocError>
         requires may { MayLend by.0 self.old.ledger }
-        requires this { N.by ≡ by.0 }
+        requires same_sender { N.by ≡ by.0 }
         ensures { MatchResult result
             (λ port. (self.new ≡ record self.old { ledger = lending by.0 self.old.ledger })
             × (port ≡ record self.old { ledger = borrowing by.0 self.old.ledger }))

@@ -84,7 +84,7 @@ impl UnboundedFifo {
         let _ = self.queue.another::<OpenFifo<S>>(pass);
     }
 
-    /// LendAccount the account of one sender to a pass of its own.
+    /// Lends the account of one sender to a pass of its own.
     pub fn lend<N: FifoSender>(&self, pass: &mut UnboundedFifoPass) -> UnboundedFifoPass
         requires queue { IsSegPassOf self.now.queue pass.old }
         requires may { MayLend N.by pass.old.me.view.client }

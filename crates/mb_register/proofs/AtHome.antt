@@ -25,9 +25,9 @@ shut-same now shut v same =
     each-of (λ other. IsKnownClosed other shut v) now (λ other a. inl (subst (IsAmong other) (sym same) a))
 
 -- no system message was sent for it, and it has no new entries
-pub told-nothing : (who : Identity) (actor : ℕ) (closed : Bool) (journal before : List Entry) (said : List SentSystem) → before ≡ journal → said ≡ [] →
-    HasSentDueSince who actor closed journal before said
-told-nothing who actor closed journal before said same none =
+pub told-nothing : (who : Identity) (actor : ℕ) (closed : Bool) (journal before : List Entry) (sent_system : List SentSystem) → before ≡ journal → sent_system ≡ [] →
+    HasSentDueSince who actor closed journal before sent_system
+told-nothing who actor closed journal before sent_system same none =
     subst (λ (x : List Entry × List SentSystem). HasSentDueSince who actor closed journal x.0 x.1) (λ i. (sym same i, sym none i))
     (nothing_since who actor closed journal)
 

@@ -100,8 +100,8 @@ module _ {H : Type 0} where
       by_last id (inr kept) = by_first id kept (p.obligations id)
 
   -- it only sent system messages
-  pub further-said : (said : List SentSystem) (a b : Caller H) → b.view ≡ record a.view { said = said } → b.account ≡ a.account → CallerAdvances a b
-  further-said said a b same account = record {
+  pub further-sent_system : (sent_system : List SentSystem) (a b : Caller H) → b.view ≡ record a.view { sent_system = sent_system } → b.account ≡ a.account → CallerAdvances a b
+  further-sent_system sent_system a b same account = record {
     more = [];
     took_none = tt;
     sends_open = tt;

@@ -49,7 +49,7 @@ module _ {H : Type 0} (id : ℕ) (old new : QueueAccount H) where
 
 module _ (among : ℕ → Bool) where
   pub among-none : (v : View) → LooksAmong among v v
-  among-none v = record { looks = []; only = tt; log = refl; said = refl; others = λ other out. refl; share = refl }
+  among-none v = record { looks = []; only = tt; log = refl; sent_system = refl; others = λ other out. refl; share = refl }
 
   -- one more actor of the set
   among-then : (id : ℕ) (u v w : View) → among id ≡ true → LooksAmong among u v → LooksAfter id v w → LooksAmong among u w
@@ -59,7 +59,7 @@ module _ (among : ℕ → Bool) where
         (each_weaker (IsLook id) (λ (s : Observation). (i : ℕ) × (among i ≡ true) × IsLook i s) b.looks (λ s is. (id, in_set, is)) b.only) a.only;
     log = b.log ∙ ap (λ l. (b.looks ++ []) ++ l) a.log ∙ ap (λ l. l ++ (a.looks ++ u.log)) (append-nil b.looks)
         ∙ sym (append_assoc b.looks a.looks u.log);
-    said = b.said ∙ a.said;
+    sent_system = b.sent_system ∙ a.sent_system;
     others = λ other out. b.others other (λ same. never-both (among other) (ap among same ∙ in_set) out) ∙ a.others other out;
     share = b.share ∙ a.share;
   }

@@ -59,7 +59,7 @@ does-read id word did told a b c is d = record {
       d.log ∙ ap (λ (v : View). (d.looks ++ did) ++ v.log) is ∙ append_assoc d.looks did (Read id word ∷ a.log)
       ∙ ap (λ l. d.looks ++ l) (sym (append_assoc did (Read id word ∷ []) a.log))
       ∙ sym (append_assoc d.looks (did ++ Read id word ∷ []) a.log);
-  said = d.said ∙ ap (λ (v : View). told ++ v.said) is;
+  sent_system = d.sent_system ∙ ap (λ (v : View). told ++ v.sent_system) is;
   others = λ other ne. d.others other ne ∙ ap (obligation_to other) is
       ∙ owes-other id (after_reading (mailbox_of word) (obligation_to id a)) (seeing (Read id word) a) other ne;
   share = d.share ∙ ap (λ (v : View). v.share) is;

@@ -22,7 +22,7 @@ module _ (id : ℕ) where
   owes-other d v other ne = let apart : (id == other) ≡ false = grind (arith, nat_tests) in ap (λ b. if b then d else obligation_to other v) apart
 
   pub looks-none : (v : View) → LooksAfter id v v
-  looks-none v = record { looks = []; only = tt; log = refl; said = refl; others = λ other ne. refl; share = refl }
+  looks-none v = record { looks = []; only = tt; log = refl; sent_system = refl; others = λ other ne. refl; share = refl }
 
   -- something done, and then looks
   pub does-then : (did : List Observation) (told : List SentSystem) (u v w : View) → Does id did told u v → LooksAfter id v w → Does id did told u w
@@ -30,7 +30,7 @@ module _ (id : ℕ) where
     looks = b.looks ++ a.looks;
     only = each_append (IsLook id) b.looks a.looks b.only a.only;
     log = b.log ∙ ap (λ l. (b.looks ++ []) ++ l) a.log ∙ joined;
-    said = b.said ∙ a.said;
+    sent_system = b.sent_system ∙ a.sent_system;
     others = λ other ne. b.others other ne ∙ a.others other ne;
     share = b.share ∙ a.share;
   }
@@ -44,14 +44,14 @@ module _ (id : ℕ) where
   looks-then = does-then [] []
 
   pub looks-seeing : (s : Observation) (v : View) → IsLook id s → LooksAfter id v (seeing s v)
-  looks-seeing s v is = record { looks = s ∷ []; only = (is, tt); log = refl; said = refl; others = λ other ne. refl; share = refl }
+  looks-seeing s v is = record { looks = s ∷ []; only = (is, tt); log = refl; sent_system = refl; others = λ other ne. refl; share = refl }
 
   pub looks-reading : (word : ℕ) (v : View) → LooksAfter id v (reading id word v)
   looks-reading word v = record {
     looks = _ ∷ [];
     only = (refl, tt);
     log = refl;
-    said = refl;
+    sent_system = refl;
     others = owes-other (after_reading (mailbox_of word) (obligation_to id v)) v;
     share = refl;
   }
@@ -66,7 +66,7 @@ module _ (id : ℕ) where
         looks = _ ∷ [];
         only = (refl, tt);
         log = refl;
-        said = refl;
+        sent_system = refl;
         others = owes-other (record (obligation_to id v) { message = false }) v;
         share = refl;
       })
@@ -78,7 +78,7 @@ module _ (id : ℕ) where
     looks = _ ∷ [];
     only = (refl, tt);
     log = refl;
-    said = refl;
+    sent_system = refl;
     others = owes-other (record (obligation_to id v) { system = false }) v;
     share = refl;
   }
@@ -88,7 +88,7 @@ module _ (id : ℕ) where
     looks = [];
     only = tt;
     log = refl;
-    said = refl;
+    sent_system = refl;
     others = owes-other nothing (record v { got = id ∷ v.got });
     share = refl;
   }
@@ -113,7 +113,7 @@ module _ (id : ℕ) where
     looks = [];
     only = tt;
     log = refl;
-    said = refl;
+    sent_system = refl;
     others = owes-other (record (obligation_to id v) { sending = true }) v;
     share = refl;
   })
@@ -123,7 +123,7 @@ module _ (id : ℕ) where
     looks = [];
     only = tt;
     log = ap (λ (x : View). Unsent id 1 ∷ x.log) sent;
-    said = a.said;
+    sent_system = a.sent_system;
     others = λ other ne. owes-other (record (obligation_to id v) { message = true; sending = false }) v other ne ∙ a.others other ne;
     share = a.share;
   })
@@ -136,7 +136,7 @@ module _ (id : ℕ) where
         looks = [];
         only = tt;
         log = refl;
-        said = refl;
+        sent_system = refl;
         others = owes-other (record (obligation_to id v) { system = true }) v;
         share = refl;
       })
@@ -145,7 +145,7 @@ module _ (id : ℕ) where
       Does id [] (record { to = id; message = message; was_ended = true } ∷ []) v w
   does-refusing message v w is =
       subst (Does id [] (record { to = id; message = message; was_ended = true } ∷ []) v) (sym is)
-      (record { looks = []; only = tt; log = refl; said = refl; others = λ other ne. refl; share = refl })
+      (record { looks = []; only = tt; log = refl; sent_system = refl; others = λ other ne. refl; share = refl })
 
 -- what is owed by a pass is as it was once a claim that owed nothing was put into its place
 or-false : (b : Bool) → (b || false) ≡ b
@@ -166,7 +166,7 @@ module _ (id : ℕ) (j before : List Entry) (shut : List ℕ) (word : ℕ) (gave
     looks = Saw id j ∷ [];
     only = (refl, tt);
     log = ap (λ l. Saw id j ∷ l) (append-nil v.log);
-    said = refl;
+    sent_system = refl;
     others = λ other ne. owes-other id _ (taking_in (claimed id before shut word gave given) v) other ne ∙ added-none other v.obligations;
     share = append-nil v.share;
   }

@@ -33,13 +33,13 @@ TakesNothing (Ended a given) = Unit {0}
 
 -- Besides what it knew, it knows what the seat of a claim did. It took no envelope itself, and sent only to actors that it read as open.
 pub record TakesOver (old new : View) (steps : List Observation) : Type 0 where
-  pub own : List Observation
-  pub took_none : Each TakesNothing own
-  pub sends_open : SendsOpen own
-  pub joined : new.log ≡ own ++ (old.log ++ steps)
+  pub own_log : List Observation
+  pub took_none : Each TakesNothing own_log
+  pub sends_open : SendsOpen own_log
+  pub joined : new.log ≡ own_log ++ (old.log ++ steps)
 
 module _ {H W : Type 0} where
-  -- The registrar's pass and its port of the run queue are of these gates, which have no more actors than the set of owed looks can hold.
+  -- The registrar's pass and its port of the run queue are of these gates, which have no more actors than the set of those that are owed a look can hold.
   abbrev pub IsRegistrarOf : (W → Option (Origin H)) → Gates H → Registrar H W → Type 0
   IsRegistrarOf origin gates registrar = (pass_id registrar.pass ≡ gates_id gates) × (origin registrar.run_queue ≡ Some (origin_of gates)) × (actors_of gates ≤ 64)
 

@@ -23,7 +23,7 @@ pub record Does (id : ℕ) (did : List Observation) (told : List SentSystem) (ol
   pub looks : List Observation
   pub only : Each (IsLook id) looks
   pub log : new.log ≡ looks ++ did ++ old.log
-  pub said : new.said ≡ told ++ old.said
+  pub sent_system : new.sent_system ≡ told ++ old.sent_system
   pub others : (other : ℕ) → other ≢ id → obligation_to other new ≡ obligation_to other old
   pub share : new.share ≡ old.share
 
@@ -36,7 +36,7 @@ pub record LooksAmong (among : ℕ → Bool) (old new : View) : Type 0 where
   pub looks : List Observation
   pub only : Each (λ (s : Observation). (id : ℕ) × (among id ≡ true) × IsLook id s) looks
   pub log : new.log ≡ looks ++ old.log
-  pub said : new.said ≡ old.said
+  pub sent_system : new.sent_system ≡ old.sent_system
   pub others : (other : ℕ) → among other ≡ false → obligation_to other new ≡ obligation_to other old
   pub share : new.share ≡ old.share
 

@@ -26,7 +26,7 @@ fn has_system<H: MailboxState>(
     ensures same_gates { pass_id pass.new ≡ pass_id pass.old }
     ensures looks { LooksAfter id.0 (pass_view pass.old) (pass_view pass.new) }
     ensures claims { GotAndGaveBack [] [] (pass_view pass.old) (pass_view pass.new) }
-    ensures some { result ≡ true → obligation_to id.0 (pass_view pass.new) ≡ obligation_to id.0 (pass_view pass.old) }
+    ensures same_obligation { result ≡ true → obligation_to id.0 (pass_view pass.new) ≡ obligation_to id.0 (pass_view pass.old) }
     ensures none { result ≡ false → obligation_to id.0 (pass_view pass.new) ≡ record (obligation_to id.0 (pass_view pass.old)) { system = false } }
     ensures seen { result ≡ true → (has_system_message_hint hint ≡ true) ⊎ SawListed id.0 (pass_view pass.old) (pass_view pass.new) }
 {
@@ -49,7 +49,7 @@ fn has_messages<H: MailboxState>(
     ensures same_gates { pass_id pass.new ≡ pass_id pass.old }
     ensures looks { LooksAfter id.0 (pass_view pass.old) (pass_view pass.new) }
     ensures claims { GotAndGaveBack [] [] (pass_view pass.old) (pass_view pass.new) }
-    ensures some { result ≡ true → obligation_to id.0 (pass_view pass.new) ≡ obligation_to id.0 (pass_view pass.old) }
+    ensures same_obligation { result ≡ true → obligation_to id.0 (pass_view pass.new) ≡ obligation_to id.0 (pass_view pass.old) }
     ensures none { result ≡ false → obligation_to id.0 (pass_view pass.new) ≡ record (obligation_to id.0 (pass_view pass.old)) { message = false } }
     ensures seen { result ≡ true → (has_message_hint hint ≡ true) ⊎ SawWaiting id.0 (pass_view pass.old) (pass_view pass.new) }
 {

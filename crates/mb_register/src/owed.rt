@@ -22,7 +22,7 @@ impl Owed {
     /// Whether no actor is in the set.
     pub fn is_empty(self) -> bool
         ensures nobody { IsTrue result → IsNobody self }
-        ensures some { IsNobody self → IsTrue result }
+        ensures when_nobody { IsNobody self → IsTrue result }
     {
         self.bits == 0
     }

@@ -37,22 +37,22 @@ pub length-items : {A : Type 0} (f : Data → A) (items : Items) → length (map
 length-items f no_items = refl
 length-items f (item d ds) = let e = length-items f ds in omega (arith, e)
 
-length-kin : (items : Items) → length (actor_entries_of items) ≡ item_count items
-length-kin no_items = refl
-length-kin (item d ds) = let e = length-kin ds in omega (arith, e)
+length-actor_entries : (items : Items) → length (actor_entries_of items) ≡ item_count items
+length-actor_entries no_items = refl
+length-actor_entries (item d ds) = let e = length-actor_entries ds in omega (arith, e)
 
 -- ---- names
 
-module _ (kin : List ActorEntryData) where
-  named-by : (earlier : ℕ) (d : Data) (ms : Members) (prefix : List ℕ) (o : Option Data) → key_reason (context_of_actor kin earlier d) ms name_key o ≡ None
+module _ (actor_entries : List ActorEntryData) where
+  named-by : (earlier : ℕ) (d : Data) (ms : Members) (prefix : List ℕ) (o : Option Data) → key_reason (context_of_actor actor_entries earlier d) ms name_key o ≡ None
       → is_name (text_or [] o) ≡ true
   named-by earlier d ms prefix None none = absurd (none-some Missing (sym none))
-  named-by earlier d ms prefix (Some x) none = (fit (context_of_actor kin earlier d) ms name_key x none).in_range
+  named-by earlier d ms prefix (Some x) none = (fit (context_of_actor actor_entries earlier d) ms name_key x none).in_range
 
-  pub named : (earlier : ℕ) (items : Items) → Checked (name_check kin) earlier items → Named (actor_entries_of items)
+  pub named : (earlier : ℕ) (items : Items) → Checked (name_check actor_entries) earlier items → Named (actor_entries_of items)
   named earlier no_items checked = tt
   named earlier (item d ds) checked =
-      let a = context_of_actor kin earlier d in
+      let a = context_of_actor actor_entries earlier d in
       let entry = entry-none (λ prefix ms. key_check prefix a ms name_key) (codes "actor") earlier (as_table d) checked.0 in
       let prefix = entry_text (codes "actor") (earlier + 1) ++ codes " " in
       let name = named-by earlier d entry.0 prefix (get_member (codes "name") entry.0) (key-none prefix a entry.0 name_key entry.2) in
@@ -83,20 +83,20 @@ bound-of false true third capacity rows other within = tt
 bound-of false false true capacity rows other within = tt
 bound-of false false false capacity rows other within = tt
 
-module _ (kin : List ActorEntryData) (names : Named kin) where
-  parent-below : (earlier : ℕ) (own : List ℕ) (ms : Members) (o : Option Data)
-      → key_reason (record { kin = kin; earlier = earlier; own = own }) ms (optional (codes "parent") Always Parent) o ≡ None
-      → (id_of kin (text_or (codes "guardian") o)).0 < 1 + earlier
-  parent-below earlier own ms None none =
-      let zero_is = number-guardian 1 kin (codes "guardian") names refl in omega (arith, zero_is)
-  parent-below earlier own ms (Some d) none =
-      number-of-parent earlier kin (text_of d) names
-      (fit (record { kin = kin; earlier = earlier; own = own }) ms (optional (codes "parent") Always Parent) d none).known
+module _ (actor_entries : List ActorEntryData) (names : Named actor_entries) where
+  parent-below : (earlier : ℕ) (own_name : List ℕ) (ms : Members) (o : Option Data)
+      → key_reason (record { actor_entries = actor_entries; earlier = earlier; own_name = own_name }) ms (optional (codes "parent") Always Parent) o ≡ None
+      → (id_of actor_entries (text_or (codes "guardian") o)).0 < 1 + earlier
+  parent-below earlier own_name ms None none =
+      let zero_is = number-guardian 1 actor_entries (codes "guardian") names refl in omega (arith, zero_is)
+  parent-below earlier own_name ms (Some d) none =
+      number-of-parent earlier actor_entries (text_of d) names
+      (fit (record { actor_entries = actor_entries; earlier = earlier; own_name = own_name }) ms (optional (codes "parent") Always Parent) d none).known
 
   -- the checks of an actor find nothing
-  actor-data : (earlier : ℕ) (d : Data) → actor_check kin earlier d ≡ None → IsActorData (1 + earlier) (planned_actor kin d)
+  actor-data : (earlier : ℕ) (d : Data) → actor_check actor_entries earlier d ≡ None → IsActorData (1 + earlier) (planned_actor actor_entries d)
   actor-data earlier d none =
-      let a = context_of_actor kin earlier d in
+      let a = context_of_actor actor_entries earlier d in
       let entry = entry-none (actor_table_check a) (codes "actor") earlier (as_table d) none in
       let prefix = entry_text (codes "actor") (earlier + 1) ++ codes " " in
       let ms = entry.0 in
@@ -113,20 +113,20 @@ module _ (kin : List ActorEntryData) (names : Named kin) where
       let bound = key-none prefix a ms k3 (first-none (key_check prefix a ms k3) (rows_check a (prefix ++ k3.name) k3.form (get_member k3.name ms)
       ∷ []) p3.0).0 in
       let at : (key : List ℕ) → field key d ≡ get_member key ms = λ key. ap (option_and_then (get_member key)) entry.1 in (
-        subst (λ o. (id_of kin (text_or (codes "guardian") o)).0 < 1 + earlier) (sym (at (codes "parent")))
-            (parent-below earlier a.own ms (get_member (codes "parent") ms) parent),
+        subst (λ o. (id_of actor_entries (text_or (codes "guardian") o)).0 < 1 + earlier) (sym (at (codes "parent")))
+            (parent-below earlier a.own_name ms (get_member (codes "parent") ms) parent),
         bound-of _ _ _ (number_or 0 (field (codes "capacity") d)) _ _ (λ is.
             subst (λ o. (1 ≤ number_or 0 o) × (number_or 0 o ≤ 65536)) (sym (at (codes "capacity")))
             (bound-within a ms (get_member (codes "capacity") ms) bound
             (ap (λ o. bytes_eq (text_or (codes "unbounded") o) (codes "bounded")) (sym (at (codes "mailbox"))) ∙ is))),
       )
 
-  pub actors-data : (earlier : ℕ) (items : Items) → Checked (actor_check kin) earlier items
-      → AreActorData (1 + earlier) (map_items (planned_actor kin) items)
+  pub actors-data : (earlier : ℕ) (items : Items) → Checked (actor_check actor_entries) earlier items
+      → AreActorData (1 + earlier) (map_items (planned_actor actor_entries) items)
   actors-data earlier no_items checked = tt
   actors-data earlier (item d ds) checked = (
     actor-data earlier d checked.0,
-    subst (λ id. AreActorData id (map_items (planned_actor kin) ds)) (let e : 1 + (earlier + 1) ≡ 1 + earlier + 1 = omega arith in e)
+    subst (λ id. AreActorData id (map_items (planned_actor actor_entries) ds)) (let e : 1 + (earlier + 1) ≡ 1 + earlier + 1 = omega arith in e)
         (actors-data (earlier + 1) ds checked.1),
   )
 
@@ -162,28 +162,28 @@ or-false : (a b : Bool) → (a || b) ≡ true → a ≡ false → b ≡ true
 or-false true b is not_a = absurd (cc)
 or-false false b is not_a = is
 
-module _ (kin : List ActorEntryData) (few : 1 + length kin < 2 ^ 32) where
+module _ (actor_entries : List ActorEntryData) (few : 1 + length actor_entries < 2 ^ 32) where
   received : (ms : Members) (o : Option Data) (kind : ℕ) (value : ℤ) (what : OrderKind)
-      → key_reason (context_of_send kin) ms (required (codes "to") Always Receiver) o ≡ None → what_sent (what_word ms) kind value ≡ what
-      → IsReceived (1 + length kin) (id_of kin (text_or (codes "") o)) what
+      → key_reason (context_of_send actor_entries) ms (required (codes "to") Always Receiver) o ≡ None → what_sent (what_word ms) kind value ≡ what
+      → IsReceived (1 + length actor_entries) (id_of actor_entries (text_or (codes "") o)) what
   received ms None kind value what none is = absurd (none-some Missing (sym none))
-  received ms (Some d) kind value Stop none is = number-below 1 kin (text_of d) (omega arith)
+  received ms (Some d) kind value Stop none is = number-below 1 actor_entries (text_of d) (omega arith)
   received ms (Some d) kind value (Tell body) none is =
-      let fits = fit (context_of_send kin) ms (required (codes "to") Always Receiver) d none in
+      let fits = fit (context_of_send actor_entries) ms (required (codes "to") Always Receiver) d none in
       let other : bytes_eq (what_word ms) (codes "stop") ≡ false = no-stop (what_word ms) kind value body is in
       let name : is_name (text_of d) ≡ true = a-name (is_name (text_of d)) (is_guardian (text_of d)) (bytes_eq (what_word ms) (codes "stop"))
       fits.in_range other in
-      let known = or-false (is_guardian (text_of d)) (knows kin (text_of d)) fits.known (no-guardian (text_of d) name) in
-      (number-known 1 kin (text_of d) (omega arith) few known, number-below 1 kin (text_of d) (omega arith))
+      let known = or-false (is_guardian (text_of d)) (knows actor_entries (text_of d)) fits.known (no-guardian (text_of d) name) in
+      (number-known 1 actor_entries (text_of d) (omega arith) few known, number-below 1 actor_entries (text_of d) (omega arith))
     where
       a-name : (a b c : Bool) → (a || (b && c)) ≡ true → c ≡ false → a ≡ true
       a-name true b c is not_c = refl
       a-name false true c is not_c = absurd (cc)
       a-name false false c is not_c = is
 
-  send-data : (earlier : ℕ) (d : Data) → send_check kin earlier d ≡ None → IsSendData (1 + length kin) (send_of kin d)
+  send-data : (earlier : ℕ) (d : Data) → send_check actor_entries earlier d ≡ None → IsSendData (1 + length actor_entries) (send_of actor_entries d)
   send-data earlier d none =
-      let a = context_of_send kin in
+      let a = context_of_send actor_entries in
       let entry = entry-none (λ prefix ms. table_check send_keys send_keys prefix a ms) (codes "send") earlier (as_table d) none in
       let prefix = entry_text (codes "send") (earlier + 1) ++ codes " " in
       let ms = entry.0 in
@@ -198,18 +198,18 @@ module _ (kin : List ActorEntryData) (few : 1 + length kin < 2 ^ 32) where
       let to = key-none prefix a ms k2 p2.0 in
       let at : (key : List ℕ) → field key d ≡ get_member key ms = λ key. ap (option_and_then (get_member key)) entry.1 in (
         subst (λ o. number_or 0 o ≤ 15) (sym (at (codes "from"))) from.1,
-        subst (λ o. IsReceived (1 + length kin) (id_of kin (text_or (codes "") o)) (send_of kin d).order.what) (sym (at (codes "to")))
+        subst (λ o. IsReceived (1 + length actor_entries) (id_of actor_entries (text_or (codes "") o)) (send_of actor_entries d).order.what) (sym (at (codes "to")))
             (received ms (get_member (codes "to") ms) (number_or 0 (field (codes "kind") d)) (integer_or (pos 0) (field (codes "value") d))
-            (send_of kin d).order.what to
+            (send_of actor_entries d).order.what to
             (ap (λ o. what_sent (text_or (codes "user") o) (number_or 0 (field (codes "kind") d)) (integer_or (pos 0) (field (codes "value") d)))
             (sym (at (codes "what"))))),
       )
 
-  pub sends-data : (earlier : ℕ) (items : Items) → Checked (send_check kin) earlier items
-      → All (IsSendData (1 + length kin)) (map_items (send_of kin) items)
-  sends-data earlier no_items checked = All-nil (IsSendData (1 + length kin))
+  pub sends-data : (earlier : ℕ) (items : Items) → Checked (send_check actor_entries) earlier items
+      → All (IsSendData (1 + length actor_entries)) (map_items (send_of actor_entries) items)
+  sends-data earlier no_items checked = All-nil (IsSendData (1 + length actor_entries))
   sends-data earlier (item d ds) checked =
-      All-cons (IsSendData (1 + length kin)) (send_of kin d) (map_items (send_of kin) ds) (send-data earlier d checked.0)
+      All-cons (IsSendData (1 + length actor_entries)) (send_of actor_entries d) (map_items (send_of actor_entries) ds) (send-data earlier d checked.0)
       (sends-data (earlier + 1) ds checked.1)
 
 -- ---- the document
@@ -251,12 +251,12 @@ pub passed : (top : Members) → document_check top ≡ None → IsPassed top
 passed top none =
     let actors = items_in (get_member (codes "actor") top) in
     let sends = items_in (get_member (codes "send") top) in
-    let kin = actor_entries_of actors in
+    let actor_entries = actor_entries_of actors in
     let a = context_of_send [] in
     let c1 = table_check top_keys top_keys [] a top in
-    let c2 = first (each (name_check kin) actors) in
-    let c3 = first (each (actor_check kin) actors) in
-    let c4 = first (each (send_check kin) sends) in
+    let c2 = first (each (name_check actor_entries) actors) in
+    let c3 = first (each (actor_check actor_entries) actors) in
+    let c4 = first (each (send_check actor_entries) sends) in
     let p1 = first-none c1 (c2 ∷ c3 ∷ c4 ∷ []) none in
     let p2 = first-none c2 (c3 ∷ c4 ∷ []) p1.1 in
     let p3 = first-none c3 (c4 ∷ []) p2.1 in
@@ -274,13 +274,13 @@ passed top none =
     let q4 = first-none (check k4) (map check (drop 4 top_keys)) q3.1 in
     let q5 = first-none (check k5) (map check (drop 5 top_keys)) q4.1 in
     let few : item_count actors ≤ 63 = few-tables a top (get_member (codes "actor") top) (key-none [] a top k5 q5.0) in
-    let many : length kin ≡ item_count actors = length-kin actors in
-    let names = named kin 0 actors (each-none (name_check kin) 0 actors p2.0) in
+    let many : length actor_entries ≡ item_count actors = length-actor_entries actors in
+    let names = named actor_entries 0 actors (each-none (name_check actor_entries) 0 actors p2.0) in
     record {
       within_limit = few;
-      actors = actors-data kin names 0 actors (each-none (actor_check kin) 0 actors p3.0);
+      actors = actors-data actor_entries names 0 actors (each-none (actor_check actor_entries) 0 actors p3.0);
       sends = subst (λ n. All (IsSendData (1 + n)) (sends_in top)) many
-          (sends-data kin (omega (arith, few, many)) 0 sends (each-none (send_check kin) 0 sends p4.0));
+          (sends-data actor_entries (omega (arith, few, many)) 0 sends (each-none (send_check actor_entries) 0 sends p4.0));
       workers = (number-within a top (codes "workers") 0 16 1 (omega arith) (omega arith) (omega arith) (get_member (codes "workers") top)
           (key-none [] a top k1 q1.0)).1;
       limit = (number-within a top (codes "journal_limit") 1 4294967295 4294967295 (omega arith) (omega arith) (omega arith)

@@ -43,8 +43,8 @@ map_items f (item d ds) = f d ∷ map_items f ds
 -- the number of the first actor of a name, where numbers count on from this one; 0, the guardian's, where none has it
 abbrev pub number_from : ℕ → List ActorEntryData → List ℕ → ℕ
 number_from n [] name = 0
-number_from n (k ∷ kin) name = if bytes_eq k.name name then small n else number_from (n + 1) kin name
+number_from n (k ∷ actor_entries) name = if bytes_eq k.name name then small n else number_from (n + 1) actor_entries name
 
 -- the actor of a name; the guardian where no actor has it
 abbrev pub id_of : List ActorEntryData → List ℕ → ActorId
-id_of kin name = record { 0 = number_from 1 kin name }
+id_of actor_entries name = record { 0 = number_from 1 actor_entries name }

@@ -98,8 +98,8 @@ strategy_of d = record {
 
 -- the actor of the plan that a table of `actor` describes
 abbrev pub planned_actor : List ActorEntryData → Data → ActorData
-planned_actor kin d = record {
-  parent = id_of kin (text_or (codes "guardian") (field (codes "parent") d));
+planned_actor actor_entries d = record {
+  parent = id_of actor_entries (text_or (codes "guardian") (field (codes "parent") d));
   mailbox = planned_mailbox (text_or (codes "unbounded") (field (codes "mailbox") d)) d;
   strategy = strategy_of d;
 }

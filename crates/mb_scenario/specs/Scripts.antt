@@ -24,30 +24,30 @@ operation_on to number verb.Spawn = Spawn to
 
 -- the operation that a text names, among these actors
 abbrev pub operation_of : List ActorEntryData → Option OpData → Operation
-operation_of kin None = Ignore
-operation_of kin (Some add) = Add
-operation_of kin (Some ignore) = Ignore
-operation_of kin (Some (fail number)) = Fail number
-operation_of kin (Some (about verb name number)) = operation_on (id_of kin name) number verb
+operation_of actor_entries None = Ignore
+operation_of actor_entries (Some add) = Add
+operation_of actor_entries (Some ignore) = Ignore
+operation_of actor_entries (Some (fail number)) = Fail number
+operation_of actor_entries (Some (about verb name number)) = operation_on (id_of actor_entries name) number verb
 
 -- the operations of an array of texts
 abbrev pub operations_in : List ActorEntryData → Option Data → List Operation
-operations_in kin found = map_items (λ d. operation_of kin (op_of (text_of d))) (items_in found)
+operations_in actor_entries found = map_items (λ d. operation_of actor_entries (op_of (text_of d))) (items_in found)
 
 -- the row of a script that a table of `on` describes
 abbrev pub scripted_row : List ActorEntryData → Data → RowData
-scripted_row kin d = record { kind = number_or 0 (field (codes "kind") d); operations = operations_in kin (field (codes "do") d) }
+scripted_row actor_entries d = record { kind = number_or 0 (field (codes "kind") d); operations = operations_in actor_entries (field (codes "do") d) }
 
 abbrev pub script_of : List ActorEntryData → Data → ScriptData
-script_of kin d = record {
+script_of actor_entries d = record {
   initial = integer_or (pos 0) (field (codes "initial") d);
-  start = operations_in kin (field (codes "start") d);
-  restart = operations_in kin (field (codes "restart") d);
-  stop = operations_in kin (field (codes "stop") d);
-  terminated = option_map (λ t. operations_in kin (Some t)) (field (codes "terminated") d);
-  rows = map_items (scripted_row kin) (items_in (field (codes "on") d));
+  start = operations_in actor_entries (field (codes "start") d);
+  restart = operations_in actor_entries (field (codes "restart") d);
+  stop = operations_in actor_entries (field (codes "stop") d);
+  terminated = option_map (λ t. operations_in actor_entries (Some t)) (field (codes "terminated") d);
+  rows = map_items (scripted_row actor_entries) (items_in (field (codes "on") d));
 }
 
 -- a script as it begins
 abbrev pub scripted_of : List ActorEntryData → Data → Scripted
-scripted_of kin d = record { script = script_of kin d; state = integer_or (pos 0) (field (codes "initial") d) }
+scripted_of actor_entries d = record { script = script_of actor_entries d; state = integer_or (pos 0) (field (codes "initial") d) }

@@ -21,10 +21,10 @@ what_sent word kind value =
 
 -- the send that a table of `send` describes
 abbrev pub send_of : List ActorEntryData → Data → SenderOrder
-send_of kin d = record {
+send_of actor_entries d = record {
   from = number_or 0 (field (codes "from") d);
   order = record {
-    to = id_of kin (text_or (codes "") (field (codes "to") d));
+    to = id_of actor_entries (text_or (codes "") (field (codes "to") d));
     what = what_sent (text_or (codes "user") (field (codes "what") d)) (number_or 0 (field (codes "kind") d)) (integer_or (pos 0) (field
         (codes "value") d));
     times = number_or 1 (field (codes "times") d);

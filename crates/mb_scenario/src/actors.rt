@@ -19,14 +19,14 @@ use toml::Value;
 
 pub(crate) fn actors_of(
     alloc: Global,
-    kin: &[ActorEntry<'_>],
+    actor_entries: &[ActorEntry<'_>],
     values: &[Value],
 ) -> Result<Vec<ActorPlan>, AllocError>
-    ensures { IfOk result (λ actors. map actor_data actors.items ≡ map_items (planned_actor (map actor_entry_data kin.now)) (items_view values.now)) }
+    ensures { IfOk result (λ actors. map actor_data actors.items ≡ map_items (planned_actor (map actor_entry_data actor_entries.now)) (items_view values.now)) }
 {
     let mut actors = Vec::new(alloc);
     for value in values {
-        let actor = planned_actor(alloc, kin, value)?;
+        let actor = planned_actor(alloc, actor_entries, value)?;
         actors.push(actor)?;
     }
     Ok(actors)
@@ -34,15 +34,15 @@ pub(crate) fn actors_of(
 
 fn planned_actor(
     alloc: Global,
-    kin: &[ActorEntry<'_>],
+    actor_entries: &[ActorEntry<'_>],
     value: &Value,
 ) -> Result<ActorPlan, AllocError>
-    ensures { IfOk result (λ actor. actor_data actor ≡ planned_actor (map actor_entry_data kin.now) (view value.now)) }
+    ensures { IfOk result (λ actor. actor_data actor ≡ planned_actor (map actor_entry_data actor_entries.now) (view value.now)) }
 {
     let mailbox = planned_mailbox(alloc, text_or(b"unbounded", field(value, "mailbox")), value)?;
     let strategy = strategy_of(alloc, value)?;
     Ok(ActorPlan {
-        parent: id_of(kin, text_or(b"guardian", field(value, "parent"))),
+        parent: id_of(actor_entries, text_or(b"guardian", field(value, "parent"))),
         mailbox,
         strategy,
     })
@@ -87,14 +87,14 @@ fn planned_rank(value: &Value) -> RankRow
 
 pub(crate) fn scripts_of(
     alloc: Global,
-    kin: &[ActorEntry<'_>],
+    actor_entries: &[ActorEntry<'_>],
     values: &[Value],
 ) -> Result<Vec<Script>, AllocError>
-    ensures { IfOk result (λ scripts. scripts.items ≡ map_items (scripted_of (map actor_entry_data kin.now)) (items_view values.now)) }
+    ensures { IfOk result (λ scripts. scripts.items ≡ map_items (scripted_of (map actor_entry_data actor_entries.now)) (items_view values.now)) }
 {
     let mut scripts = Vec::new(alloc);
     for value in values {
-        let script = script_of(alloc, kin, value)?;
+        let script = script_of(alloc, actor_entries, value)?;
         scripts.push(script)?;
     }
     Ok(scripts)

@@ -76,10 +76,10 @@ pub(crate) fn truth_or(default: bool, found: Option<&Value>) -> bool
 }
 
 /// The number of the actor with the name; 0, the guardian's, where there is none.
-pub(crate) fn id_of(kin: &[ActorEntry<'_>], name: &[u8]) -> ActorId
-    ensures { result ≡ id_of (map actor_entry_data kin.now) name.now }
+pub(crate) fn id_of(actor_entries: &[ActorEntry<'_>], name: &[u8]) -> ActorId
+    ensures { result ≡ id_of (map actor_entry_data actor_entries.now) name.now }
 {
-    for (index, one) in kin.iter().enumerate() {
+    for (index, one) in actor_entries.iter().enumerate() {
         if is_text(one.name, name) {
             return ActorId(small(index + 1));
         }

@@ -20,14 +20,14 @@ use toml::Table;
 pub(crate) fn plan_of(
     alloc: Global,
     top: &Table,
-    kin: &[ActorEntry<'_>],
+    actor_entries: &[ActorEntry<'_>],
     sends: &[SenderOrder],
 ) -> Result<Plan, AllocError>
-    requires kin { map actor_entry_data kin.now ≡ actor_entries_of (items_in (get_member (codes "actor") (table_view top.now))) }
+    requires actor_entries { map actor_entry_data actor_entries.now ≡ actor_entries_of (items_in (get_member (codes "actor") (table_view top.now))) }
     requires sends { sends.now ≡ sends_in (table_view top.now) }
     ensures { IfOk result (λ plan. plan_data plan ≡ plan_of (table_view top.now)) }
 {
-    let actors = actors_of(alloc, kin, items_at(top, "actor"))?;
+    let actors = actors_of(alloc, actor_entries, items_at(top, "actor"))?;
     Ok(Plan {
         throughput: number_or(5, value_at(top, "throughput")),
         workers: workers_in(top).max(1),

@@ -50,11 +50,11 @@ fn scenario_of(alloc: Global, top: &Table) -> Result<Scenario, ReadError>
     ensures read { IfOk result (λ scenario. IsScenario (table_view top.now) (scenario_data scenario)) }
     ensures refused { IfErr result (λ fault. Tells fault (document_check (table_view top.now))) }
 {
-    let kin = actor_entries_of(alloc, items_at(top, "actor"))?;
-    if let Err(finding) = check_document(top, &kin) {
+    let actor_entries = actor_entries_of(alloc, items_at(top, "actor"))?;
+    if let Err(finding) = check_document(top, &actor_entries) {
         return Err(fault_of(alloc, finding));
     }
-    Ok(build(alloc, top, &kin)?)
+    Ok(build(alloc, top, &actor_entries)?)
 }
 
 /// The error for a finding, with the place as it is printed.
@@ -71,16 +71,20 @@ fn fault_of(alloc: Global, finding: Finding<'_>) -> ReadError
 }
 
 /// The scenario of a document that passes all checks, which has these actors.
-fn build(alloc: Global, top: &Table, kin: &[ActorEntry<'_>]) -> Result<Scenario, AllocError>
-    requires { map actor_entry_data kin.now ≡ actor_entries_of (items_in (get_member (codes "actor") (table_view top.now))) }
+fn build(
+    alloc: Global,
+    top: &Table,
+    actor_entries: &[ActorEntry<'_>],
+) -> Result<Scenario, AllocError>
+    requires { map actor_entry_data actor_entries.now ≡ actor_entries_of (items_in (get_member (codes "actor") (table_view top.now))) }
     ensures { IfOk result (λ scenario. scenario_data scenario ≡ scenario_of (table_view top.now)) }
 {
     let actors = items_at(top, "actor");
-    let sends = sends_of(alloc, kin, items_at(top, "send"))?;
+    let sends = sends_of(alloc, actor_entries, items_at(top, "send"))?;
     Ok(Scenario {
-        plan: plan_of(alloc, top, kin, &sends)?,
+        plan: plan_of(alloc, top, actor_entries, &sends)?,
         names: names_of(alloc, actors)?,
-        scripts: scripts_of(alloc, kin, actors)?,
+        scripts: scripts_of(alloc, actor_entries, actors)?,
         sends,
         quiet: workers_in(top) == 0,
     })

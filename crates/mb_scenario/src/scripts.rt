@@ -21,18 +21,18 @@ use toml::Value;
 /// The actor of an entry, among these actors.
 pub(crate) fn script_of(
     alloc: Global,
-    kin: &[ActorEntry<'_>],
+    actor_entries: &[ActorEntry<'_>],
     value: &Value,
 ) -> Result<Script, AllocError>
-    ensures { IfOk result (λ script. script ≡ scripted_of (map actor_entry_data kin.now) (view value.now)) }
+    ensures { IfOk result (λ script. script ≡ scripted_of (map actor_entry_data actor_entries.now) (view value.now)) }
 {
     let hooks = Hooks {
-        start: operations_in(alloc, kin, field(value, "start"))?,
-        restart: operations_in(alloc, kin, field(value, "restart"))?,
-        stop: operations_in(alloc, kin, field(value, "stop"))?,
-        terminated: terminated_of(alloc, kin, field(value, "terminated"))?,
+        start: operations_in(alloc, actor_entries, field(value, "start"))?,
+        restart: operations_in(alloc, actor_entries, field(value, "restart"))?,
+        stop: operations_in(alloc, actor_entries, field(value, "stop"))?,
+        terminated: terminated_of(alloc, actor_entries, field(value, "terminated"))?,
     };
-    let rows = rows_of(alloc, kin, items_found(field(value, "on")))?;
+    let rows = rows_of(alloc, actor_entries, items_found(field(value, "on")))?;
     Script::new(alloc, integer_or(0, field(value, "initial")), hooks, rows)
 }
 
@@ -48,72 +48,84 @@ pub(crate) fn items_found(found: Option<&Value>) -> &[Value]
 
 fn terminated_of(
     alloc: Global,
-    kin: &[ActorEntry<'_>],
+    actor_entries: &[ActorEntry<'_>],
     found: Option<&Value>,
 ) -> Result<Option<Vec<Operation>>, AllocError>
     ensures { IfOk result (λ o. option_map (λ operations. operations.items) o
-        ≡ option_map (λ t. operations_in (map actor_entry_data kin.now) (Some t)) (option_map (λ v. view v.now) found.entry)) }
+        ≡ option_map (λ t. operations_in (map actor_entry_data actor_entries.now) (Some t)) (option_map (λ v. view v.now) found.entry)) }
 {
     match found {
         Some(_) => {
-            let operations = operations_in(alloc, kin, found)?;
+            let operations = operations_in(alloc, actor_entries, found)?;
             Ok(Some(operations))
         }
         None => Ok(None),
     }
 }
 
-fn rows_of(alloc: Global, kin: &[ActorEntry<'_>], values: &[Value]) -> Result<Vec<Row>, AllocError>
-    ensures { IfOk result (λ rows. map row_data rows.items ≡ map_items (scripted_row (map actor_entry_data kin.now)) (items_view values.now)) }
+fn rows_of(
+    alloc: Global,
+    actor_entries: &[ActorEntry<'_>],
+    values: &[Value],
+) -> Result<Vec<Row>, AllocError>
+    ensures { IfOk result (λ rows. map row_data rows.items ≡ map_items (scripted_row (map actor_entry_data actor_entries.now)) (items_view values.now)) }
 {
     let mut rows = Vec::new(alloc);
     for value in values {
-        let row = scripted_row(alloc, kin, value)?;
+        let row = scripted_row(alloc, actor_entries, value)?;
         rows.push(row)?;
     }
     Ok(rows)
 }
 
-fn scripted_row(alloc: Global, kin: &[ActorEntry<'_>], value: &Value) -> Result<Row, AllocError>
-    ensures { IfOk result (λ row. row_data row ≡ scripted_row (map actor_entry_data kin.now) (view value.now)) }
+fn scripted_row(
+    alloc: Global,
+    actor_entries: &[ActorEntry<'_>],
+    value: &Value,
+) -> Result<Row, AllocError>
+    ensures { IfOk result (λ row. row_data row ≡ scripted_row (map actor_entry_data actor_entries.now) (view value.now)) }
 {
     let kind = number_or(0, field(value, "kind"));
-    let operations = operations_in(alloc, kin, field(value, "do"))?;
+    let operations = operations_in(alloc, actor_entries, field(value, "do"))?;
     Ok(Row { kind, operations })
 }
 
 fn operations_in(
     alloc: Global,
-    kin: &[ActorEntry<'_>],
+    actor_entries: &[ActorEntry<'_>],
     found: Option<&Value>,
 ) -> Result<Vec<Operation>, AllocError>
-    ensures { IfOk result (λ operations. operations.items ≡ operations_in (map actor_entry_data kin.now) (option_map (λ v. view v.now) found.entry)) }
+    ensures { IfOk result (λ operations. operations.items ≡ operations_in (map actor_entry_data actor_entries.now) (option_map (λ v. view v.now) found.entry)) }
 {
-    each_operation(alloc, kin, items_found(found))
+    each_operation(alloc, actor_entries, items_found(found))
 }
 
 fn each_operation(
     alloc: Global,
-    kin: &[ActorEntry<'_>],
+    actor_entries: &[ActorEntry<'_>],
     values: &[Value],
 ) -> Result<Vec<Operation>, AllocError>
     ensures { IfOk result (λ operations. operations.items
-        ≡ map_items (λ d. operation_of (map actor_entry_data kin.now) (op_of (text_of d))) (items_view values.now)) }
+        ≡ map_items (λ d. operation_of (map actor_entry_data actor_entries.now) (op_of (text_of d))) (items_view values.now)) }
 {
     let mut operations = Vec::new(alloc);
     for value in values {
-        operations.push(operation_of(kin, op_of(text_of(value))))?;
+        operations.push(operation_of(actor_entries, op_of(text_of(value))))?;
     }
     Ok(operations)
 }
 
-fn operation_of(kin: &[ActorEntry<'_>], op: Option<Op<'_>>) -> Operation
-    ensures { result ≡ operation_of (map actor_entry_data kin.now) (option_map op_data op.entry) }
+fn operation_of(actor_entries: &[ActorEntry<'_>], op: Option<Op<'_>>) -> Operation
+    ensures { result ≡ operation_of (map actor_entry_data actor_entries.now) (option_map op_data op.entry) }
 {
     match op {
         Some(Op::Add) => Operation::Add,
         Some(Op::Fail(number)) => Operation::Fail(number),
-        Some(Op::About(verb, name, number)) => operation_on(id_of(kin, name), number, verb),
+        Some(Op::About(verb, name, number)) => operation_on(
+            id_of(actor_entries, name),
+            number,
+            verb,
+        ),
         Some(Op::Ignore) => Operation::Ignore,
         None => Operation::Ignore,
     }

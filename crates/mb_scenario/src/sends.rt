@@ -15,20 +15,20 @@ use toml::Value;
 /// What the entries say is sent, in order.
 pub(crate) fn sends_of(
     alloc: Global,
-    kin: &[ActorEntry<'_>],
+    actor_entries: &[ActorEntry<'_>],
     values: &[Value],
 ) -> Result<Vec<SenderOrder>, AllocError>
-    ensures { IfOk result (λ sends. sends.items ≡ map_items (send_of (map actor_entry_data kin.now)) (items_view values.now)) }
+    ensures { IfOk result (λ sends. sends.items ≡ map_items (send_of (map actor_entry_data actor_entries.now)) (items_view values.now)) }
 {
     let mut sends = Vec::new(alloc);
     for value in values {
-        sends.push(send_of(kin, value))?;
+        sends.push(send_of(actor_entries, value))?;
     }
     Ok(sends)
 }
 
-fn send_of(kin: &[ActorEntry<'_>], value: &Value) -> SenderOrder
-    ensures { result ≡ send_of (map actor_entry_data kin.now) (view value.now) }
+fn send_of(actor_entries: &[ActorEntry<'_>], value: &Value) -> SenderOrder
+    ensures { result ≡ send_of (map actor_entry_data actor_entries.now) (view value.now) }
 {
     let word = text_or(b"user", field(value, "what"));
     let kind = number_or(0, field(value, "kind"));
@@ -36,7 +36,7 @@ fn send_of(kin: &[ActorEntry<'_>], value: &Value) -> SenderOrder
     SenderOrder {
         from: number_or(0, field(value, "from")),
         order: Order {
-            to: id_of(kin, text_or(b"", field(value, "to"))),
+            to: id_of(actor_entries, text_or(b"", field(value, "to"))),
             what: what_sent(word, kind, number),
             times: number_or(1, field(value, "times")),
         },

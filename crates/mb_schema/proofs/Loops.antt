@@ -55,15 +55,15 @@ past_item check values index value whole inside is well so =
 
 -- an actor more, and those that are left, are all
 pub past_actor :
-    (values : List Value) (index : ℕ) (value : Value) (kin more : List ActorEntry) (one : ActorEntry) (whole : List ActorEntryData) → index < length values →
-    value ≡ get_or values index value → actor_entry_data one ≡ actor_entry_of (as_table (view value)) → more ≡ kin ++ one ∷ [] →
-    map actor_entry_data kin ++ actor_entries_of (items_view (drop index values)) ≡ whole →
+    (values : List Value) (index : ℕ) (value : Value) (actor_entries more : List ActorEntry) (one : ActorEntry) (whole : List ActorEntryData) → index < length values →
+    value ≡ get_or values index value → actor_entry_data one ≡ actor_entry_of (as_table (view value)) → more ≡ actor_entries ++ one ∷ [] →
+    map actor_entry_data actor_entries ++ actor_entries_of (items_view (drop index values)) ≡ whole →
     map actor_entry_data more ++ actor_entries_of (items_view (drop (index + 1) values)) ≡ whole
-past_actor values index value kin more one whole inside is made pushed so =
+past_actor values index value actor_entries more one whole inside is made pushed so =
     let rest : List ActorEntryData = actor_entries_of (items_view (drop (index + 1) values)) in
     let is_next : actor_entry_data one ≡ actor_entry_of (as_table (view (get_or values index value))) =
     made ∙ ap (λ (v : Value). actor_entry_of (as_table (view v))) is in
     let left : actor_entries_of (items_view (drop index values)) ≡ actor_entry_data one ∷ rest =
     ap (λ (vs : List Value). actor_entries_of (items_view vs)) (next values index value inside) ∙ ap (λ (k : ActorEntryData). k ∷ rest) (sym is_next) in
-    let now : map actor_entry_data more ≡ map actor_entry_data kin ++ actor_entry_data one ∷ [] = ap (map actor_entry_data) pushed ∙ map-append actor_entry_data kin (one ∷ []) in
-    ap (λ (ks : List ActorEntryData). ks ++ rest) now ∙ append_assoc (map actor_entry_data kin) (actor_entry_data one ∷ []) rest ∙ ap (λ (ks : List ActorEntryData). map actor_entry_data kin ++ ks) (sym left) ∙ so
+    let now : map actor_entry_data more ≡ map actor_entry_data actor_entries ++ actor_entry_data one ∷ [] = ap (map actor_entry_data) pushed ∙ map-append actor_entry_data actor_entries (one ∷ []) in
+    ap (λ (ks : List ActorEntryData). ks ++ rest) now ∙ append_assoc (map actor_entry_data actor_entries) (actor_entry_data one ∷ []) rest ∙ ap (λ (ks : List ActorEntryData). map actor_entry_data actor_entries ++ ks) (sym left) ∙ so

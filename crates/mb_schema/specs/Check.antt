@@ -107,16 +107,16 @@ actor_entries_of (item d ds) = actor_entry_of (as_table d) ∷ actor_entries_of 
 
 -- the context in which an actor is checked, by how many come before it
 abbrev pub context_of_actor : List ActorEntryData → ℕ → Data → ContextData
-context_of_actor kin earlier d = record { kin = kin; earlier = earlier; own = (actor_entry_of (as_table d)).name }
+context_of_actor actor_entries earlier d = record { actor_entries = actor_entries; earlier = earlier; own_name = (actor_entry_of (as_table d)).name }
 
 -- what the check of a send knows of the document: the actors
 abbrev pub context_of_send : List ActorEntryData → ContextData
-context_of_send kin = record { kin = kin; earlier = 0; own = [] }
+context_of_send actor_entries = record { actor_entries = actor_entries; earlier = 0; own_name = [] }
 
 -- the first check of an actor: it is a table, and its name
 abbrev pub name_check : List ActorEntryData → ℕ → Data → Option FindingData
-name_check kin earlier d =
-    entry_check (λ prefix ms. key_check prefix (context_of_actor kin earlier d) ms name_key) (codes "actor") earlier (as_table d)
+name_check actor_entries earlier d =
+    entry_check (λ prefix ms. key_check prefix (context_of_actor actor_entries earlier d) ms name_key) (codes "actor") earlier (as_table d)
 
 -- the second: the least unknown key, and then the other keys
 abbrev pub actor_table_check : ContextData → List ℕ → Members → Option FindingData
@@ -124,12 +124,12 @@ actor_table_check a prefix ms = first (unknown_check prefix actor_keys ms ∷ ma
 
 -- the first finding of one entry of `actor`, its name left out
 abbrev pub actor_check : List ActorEntryData → ℕ → Data → Option FindingData
-actor_check kin earlier d = entry_check (actor_table_check (context_of_actor kin earlier d)) (codes "actor") earlier (as_table d)
+actor_check actor_entries earlier d = entry_check (actor_table_check (context_of_actor actor_entries earlier d)) (codes "actor") earlier (as_table d)
 
 -- the first finding of one entry of `send`
 abbrev pub send_check : List ActorEntryData → ℕ → Data → Option FindingData
-send_check kin earlier d =
-    entry_check (λ prefix ms. table_check send_keys send_keys prefix (context_of_send kin) ms) (codes "send") earlier (as_table d)
+send_check actor_entries earlier d =
+    entry_check (λ prefix ms. table_check send_keys send_keys prefix (context_of_send actor_entries) ms) (codes "send") earlier (as_table d)
 
 -- a part of an entry of an array, and the array
 abbrev pub part_check : Part → List ActorEntryData → ℕ → Data → Option FindingData
@@ -148,10 +148,10 @@ abbrev pub document_check : Members → Option FindingData
 document_check top =
     let actors = items_in (get_member (codes "actor") top) in
     let sends = items_in (get_member (codes "send") top) in
-    let kin = actor_entries_of actors in
+    let actor_entries = actor_entries_of actors in
     first (
     table_check top_keys top_keys [] (context_of_send []) top
-    ∷ first (each (name_check kin) actors)
-    ∷ first (each (actor_check kin) actors)
-    ∷ first (each (send_check kin) sends)
+    ∷ first (each (name_check actor_entries) actors)
+    ∷ first (each (actor_check actor_entries) actors)
+    ∷ first (each (send_check actor_entries) sends)
     ∷ [])

@@ -12,26 +12,26 @@ pub record ActorEntryData : Type 0 where
 
 -- an actor's name and parent, as contracts see them
 abbrev pub actor_entry_data : ActorEntry → ActorEntryData
-actor_entry_data kin = record { name = kin.name.now; parent = kin.parent.now }
+actor_entry_data actor_entries = record { name = actor_entries.name.now; parent = actor_entries.parent.now }
 
 -- the actors; how many of them come before the one that is checked; and the name of that one
 pub record ContextData : Type 0 where
-  pub kin : List ActorEntryData
+  pub actor_entries : List ActorEntryData
   pub earlier : ℕ
-  pub own : List ℕ
+  pub own_name : List ℕ
 
 -- what a check knows of the rest of the document, as contracts see it
 abbrev pub context_data : Context → ContextData
-context_data context = record { kin = map actor_entry_data context.kin.now; earlier = context.earlier; own = context.own.now }
+context_data context = record { actor_entries = map actor_entry_data context.actor_entries.now; earlier = context.earlier; own_name = context.own_name.now }
 
 -- one of the actors has the name
 abbrev pub knows : List ActorEntryData → List ℕ → Bool
-knows kin name = list_any (λ (k : ActorEntryData). bytes_eq k.name name) kin
+knows actor_entries name = list_any (λ (k : ActorEntryData). bytes_eq k.name name) actor_entries
 
 -- an actor before the one that is checked has the name
 abbrev pub knows_earlier : ContextData → List ℕ → Bool
-knows_earlier a name = knows (take a.earlier a.kin) name
+knows_earlier a name = knows (take a.earlier a.actor_entries) name
 
 -- the name is that of a child of the one that is checked
 abbrev pub knows_child : ContextData → List ℕ → Bool
-knows_child a name = list_any (λ (k : ActorEntryData). bytes_eq k.name name && bytes_eq k.parent a.own) a.kin
+knows_child a name = list_any (λ (k : ActorEntryData). bytes_eq k.name name && bytes_eq k.parent a.own_name) a.actor_entries

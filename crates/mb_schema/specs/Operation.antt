@@ -82,4 +82,4 @@ op_reason a adds (Some add) = when (not adds) BadOp
 op_reason a adds (Some ignore) = None
 op_reason a adds (Some (fail number)) = None
 op_reason a adds (Some (about verb name number)) =
-    first (when (not (knows a.kin name)) UnknownName ∷ when (is_spawn verb && not (knows_child a name)) BadOp ∷ [])
+    first (when (not (knows a.actor_entries name)) UnknownName ∷ when (is_spawn verb && not (knows_child a name)) BadOp ∷ [])

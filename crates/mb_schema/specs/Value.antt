@@ -105,7 +105,7 @@ is_few _ d = true
 -- an actor that may be named here has the name
 abbrev pub is_known : Form → ContextData → Data → Bool
 is_known Parent a d = is_guardian (text_of d) || knows_earlier a (text_of d)
-is_known Receiver a d = is_guardian (text_of d) || knows a.kin (text_of d)
+is_known Receiver a d = is_guardian (text_of d) || knows a.actor_entries (text_of d)
 is_known _ a d = true
 
 -- no earlier actor has the name

@@ -32,11 +32,11 @@ pub fn actor_entries_of<'a>(
     alloc: Global,
     actors: &'a [Value],
 ) -> Result<Vec<ActorEntry<'a>>, AllocError>
-    ensures { IfOk result (λ kin. map actor_entry_data kin.items ≡ actor_entries_of (items_view actors.now)) }
+    ensures { IfOk result (λ actor_entries. map actor_entry_data actor_entries.items ≡ actor_entries_of (items_view actors.now)) }
 {
-    let mut kin = Vec::new(alloc);
+    let mut actor_entries = Vec::new(alloc);
     for value in actors {
-        kin.push(actor_entry_of(value))?;
+        actor_entries.push(actor_entry_of(value))?;
     }
-    Ok(kin)
+    Ok(actor_entries)
 }

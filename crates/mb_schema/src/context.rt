@@ -17,27 +17,27 @@ pub struct ActorEntry<'a> {
 #[derive(Clone, Copy)]
 pub struct Context<'a> {
     /// The actors.
-    pub kin: &'a [ActorEntry<'a>],
+    pub actor_entries: &'a [ActorEntry<'a>],
     /// How many of them come before the one that is checked.
     pub earlier: usize,
     /// The name of the one that is checked.
-    pub own: &'a [u8],
+    pub own_name: &'a [u8],
 }
 
 impl Context<'_> {
     pub(crate) fn knows(&self, name: &[u8]) -> bool
-        ensures { result ≡ knows (context_data self.now).kin name.now }
+        ensures { result ≡ knows (context_data self.now).actor_entries name.now }
     {
-        has_name(self.kin, name)
+        has_name(self.actor_entries, name)
     }
 
     pub(crate) fn knows_earlier(&self, name: &[u8]) -> bool
         ensures { result ≡ knows_earlier (context_data self.now) name.now }
     {
-        if self.earlier < self.kin.len() {
-            has_name(&self.kin[..self.earlier], name)
+        if self.earlier < self.actor_entries.len() {
+            has_name(&self.actor_entries[..self.earlier], name)
         } else {
-            has_name(self.kin, name)
+            has_name(self.actor_entries, name)
         }
     }
 
@@ -45,8 +45,8 @@ impl Context<'_> {
     pub(crate) fn knows_child(&self, name: &[u8]) -> bool
         ensures { result ≡ knows_child (context_data self.now) name.now }
     {
-        for kin in self.kin {
-            if is_text(kin.name, name) && is_text(kin.parent, self.own) {
+        for actor_entries in self.actor_entries {
+            if is_text(actor_entries.name, name) && is_text(actor_entries.parent, self.own_name) {
                 return true;
             }
         }
@@ -54,10 +54,10 @@ impl Context<'_> {
     }
 }
 
-fn has_name(kin: &[ActorEntry<'_>], name: &[u8]) -> bool
-    ensures { result ≡ knows (map actor_entry_data kin.now) name.now }
+fn has_name(actor_entries: &[ActorEntry<'_>], name: &[u8]) -> bool
+    ensures { result ≡ knows (map actor_entry_data actor_entries.now) name.now }
 {
-    for one in kin {
+    for one in actor_entries {
         if is_text(one.name, name) {
             return true;
         }

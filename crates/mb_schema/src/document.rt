@@ -16,16 +16,19 @@ use crate::tables::top_keys;
 use crate::value::{items_of, value_at};
 use toml::{Table, Value};
 
-/// The first thing that is wrong with a document; `kin` is its actors.
-pub fn check_document<'a>(top: &'a Table, kin: &'a [ActorEntry<'a>]) -> Result<(), Finding<'a>>
-    requires { map actor_entry_data kin.now ≡ actor_entries_of (items_in (get_member (codes "actor") (table_view top.now))) }
+/// The first thing that is wrong with a document; `actor_entries` is its actors.
+pub fn check_document<'a>(
+    top: &'a Table,
+    actor_entries: &'a [ActorEntry<'a>],
+) -> Result<(), Finding<'a>>
+    requires { map actor_entry_data actor_entries.now ≡ actor_entries_of (items_in (get_member (codes "actor") (table_view top.now))) }
     ensures { Finds result (document_check (table_view top.now)) }
 {
     check_table(Path::Top, top_keys(), &context_of_sends(&[]), top)?;
     let actors = items_at(top, "actor");
-    check_entries(Part::Names, kin, actors)?;
-    check_entries(Part::Actors, kin, actors)?;
-    check_entries(Part::Sends, kin, items_at(top, "send"))
+    check_entries(Part::Names, actor_entries, actors)?;
+    check_entries(Part::Actors, actor_entries, actors)?;
+    check_entries(Part::Sends, actor_entries, items_at(top, "send"))
 }
 
 /// The items of the array at a key; none where there is no array.

@@ -39,13 +39,13 @@ fn array_of(part: Part) -> &'static str
 /// Checks a part of all entries.
 pub(crate) fn check_entries<'a>(
     part: Part,
-    kin: &'a [ActorEntry<'a>],
+    actor_entries: &'a [ActorEntry<'a>],
     values: &'a [Value],
 ) -> Result<(), Finding<'a>>
-    ensures { Finds result (first (each (part_check part (map actor_entry_data kin.now)) (items_view values.now))) }
+    ensures { Finds result (first (each (part_check part (map actor_entry_data actor_entries.now)) (items_view values.now))) }
 {
     for (index, value) in values.iter().enumerate() {
-        check_entry(part, kin, index, value)?;
+        check_entry(part, actor_entries, index, value)?;
     }
     Ok(())
 }
@@ -53,12 +53,12 @@ pub(crate) fn check_entries<'a>(
 /// Checks that an entry is a table, and the part of it.
 fn check_entry<'a>(
     part: Part,
-    kin: &'a [ActorEntry<'a>],
+    actor_entries: &'a [ActorEntry<'a>],
     earlier: usize,
     value: &'a Value,
 ) -> Result<(), Finding<'a>>
     requires { earlier < 2 ^ 64 - 1 }
-    ensures { Finds result (part_check part (map actor_entry_data kin.now) earlier (view value.now)) }
+    ensures { Finds result (part_check part (map actor_entry_data actor_entries.now) earlier (view value.now)) }
 {
     let position = earlier + 1;
     let Some(table) = value.as_table() else {
@@ -66,15 +66,15 @@ fn check_entry<'a>(
     };
     match part {
         Part::Names => {
-            let context = context_of(kin, earlier, value);
+            let context = context_of(actor_entries, earlier, value);
             check_key(Path::Actor(position), name_key(), &context, table)
         }
         Part::Actors => {
-            let context = context_of(kin, earlier, value);
+            let context = context_of(actor_entries, earlier, value);
             check_actor_table(position, &context, table)
         }
         Part::Sends => {
-            let context = context_of_sends(kin);
+            let context = context_of_sends(actor_entries);
             check_table(Path::Send(position), send_keys(), &context, table)
         }
     }
@@ -91,23 +91,27 @@ pub(crate) fn no_table<'a>(path: Path, name: &'static str, position: usize) -> F
 }
 
 /// The context in which an actor is checked.
-fn context_of<'a>(kin: &'a [ActorEntry<'a>], earlier: usize, value: &'a Value) -> Context<'a>
-    ensures { context_data result ≡ context_of_actor (map actor_entry_data kin.now) earlier (view value.now) }
+fn context_of<'a>(
+    actor_entries: &'a [ActorEntry<'a>],
+    earlier: usize,
+    value: &'a Value,
+) -> Context<'a>
+    ensures { context_data result ≡ context_of_actor (map actor_entry_data actor_entries.now) earlier (view value.now) }
 {
     Context {
-        kin,
+        actor_entries,
         earlier,
-        own: actor_entry_of(value).name,
+        own_name: actor_entry_of(value).name,
     }
 }
 
 /// The context in which sends are checked.
-pub(crate) fn context_of_sends<'a>(kin: &'a [ActorEntry<'a>]) -> Context<'a>
-    ensures { context_data result ≡ context_of_send (map actor_entry_data kin.now) }
+pub(crate) fn context_of_sends<'a>(actor_entries: &'a [ActorEntry<'a>]) -> Context<'a>
+    ensures { context_data result ≡ context_of_send (map actor_entry_data actor_entries.now) }
 {
     Context {
-        kin,
+        actor_entries,
         earlier: 0,
-        own: b"",
+        own_name: b"",
     }
 }

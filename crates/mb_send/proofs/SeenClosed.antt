@@ -43,32 +43,32 @@ may-more a b why.NoMemory more may = refl
 may-more a b why.Cleaned more may = refl
 
 -- it saw more
-pub vouched-more : (more log : List Observation) (dead : List DeadLetter) → were_seen_closed log dead ≡ true → were_seen_closed (more ++ log) dead ≡ true
-vouched-more more log [] all = refl
-vouched-more more log (d ∷ dead) all =
+pub was_seen_closed-more : (more log : List Observation) (dead : List DeadLetter) → were_seen_closed log dead ≡ true → were_seen_closed (more ++ log) dead ≡ true
+was_seen_closed-more more log [] all = refl
+was_seen_closed-more more log (d ∷ dead) all =
     let to = d.envelope.to.0 in
     let here = may_be_dead (has_seen_closed log to) d.why in
     and-both (may_be_dead (has_seen_closed (more ++ log) to) d.why) (were_seen_closed (more ++ log) dead)
     (may-more (has_seen_closed log to) (has_seen_closed (more ++ log) to) d.why (seen-more to more log)
-    (and-left here (were_seen_closed log dead) all)) (vouched-more more log dead (and-right here (were_seen_closed log dead) all))
+    (and-left here (were_seen_closed log dead) all)) (was_seen_closed-more more log dead (and-right here (were_seen_closed log dead) all))
 
-pub vouched-seen : (s : Observation) (log : List Observation) (dead : List DeadLetter) → were_seen_closed log dead ≡ true → were_seen_closed (s ∷ log) dead ≡ true
-vouched-seen s log dead all = vouched-more (s ∷ []) log dead all
+pub was_seen_closed-seen : (s : Observation) (log : List Observation) (dead : List DeadLetter) → were_seen_closed log dead ≡ true → were_seen_closed (s ∷ log) dead ≡ true
+was_seen_closed-seen s log dead all = was_seen_closed-more (s ∷ []) log dead all
 
 -- it did something, and looked
-pub vouched-does : (id : ℕ) (did : List Observation) (told : List SentSystem) (u v : View) (dead : List DeadLetter) → Does id did told u v →
+pub was_seen_closed-does : (id : ℕ) (did : List Observation) (told : List SentSystem) (u v : View) (dead : List DeadLetter) → Does id did told u v →
     were_seen_closed u.log dead ≡ true → were_seen_closed v.log dead ≡ true
-vouched-does id did told u v dead does all =
-    subst (λ (l : List Observation). were_seen_closed l dead ≡ true) (sym does.log) (vouched-more (does.looks ++ did) u.log dead all)
+was_seen_closed-does id did told u v dead does all =
+    subst (λ (l : List Observation). were_seen_closed l dead ≡ true) (sym does.log) (was_seen_closed-more (does.looks ++ did) u.log dead all)
 
 -- one more was queued, or is dead
-pub vouched-queued : (log : List Observation) (ps : List SentEnvelope) (e : Envelope) → were_seen_closed log (dead_letters ps) ≡ true →
+pub was_seen_closed-queued : (log : List Observation) (ps : List SentEnvelope) (e : Envelope) → were_seen_closed log (dead_letters ps) ≡ true →
     were_seen_closed log (dead_letters (ps ++ posting e None ∷ [])) ≡ true
-vouched-queued log ps e all = ap (were_seen_closed log) (dead-queued ps e) ∙ all
+was_seen_closed-queued log ps e all = ap (were_seen_closed log) (dead-queued ps e) ∙ all
 
-pub vouched-dead : (log : List Observation) (ps : List SentEnvelope) (e : Envelope) (w : Why) → may_be_dead (has_seen_closed log e.to.0) w ≡ true →
+pub was_seen_closed-dead : (log : List Observation) (ps : List SentEnvelope) (e : Envelope) (w : Why) → may_be_dead (has_seen_closed log e.to.0) w ≡ true →
     were_seen_closed log (dead_letters ps) ≡ true → were_seen_closed log (dead_letters (ps ++ posting e (Some w) ∷ [])) ≡ true
-vouched-dead log ps e w may all =
+was_seen_closed-dead log ps e w may all =
     let p = λ (d : DeadLetter). may_be_dead (has_seen_closed log d.envelope.to.0) d.why in
     let letter : DeadLetter = record { envelope = e; why = w } in
     ap (were_seen_closed log) (dead-more ps e w) ∙ list_all-append p (dead_letters ps) (letter ∷ [])

@@ -72,7 +72,7 @@ impl SendLog {
         requires next { (envelope.by ≡ self.old.by) × (envelope.number ≡ self.old.sent) }
         requires number { self.old.sent < 18446744073709551615 }
         ensures posted { self.new.posted ≡ self.old.posted ++ posting envelope None ∷ [] }
-        ensures by { self.new.by ≡ self.old.by }
+        ensures same_sender { self.new.by ≡ self.old.by }
     {
         self.posted.add(SentEnvelope {
             envelope,
@@ -87,7 +87,7 @@ impl SendLog {
         requires number { self.old.sent < 18446744073709551615 }
         requires room { vec_len self.old.dead < vec_capacity self.old.dead }
         ensures posted { self.new.posted ≡ self.old.posted ++ posting envelope (Some why) ∷ [] }
-        ensures by { self.new.by ≡ self.old.by }
+        ensures same_sender { self.new.by ≡ self.old.by }
     {
         self.dead.push_reserved(DeadLetter { envelope, why });
         self.posted.add(SentEnvelope {

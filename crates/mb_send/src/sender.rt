@@ -29,7 +29,7 @@ pub struct GatesSender<H, W> {
     /// Where the nodes of its messages come from.
     pub alloc: Global,
     ghost routes: { AreRoutes send_log.by.0 send_log.posted sends.items },
-    ghost vouched: { were_seen_closed (pass_view registrar.pass).log (dead_letters send_log.posted) ≡ true },
+    ghost was_seen_closed: { were_seen_closed (pass_view registrar.pass).log (dead_letters send_log.posted) ≡ true },
     ghost bounded: { are_of_bounded (receiving_queues sends.items) (dead_letters send_log.posted) ≡ true },
 }
 

@@ -64,7 +64,7 @@ impl MailboxState for OpenHome {
     ghost facts = { λ desk. record {
       journal = [];
       mailbox = desk.status;
-      rested = Unit {0};
+      no_backlog = Unit {0};
       given = 0;
       closed_to = [];
     } };

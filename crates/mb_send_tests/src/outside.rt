@@ -69,7 +69,7 @@ impl Outside {
     /// Three actors with nothing to do, to which nothing was sent.
     pub fn new(alloc: Global) -> Result<Self, Fail> {
         let (gates, mut pass) = gates_of_three(alloc)?;
-        let other = gates.another(&mut pass);
+        let other = gates.split_pass(&mut pass);
         let mut sends = Vec::with_capacity(alloc, 2)?;
         sends.push_reserved(way_to(alloc, FIRST, MailboxType::Unbounded)?);
         sends.push_reserved(way_to(alloc, SECOND, MailboxType::Bounded(2))?);

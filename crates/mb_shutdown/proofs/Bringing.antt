@@ -37,7 +37,7 @@ use Rattle.mb_shutdown.specs.Belonging.{AreAnswers, AreSendPasses, brings, broug
 use Rattle.mb_shutdown.proofs.Gathered.{seen_by_sender}
 use Rattle.mb_shutdown.proofs.Parts.{AllSeen}
 
--- ---- dead letters that are vouched for
+-- ---- dead letters that are was_seen_closed for
 
 and-both : (a b : Bool) → a ≡ true → b ≡ true → (a && b) ≡ true
 and-both a b x y = λ i. x i && y i
@@ -67,14 +67,14 @@ may-in a b why.Full more may = refl
 may-in a b why.NoMemory more may = refl
 may-in a b why.Cleaned more may = refl
 
-vouched-in : (part log : List Observation) (dead : List DeadLetter) → IsPart part log → were_seen_closed part dead ≡ true → were_seen_closed log dead ≡ true
-vouched-in part log [] is all = refl
-vouched-in part log (d ∷ dead) is all =
+was_seen_closed-in : (part log : List Observation) (dead : List DeadLetter) → IsPart part log → were_seen_closed part dead ≡ true → were_seen_closed log dead ≡ true
+was_seen_closed-in part log [] is all = refl
+was_seen_closed-in part log (d ∷ dead) is all =
     let to = d.envelope.to.0 in
     let this = may_be_dead (has_seen_closed part to) d.why in
     and-both (may_be_dead (has_seen_closed log to) d.why) (were_seen_closed log dead)
     (may-in (has_seen_closed part to) (has_seen_closed log to) d.why (seen-in to part log is) (and-left this (were_seen_closed part dead) all))
-    (vouched-in part log dead is (and-right this (were_seen_closed part dead) all))
+    (was_seen_closed-in part log dead is (and-right this (were_seen_closed part dead) all))
 
 -- ---- the senders outside
 
@@ -111,8 +111,8 @@ module _ {A K : Type 0} where
           number_is = omega (arith, by, number, low);
           queues = ap (λ (p : List SendPassView × SendLog). receiving_queues p.0) same ∙ one.queues;
           routes = subst (λ (p : List SendPassView × SendLog). AreRoutes p.1.by.0 p.1.posted p.0) (sym same) s.inner.routes;
-          vouched = subst (λ (p : List SendPassView × SendLog). were_seen_closed log (dead_letters p.1.posted) ≡ true) (sym same)
-              (vouched-in (seen_by_sender s) log (dead_letters s.inner.send_log.posted) part s.inner.vouched);
+          was_seen_closed = subst (λ (p : List SendPassView × SendLog). were_seen_closed log (dead_letters p.1.posted) ≡ true) (sym same)
+              (was_seen_closed-in (seen_by_sender s) log (dead_letters s.inner.send_log.posted) part s.inner.was_seen_closed);
           bounded = subst (λ (p : List SendPassView × SendLog). are_of_bounded (receiving_queues p.0) (dead_letters p.1.posted) ≡ true) (sym same)
               s.inner.bounded;
         },

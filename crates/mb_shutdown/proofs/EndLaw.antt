@@ -38,7 +38,7 @@ use Rattle.mb_shutdown.proofs.WholeLaw.{counts-given, whole}
 module _ {A K : Type 0} (gives : ℕ → Moment → Reply → Type 0) (first : Contents) (n : ℕ) (v : View) (all : List (Option BoxedHome))
     (left : AreHomes gives first n v all) (ended : List (Ended A K)) (takes : List TakePassView) (rows : List (List SendPassView))
     (senders : List SenderReport) (apart : AreApart all ended takes rows senders) (outs : List FinishedSender) (few : n ≤ 64)
-    (rolled : length first.directory ≡ n) (are : AreFinishedSenders first.directory v.log 64 outs) (small : All (λ (o : FinishedSender). o.send_log.sent < 2 ^ 64) outs) where
+    (same_directory : length first.directory ≡ n) (are : AreFinishedSenders first.directory v.log 64 outs) (small : All (λ (o : FinishedSender). o.send_log.sent < 2 ^ 64) outs) where
   abbrev lefts : List BoxedHome
   lefts = apart.lefts
 
@@ -52,7 +52,7 @@ module _ {A K : Type 0} (gives : ℕ → Moment → Reply → Type 0) (first : C
   many-lefts = many-left gives first n v all lefts left apart.are
 
   many-enrolled : length lefts ≡ length first.directory
-  many-enrolled = many-lefts ∙ sym rolled
+  many-enrolled = many-lefts ∙ sym same_directory
 
   pub all-gathered : Gathered first.directory lefts outs
   all-gathered = gathered gives first v.log lefts outs stands-at (shut gives first n v all lefts left apart.are) many-enrolled are small
@@ -64,10 +64,10 @@ module _ {A K : Type 0} (gives : ℕ → Moment → Reply → Type 0) (first : C
       ∙ twice lefts
       ∙ same-maps (λ (l : BoxedHome). l.home.value.take.queue) (λ (e : DirectoryEntry). e.queue) lefts first.directory many-enrolled
       (λ i l e found is.
-      let own = (stands-at i l found).own in
+      let own = (stands-at i l found).is_home_of in
       ap (λ (x : DirectoryEntry). x.queue)
       (same_Some (record { who = l.home.value.cell.who; queue = l.home.value.take.queue; discipline = l.home.value.take.discipline }) e
-      (sym own.settled.own.enrolled ∙ (λ k. slice_get (own.directory k) (own.number k)) ∙ is)))
+      (sym own.settled.is_own.enrolled ∙ (λ k. slice_get (own.directory k) (own.number k)) ∙ is)))
     where
       twice : (ls : List BoxedHome)
           → queues_of (map (λ (l : BoxedHome). l.home.value.take) ls) ≡ map (λ (l : BoxedHome). l.home.value.take.queue) ls

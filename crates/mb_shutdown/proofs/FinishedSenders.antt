@@ -92,7 +92,7 @@ module _ (directory : List DirectoryEntry) (Shut : ℕ → Type 0) (log : List O
   reason-at : (i : ℕ) (d : DeadLetter) → slice_get (dead_letters o.send_log.posted) i ≡ Some d → HasReason directory Shut d
   reason-at i d there =
       let queues = receiving_queues o.sends.items in let to = d.envelope.to.0 in
-      let seen = all-at (λ (x : DeadLetter). may_be_dead (has_seen_closed log x.envelope.to.0) x.why) (dead_letters o.send_log.posted) i d is.vouched
+      let seen = all-at (λ (x : DeadLetter). may_be_dead (has_seen_closed log x.envelope.to.0) x.why) (dead_letters o.send_log.posted) i d is.was_seen_closed
       there in
       let one = queue-there (queue_to queues to) d.why
       (all-at (λ (x : DeadLetter). may_be_refused (queue_to queues x.envelope.to.0) x.why) (dead_letters o.send_log.posted) i d is.bounded there) in

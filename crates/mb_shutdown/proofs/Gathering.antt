@@ -108,7 +108,7 @@ module _ (gives : ℕ → Moment → Reply → Type 0) (first : Contents) (log :
   inside-one : (i : ℕ) (l : BoxedHome) → slice_get lefts i ≡ Some l → (p : Party) × IsInside i l p
   inside-one i l found =
       let one =
-      home-party first.directory Shut (gives i) first i l.home.value refl (stands i l found).own
+      home-party first.directory Shut (gives i) first i l.home.value refl (stands i l found).is_home_of
       (λ other lt says.
       let m = there lefts other (omega (arith, lt, many)) in
       record { one = m.0; there_is = m.1; closed_is = shut i other l m.0 found m.1 says }) in

@@ -77,9 +77,9 @@ module _ (directory : List DirectoryEntry) (Shut : ℕ → Type 0) where
           record {
             numbered = subst (λ n. NumbersCountUpFrom n 0 (accepted postings)) own.number
                 (subst (λ l. NumbersCountUpFrom h.cell.who.this.0 0 l) (sym told_are) (told-numbered gives [] h own.settled));
-            send_passes = own.settled.own.queues ∙ ap (λ (r : List DirectoryEntry). drop 1 (queues_of r)) own-directory;
+            send_passes = own.settled.is_own.queues ∙ ap (λ (r : List DirectoryEntry). drop 1 (queues_of r)) own-directory;
             by = All-weaker (λ (s : SendPassView). s.by ≡ h.cell.who.this.0) (λ (s : SendPassView). s.by ≡ actor) (λ s is. is ∙ own.number) h.sends
-                own.settled.own.by;
+                own.settled.is_own.by;
             pushed = λ i s there. posted.pushed i s there ∙ ap (λ n. to_actor n (queued postings)) (let e : i + 1 ≡ suc i = omega arith in e);
             sent_is = posted.sent;
             dead_is = posted.dead;

@@ -73,14 +73,14 @@ pub dead-there : (gives : Moment → Reply → Type 0) (h : Contents) → Agrees
 dead-there gives h s =
     let who = h.cell.who in let posted = s.posted in
     let inside : who.this.0 < who.actors
-    = let lt = slice_get_within h.directory who.this.0 _ s.own.enrolled in let many = s.own.all_there in omega (arith, lt, many) in
+    = let lt = slice_get_within h.directory who.this.0 _ s.is_own.enrolled in let many = s.is_own.all_there in omega (arith, lt, many) in
     let all : All (λ (e : Envelope). e.to.0 < who.actors) (told who h.cell.journal)
     = envelopes-there who.this.0 0 who.actors (tells_of_journal who h.cell.journal)
-    (tells_of_journal-there who gives s.own.not_zero inside h.cell.journal s.lawful.entries) in
+    (tells_of_journal-there who gives s.is_own.not_zero inside h.cell.journal s.lawful.entries) in
     let accepted_are : accepted posted.postings ≡ told who h.cell.journal = sym (append-nil (accepted posted.postings)) ∙ posted.told in
     subst (λ l. All (λ (d : DeadLetter). d.envelope.to.0 < length h.directory) l) (sym posted.dead)
     (All-weaker (λ (d : DeadLetter). d.envelope.to.0 < who.actors) (λ (d : DeadLetter). d.envelope.to.0 < length h.directory)
-    (λ d lt. let many = s.own.all_there in omega (arith, lt, many)) (dead_letters posted.postings)
+    (λ d lt. let many = s.is_own.all_there in omega (arith, lt, many)) (dead_letters posted.postings)
     (letters-too (λ (e : Envelope). e.to.0 < who.actors) posted.postings
     (subst (λ l. All (λ (e : Envelope). e.to.0 < who.actors) l) (sym accepted_are) all)))
 

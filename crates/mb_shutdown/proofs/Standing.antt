@@ -55,7 +55,7 @@ no-item (m ∷ messages) none = absurd (cc none)
 module _ (gives : ℕ → Moment → Reply → Type 0) (first : Contents) where
   -- the home is the actor's own, and goes on from all that was seen of it; and what was ever put into its list is as many as its home knows
   pub record Stands (log : List Observation) (actor : ℕ) (h : Contents) : Type 0 where
-    pub own : IsHomeOf (gives actor) first actor h
+    pub is_home_of : IsHomeOf (gives actor) first actor h
     pub kept : Each (IsKept actor h.cell.journal (own_word h)) log
     pub pushed : List SysMsg
     pub known : Each (IsPutAmong actor pushed) log
@@ -85,7 +85,7 @@ module _ (gives : ℕ → Moment → Reply → Type 0) (first : Contents) where
         let all_given : (spot actor).ghost.pushed ≡ fact.listing.given
         = fact.listing.joined ∙ ap (λ m. fact.listing.given ++ m) empty ∙ append-nil fact.listing.given in
         record {
-          own = is.0;
+          is_home_of = is.0;
           kept = subst (λ w. Each (IsKept actor l.home.value.cell.journal w) v.log) is.1 is.2;
           pushed = (spot actor).ghost.pushed;
           known = each_weaker (ObservationHolds actor (spot actor)) (IsPutAmong actor (spot actor).ghost.pushed) v.log (so-put actor (spot actor)) known.seen;

@@ -105,7 +105,7 @@ module _ (after : ℕ → List Message → ℤ) (gives : ℕ → Moment → Repl
 
     pub report-of : IsReportOf after gives who a
     report-of = record {
-      lawful = subst (λ (x : ℕ × List Entry). IsLawful who (gives x.0) x.1) (λ i. (sym st.own.number i, back i)) st.own.settled.lawful;
+      lawful = subst (λ (x : ℕ × List Entry). IsLawful who (gives x.0) x.1) (λ i. (sym st.is_home_of.number i, back i)) st.is_home_of.settled.lawful;
       phase_is = shows.phase_is ∙ ap (phase who) back;
       count_is = shows.count_is ∙ ap (count who) back;
       aside_is = shows.aside_is ∙ ap (aside who) back;
@@ -117,22 +117,22 @@ module _ (after : ℕ → List Message → ℤ) (gives : ℕ → Moment → Repl
     aside-is = by_test (closed who h.cell.journal) refl
       where
         by_test : (b : Bool) → closed who h.cell.journal ≡ b → h.aside_dead ≡ (if b then length (ever_aside h.cell.journal) else 0)
-        by_test true is = dead-at-end (gives id) [] h st.own.settled is
-        by_test false is = st.own.settled.counted.aside ∙ none-at-end who h.cell.journal is
+        by_test true is = dead-at-end (gives id) [] h st.is_home_of.settled is
+        by_test false is = st.is_home_of.settled.counted.aside ∙ none-at-end who h.cell.journal is
 
     pub counts-all : CountsSystems log who a
     counts-all = record {
       pushed = st.pushed;
-      known = subst (λ n. Each (IsPutAmong n st.pushed) log) (sym st.own.number) st.known;
+      known = subst (λ n. Each (IsPutAmong n st.pushed) log) (sym st.is_home_of.number) st.known;
       once = subst (λ (j : List Entry). (n : ℕ) → n < next_number j
-          → times n (applied_numbers j) + times n (numbers_in (ever_aside j)) ≡ 1) back (stands-once (gives id) [] h st.own.settled);
+          → times n (applied_numbers j) + times n (numbers_in (ever_aside j)) ≡ 1) back (stands-once (gives id) [] h st.is_home_of.settled);
       later = h.dropped;
       all = sym st.given
           ∙ ap (λ (r : List (ℕ × SysMsg)). (next_number h.cell.journal + h.dropped + length r) % 2 ^ 64) done.0.no_rest
           ∙ ap (λ n. n % 2 ^ 64)
           (let e : next_number h.cell.journal + h.dropped + 0 ≡ next_number h.cell.journal + h.dropped = omega arith in e)
           ∙ ap (λ (j : List Entry). (next_number j + h.dropped) % 2 ^ 64) back;
-      open_has_none = λ is. st.own.settled.counted.none (ap (closed who) back ∙ is);
+      open_has_none = λ is. st.is_home_of.settled.counted.none (ap (closed who) back ∙ is);
       dead = shows.dead_is ∙ ap (λ n. (n + h.dropped) % 2 ^ 64) aside-is
           ∙ ap (λ (j : List Entry). ((if closed who j then length (ever_aside j) else 0) + h.dropped) % 2 ^ 64) back;
     }
@@ -146,14 +146,14 @@ module _ (after : ℕ → List Message → ℤ) (gives : ℕ → Moment → Repl
 
     pub fates-are : fates_in a ≡ h.take.taken ++ left
     fates-are =
-        (λ i. begun (shows.journal_is i) ++ shows.cleaned_is i ++ shows.left_is i) ∙ ap (λ t. t ++ left) (sym st.own.settled.taken)
+        (λ i. begun (shows.journal_is i) ++ shows.cleaned_is i ++ shows.left_is i) ∙ ap (λ t. t ++ left) (sym st.is_home_of.settled.taken)
 
     pub cleaned-ended : a.cleaned.items ≢ [] → a.phase ≡ EndedPhase
     cleaned-ended some = by_test (closed who h.cell.journal) refl
       where
         by_test : (b : Bool) → closed who h.cell.journal ≡ b → a.phase ≡ EndedPhase
         by_test true is = shows.phase_is ∙ ended-phase (phase who h.cell.journal) is
-        by_test false is = absurd (some (shows.cleaned_is ∙ st.own.settled.open_keeps is))
+        by_test false is = absurd (some (shows.cleaned_is ∙ st.is_home_of.settled.open_keeps is))
 
   -- ---- all
 
@@ -191,8 +191,8 @@ module _ (after : ℕ → List Message → ℤ) (gives : ℕ → Moment → Repl
 
     enrolled-at : (id : ℕ) (e : DirectoryEntry) (l : BoxedHome) → slice_get first.directory id ≡ Some e → slice_get lefts id ≡ Some l → e ≡ enrolled_as l.home.value
     enrolled-at id e l is found =
-        let own = (stands id l found).own in
-        same_Some e (enrolled_as l.home.value) (sym is ∙ (λ i. slice_get (sym own.directory i) (sym own.number i)) ∙ own.settled.own.enrolled)
+        let own = (stands id l found).is_home_of in
+        same_Some e (enrolled_as l.home.value) (sym is ∙ (λ i. slice_get (sym own.directory i) (sym own.number i)) ∙ own.settled.is_own.enrolled)
 
     -- the queue of an actor has only senders that exist
     senders-at : (id : ℕ) (l : BoxedHome) → slice_get lefts id ≡ Some l
@@ -307,7 +307,7 @@ module _ (after : ℕ → List Message → ℤ) (gives : ℕ → Moment → Repl
         subst (λ ds. All (λ (d : DeadLetter). d.why ≢ why.Cleaned) ds)
         (letters-of place l.0 p.0 l.1 p.1 ∙ ap dead_letters (sym (answers-at place p.0 p.1)))
         (All-weaker (λ (d : DeadLetter). IsReason h.directory d.why d.envelope.to.0) (λ (d : DeadLetter). d.why ≢ why.Cleaned)
-        (λ d is. never-cleaned h.directory d.why d.envelope.to.0 is) h.dead (stands place l.0 l.1).own.settled.reasons)
+        (λ d is. never-cleaned h.directory d.why d.envelope.to.0 is) h.dead (stands place l.0 l.1).is_home_of.settled.reasons)
 
     -- ---- one sender and one receiver
 
@@ -460,7 +460,7 @@ module _ (after : ℕ → List Message → ℤ) (gives : ℕ → Moment → Repl
     nobody-clause a found =
         let x = at-actor 0 a found in let t = x.l.home.value.take in let st = stands 0 x.l x.there_is in
         fates-are 0 x.l st (done 0 x.l x.there_is) x.left a x.shows
-        ∙ of-nobody t.queue (t.taken ++ x.left) (no-senders x.l.home.value st.own.settled.own st.own.number)
+        ∙ of-nobody t.queue (t.taken ++ x.left) (no-senders x.l.home.value st.is_home_of.settled.is_own st.is_home_of.number)
         (taken.known 0 t x.left (mapped (λ (l : BoxedHome). l.home.value.take) lefts 0 x.l x.there_is) x.left_there)
 
     pub whole : IsCompleteReport after gives first.directory log (map (λ (o : FinishedSender). o.send_log.posted) outs) report

@@ -16,7 +16,7 @@ pub record IsFinishedSender (directory : List DirectoryEntry) (log : List Observ
   pub number_is : o.send_log.by.0 ≡ number
   pub queues : receiving_queues o.sends.items ≡ drop 1 (queues_of directory)
   pub routes : AreRoutes o.send_log.by.0 o.send_log.posted o.sends.items
-  pub vouched : were_seen_closed log (dead_letters o.send_log.posted) ≡ true
+  pub was_seen_closed : were_seen_closed log (dead_letters o.send_log.posted) ≡ true
   pub bounded : are_of_bounded (receiving_queues o.sends.items) (dead_letters o.send_log.posted) ≡ true
 
 -- These are senders with the numbers from this one on.

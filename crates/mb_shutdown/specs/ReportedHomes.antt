@@ -12,7 +12,7 @@ use Rattle.mb_shutdown.specs.Refused.{LeavesCounted}
 -- cleaned up and as dead letters what the homes have, and leaves as many envelopes as were read as waiting.
 pub record IsOfHomes (gives : ℕ → Moment → Reply → Type 0) (directory : List DirectoryEntry) (report : Report) : Type 0 where
   pub first : Contents
-  pub rolled : first.directory ≡ directory
+  pub same_directory : first.directory ≡ directory
   pub view : View
   pub home : HomesReturned gives first (length directory) view report
   pub counted : LeavesCounted view.log report

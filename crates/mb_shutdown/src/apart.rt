@@ -27,7 +27,7 @@ pub(crate) fn take_apart<A: Actor, K: Behaviours>(
     requires room { (length all.items ≤ vec_capacity ended.old) × (length all.items ≤ vec_capacity takes.old)
         × (length all.items ≤ vec_capacity rows.old) × (length all.items ≤ vec_capacity senders.old) × (length all.items ≤ 64) }
     ensures apart { OnOk result (AreApart all.items ended.new.items takes.new.items (map (λ r. r.items) rows.new.items) senders.new.items) }
-    ensures whom { IfErr result (IsNotReturned all.items) }
+    ensures not_returned { IfErr result (IsNotReturned all.items) }
     ensures room { (vec_capacity rows.new ≡ vec_capacity rows.old) × (vec_capacity senders.new ≡ vec_capacity senders.old) }
 {
     for left in all {

@@ -41,7 +41,7 @@ pub fn join_and_drain<R: Wait>(
         → slice_get (map (λ room. room.items) rooms.new) place ≡ Some left → take.discipline ≡ control_first
         → AreOfAllSenders take.queue (column place (map (λ row. row.items) senders.items)) → IsControlsFirst left) }
     ensures place { IfErr result (λ many. many.0 < length takes.items) }
-    ensures over { IfErr result (λ many. IsOverfull takes.items (map (λ row. row.items) senders.items) rooms.old many.0) }
+    ensures overfull { IfErr result (λ many. IsOverfull takes.items (map (λ row. row.items) senders.items) rooms.old many.0) }
     ensures full { IfErr result (λ many. IsFullAt many.0 rooms.new) }
 {
     let mut takes = takes;

@@ -22,9 +22,9 @@ pub(crate) fn drain_queues<R: Wait>(
 ) -> Result<(), TooMany>
     requires same_count { length rooms.old ≡ length takes.items }
     requires empty { All (λ room. room.items ≡ []) rooms.old }
-    ensures rests { IfOk result (λ _. AreRests takes.items (map (λ room. room.items) rooms.new)) }
+    ensures left_in_queues { IfOk result (λ _. AreRests takes.items (map (λ room. room.items) rooms.new)) }
     ensures place { IfErr result (λ many. many.0 < length takes.items) }
-    ensures over { IfErr result (λ many. IsOver many.0 takes.items rooms.old) }
+    ensures overfull { IfErr result (λ many. IsOver many.0 takes.items rooms.old) }
     ensures full { IfErr result (λ many. IsFullAt many.0 rooms.new) }
 {
     let mut takes = takes;
@@ -42,7 +42,7 @@ pub(crate) fn drain_queues<R: Wait>(
 fn drain_queue<R: Wait>(rt: &R, take: TakePass, room: &mut Vec<Envelope>) -> bool
     requires empty { room.old.items ≡ [] }
     ensures rest { result ≡ true → IsRest take room.new.items }
-    ensures over { result ≡ false → IsMoreThan take room.old }
+    ensures overfull { result ≡ false → IsMoreThan take room.old }
     ensures full { result ≡ false → vec_len room.new ≡ vec_capacity room.new }
 {
     let mut take = take;

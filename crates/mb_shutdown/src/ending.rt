@@ -59,7 +59,7 @@ pub fn finish<A: Actor, K: Behaviours, R: Wait>(
         × All (λ s. ReportExtendsAll report (pass_view s.inner.registrar.pass)) built.senders.items) }
     ensures home { IfOk result (HasHomesReturned K.gives built) }
     ensures refused { IfErr result (IsRefusal built) }
-    ensures why { IfErr result (DisagreesIfSaid K.gives built) }
+    ensures disagreement { IfErr result (DisagreesIfSaid K.gives built) }
 {
     if let Some(number) = missing(built.system.workers, &built.ends) {
         return Err(FinishError::MissingEnd(number, built));
@@ -84,7 +84,7 @@ pub fn finish<A: Actor, K: Behaviours, R: Wait>(
 // The least actor that is scheduled or has something to run.
 fn first_busy_of<A: Actor, K: Behaviours>(built: &mut Built<A, K>) -> Option<ActorId>
     requires same_gates { All (λ e. IsEndOf built.old.system.gates e.registrar) built.old.ends.items }
-    requires some { 0 < length built.old.ends.items }
+    requires not_empty { 0 < length built.old.ends.items }
     ensures { MatchOption result (HasRead (WereReadIdle 0 (actors_of built.old.system.gates)) built.old built.new)
         (λ id. (id.0 < actors_of built.old.system.gates) × HasRead (FindsBusy id.0) built.old built.new) }
 {
@@ -97,7 +97,7 @@ fn room_of<A: Actor, K: Behaviours>(
     built: &mut Built<A, K>,
 ) -> Option<(Room<A, K>, Vec<FinishedSender>)>
     requires same_gates { All (λ e. IsEndOf built.old.system.gates e.registrar) built.old.ends.items }
-    requires some { 0 < length built.old.ends.items }
+    requires not_empty { 0 < length built.old.ends.items }
     requires within_limit { length built.old.senders.items ≤ 16 }
     ensures read { HasRead HasOnlyCounted built.old built.new }
     ensures room { IfSome result (λ made. IsRoom (actors_of built.old.system.gates) (length built.old.senders.items) made.0

@@ -14,7 +14,7 @@ ghost use Rattle.mb_shutdown.specs.Parts.{ArePartsInOrder};
 /// exactly once. They stand in the sender's order where the mailbox is first in, first out. Where it is control-aware, control
 /// messages stand in the sender's order, and so do all others.
 pub fn what_arrived_is_accounted_for()
-    ensures often { (to : ℕ) (postings : List SentEnvelope) (discipline : Discipline) (fates : List Envelope) (pass : SendPassView)
+    ensures as_often_as_accepted { (to : ℕ) (postings : List SentEnvelope) (discipline : Discipline) (fates : List Envelope) (pass : SendPassView)
         → pass.pushed ≡ to_actor to (queued postings) → AllArrived discipline fates pass → AcceptedMatchFates pass.by to postings fates }
     ensures once { (to : ℕ) (postings : List SentEnvelope) (discipline : Discipline) (fates : List Envelope) (pass : SendPassView)
         → pass.pushed ≡ to_actor to (queued postings) → AllArrived discipline fates pass → NumbersCountUpFrom pass.by 0 (accepted postings)

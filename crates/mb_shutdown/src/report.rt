@@ -42,8 +42,8 @@ pub fn build_report<A: Actor, K: Behaviours, R: Wait>(
     ensures seen { IfOk result (λ report. ReportExtendsAll report (pass_view pass)) }
     ensures home { IfOk result (HomesReturned K.gives (first_home gates).value (actors_of gates) (pass_view pass)) }
     ensures counted { IfOk result (λ report. map (λ a. length a.left.items) report.actors.items ≡ counted_in room) }
-    ensures whom { IfErr result (λ mismatch. of_whom mismatch < actors_of gates) }
-    ensures why { IfErr result (Disagrees K.gives (first_home gates).value (actors_of gates) (pass_view pass) (map (λ o. o.sends.items) outside.items)
+    ensures in_plan { IfErr result (λ mismatch. of_whom mismatch < actors_of gates) }
+    ensures disagreement { IfErr result (Disagrees K.gives (first_home gates).value (actors_of gates) (pass_view pass) (map (λ o. o.sends.items) outside.items)
         (counted_in room)) }
 {
     let Room {

@@ -21,13 +21,13 @@ pub(crate) fn take_rests<R: Wait>(
     rows: Vec<Vec<SendPass>>,
     lefts: &mut Vec<Vec<Envelope>>,
 ) -> Result<(), Mismatch>
-    requires some { (0 < length takes.items) × (length takes.items ≤ 64) }
+    requires not_empty { (0 < length takes.items) × (length takes.items ≤ 64) }
     requires queues { All (λ row. queues_pushed_into row.items ≡ drop 1 (queues_of takes.items)) rows.items }
     requires different { (place : ℕ) → AreOfDifferent (column place (map (λ row. row.items) rows.items)) }
     requires same_count { length lefts.old.items ≡ length takes.items }
     requires empty { All (λ room. room.items ≡ []) lefts.old.items }
     ensures taken { OnOk result (AreTaken takes.items (map (λ row. row.items) rows.items) (map (λ room. room.items) lefts.new.items)) }
-    ensures over { IfErr result (IsTooMuch takes.items (map (λ row. row.items) rows.items) lefts.old.items) }
+    ensures overfull { IfErr result (IsTooMuch takes.items (map (λ row. row.items) rows.items) lefts.old.items) }
 {
     let mut takes = takes;
     let mut guardian = takes.remove(0);

@@ -48,7 +48,7 @@ pub(crate) fn open<A: Actor, K: Behaviours, R: Wait>(
     requires blank { ((pass_view pass).log ≡ []) × ((pass_view pass).got ≡ []) × ((pass_view pass).obligations ≡ []) }
     requires whole { IsWhole (pass_view pass).share }
     requires actors { (0 < actors_of gates.now) × (actors_of gates.now ≤ 64) }
-    requires some { (0 < length ends.items) × (length ends.items ≤ 16) }
+    requires not_empty { (0 < length ends.items) × (length ends.items ≤ 16) }
     requires ends { All (λ e. gates_of e ≡ Some (origin_of gates.now)) ends.items }
     requires feeds { All (λ f. gates_of f ≡ Some (origin_of gates.now)) feeds.items }
     requires same_count { (length feeds.items ≡ length outside.items) × (length feeds.items ≤ 16) }
@@ -94,7 +94,7 @@ fn open_senders<A: Actor, K: Behaviours>(
             unreachable!();
         };
         let registrar = Registrar {
-            pass: gates.apart(pass),
+            pass: gates.new_pass(pass),
             run_queue: FeedPort::new(feed),
             owed: Owed::none(),
         };
@@ -125,7 +125,7 @@ fn open_ends<A: Actor, K: Behaviours>(
     let mut opened = Vec::with_capacity(alloc, ends.len())?;
     for end in ends {
         let registrar = Registrar {
-            pass: gates.apart(pass),
+            pass: gates.new_pass(pass),
             run_queue: WorkerPort::new(end),
             owed: Owed::none(),
         };
@@ -165,7 +165,7 @@ fn give_first<A: Actor, K: Behaviours>(
     requires same_gates { pass_id pass ≡ gates_id gates.now }
     requires created { IsCreated (pass_view pass) × OwesFirstRun (pass_view pass) }
     requires unclaimed { (pass_view pass).got ≡ [] }
-    requires some { 0 < length ends.old }
+    requires not_empty { 0 < length ends.old }
     requires ends { AreNewEnds gates.now 0 ends.old }
     ensures same_count { length ends.new ≡ length ends.old }
     ensures first { AreFirstEnds gates.now ends.new }

@@ -46,7 +46,7 @@ pub(crate) fn found<A: Actor, K: Behaviours>(
         × AreNewHomes K.gives (identities (length plans.items + 1) journal_limit (map (λ a. a.parent) plans.items) (map (λ a. a.strategy) plans.items))
         kinds senders homes (map (λ row. row.items) founded.outside.items)
         × (slice_get homes 0 ≡ Some (first_home founded.gates)) × (actors_of founded.gates ≡ length homes)) }
-    ensures founded { IfOk result (λ founded. AreNewGates founded.gates (length plans.items) senders (map (λ row. row.items) founded.outside.items)) }
+    ensures new_gates { IfOk result (λ founded. AreNewGates founded.gates (length plans.items) senders (map (λ row. row.items) founded.outside.items)) }
     ensures pass { IfOk result (λ founded. (pass_id founded.pass ≡ gates_id founded.gates) × (pass_view founded.pass ≡ alone)) }
 {
     let NewHomes { homes, outside } = make_homes(alloc, plans, actors, senders, journal_limit)?;

@@ -56,7 +56,7 @@ impl<W: Write> TrackedStream<W> {
     fn write(&mut self, bytes: &[u8]) -> io::Result<usize>
         requires working { self.old.failed ≡ false }
         ensures bound { WritesAtMost result bytes.now }
-        ensures some { IfOk result (λ count. 0 < length bytes.now → 0 < count) }
+        ensures progress { IfOk result (λ count. 0 < length bytes.now → 0 < count) }
         ensures bytes { WriteAppends (W.contents self.old.stream) (W.contents self.new.stream) result bytes.now }
         ensures watched { self.new.failed ≡ (self.old.failed || is_err result) }
     {

@@ -13,7 +13,7 @@ use mb_journal::FailedBy;
 use mb_msg::{ActorId, Cause, SysMsg};
 
 /// The actor fails, by itself or by a child, unless it is failed already: its mailbox is suspended and so are its
-/// children, but for some, and its parent is told; the guardian, which has none, ends.
+/// children, except some, and its parent is told; the guardian, which has none, ends.
 pub(crate) fn fail(
     place: &ActorIdentity,
     by: FailedBy,
@@ -40,7 +40,7 @@ pub(crate) fn fail(
     report_failure(place, cause, acts);
 }
 
-/// Suspends each of these children, but for some.
+/// Suspends each of these children, except some.
 fn suspend_all_but(except: &[ActorId], children: &[ActorId], acts: &mut ActQueue)
     requires room { length children.now ≤ acts.old.room }
     ensures acts { acts.new.acts ≡ acts.old.acts ++ to_each SysMsg.Suspend (filter (λ x. not (holds except.now x)) children.now) }

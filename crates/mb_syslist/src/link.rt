@@ -23,7 +23,7 @@ pub struct LinkedMessage {
 impl Link {
     /// The first box, with the rest of the list; `None` if the list is empty.
     pub fn into_first(self) -> Option<Box<LinkedMessage>>
-        ensures some { IfSome result (λ entry. boxed self ≡ entry.value.message ∷ boxed entry.value.next) }
+        ensures not_empty { IfSome result (λ entry. boxed self ≡ entry.value.message ∷ boxed entry.value.next) }
         ensures none { IfNone result (boxed self ≡ []) }
     {
         match self {

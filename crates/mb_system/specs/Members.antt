@@ -7,7 +7,7 @@ use Rattle.mb_gate.specs.Accessors.{actors_of, first_home, pass_view}
 use Rattle.mb_gate.specs.Rule.{IsPart}
 use Rattle.mb_home.specs.Contents.{Contents}
 use Rattle.mb_home.specs.Directory.{queues_of}
-use Rattle.mb_pool.specs.Places.{PoolEndpoint, gates_of, looks}
+use Rattle.mb_pool.specs.Places.{PoolEndpoint, gates_of, ports_of}
 use Rattle.mb_send.specs.Sends.{receiving_queues}
 use Rattle.mb_send.specs.declared.sender.GatesSender.{GatesSender}
 use Rattle.mb_register.specs.Caller.{Caller, caller_of, IsRegistrarOf}
@@ -32,12 +32,12 @@ pub record IsSenderOf (gates : Gates (Box Contents)) (sender : GatesSender (Box 
 
 -- What a worker's end knows and owes, with its account with the run queue.
 abbrev pub end_caller : Registrar (Box Contents) (WorkerPort (Box Contents)) → Caller (Box Contents)
-end_caller registrar = caller_of (λ (run_queue : WorkerPort (Box Contents)). pushed_first (looks run_queue.end))
+end_caller registrar = caller_of (λ (run_queue : WorkerPort (Box Contents)). pushed_first (ports_of run_queue.end))
     (λ (run_queue : WorkerPort (Box Contents)). map (λ claim. claim.value) run_queue.refused) registrar
 
 -- What a sender knows and owes, with its account with the run queue.
 abbrev pub sender_caller : Registrar (Box Contents) (FeedPort (Box Contents)) → Caller (Box Contents)
-sender_caller registrar = caller_of (λ (run_queue : FeedPort (Box Contents)). pushed_first (looks run_queue.feed))
+sender_caller registrar = caller_of (λ (run_queue : FeedPort (Box Contents)). pushed_first (ports_of run_queue.feed))
     (λ (run_queue : FeedPort (Box Contents)). map (λ claim. claim.value) run_queue.refused) registrar
 
 module _ {A K : Type 0} where

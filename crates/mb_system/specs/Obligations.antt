@@ -14,7 +14,7 @@ use Rattle.mb_system.specs.declared.end.WorkerEnd.{WorkerEnd}
 use Rattle.mb_system.specs.declared.sender.Sender.{Sender}
 
 module _ {H : Type 0} (actors : ℕ) where
-  -- To each of so many actors it owes nothing, or the actor is in its set of owed looks.
+  -- To each of so many actors it owes nothing, or the actor is in the set of those that it owes a look.
   abbrev pub AreDischargedOrOwed : Caller H → Type 0
   AreDischargedOrOwed caller = (id : ℕ) → id < actors → IsDischargedOrOwed id caller
 
@@ -33,7 +33,7 @@ abbrev pub KeepAllObligations : {A K : Type 0} → Gates (Box Contents) → List
 KeepAllObligations {A} {K} gates =
     AllZip (λ (old new : WorkerEnd A K). KeepsObligations (actors_of gates) (end_caller old.registrar) (end_caller new.registrar))
 
--- To each actor the first of these ends owes nothing, or the actor is in its set of owed looks.
+-- To each actor the first of these ends owes nothing, or the actor is in the set of those that it owes a look.
 abbrev pub FirstDischargedOrOwed : {A K : Type 0} → Gates (Box Contents) → List (WorkerEnd A K) → Type 0
 FirstDischargedOrOwed gates [] = Unit {0}
 FirstDischargedOrOwed gates (end ∷ ends) = AreDischargedOrOwed (actors_of gates) (end_caller end.registrar)

@@ -4,7 +4,7 @@ ghost use Rattle.mb_core.specs.Actor.{nothing};
 ghost use Rattle.mb_gate.specs.Accessors.{actors_of, pass_view};
 ghost use Rattle.mb_gate.specs.Rule.{IsPart};
 ghost use Rattle.mb_gate.specs.View.{obligation_to};
-ghost use Rattle.mb_pool.specs.Places.{gates_of, looks};
+ghost use Rattle.mb_pool.specs.Places.{gates_of, ports_of};
 ghost use Rattle.mb_pool.specs.Moves.{Takes, WasEmpty};
 ghost use Rattle.mb_register.specs.Caller.{IsDischargedOrOwed, LeavesCaller};
 ghost use Rattle.mb_home.specs.Fresh.{IsFreshClaim};
@@ -80,7 +80,7 @@ impl<A: Actor, K: Behaviours> WorkerEnd<A, K> {
         self.registrar.register(rt, &system.gates, id, hint)
     }
 
-    /// Registers all actors, in the order of their numbers. Each is owed nothing then, or is in the set of owed looks.
+    /// Registers all actors, in the order of their numbers. Each is owed nothing then, or is in the set of actors that it owes a look.
     pub fn register_all<R: Wait>(&mut self, rt: &R, system: &System<A, K>)
         requires same_gates { IsEndOf system.now.gates self.old.registrar }
         ensures same_gates { IsEndOf system.now.gates self.new.registrar }
@@ -101,7 +101,7 @@ impl<A: Actor, K: Behaviours> WorkerEnd<A, K> {
     pub fn take<R: Wait>(&mut self, rt: &R) -> Option<Claim<BoxedHome<A, K>>>
         ensures fit { IfSome result (IsFreshClaim K.gives (gates_of self.old.registrar.run_queue.end)) }
         ensures taken { IfSome result (λ claim. Takes (IsFreshClaim K.gives) self.old.registrar.run_queue.end claim self.new.registrar.run_queue.end) }
-        ensures none { IfNone result ((self.new ≡ self.old) × All (WasEmpty (IsFreshClaim K.gives)) (looks self.old.registrar.run_queue.end)) }
+        ensures none { IfNone result ((self.new ≡ self.old) × All (WasEmpty (IsFreshClaim K.gives)) (ports_of self.old.registrar.run_queue.end)) }
         ensures same { (self.new.registrar.pass ≡ self.old.registrar.pass) × (self.new.registrar.owed ≡ self.old.registrar.owed)
             × (gates_of self.new.registrar.run_queue.end ≡ gates_of self.old.registrar.run_queue.end) × (self.new.number ≡ self.old.number) }
     {

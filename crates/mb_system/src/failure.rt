@@ -13,7 +13,7 @@ pub enum RunError {
     NoMemory,
     /// The journal of an actor has as many entries as it may have.
     JournalFull,
-    /// A job sends to an actor that there is not.
+    /// A job sends to an actor that does not exist.
     NoSuchActor,
 }
 

@@ -54,7 +54,7 @@ impl<A: Actor, K: Behaviours> Sender<A, K> {
     pub fn look(&mut self, system: &System<A, K>, to: ActorId) -> Result<Look, SendError>
         requires same_gates { IsSenderOf system.now.gates self.old.inner }
         ensures same_gates { IsSenderOf system.now.gates self.new.inner }
-        ensures by { self.new.inner.send_log.by ≡ self.old.inner.send_log.by }
+        ensures same_sender { self.new.inner.send_log.by ≡ self.old.inner.send_log.by }
         ensures refused { OnErr result ((self.new ≡ self.old) × IsErrOf result Refusal.NoSuchActor
             × ((to.0 ≡ 0) ⊎ (actors_of system.now.gates ≤ to.0))) }
         ensures seen { IfOk result (λ look. (0 < to.0) × (to.0 < actors_of system.now.gates)
@@ -69,7 +69,7 @@ impl<A: Actor, K: Behaviours> Sender<A, K> {
     /// full or memory was refused, becomes a dead letter, which takes a number too.
     ///
     /// It answers `NoMemory` if there was no room for the dead letter that it might become, or if the sender's last number is
-    /// used up: then nothing is sent, and no number is used. It comes to owe a look only to the receiver, if the run queue
+    /// used up: then nothing is sent, and no number is used. It owes a new look only to the receiver, and only if the run queue
     /// refused its claim.
     pub fn put<R: Wait>(
         &mut self,
@@ -81,7 +81,7 @@ impl<A: Actor, K: Behaviours> Sender<A, K> {
         requires same_gates { IsSenderOf system.now.gates self.old.inner }
         requires present { (0 < ticket.to.0) × (ticket.to.0 < actors_of system.now.gates) }
         ensures same_gates { IsSenderOf system.now.gates self.new.inner }
-        ensures by { self.new.inner.send_log.by ≡ self.old.inner.send_log.by }
+        ensures same_sender { self.new.inner.send_log.by ≡ self.old.inner.send_log.by }
         ensures refused { OnErr result (IsErrOf result Refusal.NoMemory × (self.new.inner.send_log.posted ≡ self.old.inner.send_log.posted)
             × (self.new.inner.registrar ≡ self.old.inner.registrar)) }
         ensures unsent { OnErr result (IsSameSendLog self.old.inner.send_log self.new.inner.send_log × (self.new.inner.sends ≡ self.old.inner.sends)) }
@@ -99,7 +99,7 @@ impl<A: Actor, K: Behaviours> Sender<A, K> {
     /// letter.
     ///
     /// It answers `NoSuchActor` as a look does, and else `NoMemory` as a put does: then nothing is sent, and no number is used,
-    /// but what was seen stays seen. It comes to owe a look only to the receiver, if the run queue refused its claim.
+    /// but what was seen stays seen. It owes a new look only to the receiver, and only if the run queue refused its claim.
     #[inline(always)]
     pub fn tell<R: Wait>(
         &mut self,
@@ -110,7 +110,7 @@ impl<A: Actor, K: Behaviours> Sender<A, K> {
     ) -> Result<Put, SendError>
         requires same_gates { IsSenderOf system.now.gates self.old.inner }
         ensures same_gates { IsSenderOf system.now.gates self.new.inner }
-        ensures by { self.new.inner.send_log.by ≡ self.old.inner.send_log.by }
+        ensures same_sender { self.new.inner.send_log.by ≡ self.old.inner.send_log.by }
         ensures refused { OnErr result ((self.new.inner.send_log.posted ≡ self.old.inner.send_log.posted)
             × ((IsErrOf result Refusal.NoSuchActor × ((to.0 ≡ 0) ⊎ (actors_of system.now.gates ≤ to.0)))
             ⊎ (IsErrOf result Refusal.NoMemory × (0 < to.0) × (to.0 < actors_of system.now.gates)))) }
@@ -131,7 +131,7 @@ impl<A: Actor, K: Behaviours> Sender<A, K> {
     /// is ended: then the message went nowhere.
     ///
     /// It answers `NoSuchActor` for a number that no actor has, and else `NoMemory` if memory was refused: then nothing has
-    /// changed. It comes to owe a look only to this actor, if the run queue refused its claim.
+    /// changed. It owes a new look only to this actor, and only if the run queue refused its claim.
     pub fn stop<R: Wait>(
         &mut self,
         rt: &R,
@@ -140,7 +140,7 @@ impl<A: Actor, K: Behaviours> Sender<A, K> {
     ) -> Result<bool, SendError>
         requires same_gates { IsSenderOf system.now.gates self.old.inner }
         ensures same_gates { IsSenderOf system.now.gates self.new.inner }
-        ensures by { self.new.inner.send_log.by ≡ self.old.inner.send_log.by }
+        ensures same_sender { self.new.inner.send_log.by ≡ self.old.inner.send_log.by }
         ensures refused { OnErr result ((self.new ≡ self.old) × ((IsErrOf result Refusal.NoSuchActor × (actors_of system.now.gates ≤ id.0))
             ⊎ (IsErrOf result Refusal.NoMemory × (id.0 < actors_of system.now.gates)))) }
         ensures stopped { IfOk result (Stops id.0 (pass_view self.old.inner.registrar.pass) (pass_view self.new.inner.registrar.pass)) }
@@ -160,7 +160,7 @@ impl<A: Actor, K: Behaviours> Sender<A, K> {
     pub fn retry_refused<R: Wait>(&mut self, rt: &R, system: &System<A, K>) -> Result<(), RunError>
         requires same_gates { IsSenderOf system.now.gates self.old.inner }
         ensures same_gates { IsSenderOf system.now.gates self.new.inner }
-        ensures by { self.new.inner.send_log.by ≡ self.old.inner.send_log.by }
+        ensures same_sender { self.new.inner.send_log.by ≡ self.old.inner.send_log.by }
         ensures discharged { OnOk result ((id : ℕ) → id < actors_of system.now.gates → is_owed self.old.inner.registrar.owed id ≡ true
             → obligation_to id (pass_view self.new.inner.registrar.pass) ≡ nothing) }
         ensures done { OnOk result (OwesNobody system.now.gates self.new) }
@@ -170,7 +170,7 @@ impl<A: Actor, K: Behaviours> Sender<A, K> {
             (λ _. StopsAt (sender_caller self.old.inner.registrar).account (sender_caller self.new.inner.registrar).account) }
         ensures log_kept { IsPart (pass_view self.old.inner.registrar.pass).log (pass_view self.new.inner.registrar.pass).log }
         ensures refused { OnErr result (IsErrOf result RunError.NoMemory) }
-        ensures same { ((pass_view self.new.inner.registrar.pass).said ≡ (pass_view self.old.inner.registrar.pass).said)
+        ensures same { ((pass_view self.new.inner.registrar.pass).sent_system ≡ (pass_view self.old.inner.registrar.pass).sent_system)
             × (self.new.inner.send_log ≡ self.old.inner.send_log) × (self.new.inner.sends ≡ self.old.inner.sends) }
     {
         self.inner.registrar.retry_refused(rt, &system.gates)?;

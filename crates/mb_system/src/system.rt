@@ -27,7 +27,7 @@ pub struct System<A: Actor, K: Behaviours> {
     pub throughput: u32,
     /// Where its memory comes from.
     pub alloc: Global,
-    ghost some: { 0 < workers },
+    ghost not_empty: { 0 < workers },
     ghost within_limit: { (actors_of gates ≤ 64) × (senders ≤ 16) },
     ghost directory: { length (first_home gates).value.directory ≡ actors_of gates },
     ghost known: { AreKnown (first_home gates).value.directory senders },

@@ -44,6 +44,6 @@ module _ {H : Type 0} (is_of : H → ℕ → H → Type 0) (facts : H → HomeFa
   told who = subst (λ (y : List Entry × List SentSystem). HasSentDueSince who (held_actor claim) (status_of claim).closed (facts claim.home).journal y.0 y.1)
       (λ i. (sym same_journal i, sym fit.recorded i)) (nothing_since who (held_actor claim) (status_of claim).closed (facts claim.home).journal)
 
-  pub rest : ((status_of claim).closed ≡ true) ⊎ (gave_last claim ≡ false) → (facts claim.home).rested
+  pub rest : ((status_of claim).closed ≡ true) ⊎ (gave_last claim ≡ false) → (facts claim.home).no_backlog
   rest (inl closed) = absurd (false≢true (sym fit.open_yet ∙ closed))
   rest (inr none) = fit.rest none

@@ -19,7 +19,7 @@ module _ {H : Type 0} (is_of : H → ℕ → H → Type 0) (facts : H → HomeFa
         same_gates = record {
           gates = ours;
           present = subst (λ a. a < origin.actors) (sym got.of) there;
-          own = subst (λ a. is_of origin.first a claim.home) (sym got.of) got.own;
+          of_actor = subst (λ a. is_of origin.first a claim.home) (sym got.of) got.of_actor;
         };
         open_yet = ap (λ (m : Mailbox). m.closed) got.status ∙ got.found.open_yet;
         scheduled = ap (λ (m : Mailbox). m.scheduled) got.status;

@@ -1,5 +1,5 @@
-//! For tests and benchmarks of the pool: gates of actors with stub homes, taking a claim of an actor, and releasing it
-//! unchanged.
+//! What tests and benchmarks share: gates of actors with stub homes, taking a claim of an actor and releasing it unchanged,
+//! actors, plans, and checks of reports.
 //!
 //! For tests of whole systems: actors, written and random plans and sends, and independent checks of the report of a
 //! run. This crate does not depend on a dispatcher: the tests that run a system do.

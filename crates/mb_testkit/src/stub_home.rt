@@ -30,7 +30,7 @@ impl MailboxState for StubHome {
     ghost facts = { λ desk. record {
       journal = [];
       mailbox = fresh;
-      rested = Unit {0};
+      no_backlog = Unit {0};
       given = 0;
       closed_to = [];
     } };

@@ -1,12 +1,12 @@
 //! Which entries a trace shows.
-use crate::steps::Step;
+use crate::steps::TraceStep;
 use mb_actor::Answer;
 use mb_journal::Received;
 use mb_msg::SysMsg;
 
 /// Which kinds of entries are shown.
 #[derive(Clone, Copy, Debug, PartialEq, Eq)]
-pub enum Only {
+pub enum EntryKinds {
     /// All.
     All,
     /// Those of envelopes.
@@ -23,14 +23,14 @@ pub struct Filter<'a> {
     /// The numbers of the actors whose entries are shown; those of all where it is empty.
     pub actors: &'a [u32],
     /// Which kinds.
-    pub only: Only,
+    pub only: EntryKinds,
     /// How many entries at most; `u64::MAX` for all.
     pub limit: u64,
 }
 
 impl Filter<'_> {
     /// Whether the entry passes, whatever the limit is.
-    pub fn passes(&self, step: &Step<'_>) -> bool {
+    pub fn passes(&self, step: &TraceStep<'_>) -> bool {
         self.has_actor(step.actor.0) && is_of(self.only, step.entry.arrival)
     }
 
@@ -41,12 +41,12 @@ impl Filter<'_> {
 }
 
 /// Whether what came is of this kind.
-fn is_of(only: Only, arrival: Received) -> bool {
+fn is_of(only: EntryKinds, arrival: Received) -> bool {
     match only {
-        Only::All => true,
-        Only::User => is_envelope(arrival),
-        Only::System => !is_envelope(arrival),
-        Only::Failures => tells_of_failure(arrival),
+        EntryKinds::All => true,
+        EntryKinds::User => is_envelope(arrival),
+        EntryKinds::System => !is_envelope(arrival),
+        EntryKinds::Failures => tells_of_failure(arrival),
     }
 }
 

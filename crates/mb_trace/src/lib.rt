@@ -19,9 +19,9 @@ mod trace;
 mod words;
 
 pub use error::TraceError;
-pub use filter::{Filter, Only};
+pub use filter::{EntryKinds, Filter};
 pub use standing::Standing;
-pub use steps::{Step, Steps};
+pub use steps::{TraceStep, TraceSteps};
 pub use text::write_text;
-pub use trace::{Trace, Turn};
+pub use trace::{Trace, TurnLength};
 pub use words::{BodyWords, EffectWords, EnvelopeWords, SystemWords, name_of};

@@ -1,7 +1,7 @@
 //! What stands at the end of a trace: dead letters, what is left, and what is set aside.
 use crate::end_lines::{AsideLine, LeftLine, LetterLine};
 use crate::error::TraceError;
-use crate::filter::{Filter, Only};
+use crate::filter::{EntryKinds, Filter};
 use crate::trace::Trace;
 use mb_msg::{ActorId, Envelope, SysMsg, Why};
 use mb_report::{ActorReport, SenderReport};
@@ -17,10 +17,10 @@ pub(crate) fn write_rest<W: Write>(
     filter: &Filter<'_>,
     out: &mut W,
 ) -> Result<(), TraceError> {
-    if let Only::All | Only::User = filter.only {
+    if let EntryKinds::All | EntryKinds::User = filter.only {
         write_envelopes(alloc, trace, filter, out)?;
     }
-    if let Only::All | Only::System = filter.only {
+    if let EntryKinds::All | EntryKinds::System = filter.only {
         let mut number: u32 = 0;
         for actor in &trace.report.actors {
             write_aside(

@@ -9,7 +9,7 @@ use std::alloc::{AllocError, Global};
 
 /// An entry of an actor's journal, with how the actor stood before it and after it.
 #[derive(Clone, Copy)]
-pub struct Step<'a> {
+pub struct TraceStep<'a> {
     /// Whose journal it is in.
     pub actor: ActorId,
     /// Its place there, from 0.
@@ -24,31 +24,31 @@ pub struct Step<'a> {
 
 /// A way through the journals: each is gone through once, in its order; the caller says whose entry comes next.
 #[derive(Drop)]
-pub struct Steps<'a> {
+pub struct TraceSteps<'a> {
     trace: Trace<'a>,
-    places: Vec<Place>,
+    places: Vec<JournalCursor>,
 }
 
 /// How far an actor's journal was gone through.
 #[derive(Clone, Copy)]
-struct Place {
+struct JournalCursor {
     next: usize,
     life: Life,
 }
 
-impl<'a> Steps<'a> {
+impl<'a> TraceSteps<'a> {
     /// At the beginning of each journal. The only error: memory was refused.
     pub fn new(alloc: Global, trace: Trace<'a>) -> Result<Self, AllocError> {
         let mut places = Vec::new(alloc);
         for number in 0..trace.report.actors.len() {
             let life = Life::new(rules_of(&trace, number));
-            places.push(Place { next: 0, life })?;
+            places.push(JournalCursor { next: 0, life })?;
         }
-        Ok(Steps { trace, places })
+        Ok(TraceSteps { trace, places })
     }
 
     /// The next entry of the journal of this actor; `None` at its end, and for a number that no actor has.
-    pub fn next_of(&mut self, actor: ActorId) -> Option<Step<'a>> {
+    pub fn next_of(&mut self, actor: ActorId) -> Option<TraceStep<'a>> {
         let trace = self.trace;
         let number = actor.0 as usize;
         let Some(reported) = trace.report.actors.get(number) else {
@@ -67,7 +67,7 @@ impl<'a> Steps<'a> {
         place.next = index + 1;
         let is_end = index + 1 == count && has_ended(reported.phase);
         place.life.apply(rules_of(&trace, number), &entry, is_end);
-        Some(Step {
+        Some(TraceStep {
             actor,
             index,
             entry,

@@ -3,8 +3,8 @@ use crate::entry_line::EntryLines;
 use crate::error::TraceError;
 use crate::filter::Filter;
 use crate::rest::write_rest;
-use crate::steps::{Step, Steps};
-use crate::trace::{Trace, Turn};
+use crate::steps::{TraceStep, TraceSteps};
+use crate::trace::{Trace, TurnLength};
 use crate::words::name_of;
 use mb_msg::ActorId;
 use std::alloc::Global;
@@ -23,7 +23,7 @@ pub fn write_text<W: Write>(
     filter: &Filter<'_>,
     out: &mut W,
 ) -> Result<(), TraceError> {
-    let mut steps = Steps::new(alloc, *trace)?;
+    let mut steps = TraceSteps::new(alloc, *trace)?;
     match trace.turns {
         Some(turns) => write_turns(alloc, &mut steps, trace.names, filter, turns, out)?,
         None => write_by_actor(alloc, &mut steps, trace, filter, out)?,
@@ -34,10 +34,10 @@ pub fn write_text<W: Write>(
 /// Writes the entries of these turns, in order.
 fn write_turns<W: Write>(
     alloc: Global,
-    steps: &mut Steps<'_>,
+    steps: &mut TraceSteps<'_>,
     names: &[String],
     filter: &Filter<'_>,
-    turns: &[Turn],
+    turns: &[TurnLength],
     out: &mut W,
 ) -> Result<(), TraceError> {
     let mut left = filter.limit;
@@ -55,7 +55,7 @@ fn write_turns<W: Write>(
 /// Writes the journals, actor by actor.
 fn write_by_actor<W: Write>(
     alloc: Global,
-    steps: &mut Steps<'_>,
+    steps: &mut TraceSteps<'_>,
     trace: &Trace<'_>,
     filter: &Filter<'_>,
     out: &mut W,
@@ -87,7 +87,7 @@ struct Part {
 /// has no title.
 fn write_part<W: Write>(
     alloc: Global,
-    steps: &mut Steps<'_>,
+    steps: &mut TraceSteps<'_>,
     names: &[String],
     filter: &Filter<'_>,
     part: Part,
@@ -127,7 +127,7 @@ fn write_title<W: Write>(
 fn write_entry<W: Write>(
     alloc: Global,
     names: &[String],
-    step: &Step<'_>,
+    step: &TraceStep<'_>,
     out: &mut W,
 ) -> Result<(), TraceError> {
     let lines = EntryLines {

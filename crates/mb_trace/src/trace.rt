@@ -15,13 +15,13 @@ pub struct Trace<'a> {
     pub scripts: &'a [Script],
     /// What the run came to.
     pub report: &'a Report,
-    /// The runs of mailboxes, in order, where the run was quiet. A run on threads has none.
-    pub turns: Option<&'a [Turn]>,
+    /// The turns, in order, where the run was quiet. A run on threads has none.
+    pub turns: Option<&'a [TurnLength]>,
 }
 
-/// A run of a mailbox, as a trace needs it.
+/// How long a turn was, which is one run of a mailbox.
 #[derive(Clone, Copy, Debug, PartialEq, Eq)]
-pub struct Turn {
+pub struct TurnLength {
     /// Whose mailbox was run.
     pub actor: ActorId,
     /// How many entries its journal got: one for each system message and each envelope.

@@ -2,7 +2,7 @@
 ghost use Rattle.std.specs.Prelude.{◌≡◌, ◌≤◌, IfSome, length};
 
 use mb_actor::{Answer, Effect, Phase};
-use mb_diagram::Step;
+use mb_diagram::ShownEntry;
 use mb_journal::Journal;
 use mb_msg::{ActorId, Body, Cause, DeadLetter, Envelope, SenderId, SysMsg, Why};
 use mb_report::{ActorReport, Report, SenderReport};
@@ -141,14 +141,14 @@ fn senders(alloc: Global) -> Option<Vec<SenderReport>> {
 }
 
 /// All entries, actor by actor.
-pub fn steps(alloc: Global, report: &Report) -> Option<Vec<Step<'_>>> {
-    let mut steps = Vec::new(alloc);
+pub fn shown_entries(alloc: Global, report: &Report) -> Option<Vec<ShownEntry<'_>>> {
+    let mut shown_entries = Vec::new(alloc);
     for (id, actor) in report.actors.iter().enumerate() {
         for index in 0..actor.journal.len() {
             let entry = actor.journal.get(index);
             let actor = ActorId(id as u32);
-            steps
-                .push(Step {
+            shown_entries
+                .push(ShownEntry {
                     actor,
                     index,
                     entry,
@@ -156,5 +156,5 @@ pub fn steps(alloc: Global, report: &Report) -> Option<Vec<Step<'_>>> {
                 .ok()?;
         }
     }
-    Some(steps)
+    Some(shown_entries)
 }

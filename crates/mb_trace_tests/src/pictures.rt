@@ -1,5 +1,5 @@
 //! What pictures have: each entry once, names escaped, repeated messages in one row.
-use crate::made::{letters, names, report, steps};
+use crate::made::{letters, names, report, shown_entries};
 use mb_diagram::{Picture, write_html, write_svg};
 use std::alloc::{AllocError, Global};
 use std::test::Fail;
@@ -9,11 +9,11 @@ fn drawn(alloc: Global, is_page: bool) -> Option<Vec<u8>> {
     let report = report(alloc)?;
     let names = names(alloc)?;
     let letters = letters(alloc)?;
-    let steps = steps(alloc, &report)?;
+    let shown_entries = shown_entries(alloc, &report)?;
     let picture = Picture {
         names: &names,
         report: &report,
-        steps: &steps,
+        entries: &shown_entries,
         letters: &letters,
     };
     let mut out = Vec::new(alloc);

@@ -35,7 +35,7 @@ impl MailboxState for BenchHome {
     ghost facts = { λ desk. record {
       journal = [];
       mailbox = desk.status;
-      rested = Unit {0};
+      no_backlog = Unit {0};
       given = desk.given;
       closed_to = [];
     } };
@@ -77,7 +77,7 @@ pub fn attempt(
     requires present { id.0 < actors_of gates.now }
     ensures same_gates { pass_id pass.new ≡ pass_id pass.old }
     ensures got { IfSome result (λ claim. (claim_id claim ≡ gates_id gates.now) × (held_actor claim ≡ id.0)) }
-    ensures own { IfSome result (λ claim. (claim.home.actor ≡ id.0) × (claim.home.given ≡ given_to claim)) }
+    ensures of_actor { IfSome result (λ claim. (claim.home.actor ≡ id.0) × (claim.home.given ≡ given_to claim)) }
     ensures begun { IfSome result (λ claim. (taken_with claim ≡ []) × (recorded_by claim ≡ [])) }
 {
     match gates.try_schedule(pass, id) {
@@ -91,7 +91,7 @@ pub fn attempt(
 pub fn give(gates: &Gates<BenchHome>, mut claim: Claim<BenchHome>, pass: &mut Pass<BenchHome>)
     requires same_gates { (claim_id claim ≡ gates_id gates.now) × (pass_id pass.old ≡ gates_id gates.now) }
     requires present { held_actor claim < actors_of gates.now }
-    requires own { (claim.home.actor ≡ held_actor claim) × (claim.home.given ≡ given_to claim) }
+    requires of_actor { (claim.home.actor ≡ held_actor claim) × (claim.home.given ≡ given_to claim) }
     requires begun { (taken_with claim ≡ []) × (recorded_by claim ≡ []) }
     ensures same_gates { pass_id pass.new ≡ pass_id pass.old }
 {

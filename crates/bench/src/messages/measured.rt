@@ -74,7 +74,7 @@ fn measure_in<R: Clock + Files + AllocGlobal, A: Actor, K: Behaviours>(
 ) -> Result<Measured, ReadyError>
     requires new { cell.old ≡ new_cell cell.old.who }
     requires an_actor { is_guardian cell.old.who ≡ false }
-    requires this { cell.old.who.this ≡ record { 0 = 1 } }
+    requires first_actor { cell.old.who.this ≡ record { 0 = 1 } }
     requires limit { cell.old.who.limit ≡ 4294967295 }
     requires steady { IsSteady (K.gives 1) }
     ensures handled { IfOk result (λ measured. measured.handled ≡ count) }
@@ -133,7 +133,7 @@ fn cell_of<R: AllocGlobal, A: Actor, K: Behaviours>(rt: &R, actor: A) -> Cell<A,
     requires allows { AllowsSame (A.gives actor) (K.gives 1) }
     ensures new { result ≡ new_cell result.who }
     ensures an_actor { is_guardian result.who ≡ false }
-    ensures this { result.who.this ≡ record { 0 = 1 } }
+    ensures first_actor { result.who.this ≡ record { 0 = 1 } }
     ensures limit { result.who.limit ≡ 4294967295 }
 {
     let strategy = Strategy {

@@ -88,7 +88,7 @@ fn worker_of(
 {
     Worker {
         end,
-        pass: gates.another(pass),
+        pass: gates.split_pass(pass),
         actor,
         done: 0,
         times: Times::new(),

@@ -15,6 +15,9 @@ use crate::slot::Slot;
 use atomic_table::Closed;
 use std::alloc::Global;
 
+/// How many values the closed and the scheduled bit of a status word have: its multiples have neither bit set.
+const STATES: u64 = 4;
+
 impl<H: MailboxState> Gates<H> {
     /// Ends the gates: what is left of each actor, the first with the number 0, and `None` for one that a claim has still. Each
     /// home is its actor's own, has the status of its journal, and extends all that the pass has seen, which may have taken
@@ -70,7 +73,7 @@ fn take_out<H: MailboxState>(
     let cell = closed.take(2 * actor + CELL);
     let list = closed.take(2 * actor + LIST);
     // Scheduled, or closed without the flag: a claim has the cell. A locked gate: a seat has the list.
-    if status % 4 != 0 && flag != 1 || gate.is_locked() {
+    if status % STATES != 0 && flag != 1 || gate.is_locked() {
         return None;
     }
     match (cell, list) {

@@ -17,4 +17,4 @@ without_report-requires g c =
 pub returns-in-Err-clause-refused : goal.returns-in-Err-clause-refused
 returns-in-Err-clause-refused g c = λ plan actors orders right ran.
     untold g.K.Behaviours.gives plan ran.first ran.begun c.args.built ran.system actors orders c.in-Err.error c.without_report.result right
-    c.requires.together.ends c.in-Err.ensures.refused c.in-Err.ensures.why c.without_report.ensures
+    c.requires.together.ends c.in-Err.ensures.refused c.in-Err.ensures.disagreement c.without_report.ensures

@@ -1,6 +1,8 @@
-use Rattle.heddleorange.specs.WholeRun.{gives_at}
+use Rattle.std.proofs.Common.{length}
+use Rattle.heddleorange.specs.WholeRun.{after_at, gives_at}
 use Rattle.heddleorange.proofs.Chosen.{behave}
 use Rattle.heddleorange.proofs.FromStory.{all-lines, all-states}
+use Rattle.heddleorange.proofs.Ledger.{ledger-of}
 use Rattle.heddleorange.proofs.Sent.{orders_of}
 use Rattle.heddleorange.proofs.run.run_here.Goals as goal
 
@@ -17,6 +19,11 @@ pub returns-clause-lines : goal.returns-clause-lines
 returns-clause-lines g c =
     all-lines c.args.actors.items g.A.Actor.after (gives_at c.args.actors.items g.A.Actor.gives) c.args.plan (orders_of c.args.sends.now)
     c.run_planned.result c.run_planned.ensures.story c.run_planned.ensures.right
+
+pub returns-clause-ledger : goal.returns-clause-ledger
+returns-clause-ledger g c =
+    ledger-of (after_at c.args.actors.items g.A.Actor.after) (gives_at c.args.actors.items g.A.Actor.gives) c.args.plan (length c.args.actors.items)
+    (orders_of c.args.sends.now) c.run_planned.result c.run_planned.ensures.story c.run_planned.ensures.right
 
 pub returns-clause-story : goal.returns-clause-story
 returns-clause-story g c = c.run_planned.ensures.story

@@ -13,8 +13,8 @@ run_together-requires-clause-same_count g c κs within =
     (senders-there g.K.Behaviours.gives c.args.plan c.in_ok-built.built c.in_ok-built.ensures.begun).0 ∙ sym c.in_ok-built.ensures.right.1
     ∙ length-mapped (λ (v : Vec Order Global). v.items) c.args.sends.now
 
-pub run_together-requires-clause-some : goal.run_together-requires-clause-some
-run_together-requires-clause-some g c κs within = some-end g.K.Behaviours.gives c.args.plan c.in_ok-built.built c.in_ok-built.ensures.begun
+pub run_together-requires-clause-not_empty : goal.run_together-requires-clause-not_empty
+run_together-requires-clause-not_empty g c κs within = some-end g.K.Behaviours.gives c.args.plan c.in_ok-built.built c.in_ok-built.ensures.begun
 
 pub finish_run-requires-clause-complete : goal.finish_run-requires-clause-complete
 finish_run-requires-clause-complete g c =
@@ -38,8 +38,6 @@ returns-clause-refused g c =
     c.finish_run.ensures.refused
 
 pub returns-in-Err-clause-refused : goal.returns-in-Err-clause-refused
-returns-in-Err-clause-refused g c = (
-  c.in_ok-built.ensures.right,
-  may-break g.K.Behaviours.gives c.args.plan c.in_ok-built.built c.in_ok-built.ensures.begun (orders_of c.args.sends.now) c.in-Err.error
-      c.in-Err.ensures.fault,
-)
+returns-in-Err-clause-refused g c =
+    may-break g.K.Behaviours.gives c.args.plan c.in_ok-built.built c.in_ok-built.ensures.begun (length c.args.actors.items) (orders_of c.args.sends.now)
+    c.in_ok-built.ensures.right c.in-Err.error c.in-Err.ensures.fault

@@ -14,7 +14,7 @@ use Rattle.heddleorange.proofs.sending.send_and_run.Goals as goal
 pub returns-clause-found_nothing : goal.returns-clause-found_nothing
 returns-clause-found_nothing g c =
     let ran = c.in_ok-_turns.ensures in
-    found-nothing g.K.Behaviours.gives c.args.built.now.system.gates c.args.built.now.ends.items c.run_quietly.new.end c.requires.some ran.discharged
+    found-nothing g.K.Behaviours.gives c.args.built.now.system.gates c.args.built.now.ends.items c.run_quietly.new.end c.requires.not_empty ran.discharged
     ran.settled ran.empty
 
 pub returns-clause-sent : goal.returns-clause-sent
@@ -26,7 +26,7 @@ returns-clause-sent g c =
 
 pub returns-clause-ends : goal.returns-clause-ends
 returns-clause-ends g c =
-    first-number c.index_mut.result.now c.run_quietly.new.end c.args.built.now.ends.items c.requires.some c.index_mut.ensures.value
+    first-number c.index_mut.result.now c.run_quietly.new.end c.args.built.now.ends.items c.requires.not_empty c.index_mut.ensures.value
     c.in_ok-_turns.ensures.number
 
 pub returns-in_err-_turns-clause-fault : goal.returns-in_err-_turns-clause-fault
@@ -36,7 +36,7 @@ returns-in_err-_turns-clause-fault g c =
 
 pub returns-clause-log_kept : goal.returns-clause-log_kept
 returns-clause-log_kept g c =
-    see-on c.index_mut.result.now c.run_quietly.new.end c.args.built.now.ends.items c.requires.some c.index_mut.ensures.value
+    see-on c.index_mut.result.now c.run_quietly.new.end c.args.built.now.ends.items c.requires.not_empty c.index_mut.ensures.value
     c.in_ok-_turns.ensures.log_kept
 
 pub returns-clause-together : goal.returns-clause-together

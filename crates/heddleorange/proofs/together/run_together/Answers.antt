@@ -22,14 +22,14 @@ returns-in_err-run-clause-fault g c =
     let sends : map sends_in c.deref_mut-2.result.now ≡ orders =
     ap (map sends_in) c.deref_mut-2.ensures.value ∙ c.in-Ok.ensures.sends in
     err-of (BreaksOff gives built.system orders) c.from_residual.result c.in_err-run.field-0.0 c.from_residual.ensures.1
-    (broke-off gives built.system c.run.new.ends c.deref_mut-2.result.now orders sends (some-one built.ends.items c.requires.some)
+    (broke-off gives built.system c.run.new.ends c.deref_mut-2.result.now orders sends (some-one built.ends.items c.requires.not_empty)
     c.in_err-run.field-0.0 c.in_err-run.ensures.fault)
 
 pub returns-in_default-clause-fault : goal.returns-in_default-clause-fault
-returns-in_default-clause-fault g c = inr (some-one c.args.built.now.ends.items c.requires.some, tt)
+returns-in_default-clause-fault g c = inr (some-one c.args.built.now.ends.items c.requires.not_empty, tt)
 
 pub returns-in_default-senders_of-clause-fault : goal.returns-in_default-senders_of-clause-fault
-returns-in_default-senders_of-clause-fault g c = inr (some-one c.args.built.now.ends.items c.requires.some, tt)
+returns-in_default-senders_of-clause-fault g c = inr (some-one c.args.built.now.ends.items c.requires.not_empty, tt)
 
 pub returns-clause-sent : goal.returns-clause-sent
 returns-clause-sent g c =
@@ -55,4 +55,4 @@ returns-clause-together g c =
     run-again built
     (record { system = built.system; ends = with_items built.ends c.run.new.ends; senders = c.in-Ok-senders_of.senders })
     jobs.items done refl (subst (AreEndsOf gates) (sym ends) ran.ends.0) given ran.jobs.0
-    (ran.by ∙ ap jobs_senders c.deref_mut-2.ensures.value) are c.requires.together
+    (ran.same_sender ∙ ap jobs_senders c.deref_mut-2.ensures.value) are c.requires.together

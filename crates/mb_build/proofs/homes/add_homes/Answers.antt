@@ -125,8 +125,8 @@ new-home-requires-clause-none_pushed g c =
     at.yielded cell rest place all at.invariant.count sends.items _ row in
     subst (All (λ (p : SendPassView). p.pushed ≡ [])) (sym is) (all-unused (drop 1 all_takes) place)
 
-pub new-home-requires-clause-own : goal.new-home-requires-clause-own
-new-home-requires-clause-own g c =
+pub new-home-requires-clause-owner : goal.new-home-requires-clause-owner
+new-home-requires-clause-owner g c =
     let at = c.loop-cell in let cells = c.args.cells.items in let made = c.requires.made in let all_takes = c.args.takes.items in
     let rows = map (λ row. row.items) (into_iter_items c.args.rows.now) in
     let cell = c.in-Some.cell in let rest = into_iter_items c.next.new.self in let place = length at.homes.items in
@@ -201,7 +201,7 @@ loop-cell-preserved g c =
           (sym (map_push (λ (x : CellView). x.who) at.yielded cell)) homes_first));
       settled = subst (λ (l : List (Box Contents)). AreSettled g.K.Behaviours.gives 0 l) (sym pushed)
           (settled-more g.K.Behaviours.gives 0 at.homes.items box at.invariant.settled
-          (subst (λ x. AgreesWithJournal (g.K.Behaviours.gives (0 + place)) [] x) (sym same) settled) (subst HasNoBacklog (sym same) c.new-home.ensures.rested));
+          (subst (λ x. AgreesWithJournal (g.K.Behaviours.gives (0 + place)) [] x) (sym same) settled) (subst HasNoBacklog (sym same) c.new-home.ensures.no_backlog));
     }
 
 pub returns-clause-first : goal.returns-clause-first

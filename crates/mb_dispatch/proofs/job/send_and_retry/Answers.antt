@@ -30,14 +30,14 @@ returns-clause-obligations g c =
 pub returns-clause-same_gates : goal.returns-clause-same_gates
 returns-clause-same_gates g c = c.retry_refused.ensures.same_gates
 
-pub returns-clause-by : goal.returns-clause-by
-returns-clause-by g c = c.retry_refused.ensures.by ∙ c.send_all.ensures.by
+pub returns-clause-same_sender : goal.returns-clause-same_sender
+returns-clause-same_sender g c = c.retry_refused.ensures.same_sender ∙ c.send_all.ensures.same_sender
 
 pub returns-in_err-send_all-clause-same_gates : goal.returns-in_err-send_all-clause-same_gates
 returns-in_err-send_all-clause-same_gates g c = c.send_all.ensures.same_gates
 
-pub returns-in_err-send_all-clause-by : goal.returns-in_err-send_all-clause-by
-returns-in_err-send_all-clause-by g c = c.send_all.ensures.by
+pub returns-in_err-send_all-clause-same_sender : goal.returns-in_err-send_all-clause-same_sender
+returns-in_err-send_all-clause-same_sender g c = c.send_all.ensures.same_sender
 
 -- memory alone was refused
 of-memory : {T : Type 0} (r : Result T RunError) (P : RunError → Type 0) → P NoMemory → OnErr r (IsErrOf r NoMemory) → IfErr r P

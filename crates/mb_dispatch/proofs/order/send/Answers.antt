@@ -43,7 +43,7 @@ pub returns-in_ok-tell-in-Tell-clause-sent : goal.returns-in_ok-tell-in-Tell-cla
 returns-in_ok-tell-in-Tell-clause-sent g c =
     let to = c.args.to in let old = c.args.sender.now in let new = c.tell.new.self in
     subst (λ (what : OrderKind). HasSent (order_for to what 1 ∷ []) old new) (sym c.in-Tell.is)
-    (sent-told to c.in-Tell.body _ old new c.tell.ensures.by c.in_ok-tell-in-Tell.ensures.told)
+    (sent-told to c.in-Tell.body _ old new c.tell.ensures.same_sender c.in_ok-tell-in-Tell.ensures.told)
 
 pub returns-in_ok-stop-in-Stop-clause-sent : goal.returns-in_ok-stop-in-Stop-clause-sent
 returns-in_ok-stop-in-Stop-clause-sent g c =
@@ -63,17 +63,17 @@ returns-in_ok-stop-in-Stop-clause-same_gates g c = c.stop.ensures.same_gates
 pub returns-in_err-stop-in-Stop-clause-same_gates : goal.returns-in_err-stop-in-Stop-clause-same_gates
 returns-in_err-stop-in-Stop-clause-same_gates g c = c.stop.ensures.same_gates
 
-pub returns-in_ok-tell-in-Tell-clause-by : goal.returns-in_ok-tell-in-Tell-clause-by
-returns-in_ok-tell-in-Tell-clause-by g c = c.tell.ensures.by
+pub returns-in_ok-tell-in-Tell-clause-same_sender : goal.returns-in_ok-tell-in-Tell-clause-same_sender
+returns-in_ok-tell-in-Tell-clause-same_sender g c = c.tell.ensures.same_sender
 
-pub returns-in_err-tell-in-Tell-clause-by : goal.returns-in_err-tell-in-Tell-clause-by
-returns-in_err-tell-in-Tell-clause-by g c = c.tell.ensures.by
+pub returns-in_err-tell-in-Tell-clause-same_sender : goal.returns-in_err-tell-in-Tell-clause-same_sender
+returns-in_err-tell-in-Tell-clause-same_sender g c = c.tell.ensures.same_sender
 
-pub returns-in_ok-stop-in-Stop-clause-by : goal.returns-in_ok-stop-in-Stop-clause-by
-returns-in_ok-stop-in-Stop-clause-by g c = c.stop.ensures.by
+pub returns-in_ok-stop-in-Stop-clause-same_sender : goal.returns-in_ok-stop-in-Stop-clause-same_sender
+returns-in_ok-stop-in-Stop-clause-same_sender g c = c.stop.ensures.same_sender
 
-pub returns-in_err-stop-in-Stop-clause-by : goal.returns-in_err-stop-in-Stop-clause-by
-returns-in_err-stop-in-Stop-clause-by g c = c.stop.ensures.by
+pub returns-in_err-stop-in-Stop-clause-same_sender : goal.returns-in_err-stop-in-Stop-clause-same_sender
+returns-in_err-stop-in-Stop-clause-same_sender g c = c.stop.ensures.same_sender
 
 pub returns-in_ok-tell-in-Tell-clause-fault : goal.returns-in_ok-tell-in-Tell-clause-fault
 returns-in_ok-tell-in-Tell-clause-fault g c = tt

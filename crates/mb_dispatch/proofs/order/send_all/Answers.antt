@@ -37,8 +37,8 @@ loop-order-preserved g c =
 pub returns-clause-same_gates : goal.returns-clause-same_gates
 returns-clause-same_gates g c = c.loop-order.invariant.0
 
-pub returns-clause-by : goal.returns-clause-by
-returns-clause-by g c = c.loop-order.invariant.1.by
+pub returns-clause-same_sender : goal.returns-clause-same_sender
+returns-clause-same_sender g c = c.loop-order.invariant.1.by
 
 pub returns-clause-obligations : goal.returns-clause-obligations
 returns-clause-obligations g c = c.loop-order.invariant.2
@@ -49,8 +49,8 @@ returns-clause-fault g c = tt
 pub returns-in_err-send_often-clause-same_gates : goal.returns-in_err-send_often-clause-same_gates
 returns-in_err-send_often-clause-same_gates g c = c.send_often.ensures.same_gates
 
-pub returns-in_err-send_often-clause-by : goal.returns-in_err-send_often-clause-by
-returns-in_err-send_often-clause-by g c = c.send_often.ensures.by ∙ c.loop-order.invariant.1.by
+pub returns-in_err-send_often-clause-same_sender : goal.returns-in_err-send_often-clause-same_sender
+returns-in_err-send_often-clause-same_sender g c = c.send_often.ensures.same_sender ∙ c.loop-order.invariant.1.by
 
 pub returns-clause-owed : goal.returns-clause-owed
 returns-clause-owed g c = c.loop-order.invariant.3

@@ -39,8 +39,8 @@ returns-clause-sent g c =
     let all : c.loop.counter ≡ order.times = omega (arith, c.loop-test.false, c.loop.auto.counter-end) in
     subst (λ n. HasSent (order_for order.to order.what n ∷ []) c.args.sender.now c.loop.sender) all c.loop.invariant.1
 
-pub returns-clause-by : goal.returns-clause-by
-returns-clause-by g c = c.loop.invariant.1.by
+pub returns-clause-same_sender : goal.returns-clause-same_sender
+returns-clause-same_sender g c = c.loop.invariant.1.by
 
 pub returns-clause-obligations : goal.returns-clause-obligations
 returns-clause-obligations g c = c.loop.invariant.2
@@ -51,8 +51,8 @@ returns-clause-fault g c = tt
 pub returns-in_err-send-clause-same_gates : goal.returns-in_err-send-clause-same_gates
 returns-in_err-send-clause-same_gates g c = c.send.ensures.same_gates
 
-pub returns-in_err-send-clause-by : goal.returns-in_err-send-clause-by
-returns-in_err-send-clause-by g c = c.send.ensures.by ∙ c.loop.invariant.1.by
+pub returns-in_err-send-clause-same_sender : goal.returns-in_err-send-clause-same_sender
+returns-in_err-send-clause-same_sender g c = c.send.ensures.same_sender ∙ c.loop.invariant.1.by
 
 pub returns-in_err-send-clause-fault : goal.returns-in_err-send-clause-fault
 returns-in_err-send-clause-fault g c =

@@ -34,8 +34,8 @@ pub returns-clause-jobs : goal.returns-clause-jobs
 returns-clause-jobs g c =
     let each = c.both_in_parallel-of_jobs.ensures.keeps.0 in (all_after _ _ (λ old new kept. kept.0) _ _ each, as_many_after _ _ _ each)
 
-pub returns-clause-by : goal.returns-clause-by
-returns-clause-by g c = same_after _ _ (λ old new kept. kept.1) _ _ c.both_in_parallel-of_jobs.ensures.keeps.0
+pub returns-clause-same_sender : goal.returns-clause-same_sender
+returns-clause-same_sender g c = same_after _ _ (λ old new kept. kept.1) _ _ c.both_in_parallel-of_jobs.ensures.keeps.0
 
 pub returns-clause-discharged : goal.returns-clause-discharged
 returns-clause-discharged g c =
@@ -83,8 +83,8 @@ returns-clause-settled g c =
 pub register_by_first-requires : goal.register_by_first-requires
 register_by_first-requires g c = c.requires.ends
 
-pub both_in_parallel-of_jobs-requires-clause-same_origin : goal.both_in_parallel-of_jobs-requires-clause-same_origin
-both_in_parallel-of_jobs-requires-clause-same_origin g c κs within = c.requires.jobs
+pub both_in_parallel-of_jobs-requires-clause-these_ready : goal.both_in_parallel-of_jobs-requires-clause-these_ready
+both_in_parallel-of_jobs-requires-clause-these_ready g c κs within = c.requires.jobs
 
-pub both_in_parallel-of_jobs-requires-clause-those : goal.both_in_parallel-of_jobs-requires-clause-those
-both_in_parallel-of_jobs-requires-clause-those g c κs within = c.register_by_first.ensures.ends.0
+pub both_in_parallel-of_jobs-requires-clause-those_ready : goal.both_in_parallel-of_jobs-requires-clause-those_ready
+both_in_parallel-of_jobs-requires-clause-those_ready g c κs within = c.register_by_first.ensures.ends.0

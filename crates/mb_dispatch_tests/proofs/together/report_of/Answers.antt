@@ -29,7 +29,7 @@ finish-requires g c =
       together = run-again built _ jobs.items c.run.new.jobs refl
           (All-same (λ (e : WorkerEnd g.row.A.Denot g.row.K.Denot). IsEndOf built.system.gates e.registrar) _ c.run.new.ends
           (ends-back built.ends workers.result.now c.run.new.ends workers.ensures.value c.run.ensures.ends.1) c.run.ensures.ends.0)
-          c.in_ok-jobs.ensures c.run.ensures.jobs.0 (c.run.ensures.by ∙ ap jobs_senders tasks.ensures.value)
+          c.in_ok-jobs.ensures c.run.ensures.jobs.0 (c.run.ensures.same_sender ∙ ap jobs_senders tasks.ensures.value)
           (c.in_ok-senders.ensures
-          ∙ ap (map sender_in) (jobs-back jobs tasks.result.now c.run.new.jobs tasks.ensures.value c.run.ensures.by)) c.in_ok-built.ensures;
+          ∙ ap (map sender_in) (jobs-back jobs tasks.result.now c.run.new.jobs tasks.ensures.value c.run.ensures.same_sender)) c.in_ok-built.ensures;
     }

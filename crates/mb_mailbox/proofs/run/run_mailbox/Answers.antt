@@ -27,7 +27,7 @@ run_claim-outcome-requires-clause-in_run g c =
       same_gates = c.requires.same_gates;
       running = running-fresh gives origin c.args.claim fresh (pass_view c.args.registrar.now.pass).log c.requires.same_count;
       backlog = backlog-fresh gives origin c.args.claim fresh;
-      carried_out = fresh.same_gates.own.carried_out;
+      carried_out = fresh.same_gates.of_actor.carried_out;
       run_counts = run_counts-fresh gives origin c.args.claim fresh _ c.actor-actor.ensures refl refl;
     }
 
@@ -42,8 +42,8 @@ release-requires-clause-same_gates g c = (c.run_claim-outcome.ensures.in_run.run
 pub release-requires-clause-present : goal.release-requires-clause-present
 release-requires-clause-present g c = c.run_claim-outcome.ensures.in_run.running.present
 
-pub release-requires-clause-own : goal.release-requires-clause-own
-release-requires-clause-own g c =
+pub release-requires-clause-home_of_actor : goal.release-requires-clause-home_of_actor
+release-requires-clause-home_of_actor g c =
     home-own _ _ _ c.run_claim-outcome.new.claim c.run_claim-outcome.ensures.in_run.running c.run_claim-outcome.ensures.in_run.carried_out
 
 pub release-requires-clause-longer : goal.release-requires-clause-longer

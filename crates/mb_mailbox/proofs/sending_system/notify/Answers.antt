@@ -3,7 +3,7 @@ use Rattle.std.specs.Prelude.{is_err}
 use Rattle.mb_gate.specs.NamedActors.{NamesBelow}
 use Rattle.mb_gate.specs.Accessors.{actors_of, pass_view}
 use Rattle.mb_register.proofs.Views.{does-then, does-enlisting}
-use Rattle.mb_register.proofs.CallerLemmas.{account-registered, further-said}
+use Rattle.mb_register.proofs.CallerLemmas.{account-registered, further-sent_system}
 use Rattle.mb_register.proofs.MoveLemmas.{moves-does, further-moves}
 use Rattle.mb_mailbox.proofs.SendSystemLemmas.{notified}
 use Rattle.mb_mailbox.proofs.sending_system.notify.Goals as goal
@@ -50,4 +50,4 @@ returns-in_default-clause-told g c =
     c.set.ensures c.sys_enqueue_in_run.ensures.recorded
 
 pub returns-in_default-clause-caller_advances : goal.returns-in_default-clause-caller_advances
-returns-in_default-clause-caller_advances g c = further-said _ _ _ c.in_default.ensures.ended.1 refl
+returns-in_default-clause-caller_advances g c = further-sent_system _ _ _ c.in_default.ensures.ended.1 refl

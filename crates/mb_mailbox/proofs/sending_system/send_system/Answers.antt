@@ -9,11 +9,11 @@ use Rattle.mb_register.proofs.Views.{does-then, does-enlisting}
 use Rattle.mb_mailbox.specs.RunState.{run_state}
 use Rattle.mb_mailbox.specs.Notice.{asker}
 use Rattle.mb_mailbox.proofs.BacklogLemmas.{keeps-then}
-use Rattle.mb_register.proofs.CallerLemmas.{account-registered, further-said, further-then}
+use Rattle.mb_register.proofs.CallerLemmas.{account-registered, further-sent_system, further-then}
 use Rattle.mb_mailbox.proofs.CleanLemmas.{status-answered}
 use Rattle.mb_mailbox.proofs.EmptiedLemmas.{cleared-same}
 use Rattle.mb_register.proofs.MoveLemmas.{moves-does, further-moves}
-use Rattle.mb_mailbox.proofs.SendSystemLemmas.{running-caller_advances, running-said, running-refused, keeps-recorded, keeps-answered, backlog-said, backlog-answered}
+use Rattle.mb_mailbox.proofs.SendSystemLemmas.{running-caller_advances, running-sent_system, running-refused, keeps-recorded, keeps-answered, backlog-sent_system, backlog-answered}
 use Rattle.mb_mailbox.proofs.SendSystemLemmas.{home-answered}
 use Rattle.mb_mailbox.proofs.sending_system.send_system.Goals as goal
 
@@ -62,12 +62,12 @@ returns-in-Ok-clause-running g c =
     let gives = g.K.Behaviours.gives in
     let origin = origin_of c.args.gates.now in
     let seen = (pass_view c.args.registrar.now.pass).log in
-    let r = running-said gives origin seen c.args.to c.args.node c.args.claim.now c.requires.running new c.in-Ok.ensures.recorded in
+    let r = running-sent_system gives origin seen c.args.to c.args.node c.args.claim.now c.requires.running new c.in-Ok.ensures.recorded in
     running-caller_advances gives origin new.home.value.cell.acts _ _ (run_state new) (returns-in-Ok-clause-caller_advances g c) r
 
 pub returns-in-Ok-clause-backlog : goal.returns-in-Ok-clause-backlog
 returns-in-Ok-clause-backlog g c =
-    backlog-said c.args.claim.now c.sys_enqueue_in_run.new.claim _ c.in-Ok.ensures.recorded c.requires.backlog
+    backlog-sent_system c.args.claim.now c.sys_enqueue_in_run.new.claim _ c.in-Ok.ensures.recorded c.requires.backlog
 
 pub returns-in-Ok-clause-left : goal.returns-in-Ok-clause-left
 returns-in-Ok-clause-left g c = c.in-Ok.ensures.recorded.home
@@ -77,9 +77,9 @@ returns-in-Ok-clause-same g c = keeps-recorded c.args.claim.now c.sys_enqueue_in
 
 pub returns-in-Ok-clause-cleared : goal.returns-in-Ok-clause-cleared
 returns-in-Ok-clause-cleared g c =
-    let said = c.in-Ok.ensures.recorded in
-    cleared-same (run_state c.args.claim.now) (run_state c.sys_enqueue_in_run.new.claim) (ap (λ (m : Mailbox). m.closed) said.status)
-    (ap (λ (b : Box Contents). b.value.take) said.home)
+    let sent_system = c.in-Ok.ensures.recorded in
+    cleared-same (run_state c.args.claim.now) (run_state c.sys_enqueue_in_run.new.claim) (ap (λ (m : Mailbox). m.closed) sent_system.status)
+    (ap (λ (b : Box Contents). b.value.take) sent_system.home)
 
 -- ---- it found its list ended
 
@@ -95,7 +95,7 @@ answer-requires-clause-named g c =
     subst (NamesBelow (actors_of c.args.gates.now)) (sym c.in-Err.ensures.ended.0) c.requires.running.sends.0.1
 
 pub returns-in-Err-clause-caller_advances : goal.returns-in-Err-clause-caller_advances
-returns-in-Err-clause-caller_advances g c = further-then _ _ _ (further-said _ _ _ c.in-Err.ensures.ended.1 refl) c.answer.ensures.caller_advances
+returns-in-Err-clause-caller_advances g c = further-then _ _ _ (further-sent_system _ _ _ c.in-Err.ensures.ended.1 refl) c.answer.ensures.caller_advances
 
 pub returns-in-Err-clause-running : goal.returns-in-Err-clause-running
 returns-in-Err-clause-running g c =
@@ -113,7 +113,7 @@ pub returns-in-Err-clause-backlog : goal.returns-in-Err-clause-backlog
 returns-in-Err-clause-backlog g c =
     let mid = c.sys_enqueue_in_run.new.claim in
     backlog-answered c.args.to.0 mid c.answer.new.claim (asker (Some c.actor-parent.result) c.in-Err.field-0.0) c.answer.ensures.answered
-    (backlog-said c.args.claim.now mid _ c.in-Err.ensures.recorded c.requires.backlog)
+    (backlog-sent_system c.args.claim.now mid _ c.in-Err.ensures.recorded c.requires.backlog)
 
 pub returns-in-Err-clause-left : goal.returns-in-Err-clause-left
 returns-in-Err-clause-left g c =
@@ -131,9 +131,9 @@ pub returns-in-Err-clause-cleared : goal.returns-in-Err-clause-cleared
 returns-in-Err-clause-cleared g c =
     let mid = c.sys_enqueue_in_run.new.claim in
     let new = c.answer.new.claim in
-    let said = c.in-Err.ensures.recorded in
+    let sent_system = c.in-Err.ensures.recorded in
     let asked = asker (Some c.actor-parent.result) c.in-Err.field-0.0 in
     let told = c.answer.ensures.answered in
     cleared-same (run_state c.args.claim.now) (run_state new)
-    (ap (λ (m : Mailbox). m.closed) (status-answered c.args.to.0 mid new asked told ∙ said.status))
-    (ap (λ (b : Box Contents). b.value.take) (home-answered c.args.to.0 mid new asked told ∙ said.home))
+    (ap (λ (m : Mailbox). m.closed) (status-answered c.args.to.0 mid new asked told ∙ sent_system.status))
+    (ap (λ (b : Box Contents). b.value.take) (home-answered c.args.to.0 mid new asked told ∙ sent_system.home))

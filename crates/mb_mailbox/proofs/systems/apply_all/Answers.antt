@@ -87,8 +87,8 @@ loop-preserved-then-has_next g c =
 
 -- ---- none is: the list is drained
 
-pub drain-requires-clause-rested : goal.drain-requires-clause-rested
-drain-requires-clause-rested g c =
+pub drain-requires-clause-no_backlog : goal.drain-requires-clause-no_backlog
+drain-requires-clause-no_backlog g c =
     let at_home = subst (λ (x : Contents). MatchBool c.has_next.result (HasNext x) (HasNoBacklog x)) c.deref.ensures c.has_next.ensures in
     subst (λ b. MatchBool b (HasNext c.loop.claim.home.value) (HasNoBacklog c.loop.claim.home.value)) c.if-has_next.false at_home
 

@@ -22,7 +22,7 @@ sys_drain-drained-requires-clause-present g c = c.requires.running.1.present
 pub keep-requires-clause-none_left : goal.keep-requires-clause-none_left
 keep-requires-clause-none_left g c =
     ap (λ (x : Contents). x.rest) c.deref_mut.ensures.value ∙ ap (λ (b : Box Contents). b.value.rest) c.sys_drain-drained.ensures.same.1
-    ∙ c.requires.rested.no_rest
+    ∙ c.requires.no_backlog.no_rest
 
 pub keep-requires-clause-continues : goal.keep-requires-clause-continues
 keep-requires-clause-continues g c =
@@ -56,7 +56,7 @@ returns-clause-backlog g c =
     let kept = subst (λ (x : Contents). c.keep.new.self ≡ record x { rest = c.sys_drain-drained.result }) c.deref_mut.ensures.value
     c.keep.ensures.kept in
     backlog-drained c.args.claim.now c.sys_drain-drained.new.claim did.same_gates did.same did.taken did.recorded c.sys_drain-drained.result did.given
-    did.known did.gave c.keep.new.self kept c.requires.rested c.requires.not_closed c.requires.backlog.count
+    did.known did.gave c.keep.new.self kept c.requires.no_backlog c.requires.not_closed c.requires.backlog.count
 
 pub returns-clause-left : goal.returns-clause-left
 returns-clause-left g c =
@@ -71,8 +71,8 @@ returns-clause-same g c =
     keeps-drained c.args.claim.now c.sys_drain-drained.new.claim did.same_gates did.same did.taken did.recorded c.sys_drain-drained.result did.given
     did.known did.gave c.keep.new.self kept
 
-pub returns-clause-some : goal.returns-clause-some
-returns-clause-some g c =
+pub returns-clause-not_empty : goal.returns-clause-not_empty
+returns-clause-not_empty g c =
     let kept = subst (λ (x : Contents). c.keep.new.self ≡ record x { rest = c.sys_drain-drained.result }) c.deref_mut.ensures.value
     c.keep.ensures.kept in
     λ _ none. true≢false (sym (c.is_empty.ensures.1 (sym (ap (λ (x : Contents). x.rest) kept) ∙ none)) ∙ c.if-is_empty.false)
@@ -86,7 +86,7 @@ returns-then-is_empty-clause-running g c =
     let mid = c.sys_drain-drained.new.claim in
     let none = c.is_empty.ensures.0 c.if-is_empty.true in
     let here = ap (λ (b : Box Contents). b.value) did.same.1 in
-    let kept = none-kept mid.home.value c.sys_drain-drained.result (ap (λ (x : Contents). x.rest) here ∙ c.requires.rested.no_rest) none in
+    let kept = none-kept mid.home.value c.sys_drain-drained.result (ap (λ (x : Contents). x.rest) here ∙ c.requires.no_backlog.no_rest) none in
     let own = running-own _ _ _ _ (run_state old) c.requires.running.1 in
     let before = subst (λ (l : List Act). AgreesWithJournal (g.K.Behaviours.gives old.home.value.cell.who.this.0) l old.home.value)
     (sym c.requires.carried_out) own in
@@ -101,9 +101,9 @@ returns-then-is_empty-clause-backlog g c =
     let mid = c.sys_drain-drained.new.claim in
     let none = c.is_empty.ensures.0 c.if-is_empty.true in
     let here = ap (λ (b : Box Contents). b.value) did.same.1 in
-    let kept = none-kept mid.home.value c.sys_drain-drained.result (ap (λ (x : Contents). x.rest) here ∙ c.requires.rested.no_rest) none in
+    let kept = none-kept mid.home.value c.sys_drain-drained.result (ap (λ (x : Contents). x.rest) here ∙ c.requires.no_backlog.no_rest) none in
     backlog-drained old mid did.same_gates did.same did.taken did.recorded c.sys_drain-drained.result did.given did.known did.gave mid.home.value kept
-    c.requires.rested c.requires.not_closed c.requires.backlog.count
+    c.requires.no_backlog c.requires.not_closed c.requires.backlog.count
 
 pub returns-then-is_empty-clause-left : goal.returns-then-is_empty-clause-left
 returns-then-is_empty-clause-left g c = ap (λ (b : Box Contents). b.value.cell) c.sys_drain-drained.ensures.same.1
@@ -115,7 +115,7 @@ returns-then-is_empty-clause-same g c =
     let mid = c.sys_drain-drained.new.claim in
     let none = c.is_empty.ensures.0 c.if-is_empty.true in
     let here = ap (λ (b : Box Contents). b.value) did.same.1 in
-    let kept = none-kept mid.home.value c.sys_drain-drained.result (ap (λ (x : Contents). x.rest) here ∙ c.requires.rested.no_rest) none in
+    let kept = none-kept mid.home.value c.sys_drain-drained.result (ap (λ (x : Contents). x.rest) here ∙ c.requires.no_backlog.no_rest) none in
     keeps-drained old mid did.same_gates did.same did.taken did.recorded c.sys_drain-drained.result did.given did.known did.gave mid.home.value kept
 
 pub returns-then-is_empty-clause-drained : goal.returns-then-is_empty-clause-drained
@@ -125,9 +125,9 @@ returns-then-is_empty-clause-drained g c =
     let mid = c.sys_drain-drained.new.claim in
     let none = c.is_empty.ensures.0 c.if-is_empty.true in
     let here = ap (λ (b : Box Contents). b.value) did.same.1 in
-    let kept = none-kept mid.home.value c.sys_drain-drained.result (ap (λ (x : Contents). x.rest) here ∙ c.requires.rested.no_rest) none in
+    let kept = none-kept mid.home.value c.sys_drain-drained.result (ap (λ (x : Contents). x.rest) here ∙ c.requires.no_backlog.no_rest) none in
     λ _. is-drained old mid did.same_gates did.same did.taken did.recorded c.sys_drain-drained.result did.given did.known did.gave mid.home.value kept
-    c.requires.rested none
+    c.requires.no_backlog none
 
 -- ---- the mailbox is as it was
 

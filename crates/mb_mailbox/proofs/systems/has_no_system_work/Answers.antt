@@ -47,9 +47,9 @@ returns-then-sys_is_drained-clause-running g c =
     let did = c.sys_is_drained.ensures in let hit = c.if-sys_is_drained.true in
     let old = c.args.claim.now in let mid = c.sys_is_drained.new.claim in
     let at_home = subst (λ (x : Contents). MatchBool c.has_next.result (HasNext x) (HasNoBacklog x)) c.deref.ensures c.has_next.ensures in
-    let rested = subst (λ b. MatchBool b (HasNext old.home.value) (HasNoBacklog old.home.value)) c.if-has_next.false at_home in
+    let no_backlog = subst (λ b. MatchBool b (HasNext old.home.value) (HasNoBacklog old.home.value)) c.if-has_next.false at_home in
     let here = ap (λ (b : Box Contents). b.value) did.same.1 in
-    let kept = none-kept mid.home.value [] (ap (λ (x : Contents). x.rest) here ∙ rested.no_rest) refl in
+    let kept = none-kept mid.home.value [] (ap (λ (x : Contents). x.rest) here ∙ no_backlog.no_rest) refl in
     let own = running-own _ _ _ _ (run_state old) c.requires.running.1 in
     let before = subst (λ (l : List Act). AgreesWithJournal (g.K.Behaviours.gives old.home.value.cell.who.this.0) l old.home.value)
     (sym c.requires.carried_out) own in
@@ -63,11 +63,11 @@ returns-then-sys_is_drained-clause-backlog g c =
     let did = c.sys_is_drained.ensures in let hit = c.if-sys_is_drained.true in
     let old = c.args.claim.now in let mid = c.sys_is_drained.new.claim in
     let at_home = subst (λ (x : Contents). MatchBool c.has_next.result (HasNext x) (HasNoBacklog x)) c.deref.ensures c.has_next.ensures in
-    let rested = subst (λ b. MatchBool b (HasNext old.home.value) (HasNoBacklog old.home.value)) c.if-has_next.false at_home in
+    let no_backlog = subst (λ b. MatchBool b (HasNext old.home.value) (HasNoBacklog old.home.value)) c.if-has_next.false at_home in
     let here = ap (λ (b : Box Contents). b.value) did.same.1 in
-    let kept = none-kept mid.home.value [] (ap (λ (x : Contents). x.rest) here ∙ rested.no_rest) refl in
+    let kept = none-kept mid.home.value [] (ap (λ (x : Contents). x.rest) here ∙ no_backlog.no_rest) refl in
     backlog-drained old mid did.same_gates did.same did.taken did.recorded [] (did.given hit) (did.known hit) (did.gave hit) mid.home.value kept
-    rested (sym (c.closed.ensures ∙ ap (λ (m : Mailbox). m.closed) c.status.ensures) ∙ c.if-closed.false) c.requires.backlog.count
+    no_backlog (sym (c.closed.ensures ∙ ap (λ (m : Mailbox). m.closed) c.status.ensures) ∙ c.if-closed.false) c.requires.backlog.count
 
 pub returns-then-sys_is_drained-clause-left : goal.returns-then-sys_is_drained-clause-left
 returns-then-sys_is_drained-clause-left g c =
@@ -78,9 +78,9 @@ returns-then-sys_is_drained-clause-same g c =
     let did = c.sys_is_drained.ensures in let hit = c.if-sys_is_drained.true in
     let old = c.args.claim.now in let mid = c.sys_is_drained.new.claim in
     let at_home = subst (λ (x : Contents). MatchBool c.has_next.result (HasNext x) (HasNoBacklog x)) c.deref.ensures c.has_next.ensures in
-    let rested = subst (λ b. MatchBool b (HasNext old.home.value) (HasNoBacklog old.home.value)) c.if-has_next.false at_home in
+    let no_backlog = subst (λ b. MatchBool b (HasNext old.home.value) (HasNoBacklog old.home.value)) c.if-has_next.false at_home in
     let here = ap (λ (b : Box Contents). b.value) did.same.1 in
-    let kept = none-kept mid.home.value [] (ap (λ (x : Contents). x.rest) here ∙ rested.no_rest) refl in
+    let kept = none-kept mid.home.value [] (ap (λ (x : Contents). x.rest) here ∙ no_backlog.no_rest) refl in
     keeps-drained old mid did.same_gates did.same did.taken did.recorded [] (did.given hit) (did.known hit) (did.gave hit) mid.home.value kept
 
 pub returns-then-sys_is_drained-clause-drained : goal.returns-then-sys_is_drained-clause-drained
@@ -88,10 +88,10 @@ returns-then-sys_is_drained-clause-drained g c =
     let did = c.sys_is_drained.ensures in let hit = c.if-sys_is_drained.true in
     let old = c.args.claim.now in let mid = c.sys_is_drained.new.claim in
     let at_home = subst (λ (x : Contents). MatchBool c.has_next.result (HasNext x) (HasNoBacklog x)) c.deref.ensures c.has_next.ensures in
-    let rested = subst (λ b. MatchBool b (HasNext old.home.value) (HasNoBacklog old.home.value)) c.if-has_next.false at_home in
+    let no_backlog = subst (λ b. MatchBool b (HasNext old.home.value) (HasNoBacklog old.home.value)) c.if-has_next.false at_home in
     let here = ap (λ (b : Box Contents). b.value) did.same.1 in
-    let kept = none-kept mid.home.value [] (ap (λ (x : Contents). x.rest) here ∙ rested.no_rest) refl in
-    λ _. is-drained old mid did.same_gates did.same did.taken did.recorded [] (did.given hit) (did.known hit) (did.gave hit) mid.home.value kept rested refl
+    let kept = none-kept mid.home.value [] (ap (λ (x : Contents). x.rest) here ∙ no_backlog.no_rest) refl in
+    λ _. is-drained old mid did.same_gates did.same did.taken did.recorded [] (did.given hit) (did.known hit) (did.gave hit) mid.home.value kept no_backlog refl
 
 pub returns-then-sys_is_drained-clause-cleared : goal.returns-then-sys_is_drained-clause-cleared
 returns-then-sys_is_drained-clause-cleared g c =

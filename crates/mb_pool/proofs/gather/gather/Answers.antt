@@ -14,12 +14,12 @@ join_all-requires g c =
     let at = c.loop-index in let took = c.take_thieves-thieves in
     let lt : at.index < length at.ends = omega (arith, c.loop-index-test.true, at.auto.ends) in
     given_matched c.args.ends.now at.ends at.index
-    c.index-ends-index.result took.new.end took.result.items lt at.invariant took.ensures.thieves took.ensures.rest c.requires
+    c.index-ends-index.result took.new.end took.result.items lt at.invariant took.ensures.stealers took.ensures.rest c.requires
 
 pub loop-index-preserved : goal.loop-index-preserved
 loop-index-preserved g c =
     let at = c.loop-index in let took = c.take_thieves-thieves in
     let lt : at.index < length at.ends = omega (arith, c.loop-index-test.true, at.auto.ends) in
     gathered_more c.args.ends.now at.ends at.index
-    c.index-ends-index.result took.new.end took.result.items lt at.invariant took.ensures.thieves took.ensures.rest c.join_all.new.ends
+    c.index-ends-index.result took.new.end took.result.items lt at.invariant took.ensures.stealers took.ensures.rest c.join_all.new.ends
     c.join_all.ensures

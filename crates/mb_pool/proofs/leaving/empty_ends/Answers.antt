@@ -1,7 +1,7 @@
 use Rattle.std.proofs.Common.{◌≡◌, [], ◌∷◌, ◌++◌, ap, append_assoc, length, refl, subst, sym, ◌∙◌}
 use Rattle.std.specs.Vec.Iter.{into_iter_items}
 use Rattle.mb_pool.specs.Ends.{Empties, TakesIn, shared_ports_of, owns_of}
-use Rattle.mb_pool.specs.Parts.{look_of}
+use Rattle.mb_pool.specs.Parts.{port_view}
 use Rattle.mb_gate.specs.Untouched.{IsUntouched}
 use Rattle.mb_pool.specs.Endpoints.{HasShare}
 use Rattle.mb_pool.proofs.Emptying.{empties_none, takes_in_none}
@@ -11,7 +11,7 @@ use Rattle.mb_pool.proofs.leaving.empty_ends.Goals as goal
 
 pub loop-end-init : goal.loop-end-init
 loop-end-init g c =
-    let base = look_of c.empty_end-shared_port.result in (
+    let base = port_view c.empty_end-shared_port.result in (
       takes_in_none base,
       empties_none (IsUntouched g.H.MailboxState.is_of g.H.MailboxState.facts) base.ledger.gates c.empty_end-shared_port.new.left.items,
       subst (λ l. HasShare l) (sym c.empty_end-shared_port.ensures.shared_port) c.empty_end-shared_port.ensures.share,
@@ -20,17 +20,17 @@ loop-end-init g c =
 
 pub join-requires-clause-place : goal.join-requires-clause-place
 join-requires-clause-place g c =
-    let at = c.loop-end in let base = look_of c.empty_end-shared_port.result in let first = c.in-Some.first in
+    let at = c.loop-end in let base = port_view c.empty_end-shared_port.result in let first = c.in-Some.first in
     let all = into_iter_items c.into_iter-end-iterator.result in
     let is : c.args.ends.items ≡ first ∷ all = sym c.into_iter-ends.ensures.rest ∙ c.in-Some.ensures.items
     ∙ ap (λ it. first ∷ into_iter_items it) (sym c.into_iter-end-iterator.ensures.into_iter_gives) in
-    let alike = alike_rest c.args.ends.items all first base is c.empty_end-shared_port.ensures.shared_port c.requires.alike in
+    let alike = alike_rest c.args.ends.items all first base is c.empty_end-shared_port.ensures.shared_port c.requires.same_pool in
     let end = c.in-Some-end.end in let rest = into_iter_items c.next-in-loop-end.new.self in
     let steps : into_iter_items at.end-iterator ≡ end ∷ rest = c.in-Some-end.ensures.steps.0 in
     let list : at.yielded ++ end ∷ rest ≡ all = ap (λ l. at.yielded ++ l) (sym steps) ∙ at.invariant.3 in
-    let other = look_of c.empty_end-other.result in
+    let other = port_view c.empty_end-other.result in
     here (IsUntouched g.H.MailboxState.is_of g.H.MailboxState.facts)
-    base (look_of at.shared_port) other base all at.yielded rest end list alike at.invariant.0 c.empty_end-other.ensures.shared_port
+    base (port_view at.shared_port) other base all at.yielded rest end list alike at.invariant.0 c.empty_end-other.ensures.shared_port
 
 pub join-requires-clause-shares : goal.join-requires-clause-shares
 join-requires-clause-shares g c = (
@@ -41,50 +41,50 @@ join-requires-clause-shares g c = (
 
 pub loop-end-preserved : goal.loop-end-preserved
 loop-end-preserved g c =
-    let at = c.loop-end in let base = look_of c.empty_end-shared_port.result in let first = c.in-Some.first in
+    let at = c.loop-end in let base = port_view c.empty_end-shared_port.result in let first = c.in-Some.first in
     let all = into_iter_items c.into_iter-end-iterator.result in
     let is : c.args.ends.items ≡ first ∷ all = sym c.into_iter-ends.ensures.rest ∙ c.in-Some.ensures.items
     ∙ ap (λ it. first ∷ into_iter_items it) (sym c.into_iter-end-iterator.ensures.into_iter_gives) in
-    let alike = alike_rest c.args.ends.items all first base is c.empty_end-shared_port.ensures.shared_port c.requires.alike in
+    let alike = alike_rest c.args.ends.items all first base is c.empty_end-shared_port.ensures.shared_port c.requires.same_pool in
     let end = c.in-Some-end.end in let rest = into_iter_items c.next-in-loop-end.new.self in
     let steps : into_iter_items at.end-iterator ≡ end ∷ rest = c.in-Some-end.ensures.steps.0 in
     let list : at.yielded ++ end ∷ rest ≡ all = ap (λ l. at.yielded ++ l) (sym steps) ∙ at.invariant.3 in
-    let other = look_of c.empty_end-other.result in
-    let new = look_of c.join.new.self in (
+    let other = port_view c.empty_end-other.result in
+    let new = port_view c.join.new.self in (
       takes_next (IsUntouched g.H.MailboxState.is_of g.H.MailboxState.facts)
-          base (look_of at.shared_port) other new all at.yielded rest end list alike at.invariant.0 c.empty_end-other.ensures.shared_port c.join.ensures,
+          base (port_view at.shared_port) other new all at.yielded rest end list alike at.invariant.0 c.empty_end-other.ensures.shared_port c.join.ensures,
       empties_next (IsUntouched g.H.MailboxState.is_of g.H.MailboxState.facts)
-          base (look_of at.shared_port) other new all at.yielded rest end list alike at.invariant.0 c.empty_end-other.ensures.shared_port
+          base (port_view at.shared_port) other new all at.yielded rest end list alike at.invariant.0 c.empty_end-other.ensures.shared_port
           c.empty_end-shared_port.new.left.items at.left.items c.empty_end-other.new.left.items at.invariant.1 c.empty_end-other.ensures.emptied,
       share_next (IsUntouched g.H.MailboxState.is_of g.H.MailboxState.facts)
-          base (look_of at.shared_port) other new all at.yielded rest end list alike at.invariant.0 c.empty_end-other.ensures.shared_port
+          base (port_view at.shared_port) other new all at.yielded rest end list alike at.invariant.0 c.empty_end-other.ensures.shared_port
           c.join.ensures at.invariant.2 (subst (λ l. HasShare l) (sym c.empty_end-other.ensures.shared_port) c.empty_end-other.ensures.share),
       append_assoc at.yielded (end ∷ []) rest ∙ list,
     )
 
 pub returns-clause-shared_port : goal.returns-clause-shared_port
 returns-clause-shared_port g c =
-    let at = c.loop-end in let base = look_of c.empty_end-shared_port.result in let first = c.in-Some.first in
+    let at = c.loop-end in let base = port_view c.empty_end-shared_port.result in let first = c.in-Some.first in
     let all = into_iter_items c.into_iter-end-iterator.result in
     let is : c.args.ends.items ≡ first ∷ all = sym c.into_iter-ends.ensures.rest ∙ c.in-Some.ensures.items
     ∙ ap (λ it. first ∷ into_iter_items it) (sym c.into_iter-end-iterator.ensures.into_iter_gives) in
     let none : length (into_iter_items at.end-iterator) ≡ 0 = sym at.end-iterator.rest.ok.0 ∙ c.in-None.ensures.steps.0 in
     let whole : at.yielded ≡ all = drained at.yielded (into_iter_items at.end-iterator) all none at.invariant.3 in
-    let took = subst (λ ws. TakesIn base (shared_ports_of ws) (look_of at.shared_port)) whole at.invariant.0 in
+    let took = subst (λ ws. TakesIn base (shared_ports_of ws) (port_view at.shared_port)) whole at.invariant.0 in
     all_shared_ports (IsUntouched g.H.MailboxState.is_of g.H.MailboxState.facts)
-    c.args.ends.items all first base (look_of at.shared_port) is c.empty_end-shared_port.ensures.shared_port took
+    c.args.ends.items all first base (port_view at.shared_port) is c.empty_end-shared_port.ensures.shared_port took
 
 pub returns-clause-emptied : goal.returns-clause-emptied
 returns-clause-emptied g c =
-    let at = c.loop-end in let base = look_of c.empty_end-shared_port.result in let first = c.in-Some.first in
+    let at = c.loop-end in let base = port_view c.empty_end-shared_port.result in let first = c.in-Some.first in
     let all = into_iter_items c.into_iter-end-iterator.result in
     let is : c.args.ends.items ≡ first ∷ all = sym c.into_iter-ends.ensures.rest ∙ c.in-Some.ensures.items
     ∙ ap (λ it. first ∷ into_iter_items it) (sym c.into_iter-end-iterator.ensures.into_iter_gives) in
     let none : length (into_iter_items at.end-iterator) ≡ 0 = sym at.end-iterator.rest.ok.0 ∙ c.in-None.ensures.steps.0 in
     let whole : at.yielded ≡ all = drained at.yielded (into_iter_items at.end-iterator) all none at.invariant.3 in
-    let took = subst (λ ws. TakesIn base (shared_ports_of ws) (look_of at.shared_port)) whole at.invariant.0 in
+    let took = subst (λ ws. TakesIn base (shared_ports_of ws) (port_view at.shared_port)) whole at.invariant.0 in
     all_emptied (IsUntouched g.H.MailboxState.is_of g.H.MailboxState.facts)
-    c.args.ends.items all first base (look_of at.shared_port) is c.empty_end-shared_port.ensures.shared_port took
+    c.args.ends.items all first base (port_view at.shared_port) is c.empty_end-shared_port.ensures.shared_port took
     c.args.left.now.items c.empty_end-shared_port.new.left.items at.left.items c.empty_end-shared_port.ensures.emptied
     (subst (λ ws. Empties (IsUntouched g.H.MailboxState.is_of g.H.MailboxState.facts) base.ledger.gates
     (owns_of ws) c.empty_end-shared_port.new.left.items at.left.items) whole at.invariant.1)

@@ -4,18 +4,18 @@ use Rattle.mb_pool.proofs.Emptying.{emptying_all, emptying_more, emptying_none}
 use Rattle.mb_pool.proofs.leaving.empty_own.Goals as goal
 
 pub loop-init : goal.loop-init
-loop-init g c = emptying_none (IsUntouched g.H.MailboxState.is_of g.H.MailboxState.facts) c.args.own c.args.left.now.items
+loop-init g c = emptying_none (IsUntouched g.H.MailboxState.is_of g.H.MailboxState.facts) c.args.own_deque c.args.left.now.items
 
 pub loop-preserved : goal.loop-preserved
 loop-preserved g c = emptying_more
     (IsUntouched g.H.MailboxState.is_of g.H.MailboxState.facts)
-    c.args.own c.args.left.now.items c.loop.own c.take.new.self c.loop.left.items c.keep.new.left.items c.in-Some-take.claim c.loop.invariant
+    c.args.own_deque c.args.left.now.items c.loop.own_deque c.take.new.self c.loop.left.items c.keep.new.left.items c.in-Some-take.claim c.loop.invariant
     c.in-Some-take.ensures.taken c.keep.ensures
 
 pub returns-in-None-take : goal.returns-in-None-take
 returns-in-None-take g c = emptying_all
     (IsUntouched g.H.MailboxState.is_of g.H.MailboxState.facts)
-    c.args.own c.args.left.now.items c.loop.own c.loop.left.items c.loop.invariant c.in-None-take.ensures.taken.1
+    c.args.own_deque c.args.left.now.items c.loop.own_deque c.loop.left.items c.loop.invariant c.in-None-take.ensures.taken.1
 
 pub take-requires : goal.take-requires
 take-requires g c = record { share = subst (λ n. 0 < n) (sym c.loop.invariant.shares) c.requires }

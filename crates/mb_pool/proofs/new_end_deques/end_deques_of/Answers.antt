@@ -22,13 +22,13 @@ pair-requires g c =
     ∙ length-map (numbers 0 (length given)) (borrowed_next given) ∙ length_numbers 0 (length given) in
     let back = ap length is in omega (arith, back, many, c.thieves_of.auto.owns)
 
-pub returns-clause-own : goal.returns-clause-own
-returns-clause-own g c =
+pub returns-clause-owners : goal.returns-clause-owners
+returns-clause-owners g c =
     let v = c.args.owns in let new = c.thieves_of.new.owns in let value = c.as_mut_slice.ensures.value in
     let count : length new ≡ v.len = omega (arith, c.thieves_of.auto.owns, c.as_mut_slice.ensures.len) in
     let is = refilled v.len v.items new count in
     ok_so _ _ c.pair.result (λ ms h some. h ∙ own_one v.items _ (is ∙ c.in_ok-lists.ensures.owns
-    ∙ ap (map (with_shares 1)) value)) c.pair.ensures.own
+    ∙ ap (map (with_shares 1)) value)) c.pair.ensures.owners
 
 pub returns-clause-next : goal.returns-clause-next
 returns-clause-next g c =

@@ -17,6 +17,6 @@ loop-index-preserved g c =
 pub returns-clause-owns : goal.returns-clause-owns
 returns-clause-owns g c = let at = c.loop-index in all_lent c.args.owns.now at.owns at.index at.invariant.0 c.loop-index-test.false
 
-pub returns-clause-thieves : goal.returns-clause-thieves
-returns-clause-thieves g c = let at = c.loop-index in
+pub returns-clause-stealers : goal.returns-clause-stealers
+returns-clause-stealers g c = let at = c.loop-index in
     all_borrowed c.args.owns.now at.owns at.index at.thieves.items at.invariant.1 c.loop-index-test.false

@@ -10,8 +10,8 @@ loop-number-init g c = subst (AreNew (origin_of c.args.gates.now) c.args.count 0
 
 pub loop-number-preserved : goal.loop-number-preserved
 loop-number-preserved g c = subst (AreNew (origin_of c.args.gates.now) c.args.count (c.loop-number.number + 1)) (sym c.in_ok-push.ensures.items)
-    (new_opened (origin_of c.args.gates.now) c.args.count c.loop-number.number c.loop-number.owns.items c.in_ok-own.own c.open.new.self
-    c.loop-number.invariant c.in_ok-own.ensures.0 c.open.ensures)
+    (new_opened (origin_of c.args.gates.now) c.args.count c.loop-number.number c.loop-number.owns.items c.in_ok-own_deque.own_deque c.open.new.self
+    c.loop-number.invariant c.in_ok-own_deque.ensures.0 c.open.ensures)
 
 pub returns : goal.returns
 returns g c = let e : c.loop-number.number ≡ c.args.count = omega (arith, c.loop-number-test.false, c.loop-number.auto.number-end) in

@@ -33,7 +33,7 @@ loop-end-preserved g c =
           c.split_at_mut-next.ensures.front
           (c.in_ok-thieves.ensures.owns ∙ ap (map lent) next) c.rotate_left.ensures.after,
       lists_more (λ (w : Vec _ _). w.items) old at.lists.items c.push.new.self.items v at.end at.invariant.1
-          (c.in_ok-thieves.ensures.thieves ∙ ap (map borrowed) next
+          (c.in_ok-thieves.ensures.stealers ∙ ap (map borrowed) next
           ∙ borrowed_of_next old at.owns at.end at.invariant.0 lt) c.in_ok-push.ensures.items,
     )
 

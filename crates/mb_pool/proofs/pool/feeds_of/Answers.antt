@@ -1,6 +1,6 @@
 use Rattle.std.proofs.Common.{◌≡◌, ◌-◌, ap, arith, replicate, sym, ◌∙◌}
 use Rattle.mb_pool.specs.Begins.{new_shared_port}
-use Rattle.mb_pool.specs.Parts.{look_of}
+use Rattle.mb_pool.specs.Parts.{port_view}
 use Rattle.mb_pool.specs.Endpoints.{of_feed}
 use Rattle.mb_pool.proofs.Handing.{fed_one, port_left, port_next, share_with}
 use Rattle.mb_pool.proofs.pool.feeds_of.Goals as goal
@@ -13,26 +13,26 @@ loop-feed-init g c =
 pub unreachable-requires : goal.unreachable-requires
 unreachable-requires g c =
     let at = c.loop-feed in
-    port_left look_of (new_shared_port c.args.pool.now) at.doors.items at._feed c.args.count at.invariant.0 c.loop-feed-test.true
+    port_left port_view (new_shared_port c.args.pool.now) at.doors.items at._feed c.args.count at.invariant.0 c.loop-feed-test.true
     (sym at.doors.ok.0 ∙ c.in_default.ensures.cases.0)
 
 pub loop-feed-preserved : goal.loop-feed-preserved
 loop-feed-preserved g c =
     let at = c.loop-feed in let shared_port = new_shared_port c.args.pool.now in
-    let one = port_next look_of shared_port at.doors.items at._feed c.args.count at.invariant.0 c.loop-feed-test.true c.pop.new.self.items c.in-Some.shared_port
+    let one = port_next port_view shared_port at.doors.items at._feed c.args.count at.invariant.0 c.loop-feed-test.true c.pop.new.self.items c.in-Some.shared_port
     c.in-Some.ensures.items in (
       one.0,
-      fed_one look_of shared_port at.doors.items at._feed c.args.count at.invariant.0 c.loop-feed-test.true at.feeds.items c.push.new.self.items
-          (of_feed shared_port) (of_feed (look_of c.in-Some.shared_port))
+      fed_one port_view shared_port at.doors.items at._feed c.args.count at.invariant.0 c.loop-feed-test.true at.feeds.items c.push.new.self.items
+          (of_feed shared_port) (of_feed (port_view c.in-Some.shared_port))
           at.invariant.1 (ap of_feed one.1) c.in_ok-push.ensures.items,
     )
 
 pub invariant_of-push : goal.invariant_of-push
 invariant_of-push g c =
     let at = c.loop-feed in let shared_port = new_shared_port c.args.pool.now in
-    let one = port_next look_of shared_port at.doors.items at._feed c.args.count at.invariant.0 c.loop-feed-test.true c.pop.new.self.items c.in-Some.shared_port
+    let one = port_next port_view shared_port at.doors.items at._feed c.args.count at.invariant.0 c.loop-feed-test.true c.pop.new.self.items c.in-Some.shared_port
     c.in-Some.ensures.items in
-    share_with shared_port (look_of c.in-Some.shared_port) one.1 (omega arith)
+    share_with shared_port (port_view c.in-Some.shared_port) one.1 (omega arith)
 
 pub returns : goal.returns
 returns g c =

@@ -10,7 +10,7 @@ fault_of-requires g c =
 
 pub returns-in-Err-clause-fault : goal.returns-in-Err-clause-fault
 returns-in-Err-clause-fault g c =
-    unended g.K.Behaviours.gives c.args.built c.in-Err.error c.fault_of.result c.in-Err.ensures.refused c.in-Err.ensures.why c.fault_of.ensures
+    unended g.K.Behaviours.gives c.args.built c.in-Err.error c.fault_of.result c.in-Err.ensures.refused c.in-Err.ensures.disagreement c.fault_of.ensures
 
 pub returns-in-Ok-clause-fault : goal.returns-in-Ok-clause-fault
 returns-in-Ok-clause-fault g c = search rules

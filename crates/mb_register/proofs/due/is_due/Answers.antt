@@ -32,7 +32,7 @@ returns-clause-discharged g c idle =
     ap (obligation_to id) c.status-status.ensures.known ∙ owes-same id (after_reading (mailbox_of (word_of status)) (obligation_to id a)) (seeing (Read id
     (word_of status)) a) in
     discharged status c.has_messages-messages.result c.has_system-system.result (obligation_to id a) (obligation_to id b) (obligation_to id d) (obligation_to id e) read
-    c.has_system-system.ensures.some c.has_system-system.ensures.none c.has_messages-messages.ensures.some c.has_messages-messages.ensures.none
+    c.has_system-system.ensures.same_obligation c.has_system-system.ensures.none c.has_messages-messages.ensures.same_obligation c.has_messages-messages.ensures.none
     (sym c.can_schedule.ensures ∙ idle)
 
 pub returns-then-closed-clause-looks : goal.returns-then-closed-clause-looks

@@ -31,7 +31,7 @@ release-requires-clause-told g c =
 pub release-requires-clause-rest : goal.release-requires-clause-rest
 release-requires-clause-rest g c =
     let claim = c.args.claim in
-    rest-open (status_of claim).closed (gave_last claim) (g.H.MailboxState.facts claim.home).rested c.requires.untouched.open_yet
+    rest-open (status_of claim).closed (gave_last claim) (g.H.MailboxState.facts claim.home).no_backlog c.requires.untouched.open_yet
     c.requires.untouched.rest
 
 pub returns-clause-looks : goal.returns-clause-looks

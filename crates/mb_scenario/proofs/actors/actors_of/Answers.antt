@@ -7,15 +7,15 @@ use Rattle.mb_scenario.proofs.actors.actors_of.Goals as goal
 
 pub loop-value-preserved : goal.loop-value-preserved
 loop-value-preserved c =
-    past_seen actor_data (planned_actor (map actor_entry_data c.args.kin.now)) c.args.values.now c.loop-value.value-index c.value-item.result c.loop-value.actors.items
+    past_seen actor_data (planned_actor (map actor_entry_data c.args.actor_entries.now)) c.args.values.now c.loop-value.value-index c.value-item.result c.loop-value.actors.items
     c.push.new.self.items c.in_ok-actor.actor _ c.loop-value-test.true c.value-item.is c.in_ok-actor.ensures c.in_ok-push.ensures.items
     c.loop-value.invariant
 
 pub loop-value-init : goal.loop-value-init
 loop-value-init c =
-    none_read (planned_actor (map actor_entry_data c.args.kin.now)) c.args.values.now (map actor_data c.new-actors.result.items) (ap (map actor_data) c.new-actors.ensures.items)
+    none_read (planned_actor (map actor_entry_data c.args.actor_entries.now)) c.args.values.now (map actor_data c.new-actors.result.items) (ap (map actor_data) c.new-actors.ensures.items)
 
 pub returns : goal.returns
 returns c =
     let at = c.loop-value in
-    all_read (planned_actor (map actor_entry_data c.args.kin.now)) c.args.values.now at.value-index (map actor_data at.actors.items) _ c.loop-value-test.false at.invariant
+    all_read (planned_actor (map actor_entry_data c.args.actor_entries.now)) c.args.values.now at.value-index (map actor_data at.actors.items) _ c.loop-value-test.false at.invariant

@@ -9,5 +9,5 @@ use Rattle.mb_scenario.proofs.actors.actors_of.Given as goal
 -- those so far and those that are left are all
 abbrev pub invariant-loop-value : goal.invariant-loop-value
 invariant-loop-value l =
-    map actor_data l.actors.items ++ map_items (planned_actor (map actor_entry_data l.kin)) (items_view (drop l.value-index l.values))
-    ≡ map_items (planned_actor (map actor_entry_data l.kin)) (items_view l.values)
+    map actor_data l.actors.items ++ map_items (planned_actor (map actor_entry_data l.actor_entries)) (items_view (drop l.value-index l.values))
+    ≡ map_items (planned_actor (map actor_entry_data l.actor_entries)) (items_view l.values)

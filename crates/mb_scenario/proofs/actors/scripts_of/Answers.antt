@@ -6,14 +6,14 @@ use Rattle.mb_scenario.proofs.actors.scripts_of.Goals as goal
 
 pub loop-value-preserved : goal.loop-value-preserved
 loop-value-preserved c =
-    past_value (scripted_of (map actor_entry_data c.args.kin.now)) c.args.values.now c.loop-value.value-index c.value-item.result c.loop-value.scripts.items c.push.new.self.items
+    past_value (scripted_of (map actor_entry_data c.args.actor_entries.now)) c.args.values.now c.loop-value.value-index c.value-item.result c.loop-value.scripts.items c.push.new.self.items
     c.in_ok-script.script _ c.loop-value-test.true c.value-item.is c.in_ok-script.ensures c.in_ok-push.ensures.items c.loop-value.invariant
 
 pub loop-value-init : goal.loop-value-init
 loop-value-init c =
-    none_read (scripted_of (map actor_entry_data c.args.kin.now)) c.args.values.now c.new-scripts.result.items c.new-scripts.ensures.items
+    none_read (scripted_of (map actor_entry_data c.args.actor_entries.now)) c.args.values.now c.new-scripts.result.items c.new-scripts.ensures.items
 
 pub returns : goal.returns
 returns c =
     let at = c.loop-value in
-    all_read (scripted_of (map actor_entry_data c.args.kin.now)) c.args.values.now at.value-index at.scripts.items _ c.loop-value-test.false at.invariant
+    all_read (scripted_of (map actor_entry_data c.args.actor_entries.now)) c.args.values.now at.value-index at.scripts.items _ c.loop-value-test.false at.invariant

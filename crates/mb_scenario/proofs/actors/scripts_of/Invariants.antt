@@ -8,5 +8,5 @@ use Rattle.mb_scenario.proofs.actors.scripts_of.Given as goal
 -- those so far and those that are left are all
 abbrev pub invariant-loop-value : goal.invariant-loop-value
 invariant-loop-value l =
-    l.scripts.items ++ map_items (scripted_of (map actor_entry_data l.kin)) (items_view (drop l.value-index l.values))
-    ≡ map_items (scripted_of (map actor_entry_data l.kin)) (items_view l.values)
+    l.scripts.items ++ map_items (scripted_of (map actor_entry_data l.actor_entries)) (items_view (drop l.value-index l.values))
+    ≡ map_items (scripted_of (map actor_entry_data l.actor_entries)) (items_view l.values)

@@ -5,4 +5,4 @@ use Rattle.mb_scenario.proofs.fields.id_of.Given as goal
 
 -- those so far have other names
 abbrev pub invariant-loop-index : goal.invariant-loop-index
-invariant-loop-index l = number_from (l.index + 1) (map actor_entry_data (drop l.index l.kin)) l.name ≡ number_from 1 (map actor_entry_data l.kin) l.name
+invariant-loop-index l = number_from (l.index + 1) (map actor_entry_data (drop l.index l.actor_entries)) l.name ≡ number_from 1 (map actor_entry_data l.actor_entries) l.name

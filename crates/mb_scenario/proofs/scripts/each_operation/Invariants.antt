@@ -10,5 +10,5 @@ use Rattle.mb_scenario.proofs.scripts.each_operation.Given as goal
 -- the operations so far and those that are left are all
 abbrev pub invariant-loop-value : goal.invariant-loop-value
 invariant-loop-value l =
-    l.operations.items ++ map_items (λ d. operation_of (map actor_entry_data l.kin) (op_of (text_of d))) (items_view (drop l.value-index l.values))
-    ≡ map_items (λ d. operation_of (map actor_entry_data l.kin) (op_of (text_of d))) (items_view l.values)
+    l.operations.items ++ map_items (λ d. operation_of (map actor_entry_data l.actor_entries) (op_of (text_of d))) (items_view (drop l.value-index l.values))
+    ≡ map_items (λ d. operation_of (map actor_entry_data l.actor_entries) (op_of (text_of d))) (items_view l.values)

@@ -9,5 +9,5 @@ use Rattle.mb_scenario.proofs.scripts.rows_of.Given as goal
 -- the rows so far and those that are left are all
 abbrev pub invariant-loop-value : goal.invariant-loop-value
 invariant-loop-value l =
-    map row_data l.rows.items ++ map_items (scripted_row (map actor_entry_data l.kin)) (items_view (drop l.value-index l.values))
-    ≡ map_items (scripted_row (map actor_entry_data l.kin)) (items_view l.values)
+    map row_data l.rows.items ++ map_items (scripted_row (map actor_entry_data l.actor_entries)) (items_view (drop l.value-index l.values))
+    ≡ map_items (scripted_row (map actor_entry_data l.actor_entries)) (items_view l.values)

@@ -7,4 +7,4 @@ use Rattle.mb_schema.proofs.actor_entries.actor_entries_of.Given as goal
 -- those so far and those that are left are all
 abbrev pub invariant-loop-value : goal.invariant-loop-value
 invariant-loop-value l =
-    map actor_entry_data l.kin.items ++ actor_entries_of (items_view (drop l.value-index l.actors)) ≡ actor_entries_of (items_view l.actors)
+    map actor_entry_data l.actor_entries.items ++ actor_entries_of (items_view (drop l.value-index l.actors)) ≡ actor_entries_of (items_view l.actors)

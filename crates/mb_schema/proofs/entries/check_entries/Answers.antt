@@ -6,5 +6,5 @@ use Rattle.mb_schema.proofs.entries.check_entries.Goals as goal
 
 pub loop-index-preserved : goal.loop-index-preserved
 loop-index-preserved c =
-    past_item (part_check c.args.part (map actor_entry_data c.args.kin.now)) c.args.values.now c.loop-index.index
+    past_item (part_check c.args.part (map actor_entry_data c.args.actor_entries.now)) c.args.values.now c.loop-index.index
     c.index-values-index.result _ c.loop-index-test.true c.index-values-index.is c.in_ok-check_entry.ensures c.loop-index.invariant

@@ -13,8 +13,8 @@ returns-in-Actors c =
     let P : ContextData → Type 0 = λ a. Finds c.check_actor_table.result
     (actor_table_check a (path_text (Actor (c.args.earlier + 1))) (table_view c.in-Some.table.now)) in
     let Q : Option Members → Type 0 = λ o. Finds c.check_actor_table.result
-    (entry_check (actor_table_check (context_of_actor (map actor_entry_data c.args.kin.now) c.args.earlier (view c.args.value.now)))
+    (entry_check (actor_table_check (context_of_actor (map actor_entry_data c.args.actor_entries.now) c.args.earlier (view c.args.value.now)))
     (codes "actor") c.args.earlier o) in
     let R : Part → Type 0 = λ part. Finds c.check_actor_table.result
-    (part_check part (map actor_entry_data c.args.kin.now) c.args.earlier (view c.args.value.now)) in
+    (part_check part (map actor_entry_data c.args.actor_entries.now) c.args.earlier (view c.args.value.now)) in
     subst R (sym c.in-Actors.is) (subst Q c.in-Some.ensures (subst P c.context_of-context-in-Actors.ensures c.check_actor_table.ensures))

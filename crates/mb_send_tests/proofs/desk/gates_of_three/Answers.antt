@@ -5,7 +5,7 @@ use Rattle.mb_send_tests.proofs.desk.gates_of_three.Goals as goal
 
 pub new-requires-clause-fresh : goal.new-requires-clause-fresh
 new-requires-clause-fresh c first at actor home there = record {
-  own = tt;
+  of_actor = tt;
   none_given = refl;
   none_closed = refl;
   possible = subst (λ (m : Mailbox). IsTrue (is_possible m)) (sym home.idle) refl;

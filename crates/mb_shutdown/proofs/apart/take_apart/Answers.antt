@@ -52,8 +52,8 @@ loop-left-preserved g c =
       c.push_reserved-in-loop-left-2.ensures.capacity ∙ at.invariant.5,
     )
 
-pub returns-in_err-cell-clause-whom : goal.returns-in_err-cell-clause-whom
-returns-in_err-cell-clause-whom g c =
+pub returns-in_err-cell-clause-not_returned : goal.returns-in_err-cell-clause-not_returned
+returns-in_err-cell-clause-not_returned g c =
     let at = c.loop-left in let left = c.in-Some.left in let rest = into_iter_items c.next.new.self in
     let many = as-many at.yielded at.ended.items at.takes.items (map (λ r. r.items) at.rows.items) at.senders.items at.invariant.0 in
     let a = many.of_ended in let what = c.in_err-cell.field-0.0 in
@@ -108,8 +108,8 @@ returns-clause-apart g c =
     let all : at.yielded ≡ c.args.all.items = sym (append-nil at.yielded) ∙ ap (λ l. at.yielded ++ l) (sym none) ∙ at.invariant.1 in
     subst (λ l. AreApart l at.ended.items at.takes.items (map (λ r. r.items) at.rows.items) at.senders.items) all at.invariant.0
 
-pub returns-clause-whom : goal.returns-clause-whom
-returns-clause-whom g c = tt
+pub returns-clause-not_returned : goal.returns-clause-not_returned
+returns-clause-not_returned g c = tt
 
 pub returns-clause-room : goal.returns-clause-room
 returns-clause-room g c = (c.loop-left.invariant.4, c.loop-left.invariant.5)

@@ -10,7 +10,7 @@ returns-clause-came g c =
     ok-then c.drain_queues.result (λ rests place take left there found.
     came-at v.items rows lefts place take left
     (rests-refilled rows lefts v.items c.deref_mut.result.now c.join_all.new.takes v.len (search rules) c.join_all.ensures (search rules) rests)
-    there found (c.requires.different place)) c.drain_queues.ensures.rests
+    there found (c.requires.different place)) c.drain_queues.ensures.left_in_queues
 
 pub returns-clause-known : goal.returns-clause-known
 returns-clause-known g c =
@@ -19,7 +19,7 @@ returns-clause-known g c =
     ok-then c.drain_queues.result (λ rests place take left there found.
     known-at v.items rows lefts place take left
     (rests-refilled rows lefts v.items c.deref_mut.result.now c.join_all.new.takes v.len (search rules) c.join_all.ensures (search rules) rests)
-    there found) c.drain_queues.ensures.rests
+    there found) c.drain_queues.ensures.left_in_queues
 
 pub returns-clause-ordered : goal.returns-clause-ordered
 returns-clause-ordered g c =
@@ -28,13 +28,13 @@ returns-clause-ordered g c =
     ok-then c.drain_queues.result (λ rests place take left there found.
     ordered-at v.items rows lefts place take left
     (rests-refilled rows lefts v.items c.deref_mut.result.now c.join_all.new.takes v.len (search rules) c.join_all.ensures (search rules) rests)
-    there found (c.requires.different place)) c.drain_queues.ensures.rests
+    there found (c.requires.different place)) c.drain_queues.ensures.left_in_queues
 
-pub returns-clause-over : goal.returns-clause-over
-returns-clause-over g c =
+pub returns-clause-overfull : goal.returns-clause-overfull
+returns-clause-overfull g c =
     let rows = map (λ row. row.items) c.args.senders.items in let v = c.args.takes in let rooms = c.args.rooms.now in
     err-each c.drain_queues.result (λ many. IsOver many.0 _ rooms) (λ many. IsOverfull v.items rows rooms many.0)
     (λ many over.
     overfull v.items rows rooms many.0 (c.requires.different many.0)
     (over-refilled rows rooms v.items c.deref_mut.result.now c.join_all.new.takes v.len many.0 (search rules) c.join_all.ensures (search rules)
-    over)) c.drain_queues.ensures.over
+    over)) c.drain_queues.ensures.overfull

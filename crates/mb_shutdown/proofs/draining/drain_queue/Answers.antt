@@ -31,8 +31,8 @@ returns-in_default-clause-rest g c = λ fits.
     (λ discipline. e.in_order (sym e.same.1 ∙ discipline))
     (parts-out c.loop.take c.take.new.self e.follows_discipline e.taken e.same.1 e.same.2) e.known
 
-pub returns-in_default-clause-over : goal.returns-in_default-clause-over
-returns-in_default-clause-over g c = λ over.
+pub returns-in_default-clause-overfull : goal.returns-in_default-clause-overfull
+returns-in_default-clause-overfull g c = λ over.
     let e = c.in_default.ensures in let at = c.loop.invariant in let items = c.loop.room.items in let more = at.0.0 in
     record {
       left = items ++ more;

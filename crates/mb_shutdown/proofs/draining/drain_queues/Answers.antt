@@ -33,8 +33,8 @@ loop-take-preserved g c =
           ∙ take-fewer at.rooms c.args.rooms.now n (subst (λ m. take m at.rooms ≡ take m c.args.rooms.now) longer at.invariant.3),
     )
 
-pub returns-then-not-drain_queue-clause-over : goal.returns-then-not-drain_queue-clause-over
-returns-then-not-drain_queue-clause-over g c =
+pub returns-then-not-drain_queue-clause-overfull : goal.returns-then-not-drain_queue-clause-overfull
+returns-then-not-drain_queue-clause-overfull g c =
     let at = c.loop-take in let items = c.pop.new.self.items in let n : ℕ = length items in let one = c.in-Some.take in
     let place : c.len-place.result ≡ n = search rules in let done = at.invariant.2.0 in let rooms = c.args.rooms.now in
     let longer : length at.takes.items ≡ suc n = ap length c.in-Some.ensures.items ∙ length-append items (one ∷ []) ∙ (omega arith) in
@@ -50,7 +50,7 @@ returns-then-not-drain_queue-clause-over g c =
       present = ap (slice_get c.args.takes.items) place ∙ ap (λ l. slice_get l n) all ∙ in-place items one done;
       lies = ap (slice_get rooms) place ∙ sym same ∙ ap (slice_get at.rooms) (sym place)
           ∙ slice_get-get_or at.rooms c.len-place.result c.index-rooms-place.result (subst (λ m. m < length at.rooms) (sym place) lt);
-      more = c.drain_queue.ensures.over (search rules);
+      more = c.drain_queue.ensures.overfull (search rules);
     }
 
 pub returns-then-not-drain_queue-clause-full : goal.returns-then-not-drain_queue-clause-full

@@ -34,7 +34,7 @@ pub first_busy_of-requires : goal.first_busy_of-requires
 first_busy_of-requires g c =
     let built = c.args.built in record {
       same_gates = c.requires.together.ends;
-      some = some-end built.ends.items built.system.workers built.system.some
+      not_empty = some-end built.ends.items built.system.workers built.system.not_empty
           (subst (λ l. AreThere built.system.workers (ends_numbers l)) c.deref.ensures.value c.in_default.ensures);
     }
 
@@ -59,7 +59,7 @@ room_of-requires g c =
     let same = ap length settled.2.senders in
     let few = built.system.within_limit.1 in record {
       same_gates = back-ends built b1 settled.0 settled.1 settled.2 together.ends;
-      some = back-some built b1 settled.0 settled.1 settled.2;
+      not_empty = back-some built b1 settled.0 settled.1 settled.2;
       within_limit = omega (arith, many, same, few);
     }
 
@@ -195,7 +195,7 @@ returns-in-Err-clause-refused g c =
     let came = gathered built b2 gates log outside found c.gather-gates.ensures.gates.0 c.gather-gates.ensures.seen c.gather-gates.ensures.outside in (
       (ends, senders),
       came.settled,
-      subst (λ (h : Gates (Box Contents)). of_whom c.in-Err.mismatch < actors_of h) came.gates_are c.in-Err.ensures.whom,
+      subst (λ (h : Gates (Box Contents)). of_whom c.in-Err.mismatch < actors_of h) came.gates_are c.in-Err.ensures.in_plan,
     )
 
 pub returns-in-Ok-clause-home : goal.returns-in-Ok-clause-home
@@ -220,8 +220,8 @@ returns-in-Ok-clause-home g c =
           (counted-all b1 b2 log waiting c.in-Some-room_of.ensures.waiting c.gather-gates.ensures.seen.0);
     }
 
-pub returns-in-Err-clause-why : goal.returns-in-Err-clause-why
-returns-in-Err-clause-why g c =
+pub returns-in-Err-clause-disagreement : goal.returns-in-Err-clause-disagreement
+returns-in-Err-clause-disagreement g c =
     let built = c.args.built in let b1 = c.first_busy_of.new.built in let b2 = c.room_of.new.built in
     let ends : AreThere built.system.workers (ends_numbers built.ends.items) =
     subst (λ l. AreThere built.system.workers (ends_numbers l)) c.deref.ensures.value c.in_default.ensures in
@@ -242,5 +242,5 @@ returns-in-Err-clause-why g c =
       counted = counted-all b1 b2 log waiting c.in-Some-room_of.ensures.waiting c.gather-gates.ensures.seen.0;
       disagrees =
           subst (λ (h : Gates (Box Contents)). Disagrees g.K.Behaviours.gives (first_home h).value (actors_of h) v send_passes waiting c.in-Err.mismatch)
-          came.gates_are c.in-Err.ensures.why;
+          came.gates_are c.in-Err.ensures.disagreement;
     }

@@ -7,14 +7,14 @@ use Rattle.mb_shutdown.proofs.ending.room_of.Goals as goal
 
 pub make_room-room-requires-clause-same_gates : goal.make_room-room-requires-clause-same_gates
 make_room-room-requires-clause-same_gates g c =
-    first-ours c.args.built.now c.index_mut.result.now c.requires.some c.index_mut.ensures.value c.requires.same_gates
+    first-ours c.args.built.now c.index_mut.result.now c.requires.not_empty c.index_mut.ensures.value c.requires.same_gates
 
 pub returns-in_default-clause-read : goal.returns-in_default-clause-read
 returns-in_default-clause-read g c =
     let built = c.args.built.now in let first = c.index_mut.result.now in let pass = c.make_room-room.new.pass in (
       pass_view first.registrar.pass,
       pass_view pass,
-      read-again built first pass c.requires.some c.index_mut.ensures.value c.make_room-room.ensures.same_gates,
+      read-again built first pass c.requires.not_empty c.index_mut.ensures.value c.make_room-room.ensures.same_gates,
       c.make_room-room.ensures.only,
     )
 
@@ -23,7 +23,7 @@ returns-clause-read g c =
     let built = c.args.built.now in let first = c.index_mut.result.now in let pass = c.make_room-room.new.pass in (
       pass_view first.registrar.pass,
       pass_view pass,
-      read-again built first pass c.requires.some c.index_mut.ensures.value c.make_room-room.ensures.same_gates,
+      read-again built first pass c.requires.not_empty c.index_mut.ensures.value c.make_room-room.ensures.same_gates,
       c.make_room-room.ensures.only,
     )
 
@@ -42,7 +42,7 @@ returns-clause-waiting g c =
     let built = c.args.built.now in let first = c.index_mut.result.now in let pass = c.make_room-room.new.pass in (
       pass_view first.registrar.pass,
       pass_view pass,
-      read-again built first pass c.requires.some c.index_mut.ensures.value c.make_room-room.ensures.same_gates,
+      read-again built first pass c.requires.not_empty c.index_mut.ensures.value c.make_room-room.ensures.same_gates,
       ok-at (λ room. AreCounted (pass_view pass).log (counted_in room)) c.make_room-room.result c.in-Ok-Ok.room c.in-Ok-Ok.is-0
           c.make_room-room.ensures.waiting,
     )

@@ -29,7 +29,7 @@ sort_by_number-requires g c =
 pub unreachable-requires : goal.unreachable-requires
 unreachable-requires g c =
     let built = c.args.built in
-    let some = some-end built.ends.items built.system.workers built.system.some c.requires.complete.0 in
+    let some = some-end built.ends.items built.system.workers built.system.not_empty c.requires.complete.0 in
     let none = c.in_default.ensures.cases.0 in
     let len = c.into_iter-ends.ensures.len in
     let many = built.ends.ok.0 in

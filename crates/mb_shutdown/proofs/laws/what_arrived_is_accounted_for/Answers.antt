@@ -1,8 +1,8 @@
 use Rattle.mb_shutdown.proofs.JoinAndDrainLemmas.{in_order, often, once, parts_in_order}
 use Rattle.mb_shutdown.proofs.laws.what_arrived_is_accounted_for.Goals as goal
 
-pub returns-clause-often : goal.returns-clause-often
-returns-clause-often c = often
+pub returns-clause-as_often_as_accepted : goal.returns-clause-as_often_as_accepted
+returns-clause-as_often_as_accepted c = often
 
 pub returns-clause-once : goal.returns-clause-once
 returns-clause-once c = once

@@ -82,13 +82,13 @@ add_outside-requires g c =
     let b = c.requires.room.senders.1 in
     record { room = ((omega (arith, rows, of, n, more, a)), (omega (arith, senders, n, more', b))) }
 
-pub take_rests-requires-clause-some : goal.take_rests-requires-clause-some
-take_rests-requires-clause-some g c =
+pub take_rests-requires-clause-not_empty : goal.take_rests-requires-clause-not_empty
+take_rests-requires-clause-not_empty g c =
     let apart = c.in_ok-take_apart.ensures.apart in
     let n = c.finish-all.ensures.left.same_count in
     let many = as-many c.finish-all.result.items c.take_apart.new.ended.items c.take_apart.new.takes.items
     (map (λ r. r.items) c.take_apart.new.rows.items) c.take_apart.new.senders.items apart in
-    let takes = many.of_takes in let some = c.args.gates.some.0 in let few = c.requires.within_limit.0 in
+    let takes = many.of_takes in let some = c.args.gates.not_empty.0 in let few = c.requires.within_limit.0 in
     ((omega (arith, takes, n, some)), (omega (arith, takes, n, few)))
 
 pub take_rests-requires-clause-same_count : goal.take_rests-requires-clause-same_count
@@ -135,18 +135,18 @@ report_on-requires-clause-senders g c =
     ∙ length-append (map sent_of c.take_apart.new.senders.items) (map {A = FinishedSender} {B = ℕ × List DeadLetter} (λ o. (o.send_log.sent, o.send_log.dead.items)) c.args.outside.items) in
     let few = c.requires.within_limit in let a = few.0 in let b = few.1 in omega (arith, senders, of, before, outs, all, n, a, b)
 
-pub returns-in_err-take_apart-clause-whom : goal.returns-in_err-take_apart-clause-whom
-returns-in_err-take_apart-clause-whom g c =
+pub returns-in_err-take_apart-clause-in_plan : goal.returns-in_err-take_apart-clause-in_plan
+returns-in_err-take_apart-clause-in_plan g c =
     let first = (first_home c.args.gates).value in let n = actors_of c.args.gates in let v = pass_view c.args.pass in
     let all = c.finish-all.result.items in let outs = map (λ o. o.sends.items) c.args.outside.items in
     let waiting = c.args.room.waiting.items in
     let what = c.in_err-take_apart.field-0.0 in
     err-of (λ what. of_whom what < n) c.from_residual.result what c.from_residual.ensures.1
     (why-not-come g.K.Behaviours.gives first n v all c.finish-all.ensures.left outs waiting c.requires.room.counted what
-    c.in_err-take_apart.ensures.whom).0
+    c.in_err-take_apart.ensures.not_returned).0
 
-pub returns-clause-whom : goal.returns-clause-whom
-returns-clause-whom g c =
+pub returns-clause-in_plan : goal.returns-clause-in_plan
+returns-clause-in_plan g c =
     let first = (first_home c.args.gates).value in let n = actors_of c.args.gates in let v = pass_view c.args.pass in
     let all = c.finish-all.result.items in let outs = map (λ o. o.sends.items) c.args.outside.items in
     let waiting = c.args.room.waiting.items in
@@ -154,10 +154,10 @@ returns-clause-whom g c =
     let before = map (λ r. r.items) c.take_apart.new.rows.items in let rows = map (λ r. r.items) c.add_outside.new.rows.items in
     (why-too-much g.K.Behaviours.gives first n v all c.finish-all.ensures.left outs waiting c.requires.room.counted apart.lefts apart.are takes
     apart.takes_are rows before c.add_outside.ensures.rows apart.rows_are c.args.room.lefts.items c.in-Err.mismatch c.requires.room.lefts
-    c.in-Err.ensures.over).0
+    c.in-Err.ensures.overfull).0
 
-pub returns-in-Ok-clause-whom : goal.returns-in-Ok-clause-whom
-returns-in-Ok-clause-whom g c =
+pub returns-in-Ok-clause-in_plan : goal.returns-in-Ok-clause-in_plan
+returns-in-Ok-clause-in_plan g c =
     let first = (first_home c.args.gates).value in let n = actors_of c.args.gates in let v = pass_view c.args.pass in
     let all = c.finish-all.result.items in let outs = map (λ o. o.sends.items) c.args.outside.items in
     let waiting = c.args.room.waiting.items in
@@ -171,18 +171,18 @@ returns-in-Ok-clause-whom g c =
     apart.takes_are rows before c.add_outside.ensures.rows apart.rows_are ended lefts what apart.ended_are c.in-Ok.ensures.taken other).0)
     (subst (λ w. IfErr c.report_on.result (DiffersFromCount ended lefts w)) same c.report_on.ensures.differs)
 
-pub returns-in_err-take_apart-clause-why : goal.returns-in_err-take_apart-clause-why
-returns-in_err-take_apart-clause-why g c =
+pub returns-in_err-take_apart-clause-disagreement : goal.returns-in_err-take_apart-clause-disagreement
+returns-in_err-take_apart-clause-disagreement g c =
     let first = (first_home c.args.gates).value in let n = actors_of c.args.gates in let v = pass_view c.args.pass in
     let all = c.finish-all.result.items in let outs = map (λ o. o.sends.items) c.args.outside.items in
     let waiting = c.args.room.waiting.items in
     let what = c.in_err-take_apart.field-0.0 in
     err-of (Disagrees g.K.Behaviours.gives first n v outs waiting) c.from_residual.result what c.from_residual.ensures.1
     (why-not-come g.K.Behaviours.gives first n v all c.finish-all.ensures.left outs waiting c.requires.room.counted what
-    c.in_err-take_apart.ensures.whom).1
+    c.in_err-take_apart.ensures.not_returned).1
 
-pub returns-clause-why : goal.returns-clause-why
-returns-clause-why g c =
+pub returns-clause-disagreement : goal.returns-clause-disagreement
+returns-clause-disagreement g c =
     let first = (first_home c.args.gates).value in let n = actors_of c.args.gates in let v = pass_view c.args.pass in
     let all = c.finish-all.result.items in let outs = map (λ o. o.sends.items) c.args.outside.items in
     let waiting = c.args.room.waiting.items in
@@ -190,10 +190,10 @@ returns-clause-why g c =
     let before = map (λ r. r.items) c.take_apart.new.rows.items in let rows = map (λ r. r.items) c.add_outside.new.rows.items in
     (why-too-much g.K.Behaviours.gives first n v all c.finish-all.ensures.left outs waiting c.requires.room.counted apart.lefts apart.are takes
     apart.takes_are rows before c.add_outside.ensures.rows apart.rows_are c.args.room.lefts.items c.in-Err.mismatch c.requires.room.lefts
-    c.in-Err.ensures.over).1
+    c.in-Err.ensures.overfull).1
 
-pub returns-in-Ok-clause-why : goal.returns-in-Ok-clause-why
-returns-in-Ok-clause-why g c =
+pub returns-in-Ok-clause-disagreement : goal.returns-in-Ok-clause-disagreement
+returns-in-Ok-clause-disagreement g c =
     let first = (first_home c.args.gates).value in let n = actors_of c.args.gates in let v = pass_view c.args.pass in
     let all = c.finish-all.result.items in let outs = map (λ o. o.sends.items) c.args.outside.items in
     let waiting = c.args.room.waiting.items in

@@ -29,7 +29,7 @@ new-requires g c =
 pub open-requires : goal.open-requires
 open-requires g c =
     let right = right-plan c.args.plan (length c.args.actors.items) c.requires.right in
-    let founded = c.in_ok-gates.ensures.founded in let pool = c.in_ok-pool.ensures in let outside = c.in_ok-gates.field-0.outside in
+    let founded = c.in_ok-gates.ensures.new_gates in let pool = c.in_ok-pool.ensures in let outside = c.in_ok-gates.field-0.outside in
     let of_pool = c.in_ok-pool.pool in let ends = c.in_ok-pool.ends.items in let feeds = c.in_ok-pool.feeds.items in
     let ends_are = ends-gates of_pool ends pool.are_ends in let feeds_are = feeds-gates of_pool feeds pool.are_feeds in
     let few = right.within_limit in let actors = founded.actors in let some = right.workers.0 in let workers = right.workers.1 in
@@ -41,7 +41,7 @@ open-requires g c =
           (ap (λ (v : View). v.log) known, ap (λ (v : View). v.got) known, ap (λ (v : View). v.obligations) known);
       whole = subst (λ (v : View). IsWhole v.share) (sym c.in_ok-gates.ensures.pass.1) whole_one;
       actors = (omega (arith, actors), omega (arith, actors, few));
-      some = (omega (arith, as_many, some), omega (arith, as_many, workers));
+      not_empty = (omega (arith, as_many, some), omega (arith, as_many, workers));
       ends = subst (λ o. All (λ e. gates_of e ≡ Some o) ends) pool.gates ends_are.0;
       feeds = subst (λ o. All (λ f. gates_of f ≡ Some o) feeds) pool.gates feeds_are.0;
       same_count = (fed ∙ sym rows, omega (arith, fed, senders));
@@ -51,7 +51,7 @@ open-requires g c =
 pub returns : goal.returns
 returns g c =
     let right = right-plan c.args.plan (length c.args.actors.items) c.requires.right in
-    let founded = c.in_ok-gates.ensures.founded in let housed = c.in_ok-gates.ensures.homes_made in let pool = c.in_ok-pool.ensures in
+    let founded = c.in_ok-gates.ensures.new_gates in let housed = c.in_ok-gates.ensures.homes_made in let pool = c.in_ok-pool.ensures in
     let opened = c.in_ok-ends.ensures in let gates = c.in_ok-gates.field-0.gates in
     let outside = map (λ row. row.items) c.in_ok-gates.field-0.outside.items in let senders = c.in_ok-ends.field-0.senders.items in
     let ends_are = ends-gates c.in_ok-pool.pool c.in_ok-pool.ends.items pool.are_ends in let few = right.senders in
@@ -93,9 +93,9 @@ returns g c =
 
 pub invariant_of-system : goal.invariant_of-system
 invariant_of-system g c =
-    let right = right-plan c.args.plan (length c.args.actors.items) c.requires.right in let founded = c.in_ok-gates.ensures.founded in
+    let right = right-plan c.args.plan (length c.args.actors.items) c.requires.right in let founded = c.in_ok-gates.ensures.new_gates in
     let few = right.within_limit in let actors = founded.actors in record {
-      some = right.workers.0;
+      not_empty = right.workers.0;
       within_limit = (omega (arith, few, actors), right.senders);
       directory = founded.directory;
       known = founded.known;

@@ -8,14 +8,14 @@ use Rattle.mb_startup.proofs.ends_and_senders.give_first.Goals as goal
 
 pub absorb-requires : goal.absorb-requires
 absorb-requires g c =
-    record { same_gates = (first-ours c.args.gates.now c.args.ends.now _ _ refl c.requires.some c.requires.ends, c.requires.same_gates) }
+    record { same_gates = (first-ours c.args.gates.now c.args.ends.now _ _ refl c.requires.not_empty c.requires.ends, c.requires.same_gates) }
 
 pub returns-clause-same_count : goal.returns-clause-same_count
 returns-clause-same_count g c = length-set c.args.ends.now 0 _
 
 pub returns-clause-first : goal.returns-clause-first
 returns-clause-first g c =
-    first-led c.args.gates.now c.args.ends.now _ _ c.absorb.new.pass (pass_view c.args.pass) refl c.requires.some c.requires.ends
+    first-led c.args.gates.now c.args.ends.now _ _ c.absorb.new.pass (pass_view c.args.pass) refl c.requires.not_empty c.requires.ends
     c.absorb.ensures.same_gates c.requires.created (ap (λ (v : View). v.log) c.absorb.ensures.known)
     (ap (λ (v : View). v.got) c.absorb.ensures.known) c.requires.unclaimed (ap (λ (v : View). v.obligations) c.absorb.ensures.known)
 
@@ -24,5 +24,5 @@ returns-clause-ports g c = first-ports c.args.gates.now c.args.ends.now _ _ c.ab
 
 pub returns-clause-shares : goal.returns-clause-shares
 returns-clause-shares g c =
-    first-shares c.args.ends.now _ _ c.absorb.new.pass (pass_view c.args.pass).share refl c.requires.some
+    first-shares c.args.ends.now _ _ c.absorb.new.pass (pass_view c.args.pass).share refl c.requires.not_empty
     (ap (λ (v : View). v.share) c.absorb.ensures.known)

@@ -12,7 +12,7 @@ pub give_first-requires : goal.give_first-requires
 give_first-requires g c =
     let ends = c.in_ok-ends.ends.items in let lent : c.deref_mut.result.now ≡ ends = search rules in
     let many : length c.deref_mut.result.now ≡ length c.args.ends.items = ap length lent ∙ c.in_ok-ends.ensures.opened.0 in
-    let some = c.requires.some.0 in record {
+    let some = c.requires.not_empty.0 in record {
       same_gates = c.open_ends.ensures.same_gates ∙ c.open_senders.ensures.same_gates ∙ c.start.ensures.same_gates ∙ c.requires.same_gates;
       created =
           let is = c.in_ok-start.ensures.created in (
@@ -21,7 +21,7 @@ give_first-requires g c =
                 (c.open_ends.ensures.kept.2 ∙ c.open_senders.ensures.kept.2) is.1,
           );
       unclaimed = c.open_ends.ensures.kept.1 ∙ c.open_senders.ensures.kept.1 ∙ c.in_ok-start.ensures.kept.0;
-      some = omega (arith, many, some);
+      not_empty = omega (arith, many, some);
       ends = subst (AreNewEnds c.args.gates.now 0) (sym lent) c.in_ok-ends.ensures.opened.1;
     }
 
@@ -81,7 +81,7 @@ pub open_ends-requires-clause-ends : goal.open_ends-requires-clause-ends
 open_ends-requires-clause-ends g c = c.requires.ends
 
 pub open_ends-requires-clause-within_limit : goal.open_ends-requires-clause-within_limit
-open_ends-requires-clause-within_limit g c = c.requires.some.1
+open_ends-requires-clause-within_limit g c = c.requires.not_empty.1
 
 pub returns-clause-senders : goal.returns-clause-senders
 returns-clause-senders g c = c.in_ok-senders.ensures.opened

@@ -41,25 +41,25 @@ loop-end-preserved g c =
       whole = append_assoc at.yielded (end ∷ []) rest ∙ ap (λ l. at.yielded ++ l) (sym steps) ∙ at.invariant.whole;
       ends = All-rest (λ e. gates_of e ≡ Some (origin_of gates)) end rest (into_iter_items at.end-iterator) steps at.invariant.ends;
       count = omega (arith, longer, further, count);
-      same_gates = c.apart.ensures.same_gates.0 ∙ at.invariant.same_gates;
+      same_gates = c.new_pass.ensures.same_gates.0 ∙ at.invariant.same_gates;
       kept = (
-        ap (λ (v : View). v.log) c.apart.ensures.known.0 ∙ at.invariant.kept.0,
-        ap (λ (v : View). v.got) c.apart.ensures.known.0 ∙ at.invariant.kept.1,
-        ap (λ (v : View). v.obligations) c.apart.ensures.known.0 ∙ at.invariant.kept.2,
+        ap (λ (v : View). v.log) c.new_pass.ensures.known.0 ∙ at.invariant.kept.0,
+        ap (λ (v : View). v.got) c.new_pass.ensures.known.0 ∙ at.invariant.kept.1,
+        ap (λ (v : View). v.obligations) c.new_pass.ensures.known.0 ∙ at.invariant.kept.2,
       );
       shares = keeps-next share_of_end (pass_view c.args.pass.now).share (pass_view at.pass).share _ at.opened.items _ _
-          (ap (λ (v : View). v.share) c.apart.ensures.known.0) pushed (ap (λ (v : View). v.share) c.apart.ensures.known.1) at.invariant.shares;
+          (ap (λ (v : View). v.share) c.new_pass.ensures.known.0) pushed (ap (λ (v : View). v.share) c.new_pass.ensures.known.1) at.invariant.shares;
       opened = ends-next gates at.opened.items _ _ pushed at.invariant.opened (record {
         same_gates = (
-          c.apart.ensures.same_gates.1 ∙ at.invariant.same_gates ∙ c.requires.same_gates.0,
+          c.new_pass.ensures.same_gates.1 ∙ at.invariant.same_gates ∙ c.requires.same_gates.0,
           ap gates_of c.new.ensures ∙ All-head (λ e. gates_of e ≡ Some (origin_of gates)) end rest these,
           c.requires.same_gates.1,
         );
         number_is = place;
         nobody = c.none.ensures;
-        settled = λ id. ap (obligation_to id) c.apart.ensures.known.1;
-        blank = ap (λ (v : View). v.log) c.apart.ensures.known.1;
-        unclaimed = ap (λ (v : View). v.got) c.apart.ensures.known.1;
+        settled = λ id. ap (obligation_to id) c.new_pass.ensures.known.1;
+        blank = ap (λ (v : View). v.log) c.new_pass.ensures.known.1;
+        unclaimed = ap (λ (v : View). v.got) c.new_pass.ensures.known.1;
       });
       ports = ap pool_ends_of pushed ∙ map_push (λ (e : WorkerEnd _ _). e.registrar.run_queue.end) at.opened.items _
           ∙ (λ i. at.invariant.ports i ++ c.new.ensures i ∷ []);
@@ -96,11 +96,11 @@ pub returns-in_err-opened-clause-kept : goal.returns-in_err-opened-clause-kept
 returns-in_err-opened-clause-kept g c = (refl, refl, refl)
 
 pub returns-in_err-push-clause-same_gates : goal.returns-in_err-push-clause-same_gates
-returns-in_err-push-clause-same_gates g c = c.apart.ensures.same_gates.0 ∙ c.loop-end.invariant.same_gates
+returns-in_err-push-clause-same_gates g c = c.new_pass.ensures.same_gates.0 ∙ c.loop-end.invariant.same_gates
 
 pub returns-in_err-push-clause-kept : goal.returns-in_err-push-clause-kept
 returns-in_err-push-clause-kept g c =
-    let at = c.loop-end.invariant.kept in let known = c.apart.ensures.known.0 in (
+    let at = c.loop-end.invariant.kept in let known = c.new_pass.ensures.known.0 in (
       ap (λ (v : View). v.log) known ∙ at.0,
       ap (λ (v : View). v.got) known ∙ at.1,
       ap (λ (v : View). v.obligations) known ∙ at.2,

@@ -82,19 +82,19 @@ loop-feed-preserved g c =
       feeds = All-rest (λ f. gates_of f ≡ Some (origin_of gates)) feed rest (into_iter_items at.feed-iterator) steps at.invariant.feeds;
       count = omega (arith, longer, further, count);
       rows = sym (drop-next place outside sends left here) ∙ ap (λ n. drop n outside) next;
-      same_gates = c.apart.ensures.same_gates.0 ∙ at.invariant.same_gates;
+      same_gates = c.new_pass.ensures.same_gates.0 ∙ at.invariant.same_gates;
       kept = (
-        ap (λ (v : View). v.log) c.apart.ensures.known.0 ∙ at.invariant.kept.0,
-        ap (λ (v : View). v.got) c.apart.ensures.known.0 ∙ at.invariant.kept.1,
-        ap (λ (v : View). v.obligations) c.apart.ensures.known.0 ∙ at.invariant.kept.2,
+        ap (λ (v : View). v.log) c.new_pass.ensures.known.0 ∙ at.invariant.kept.0,
+        ap (λ (v : View). v.got) c.new_pass.ensures.known.0 ∙ at.invariant.kept.1,
+        ap (λ (v : View). v.obligations) c.new_pass.ensures.known.0 ∙ at.invariant.kept.2,
       );
       shares = keeps-next share_of_sender (pass_view c.args.pass.now).share (pass_view at.pass).share _ at.senders.items _ _
-          (ap (λ (v : View). v.share) c.apart.ensures.known.0) pushed
-          (ap (λ w. (pass_view w.pass).share) parts.0 ∙ ap (λ (v : View). v.share) c.apart.ensures.known.1) at.invariant.shares;
+          (ap (λ (v : View). v.share) c.new_pass.ensures.known.0) pushed
+          (ap (λ w. (pass_view w.pass).share) parts.0 ∙ ap (λ (v : View). v.share) c.new_pass.ensures.known.1) at.invariant.shares;
       opened = senders-next (λ r. r.items) gates most_actors at.senders.items _ _ outside sends left pushed here at.invariant.opened (record {
         same_gates = record {
           same_gates = (
-            ap (λ w. pass_id w.pass) parts.0 ∙ c.apart.ensures.same_gates.1 ∙ at.invariant.same_gates ∙ c.requires.same_gates.0,
+            ap (λ w. pass_id w.pass) parts.0 ∙ c.new_pass.ensures.same_gates.1 ∙ at.invariant.same_gates ∙ c.requires.same_gates.0,
             ap (λ w. gates_of w.run_queue.feed) parts.0 ∙ ap gates_of c.new.ensures ∙ All-head (λ f. gates_of f ≡ Some (origin_of gates)) feed rest these,
             c.requires.same_gates.1,
           );
@@ -105,10 +105,10 @@ loop-feed-preserved g c =
         posted = send_log.2;
         sends_are = ap (λ v. v.items) parts.1;
         nobody = subst (λ w. IsNobody w.owed) (sym parts.0) c.none.ensures;
-        settled = λ id. ap (λ w. obligation_to id (pass_view w.pass)) parts.0 ∙ ap (obligation_to id) c.apart.ensures.known.1;
-        blank = ap (λ w. (pass_view w.pass).log) parts.0 ∙ ap (λ (v : View). v.log) c.apart.ensures.known.1;
-        silent = ap (λ w. (pass_view w.pass).said) parts.0 ∙ ap (λ (v : View). v.said) c.apart.ensures.known.1;
-        unclaimed = ap (λ w. (pass_view w.pass).got) parts.0 ∙ ap (λ (v : View). v.got) c.apart.ensures.known.1;
+        settled = λ id. ap (λ w. obligation_to id (pass_view w.pass)) parts.0 ∙ ap (obligation_to id) c.new_pass.ensures.known.1;
+        blank = ap (λ w. (pass_view w.pass).log) parts.0 ∙ ap (λ (v : View). v.log) c.new_pass.ensures.known.1;
+        silent = ap (λ w. (pass_view w.pass).sent_system) parts.0 ∙ ap (λ (v : View). v.sent_system) c.new_pass.ensures.known.1;
+        unclaimed = ap (λ w. (pass_view w.pass).got) parts.0 ∙ ap (λ (v : View). v.got) c.new_pass.ensures.known.1;
       });
       ports = ap pool_feeds_of pushed ∙ map_push (λ (s : Sender _ _). s.inner.registrar.run_queue.feed) at.senders.items _
           ∙ (λ i. at.invariant.ports i ++ (ap (λ w. w.run_queue.feed) parts.0 ∙ c.new.ensures) i ∷ []);
@@ -147,11 +147,11 @@ pub returns-in_err-senders-clause-kept : goal.returns-in_err-senders-clause-kept
 returns-in_err-senders-clause-kept g c = (refl, refl, refl)
 
 pub returns-in_err-push-clause-same_gates : goal.returns-in_err-push-clause-same_gates
-returns-in_err-push-clause-same_gates g c = c.apart.ensures.same_gates.0 ∙ c.loop-feed.invariant.same_gates
+returns-in_err-push-clause-same_gates g c = c.new_pass.ensures.same_gates.0 ∙ c.loop-feed.invariant.same_gates
 
 pub returns-in_err-push-clause-kept : goal.returns-in_err-push-clause-kept
 returns-in_err-push-clause-kept g c =
-    let at = c.loop-feed.invariant.kept in let known = c.apart.ensures.known.0 in (
+    let at = c.loop-feed.invariant.kept in let known = c.new_pass.ensures.known.0 in (
       ap (λ (v : View). v.log) known ∙ at.0,
       ap (λ (v : View). v.got) known ∙ at.1,
       ap (λ (v : View). v.obligations) known ∙ at.2,

@@ -17,3 +17,6 @@ returns-clause-states g c = c.run_here.ensures.states
 
 pub returns-clause-lines : goal.returns-clause-lines
 returns-clause-lines g c = c.run_here.ensures.lines
+
+pub returns-clause-ledger : goal.returns-clause-ledger
+returns-clause-ledger g c = c.run_here.ensures.ledger

@@ -11,5 +11,5 @@ look-requires c =
 pub invariant_of-self : goal.invariant_of-self
 invariant_of-self c =
     let was = c.self.inside in
-    with-sender was.system was.ends was.senders _ c.index_mut.result.now c.look.new.self refl c.look.ensures.same_gates c.look.ensures.by
+    with-sender was.system was.ends was.senders _ c.index_mut.result.now c.look.new.self refl c.look.ensures.same_gates c.look.ensures.same_sender
     c.index_mut.ensures.value c.self.invariant

@@ -11,5 +11,5 @@ put-requires-clause-same_gates g c =
 pub invariant_of-self : goal.invariant_of-self
 invariant_of-self g c =
     let was = c.self.inside in
-    with-sender was.system was.ends was.senders _ c.index_mut.result.now c.put.new.self refl c.put.ensures.same_gates c.put.ensures.by
+    with-sender was.system was.ends was.senders _ c.index_mut.result.now c.put.new.self refl c.put.ensures.same_gates c.put.ensures.same_sender
     c.index_mut.ensures.value c.self.invariant

@@ -11,5 +11,5 @@ tell-requires g c =
 pub invariant_of-self : goal.invariant_of-self
 invariant_of-self g c =
     let was = c.self.inside in
-    with-sender was.system was.ends was.senders _ c.index_mut.result.now c.tell.new.self refl c.tell.ensures.same_gates c.tell.ensures.by
+    with-sender was.system was.ends was.senders _ c.index_mut.result.now c.tell.new.self refl c.tell.ensures.same_gates c.tell.ensures.same_sender
     c.index_mut.ensures.value c.self.invariant

@@ -14,5 +14,5 @@ load-requires g c = (
 pub returns-clause-known : goal.returns-clause-known
 returns-clause-known g c = (c.load.ensures.2 _ c.word_index.ensures).0
 
-pub returns-clause-own : goal.returns-clause-own
-returns-clause-own g c = (c.load.ensures.2 _ c.word_index.ensures).1
+pub returns-clause-own_balance : goal.returns-clause-own_balance
+returns-clause-own_balance g c = (c.load.ensures.2 _ c.word_index.ensures).1

@@ -20,8 +20,8 @@ returns-then-try_refuse-clause-same_gates g c = c.try_refuse.ensures.same_gates 
 
 pub returns-then-try_refuse-clause-refused : goal.returns-then-try_refuse-clause-refused
 returns-then-try_refuse-clause-refused g c =
-    let me = c.loop.seat.me in let said : Me _ View = (refusing c.args.id.0 c.args.message me.0, me.1) in
-    λ _. c.try_refuse.ensures.answer ∙ ap (λ b. if b then said else me) c.if-try_refuse.true
+    let me = c.loop.seat.me in let sent_system : Me _ View = (refusing c.args.id.0 c.args.message me.0, me.1) in
+    λ _. c.try_refuse.ensures.answer ∙ ap (λ b. if b then sent_system else me) c.if-try_refuse.true
     ∙ ap (λ m. (refusing c.args.id.0 c.args.message m.0, m.1)) c.loop.invariant.1
 
 pub returns-then-try_refuse-clause-held : goal.returns-then-try_refuse-clause-held
@@ -30,9 +30,9 @@ returns-then-try_refuse-clause-held g c =
 
 pub loop-preserved-else-try_refuse : goal.loop-preserved-else-try_refuse
 loop-preserved-else-try_refuse g c =
-    let me = c.loop.seat.me in let said : Me _ View = (refusing c.args.id.0 c.args.message me.0, me.1) in (
+    let me = c.loop.seat.me in let sent_system : Me _ View = (refusing c.args.id.0 c.args.message me.0, me.1) in (
       c.try_refuse.ensures.same_gates ∙ c.loop.invariant.0,
-      c.try_refuse.ensures.answer ∙ ap (λ b. if b then said else me) c.if-try_refuse.false ∙ c.loop.invariant.1,
+      c.try_refuse.ensures.answer ∙ ap (λ b. if b then sent_system else me) c.if-try_refuse.false ∙ c.loop.invariant.1,
     )
 
 pub try_lock_list-requires-clause-same_gates : goal.try_lock_list-requires-clause-same_gates

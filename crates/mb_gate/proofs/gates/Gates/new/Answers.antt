@@ -26,7 +26,7 @@ invariant_of-result g c =
       keyed = ap
           (λ k. k.actors) made.5;
       known = known;
-      some = (omega arith, omega arith);
+      not_empty = (omega arith, omega arith);
     }
 
 pub empty_slots-requires-clause-room : goal.empty_slots-requires-clause-room

@@ -1,6 +1,6 @@
 use Rattle.std.proofs.Common.{◌≡◌, ◌<◌, MatchResult, subst, sym}
 use Rattle.mb_pool.specs.Moves.{given_back, IsRefusedBy, Pushes}
-use Rattle.mb_pool.specs.Parts.{look_of}
+use Rattle.mb_pool.specs.Parts.{port_view}
 use Rattle.mb_pool.specs.Places.{Part, gates_of, parts_of}
 use Rattle.mb_gate.specs.Untouched.{IsUntouched}
 use Rattle.mb_pool.specs.Endpoints.{of_feed}
@@ -13,14 +13,14 @@ push-requires-clause-fit g c =
 
 pub invariant_of-self : goal.invariant_of-self
 invariant_of-self g c =
-    let old = look_of c.self.inside.shared_port in let new = look_of c.push.new.self in
+    let old = port_view c.self.inside.shared_port in let new = port_view c.push.new.self in
     subst (λ (p : Part _). 0 < p.shares)
     (sym (push_same (IsUntouched g.H.MailboxState.is_of g.H.MailboxState.facts) old new c.push.ensures.spot c.args.claim c.push.result
     c.push.ensures.pushed)) c.self.invariant
 
 pub returns-clause-pushed : goal.returns-clause-pushed
 returns-clause-pushed g c =
-    let old = look_of c.self.inside.shared_port in let new = look_of c.push.new.self in
+    let old = port_view c.self.inside.shared_port in let new = port_view c.push.new.self in
     subst (λ w. MatchResult c.push.result
     (λ _. Pushes (IsUntouched g.H.MailboxState.is_of g.H.MailboxState.facts) w c.args.claim (of_feed new)) (λ f. (given_back f ≡ c.args.claim) × (of_feed new
     ≡ w)
@@ -30,6 +30,6 @@ returns-clause-pushed g c =
 
 pub returns-clause-same : goal.returns-clause-same
 returns-clause-same g c =
-    let old = look_of c.self.inside.shared_port in let new = look_of c.push.new.self in
+    let old = port_view c.self.inside.shared_port in let new = port_view c.push.new.self in
     subst (λ w. parts_of (of_feed new) ≡ parts_of w) c.self.view_is (feed_parts old new
     (push_same (IsUntouched g.H.MailboxState.is_of g.H.MailboxState.facts) old new c.push.ensures.spot c.args.claim c.push.result c.push.ensures.pushed))

@@ -3,7 +3,7 @@ use Rattle.std.specs.Prelude.{All}
 use Rattle.mb_pool.specs.Begins.{new_shared_port}
 use Rattle.mb_pool.specs.Made.{IsBegun}
 use Rattle.mb_gate.specs.Untouched.{origin_of}
-use Rattle.mb_pool.specs.Parts.{look_of}
+use Rattle.mb_pool.specs.Parts.{port_view}
 use Rattle.mb_pool.specs.Places.{PoolView}
 use Rattle.mb_pool.specs.Endpoints.{AreOpen, of_feed, endpoint_of}
 use Rattle.mb_pool.proofs.Begins.{made_whole, new_shares}
@@ -12,41 +12,41 @@ use Rattle.mb_pool.proofs.pool.Pool.new.Goals as goal
 
 pub pool_of-pool-requires : goal.pool_of-pool-requires
 pool_of-pool-requires g c =
-    made_whole (origin_of c.args.gates.now) c.args.kind c.args.workers c.args.feeds c.in_ok-deques.deques.items (look_of c.open.new.self).spot
+    made_whole (origin_of c.args.gates.now) c.args.kind c.args.workers c.args.feeds c.in_ok-deques.deques.items (port_view c.open.new.self).spot
     c.in_ok-deques.ensures c.requires
 
 pub end_deques_of-requires : goal.end_deques_of-requires
 end_deques_of-requires g c =
     new_shares c.args.kind (origin_of c.args.gates.now) c.args.workers c.in_ok-deques.deques.items c.in_ok-deques.ensures
 
-pub shared_ports_of-requires-clause-some : goal.shared_ports_of-requires-clause-some
-shared_ports_of-requires-clause-some g c = omega (arith, c.in-Some.ensures.1, c.requires)
+pub shared_ports_of-requires-clause-not_empty : goal.shared_ports_of-requires-clause-not_empty
+shared_ports_of-requires-clause-not_empty g c = omega (arith, c.in-Some.ensures.1, c.requires)
 
 pub shared_ports_of-requires-clause-shares : goal.shared_ports_of-requires-clause-shares
 shared_ports_of-requires-clause-shares g c =
     all_shares (origin_of c.args.gates.now) c.args.kind c.args.workers c.args.feeds c.in-Some.ports c.in_ok-deques.deques.items
-    (look_of c.in_ok-shared_port.shared_port) (look_of c.open.new.self) c.requires c.in_ok-deques.ensures c.in_ok-shared_port.ensures.0 c.open.ensures
+    (port_view c.in_ok-shared_port.shared_port) (port_view c.open.new.self) c.requires c.in_ok-deques.ensures c.in_ok-shared_port.ensures.0 c.open.ensures
     c.in-Some.ensures.1
 
-pub ends_of-requires-clause-doors : goal.ends_of-requires-clause-doors
-ends_of-requires-clause-doors g c =
-    let ms = c.in_ok-members.members.items in let ds = map look_of c.in_ok-doors.doors.items in
+pub ends_of-requires-clause-ports : goal.ends_of-requires-clause-ports
+ends_of-requires-clause-ports g c =
+    let ms = c.in_ok-members.members.items in let ds = map port_view c.in_ok-doors.doors.items in
     subst (λ (p : PoolView _). ds ≡ replicate (length ms + p.feeds) (new_shared_port p)) (sym c.pool_of-pool.ensures)
     (ports_there (origin_of c.args.gates.now) c.args.kind c.args.workers c.args.feeds c.in-Some.ports c.in_ok-deques.deques.items
-    (look_of c.in_ok-shared_port.shared_port) (look_of c.open.new.self) c.requires c.in_ok-deques.ensures c.in_ok-shared_port.ensures.0 c.open.ensures
-    c.in-Some.ensures.1 ms c.in_ok-members.ensures.none c.in_ok-members.ensures.own c.in_ok-members.ensures.next ds c.in_ok-doors.ensures)
+    (port_view c.in_ok-shared_port.shared_port) (port_view c.open.new.self) c.requires c.in_ok-deques.ensures c.in_ok-shared_port.ensures.0 c.open.ensures
+    c.in-Some.ensures.1 ms c.in_ok-members.ensures.none c.in_ok-members.ensures.owners c.in_ok-members.ensures.next ds c.in_ok-doors.ensures)
 
 pub ends_of-requires-clause-open : goal.ends_of-requires-clause-open
 ends_of-requires-clause-open g c =
     let ms = c.in_ok-members.members.items in
     subst (λ (p : PoolView _). All (λ m. AreOpen (endpoint_of (new_shared_port p) m)) ms) (sym c.pool_of-pool.ensures)
     (are_open (origin_of c.args.gates.now) c.args.kind c.args.workers c.args.feeds c.in-Some.ports c.in_ok-deques.deques.items
-    (look_of c.in_ok-shared_port.shared_port) (look_of c.open.new.self) c.requires c.in_ok-deques.ensures c.in_ok-shared_port.ensures.0 c.open.ensures
-    c.in-Some.ensures.1 ms c.in_ok-members.ensures.none c.in_ok-members.ensures.own c.in_ok-members.ensures.next)
+    (port_view c.in_ok-shared_port.shared_port) (port_view c.open.new.self) c.requires c.in_ok-deques.ensures c.in_ok-shared_port.ensures.0 c.open.ensures
+    c.in-Some.ensures.1 ms c.in_ok-members.ensures.none c.in_ok-members.ensures.owners c.in_ok-members.ensures.next)
 
 pub feeds_of-requires : goal.feeds_of-requires
 feeds_of-requires g c =
-    c.in_ok-ends.ensures.doors ∙ ap (λ (p : PoolView _). replicate p.feeds (new_shared_port c.pool_of-pool.result)) c.pool_of-pool.ensures
+    c.in_ok-ends.ensures.ports ∙ ap (λ (p : PoolView _). replicate p.feeds (new_shared_port c.pool_of-pool.result)) c.pool_of-pool.ensures
 
 pub returns : goal.returns
 returns g c =
@@ -54,7 +54,7 @@ returns g c =
     let is = c.pool_of-pool.ensures in
     subst (λ (p : PoolView _). IsBegun (origin_of c.args.gates.now) c.args.kind c.args.workers c.args.feeds p ends feeds) (sym is)
     (is_begun (origin_of c.args.gates.now) c.args.kind c.args.workers c.args.feeds c.in-Some.ports c.in_ok-deques.deques.items
-    (look_of c.in_ok-shared_port.shared_port) (look_of c.open.new.self) c.requires c.in_ok-deques.ensures c.in_ok-shared_port.ensures.0 c.open.ensures
-    c.in-Some.ensures.1 ms c.in_ok-members.ensures.none c.in_ok-members.ensures.own c.in_ok-members.ensures.next ends feeds
+    (port_view c.in_ok-shared_port.shared_port) (port_view c.open.new.self) c.requires c.in_ok-deques.ensures c.in_ok-shared_port.ensures.0 c.open.ensures
+    c.in-Some.ensures.1 ms c.in_ok-members.ensures.none c.in_ok-members.ensures.owners c.in_ok-members.ensures.next ends feeds
     (c.in_ok-ends.ensures.ends ∙ ap (λ (p : PoolView _). map (endpoint_of (new_shared_port p)) ms) is)
     (c.in_ok-feeds.ensures ∙ ap (λ (p : PoolView _). replicate c.args.feeds (of_feed (new_shared_port p))) is))

@@ -1,5 +1,5 @@
 use Rattle.std.proofs.Common.{◌≡◌, [], MatchOption, ap, subst, sym}
-use Rattle.mb_pool.specs.Parts.{look_of}
+use Rattle.mb_pool.specs.Parts.{port_view}
 use Rattle.mb_pool.specs.Places.{PoolPort}
 use Rattle.mb_pool.specs.Rule.{Moment, TakesFirst}
 use Rattle.mb_gate.specs.Untouched.{IsUntouched}
@@ -10,11 +10,11 @@ returns-in-Bounded-clause-taken g c =
     subst (λ (l : PoolPort _). MatchOption c.take.result ((c.take.new.self ≡ l)
     × Moment (IsUntouched g.H.MailboxState.is_of g.H.MailboxState.facts) l.ledger []) (λ x. TakesFirst
     (IsUntouched g.H.MailboxState.is_of g.H.MailboxState.facts) l.ledger x c.take.new.self.ledger))
-    (sym (ap look_of c.in-Bounded.is)) c.take.ensures.taken
+    (sym (ap port_view c.in-Bounded.is)) c.take.ensures.taken
 
 pub returns-in-Unbounded-clause-taken : goal.returns-in-Unbounded-clause-taken
 returns-in-Unbounded-clause-taken g c =
     subst (λ (l : PoolPort _). MatchOption c.take-in-Unbounded.result ((c.take-in-Unbounded.new.self ≡ l)
     × Moment (IsUntouched g.H.MailboxState.is_of g.H.MailboxState.facts) l.ledger []) (λ x. TakesFirst
     (IsUntouched g.H.MailboxState.is_of g.H.MailboxState.facts) l.ledger x c.take-in-Unbounded.new.self.ledger))
-    (sym (ap look_of c.in-Unbounded.is)) c.take-in-Unbounded.ensures.taken
+    (sym (ap port_view c.in-Unbounded.is)) c.take-in-Unbounded.ensures.taken

@@ -4,9 +4,9 @@ use Rattle.mb_pool.specs.declared.slots.Slots.{Slots}
 use Rattle.mb_pool.specs.Moves.{WasFull}
 use Rattle.mb_pool.specs.Places.{PoolPort}
 use Rattle.mb_pool.specs.Rule.{PutsLast}
-use Rattle.mb_pool.specs.Shared.{slots_look}
+use Rattle.mb_pool.specs.Shared.{slots_view}
 use Rattle.mb_gate.specs.Untouched.{IsUntouched}
-use Rattle.mb_pool.proofs.Looks.{same_slots}
+use Rattle.mb_pool.proofs.PortViews.{same_slots}
 use Rattle.mb_pool.proofs.slots_port.SlotsPort.push.Goals as goal
 
 pub push-requires-clause-queue : goal.push-requires-clause-queue
@@ -25,7 +25,7 @@ returns-in-Ok-clause-pushed g c =
 pub returns-in-Err-clause-pushed : goal.returns-in-Err-clause-pushed
 returns-in-Err-clause-pushed g c =
     let q = c.self.inside.slots.value in let old = c.self.inside.pass in let new = c.push.new.pass in let h = c.in-Err.ensures.pushed in
-    subst (λ (l : PoolPort _). (c.in-Err.back ≡ c.args.claim) × (slots_look q new ≡ l)
+    subst (λ (l : PoolPort _). (c.in-Err.back ≡ c.args.claim) × (slots_view q new ≡ l)
     × ((most : ℕ) × (l.spot.capacity ≡ Some most)
     × WasFull (IsUntouched g.H.MailboxState.is_of g.H.MailboxState.facts) most l.ledger))
     c.self.view_is (

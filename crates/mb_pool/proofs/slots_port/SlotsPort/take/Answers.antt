@@ -3,9 +3,9 @@ use Rattle.crossbeam_queue.specs.Passes.{IsPassOf, ruled_capacity, view}
 use Rattle.mb_pool.specs.declared.slots.Slots.{Slots}
 use Rattle.mb_pool.specs.Places.{PoolPort, slots_at}
 use Rattle.mb_pool.specs.Rule.{Moment, TakesFirst}
-use Rattle.mb_pool.specs.Shared.{slots_look}
+use Rattle.mb_pool.specs.Shared.{slots_view}
 use Rattle.mb_gate.specs.Untouched.{IsUntouched}
-use Rattle.mb_pool.proofs.Looks.{of_option, same_slots}
+use Rattle.mb_pool.proofs.PortViews.{of_option, same_slots}
 use Rattle.mb_pool.proofs.slots_port.SlotsPort.take.Goals as goal
 
 pub take-requires-clause-queue : goal.take-requires-clause-queue
@@ -24,8 +24,8 @@ pub returns-clause-taken : goal.returns-clause-taken
 returns-clause-taken g c =
     let q = c.self.inside.slots.value in
     let new = c.take.new.pass in
-    subst (λ look. MatchOption c.take.result ((slots_look q new ≡ look)
-    × Moment (IsUntouched g.H.MailboxState.is_of g.H.MailboxState.facts) look.ledger []) (λ x. TakesFirst
-    (IsUntouched g.H.MailboxState.is_of g.H.MailboxState.facts) look.ledger x (view new)))
+    subst (λ pool_port. MatchOption c.take.result ((slots_view q new ≡ pool_port)
+    × Moment (IsUntouched g.H.MailboxState.is_of g.H.MailboxState.facts) pool_port.ledger []) (λ x. TakesFirst
+    (IsUntouched g.H.MailboxState.is_of g.H.MailboxState.facts) pool_port.ledger x (view new)))
     c.self.view_is
     (of_option _ _ _ _ c.take.result (λ h. (same_slots q c.self.inside.pass new c.take.ensures.queue.1 h.0, h.1)) (λ _ h. h) c.take.ensures.taken)

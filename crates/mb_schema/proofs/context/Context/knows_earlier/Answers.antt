@@ -5,4 +5,4 @@ use Rattle.mb_schema.proofs.context.Context.knows_earlier.Goals as goal
 
 pub returns-then-self : goal.returns-then-self
 returns-then-self c = c.has_name.ensures
-    ∙ ap (λ kin. knows kin c.args.name.now) (sym (take-map actor_entry_data c.args.self.now.earlier c.args.self.now.kin.now))
+    ∙ ap (λ actor_entries. knows actor_entries c.args.name.now) (sym (take-map actor_entry_data c.args.self.now.earlier c.args.self.now.actor_entries.now))

@@ -4,7 +4,7 @@ use Rattle.mb_gate.specs.Accessors.{pass_view}
 use Rattle.mb_gate.specs.View.{View, Read}
 use Rattle.mb_journal.specs.Accepted.{dead_letters}
 use Rattle.mb_send.specs.SeenClosed.{were_seen_closed}
-use Rattle.mb_send.proofs.SeenClosed.{vouched-seen}
+use Rattle.mb_send.proofs.SeenClosed.{was_seen_closed-seen}
 use Rattle.mb_send.proofs.sender.GatesSender.look.Goals as goal
 
 pub invariant_of-self : goal.invariant_of-self
@@ -13,8 +13,8 @@ invariant_of-self g c =
     let dead = dead_letters old.send_log.posted in
     record {
       routes = old.routes;
-      vouched = subst (λ (v : View). were_seen_closed v.log dead ≡ true) (sym c.status-status.ensures.known)
-          (vouched-seen (Read c.args.to.0 (word_of c.status-status.result)) (pass_view old.registrar.pass).log dead old.vouched);
+      was_seen_closed = subst (λ (v : View). were_seen_closed v.log dead ≡ true) (sym c.status-status.ensures.known)
+          (was_seen_closed-seen (Read c.args.to.0 (word_of c.status-status.result)) (pass_view old.registrar.pass).log dead old.was_seen_closed);
       bounded = old.bounded;
     }
 

@@ -17,7 +17,7 @@ use Rattle.mb_register.specs.Sending.{counts}
 use Rattle.mb_register.proofs.Views.{does-then, does-sending, does-unsending}
 use Rattle.mb_queue.specs.Passes.{Queue, SendPassView}
 use Rattle.mb_send.proofs.Routes.{routes-more, routes-dead, queue-there, queues-set}
-use Rattle.mb_send.proofs.SeenClosed.{vouched-does, vouched-queued, vouched-dead, may-refuse}
+use Rattle.mb_send.proofs.SeenClosed.{was_seen_closed-does, was_seen_closed-queued, was_seen_closed-dead, may-refuse}
 use Rattle.mb_send.specs.SeenClosed.{has_seen_closed, were_seen_closed}
 use Rattle.mb_journal.specs.Accepted.{dead_letters}
 use Rattle.mb_send.proofs.sender.GatesSender.put.Goals as goal
@@ -96,19 +96,19 @@ invariant_of-self-in-Ok g c =
     let there = slice_get_read items (length items) k old refl lt c.index_mut.ensures.value in
     let here : e.to.0 ≡ k + 1 = ap (λ (x : Envelope). x.to.0) c.next-envelope.ensures ∙ omega (arith, c.requires.present.0) in
     let p = c.record_queued.ensures.posted ∙ ap (λ (l : List SentEnvelope). l ++ posting e None ∷ []) c.ready.ensures.same.3 in
-    let q = ap (λ (s : SenderId). s.0) (c.record_queued.ensures.by ∙ c.ready.ensures.same.0) in
+    let q = ap (λ (s : SenderId). s.0) (c.record_queued.ensures.same_sender ∙ c.ready.ensures.same.0) in
     let qs = sym q in
     let ps = sym p in
     let queues = queues-set items k old c.push.new.self there (ap (λ (s : SendPassView). s.queue) c.in-Ok.ensures.pushed) in
     record {
       routes = subst (λ (y : ℕ × List SentEnvelope). AreRoutes y.0 y.1 (slice_set items k c.push.new.self)) (λ i. (qs i, ps i))
           (routes-more send_log.by.0 send_log.posted items c.args.self.now.routes k old there e c.push.new.self c.in-Ok.ensures.pushed here);
-      vouched = subst (λ (l : List SentEnvelope). were_seen_closed (pass_view after).log (dead_letters l) ≡ true) ps
-          (vouched-queued (pass_view after).log send_log.posted e
-          (vouched-does to (counts to None) [] (pass_view before) (pass_view after) (dead_letters send_log.posted)
+      was_seen_closed = subst (λ (l : List SentEnvelope). were_seen_closed (pass_view after).log (dead_letters l) ≡ true) ps
+          (was_seen_closed-queued (pass_view after).log send_log.posted e
+          (was_seen_closed-does to (counts to None) [] (pass_view before) (pass_view after) (dead_letters send_log.posted)
           (does-then to (counts to None) [] (pass_view before) (pass_view counted) (pass_view after)
           (does-sending to (pass_view before) (pass_view counted) c.note_sent.ensures.known) c.register.ensures.looks)
-          c.args.self.now.vouched));
+          c.args.self.now.was_seen_closed));
       bounded = subst (λ (y : List Queue × List SentEnvelope). are_of_bounded y.0 (dead_letters y.1) ≡ true) (λ i. (sym queues i, ps i))
           (bounded-queued (receiving_queues items) send_log.posted e c.args.self.now.bounded);
     }
@@ -129,7 +129,7 @@ invariant_of-self-in-Err g c =
     let after = c.register-in-Err.new.self.pass in
     let there = slice_get_read items (length items) k old refl lt c.index_mut.ensures.value in
     let p = c.record_dead.ensures.posted ∙ ap (λ (l : List SentEnvelope). l ++ posting e (Some why) ∷ []) c.ready.ensures.same.3 in
-    let q = ap (λ (s : SenderId). s.0) (c.record_dead.ensures.by ∙ c.ready.ensures.same.0) in
+    let q = ap (λ (s : SenderId). s.0) (c.record_dead.ensures.same_sender ∙ c.ready.ensures.same.0) in
     let qs = sym q in
     let ps = sym p in
     let queues = queues-set items k old c.push.new.self there (ap (λ (s : SendPassView). s.queue) c.in-Err.ensures.pushed.1) in
@@ -138,13 +138,13 @@ invariant_of-self-in-Err g c =
     record {
       routes = subst (λ (y : ℕ × List SentEnvelope). AreRoutes y.0 y.1 (slice_set items k c.push.new.self)) (λ i. (qs i, ps i))
           (routes-dead send_log.by.0 send_log.posted items c.args.self.now.routes k old there e c.push.new.self why c.in-Err.ensures.pushed.1);
-      vouched = subst (λ (l : List SentEnvelope). were_seen_closed (pass_view after).log (dead_letters l) ≡ true) ps
-          (vouched-dead (pass_view after).log send_log.posted e why (may-refuse (has_seen_closed (pass_view after).log e.to.0) c.in-Err.refused why
+      was_seen_closed = subst (λ (l : List SentEnvelope). were_seen_closed (pass_view after).log (dead_letters l) ≡ true) ps
+          (was_seen_closed-dead (pass_view after).log send_log.posted e why (may-refuse (has_seen_closed (pass_view after).log e.to.0) c.in-Err.refused why
           c.why_of-why.ensures)
-          (vouched-does to (counts to (Some why)) [] (pass_view before) (pass_view after) (dead_letters send_log.posted)
+          (was_seen_closed-does to (counts to (Some why)) [] (pass_view before) (pass_view after) (dead_letters send_log.posted)
           (does-then to (counts to (Some why)) [] (pass_view before) (pass_view back) (pass_view after)
           (does-unsending to (pass_view before) (pass_view counted) (pass_view back) c.note_sent.ensures.known c.note_unsent.ensures.known)
-          c.register-in-Err.ensures.looks) c.args.self.now.vouched));
+          c.register-in-Err.ensures.looks) c.args.self.now.was_seen_closed));
       bounded = subst (λ (y : List Queue × List SentEnvelope). are_of_bounded y.0 (dead_letters y.1) ≡ true) (λ i. (sym queues i, ps i))
           (bounded-dead (receiving_queues items) send_log.posted e why
           (subst (λ (n : ℕ). may_be_refused (queue_to (receiving_queues items) n) why ≡ true) above

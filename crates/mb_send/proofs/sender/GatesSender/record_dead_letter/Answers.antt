@@ -8,7 +8,7 @@ use Rattle.mb_journal.specs.Accepted.{dead_letters}
 use Rattle.mb_send.specs.SeenClosed.{were_seen_closed, has_seen_closed}
 use Rattle.mb_send.proofs.Bounding.{bounded-is_dead_letter}
 use Rattle.mb_send.proofs.Failing.{after-any}
-use Rattle.mb_send.proofs.SeenClosed.{vouched-dead}
+use Rattle.mb_send.proofs.SeenClosed.{was_seen_closed-dead}
 use Rattle.mb_send.proofs.sender.GatesSender.record_dead_letter.Goals as goal
 
 pub invariant_of-self-2-clause-bounded : goal.invariant_of-self-2-clause-bounded
@@ -20,8 +20,8 @@ invariant_of-self-2-clause-bounded g c =
     (c.record_dead.ensures.posted ∙ ap (λ (l : List SentEnvelope). l ++ posting e (Some why.Closed) ∷ []) c.ready.ensures.same.3)
     (omega (arith, to, c.requires.present.0)) (omega (arith, to, c.requires.present.1)) me.bounded
 
-pub invariant_of-self-2-clause-vouched : goal.invariant_of-self-2-clause-vouched
-invariant_of-self-2-clause-vouched g c =
+pub invariant_of-self-2-clause-was_seen_closed : goal.invariant_of-self-2-clause-was_seen_closed
+invariant_of-self-2-clause-was_seen_closed g c =
     let me = c.args.self.now in
     let e = c.next-envelope.result in
     let log = (pass_view me.registrar.pass).log in
@@ -29,7 +29,7 @@ invariant_of-self-2-clause-vouched g c =
     let posted : c.record_dead.new.self.posted ≡ me.send_log.posted ++ posting e (Some why.Closed) ∷ []
     = c.record_dead.ensures.posted ∙ ap (λ (l : List SentEnvelope). l ++ posting e (Some why.Closed) ∷ []) c.ready.ensures.same.3 in
     ap (λ (l : List SentEnvelope). were_seen_closed log (dead_letters l)) posted
-    ∙ vouched-dead log me.send_log.posted e why.Closed (ap (has_seen_closed log) to ∙ c.requires.closed) me.vouched
+    ∙ was_seen_closed-dead log me.send_log.posted e why.Closed (ap (has_seen_closed log) to ∙ c.requires.closed) me.was_seen_closed
 
 pub returns-in_err-ready-clause-unsent : goal.returns-in_err-ready-clause-unsent
 returns-in_err-ready-clause-unsent g c =
@@ -64,4 +64,4 @@ pub returns-clause-is_dead_letter : goal.returns-clause-is_dead_letter
 returns-clause-is_dead_letter g c = search rules
 
 pub returns-clause-same : goal.returns-clause-same
-returns-clause-same g c = (refl, refl, c.record_dead.ensures.by ∙ c.ready.ensures.same.0)
+returns-clause-same g c = (refl, refl, c.record_dead.ensures.same_sender ∙ c.ready.ensures.same.0)

@@ -7,7 +7,7 @@ use Rattle.mb_register.proofs.Views.{does-enlisting, does-then}
 use Rattle.mb_journal.specs.Accepted.{dead_letters}
 use Rattle.mb_send.specs.SeenClosed.{were_seen_closed}
 use Rattle.mb_send.proofs.Obligations.{registers-nobody}
-use Rattle.mb_send.proofs.SeenClosed.{vouched-seen, vouched-does}
+use Rattle.mb_send.proofs.SeenClosed.{was_seen_closed-seen, was_seen_closed-does}
 use Rattle.mb_send.proofs.sender.GatesSender.stop.Goals as goal
 
 pub sys_enqueue-requires-clause-named : goal.sys_enqueue-requires-clause-named
@@ -17,11 +17,11 @@ pub invariant_of-self : goal.invariant_of-self
 invariant_of-self g c =
     let old = c.args.self.now in
     let dead = dead_letters old.send_log.posted in
-    let said = subst (λ (v : View). were_seen_closed v.log dead ≡ true) (sym c.in_default-sys_enqueue.ensures.ended.1) old.vouched in
+    let sent_system = subst (λ (v : View). were_seen_closed v.log dead ≡ true) (sym c.in_default-sys_enqueue.ensures.ended.1) old.was_seen_closed in
     record {
       routes = old.routes;
-      vouched = vouched-does c.args.id.0 [] [] (pass_view c.sys_enqueue.new.pass) (pass_view c.register.new.self.pass) dead
-          c.register.ensures.looks said;
+      was_seen_closed = was_seen_closed-does c.args.id.0 [] [] (pass_view c.sys_enqueue.new.pass) (pass_view c.register.new.self.pass) dead
+          c.register.ensures.looks sent_system;
       bounded = old.bounded;
     }
 
@@ -31,10 +31,10 @@ invariant_of-self-2 g c =
     let dead = dead_letters old.send_log.posted in
     let pushed = Pushed c.args.id.0 c.in-Ok-sys_enqueue.field-0 c.in-Ok.node in
     let listed = subst (λ (v : View). were_seen_closed v.log dead ≡ true) (sym c.in-Ok-sys_enqueue.ensures.listed)
-    (vouched-seen pushed (pass_view old.registrar.pass).log dead old.vouched) in
+    (was_seen_closed-seen pushed (pass_view old.registrar.pass).log dead old.was_seen_closed) in
     record {
       routes = old.routes;
-      vouched = vouched-does c.args.id.0 [] [] (pass_view c.sys_enqueue.new.pass) (pass_view c.register-2.new.self.pass) dead
+      was_seen_closed = was_seen_closed-does c.args.id.0 [] [] (pass_view c.sys_enqueue.new.pass) (pass_view c.register-2.new.self.pass) dead
           c.register-2.ensures.looks listed;
       bounded = old.bounded;
     }

@@ -18,8 +18,8 @@ returns-clause-same_gates g c =
       queues = ap (λ sends. receiving_queues sends.items) same.1 ∙ was.queues;
     }
 
-pub returns-clause-by : goal.returns-clause-by
-returns-clause-by g c = ap (λ send_log. send_log.by) c.look.ensures.same.0
+pub returns-clause-same_sender : goal.returns-clause-same_sender
+returns-clause-same_sender g c = ap (λ send_log. send_log.by) c.look.ensures.same.0
 
 pub returns-clause-seen : goal.returns-clause-seen
 returns-clause-seen g c = c.look.ensures.seen

@@ -15,8 +15,8 @@ returns-clause-same_gates g c =
       queues = did.queues ∙ was.queues;
     }
 
-pub returns-clause-by : goal.returns-clause-by
-returns-clause-by g c = c.put.ensures.same.0
+pub returns-clause-same_sender : goal.returns-clause-same_sender
+returns-clause-same_sender g c = c.put.ensures.same.0
 
 pub put-requires-clause-present : goal.put-requires-clause-present
 put-requires-clause-present g c =

@@ -3,7 +3,7 @@ use Rattle.mb_journal.specs.Accepted.{dead_letters}
 use Rattle.mb_gate.specs.Accessors.{actors_of, pass_view}
 use Rattle.mb_gate.specs.View.{Observation}
 use Rattle.mb_send.specs.SeenClosed.{were_seen_closed}
-use Rattle.mb_send.proofs.SeenClosed.{vouched-more}
+use Rattle.mb_send.proofs.SeenClosed.{was_seen_closed-more}
 use Rattle.mb_system.specs.Members.{sender_caller}
 use Rattle.mb_system.proofs.Obligations.{obligations-discharged}
 use Rattle.mb_register.proofs.Retries.{on-failure}
@@ -17,8 +17,8 @@ invariant_of-self g c =
     let dead = dead_letters old.send_log.posted in
     record {
       routes = old.routes;
-      vouched = subst (λ (l : List Observation). were_seen_closed l dead ≡ true) (sym c.retry_refused.ensures.looks.log)
-          (vouched-more c.retry_refused.ensures.looks.looks (pass_view old.registrar.pass).log dead old.vouched);
+      was_seen_closed = subst (λ (l : List Observation). were_seen_closed l dead ≡ true) (sym c.retry_refused.ensures.looks.log)
+          (was_seen_closed-more c.retry_refused.ensures.looks.looks (pass_view old.registrar.pass).log dead old.was_seen_closed);
       bounded = old.bounded;
     }
 
@@ -70,11 +70,11 @@ returns-in_err-retry_refused-clause-same_gates g c =
       queues = was.queues;
     }
 
-pub returns-clause-by : goal.returns-clause-by
-returns-clause-by g c = refl
+pub returns-clause-same_sender : goal.returns-clause-same_sender
+returns-clause-same_sender g c = refl
 
-pub returns-in_err-retry_refused-clause-by : goal.returns-in_err-retry_refused-clause-by
-returns-in_err-retry_refused-clause-by g c = refl
+pub returns-in_err-retry_refused-clause-same_sender : goal.returns-in_err-retry_refused-clause-same_sender
+returns-in_err-retry_refused-clause-same_sender g c = refl
 
 pub returns-clause-done : goal.returns-clause-done
 returns-clause-done g c = c.in_ok-retry_refused.ensures.done
@@ -83,10 +83,10 @@ pub returns-clause-refused : goal.returns-clause-refused
 returns-clause-refused g c = tt
 
 pub returns-clause-same : goal.returns-clause-same
-returns-clause-same g c = (c.retry_refused.ensures.looks.said, refl, refl)
+returns-clause-same g c = (c.retry_refused.ensures.looks.sent_system, refl, refl)
 
 pub returns-in_err-retry_refused-clause-same : goal.returns-in_err-retry_refused-clause-same
-returns-in_err-retry_refused-clause-same g c = (c.retry_refused.ensures.looks.said, refl, refl)
+returns-in_err-retry_refused-clause-same g c = (c.retry_refused.ensures.looks.sent_system, refl, refl)
 
 pub returns-in_err-retry_refused-clause-refused : goal.returns-in_err-retry_refused-clause-refused
 returns-in_err-retry_refused-clause-refused g c = no-memory c.from_residual.result c.from_residual.ensures.1

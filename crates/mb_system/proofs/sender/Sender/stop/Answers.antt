@@ -17,8 +17,8 @@ returns-clause-same_gates g c =
       queues = ap (λ sends. receiving_queues sends.items) did.same.1 ∙ was.queues;
     }
 
-pub returns-clause-by : goal.returns-clause-by
-returns-clause-by g c = ap (λ send_log. send_log.by) c.stop.ensures.same.0
+pub returns-clause-same_sender : goal.returns-clause-same_sender
+returns-clause-same_sender g c = ap (λ send_log. send_log.by) c.stop.ensures.same.0
 
 pub returns-clause-stopped : goal.returns-clause-stopped
 returns-clause-stopped g c = c.stop.ensures.stopped

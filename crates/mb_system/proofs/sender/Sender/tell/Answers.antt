@@ -15,8 +15,8 @@ returns-clause-same_gates g c =
       queues = did.queues ∙ was.queues;
     }
 
-pub returns-clause-by : goal.returns-clause-by
-returns-clause-by g c = c.tell.ensures.same.0
+pub returns-clause-same_sender : goal.returns-clause-same_sender
+returns-clause-same_sender g c = c.tell.ensures.same.0
 
 pub returns-clause-refused : goal.returns-clause-refused
 returns-clause-refused g c = c.tell.ensures.refused

@@ -1,0 +1,35 @@
+//! Laws of runs, for whoever proves more of a report.
+ghost use Rattle.std.specs.Prelude.{◌≡◌, ℕ, [], ◌∷◌, List, count_by, false, sum_by, true};
+ghost use Rattle.mb_actor.specs.Behaviour.{Moment, Reply};
+ghost use Rattle.mb_journal.specs.Acts.{stop_acts};
+ghost use Rattle.mb_journal.specs.Entry.{Entry};
+ghost use Rattle.mb_journal.specs.Identity.{Identity, is_guardian};
+ghost use Rattle.mb_journal.specs.Incarnation.{messages};
+ghost use Rattle.mb_journal.specs.Lawful.{AreLawful};
+ghost use Rattle.mb_journal.specs.Tells.{AddressedBody, tells, tells_of_journal};
+ghost use Rattle.mb_msg.specs.declared.envelope.Body.TheVariants.{Terminated};
+ghost use Rattle.mb_msg.specs.declared.id.ActorId.{ActorId as Id};
+ghost use Rattle.mb_report.specs.Counts.{tells_of_restart};
+ghost use Rattle.heddleorange.specs.Reading.{handled_messages};
+
+use mb_actor::Behaviours;
+
+/// A law: if what each call of an actor sends weighs as much by one weight as by another, and so does a notice to itself that a
+/// watched actor has ended, so does all that it ever sent. The guardian sends nothing but such notices.
+pub fn what_actors_send_is_asked_for<K: Behaviours>()
+    ensures actors { (one other : AddressedBody → ℕ) (who : Identity) (journal : List Entry)
+        → ((ended : Id) → one (who.this, Terminated ended) ≡ other (who.this, Terminated ended))
+        → ((moment : Moment) (reply : Reply) → K.gives who.this.0 moment reply
+        → sum_by one (tells (stop_acts reply.effects)) ≡ sum_by other (tells (stop_acts reply.effects)))
+        → AreLawful who (K.gives who.this.0) journal → sum_by one (tells_of_journal who journal) ≡ sum_by other (tells_of_journal who journal) }
+    ensures guardian { (one other : AddressedBody → ℕ) (who : Identity) (journal : List Entry)
+        → ((ended : Id) → one (who.this, Terminated ended) ≡ other (who.this, Terminated ended))
+        → is_guardian who ≡ true
+        → AreLawful who (K.gives who.this.0) journal → sum_by one (tells_of_journal who journal) ≡ sum_by other (tells_of_journal who journal) }
+{}
+
+/// A law: the messages of an actor that was never restarted are those of all envelopes that it handled.
+pub fn an_actor_without_a_restart_has_handled_all<K: Behaviours>()
+    ensures { (who : Identity) (journal : List Entry) → is_guardian who ≡ false → AreLawful who (K.gives who.this.0) journal
+        → count_by tells_of_restart journal ≡ 0 → messages who journal ≡ handled_messages journal }
+{}

@@ -1,0 +1,14 @@
+//! The forms of a trace beside text: lines of JSON, a sequence diagram in SVG, and a page of HTML.
+//!
+//! Each shows the entries that the text shows, in the same order.
+#![tactic(auto)]
+
+mod json;
+mod json_rest;
+mod letters;
+mod order;
+mod picture;
+mod shown;
+
+pub use json::write_json;
+pub use picture::{write_html, write_svg};

@@ -1,0 +1,94 @@
+//! A trace as a picture.
+use crate::letters::letters_of;
+use crate::order::order_of;
+use crate::shown::Shown;
+use mb_diagram::Picture;
+use mb_report::report_text;
+use mb_trace::{Filter, Trace, TraceError, TurnLength};
+use std::alloc::{AllocError, Global};
+use std::io::Write;
+
+/// Writes the sequence diagram of the entries and the dead letters that the filter leaves, as an SVG document. From top to bottom it has a
+/// quiet run turn by turn, and one on threads actor by actor.
+///
+/// The errors: `NoMemory`, `Closed` where whoever reads the output has closed it, and `Os` where writing failed otherwise.
+pub fn write_svg<W: Write>(
+    alloc: Global,
+    trace: &Trace<'_>,
+    filter: &Filter<'_>,
+    out: &mut W,
+) -> Result<(), TraceError> {
+    let entries = entries_of(alloc, trace, filter)?;
+    let letters = letters_of(alloc, trace, filter)?;
+    let picture = Picture {
+        names: trace.names,
+        report: trace.report,
+        entries: &entries,
+        letters: &letters,
+    };
+    mb_diagram::write_svg(alloc, out, &picture)?;
+    Ok(())
+}
+
+/// Writes a page of HTML that needs no other file: the text of the report, that diagram, and the journals as far as the filter leaves them.
+///
+/// The errors are those of `write_svg`.
+pub fn write_html<W: Write>(
+    alloc: Global,
+    trace: &Trace<'_>,
+    filter: &Filter<'_>,
+    out: &mut W,
+) -> Result<(), TraceError> {
+    let entries = entries_of(alloc, trace, filter)?;
+    let letters = letters_of(alloc, trace, filter)?;
+    let picture = Picture {
+        names: trace.names,
+        report: trace.report,
+        entries: &entries,
+        letters: &letters,
+    };
+    let report = report_of(alloc, trace)?;
+    mb_diagram::write_html(alloc, out, &picture, report.as_str())?;
+    Ok(())
+}
+
+/// The text of the report, which has an actor for each name and the guardian; of any other it is empty.
+fn report_of(alloc: Global, trace: &Trace<'_>) -> Result<String, AllocError> {
+    if trace.report.actors.len() != trace.names.len() + 1 {
+        return Ok(String::new(alloc));
+    }
+    report_text(alloc, trace.report, trace.names)
+}
+
+/// The entries that are shown, in order.
+fn entries_of<'a>(
+    alloc: Global,
+    trace: &Trace<'a>,
+    filter: &Filter<'a>,
+) -> Result<Vec<mb_diagram::ShownEntry<'a>>, AllocError> {
+    let order = order_of(alloc, trace)?;
+    let mut shown = Shown::new(alloc, trace, filter)?;
+    let mut entries = Vec::new(alloc);
+    for turn in &order {
+        add_turn(&mut entries, &mut shown, turn)?;
+    }
+    Ok(entries)
+}
+
+/// Adds the entries of a turn that are shown.
+fn add_turn<'a>(
+    entries: &mut Vec<mb_diagram::ShownEntry<'a>>,
+    shown: &mut Shown<'a>,
+    turn: &TurnLength,
+) -> Result<(), AllocError> {
+    for _ in 0..turn.entries {
+        if let Some(step) = shown.pass(turn.actor) {
+            entries.push(mb_diagram::ShownEntry {
+                actor: step.actor,
+                index: step.index,
+                entry: step.entry,
+            })?;
+        }
+    }
+    Ok(())
+}
