@@ -68,6 +68,7 @@ fn trace_of<'a>(
     Trace {
         names: scenario.names.as_slice(),
         plan: &scenario.plan,
+        sends: scenario.sends.as_slice(),
         scripts: scenario.scripts.as_slice(),
         report: &run.report,
         turns,

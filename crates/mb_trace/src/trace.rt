@@ -1,5 +1,5 @@
 //! What a trace is made of.
-use mb_msg::{ActorId, Plan};
+use mb_msg::{ActorId, Plan, SenderOrder};
 use mb_report::Report;
 use mb_script::Script;
 
@@ -11,6 +11,8 @@ pub struct Trace<'a> {
     pub names: &'a [String],
     /// The plan of the system.
     pub plan: &'a Plan,
+    /// What senders outside the actors were to send.
+    pub sends: &'a [SenderOrder],
     /// The scripts as they were read, before any call.
     pub scripts: &'a [Script],
     /// What the run came to.

@@ -1,0 +1,3 @@
+pub mod Watched
+pub mod Followed
+pub mod Order

@@ -1,0 +1,205 @@
+//! The merged order of journals that were made by hand. What is wanted was found by hand too.
+use mb_actor::{Answer, Effect, Phase};
+use mb_causal_order::{Place, merged_order};
+use mb_journal::Journal;
+use mb_msg::{
+    ActorId, ActorPlan, Body, Envelope, MailboxType, Order, OrderKind, Plan, PoolKind, SenderId,
+    SenderOrder, Strategy, SysMsg,
+};
+use mb_report::ActorReport;
+use std::alloc::{AllocError, Global};
+use std::test::Fail;
+
+/// What came to an actor, and what it asked for.
+#[derive(Clone, Copy)]
+enum Came<'a> {
+    System(SysMsg, &'a [Effect]),
+    Envelope(Envelope, &'a [Effect]),
+}
+
+/// The report of an actor to which this came.
+fn actor(alloc: Global, came: &[Came<'_>]) -> Option<ActorReport> {
+    let mut journal = Journal::new(alloc, 100);
+    let mut number = 0;
+    for one in came {
+        journal.ready().ok()?;
+        match *one {
+            Came::System(message, effects) => {
+                if effects.len() > 16 {
+                    return None;
+                }
+                journal.push_system(number, message, None, effects);
+                number = u64::checked_add(number, 1)?;
+            }
+            Came::Envelope(envelope, effects) => {
+                if effects.len() > 16 {
+                    return None;
+                }
+                journal.push_handled(envelope, 0, Some(Answer::Handled), effects);
+            }
+        }
+    }
+    Some(ActorReport {
+        phase: Phase::Live,
+        count: 0,
+        state: None,
+        journal,
+        aside: Vec::new(alloc),
+        left: Vec::new(alloc),
+        cleaned: Vec::new(alloc),
+        dead_system: 0,
+    })
+}
+
+/// A plan of two actors, of which the guardian is the parent.
+fn plan(alloc: Global) -> Option<Plan> {
+    Some(Plan {
+        throughput: 5,
+        workers: 2,
+        pool: PoolKind::Shared,
+        senders: 1,
+        journal_limit: 100,
+        actors: vec![in alloc; child(alloc), child(alloc)].ok()?,
+    })
+}
+
+fn child(alloc: Global) -> ActorPlan {
+    ActorPlan {
+        parent: ActorId(0),
+        mailbox: MailboxType::Unbounded,
+        strategy: Strategy {
+            rows: Vec::new(alloc),
+            retries: -1,
+            all_for_one: false,
+        },
+    }
+}
+
+/// An envelope with this number by that sender.
+fn envelope(by: u32, number: u64, to: u32, body: Body) -> Envelope {
+    Envelope {
+        by: SenderId(by),
+        to: ActorId(to),
+        number,
+        body,
+    }
+}
+
+fn user(by: u32, number: u64, to: u32) -> Envelope {
+    envelope(by, number, to, Body::User { kind: 1, value: 1 })
+}
+
+fn tell(to: u32) -> Effect {
+    Effect::Tell {
+        to: ActorId(to),
+        kind: 1,
+        value: 1,
+    }
+}
+
+/// The order of what came to the guardian and the actors 1 and 2; `None` where none is found.
+fn order_of(
+    alloc: Global,
+    guardian: &[Came<'_>],
+    first: &[Came<'_>],
+    second: &[Came<'_>],
+) -> Result<Option<Vec<Place>>, AllocError> {
+    let plan = plan(alloc).ok_or(AllocError)?;
+    let stop = SenderOrder {
+        from: 0,
+        order: Order {
+            to: ActorId(2),
+            what: OrderKind::Stop,
+            times: 1,
+        },
+    };
+    let guardian = actor(alloc, guardian).ok_or(AllocError)?;
+    let first = actor(alloc, first).ok_or(AllocError)?;
+    let second = actor(alloc, second).ok_or(AllocError)?;
+    let actors = [guardian, first, second];
+    merged_order(alloc, &plan, &[stop], &actors)
+}
+
+/// Whether it is this order, each place as the number of the actor and the place in its journal.
+fn is_order(found: &Option<Vec<Place>>, wanted: &[(usize, usize)]) -> bool {
+    let Some(found) = found else {
+        return false;
+    };
+    if found.len() != wanted.len() {
+        return false;
+    }
+    for (place, (actor, index)) in found.iter().zip(wanted) {
+        if place.actor != *actor || place.index != *index {
+            return false;
+        }
+    }
+    true
+}
+
+/// The actor 1 is told something from outside and tells 2, which answers.
+#[test]
+fn an_answer_comes_after_what_it_answers(rt: HostRuntime) -> Result<(), Fail> {
+    let create = Came::System(SysMsg::Create, &[]);
+    let found = order_of(
+        rt.alloc(),
+        &[create],
+        &[
+            create,
+            Came::Envelope(user(64, 0, 1), &[tell(2)]),
+            Came::Envelope(user(2, 0, 1), &[]),
+        ],
+        &[create, Came::Envelope(user(1, 0, 2), &[tell(1)])],
+    )?;
+    let wanted = [(0, 0), (1, 0), (1, 1), (2, 0), (2, 1), (1, 2)];
+    assert!(rt; is_order(&found, &wanted));
+    Ok(())
+}
+
+/// The actor 1 watches 2, which is stopped from outside. The end of 2 comes to its parent and to 1 after all that came to 2, and the
+/// Terminated that 1 sends itself after that.
+#[test]
+fn an_end_comes_after_all_that_came_before_it(rt: HostRuntime) -> Result<(), Fail> {
+    let create = Came::System(SysMsg::Create, &[]);
+    let died = Came::System(SysMsg::Died(ActorId(2)), &[]);
+    let terminated = envelope(1, 0, 1, Body::Terminated(ActorId(2)));
+    let found = order_of(
+        rt.alloc(),
+        &[create, died],
+        &[
+            Came::System(SysMsg::Create, &[Effect::Watch(ActorId(2))]),
+            died,
+            Came::Envelope(terminated, &[]),
+        ],
+        &[
+            create,
+            Came::System(SysMsg::Watch(ActorId(1)), &[]),
+            Came::System(SysMsg::Terminate, &[]),
+        ],
+    )?;
+    let wanted = [
+        (0, 0),
+        (1, 0),
+        (2, 0),
+        (2, 1),
+        (2, 2),
+        (0, 1),
+        (1, 1),
+        (1, 2),
+    ];
+    assert!(rt; is_order(&found, &wanted));
+    Ok(())
+}
+
+/// Each of two actors tells the other something only once it was told something: no run has these journals.
+#[test]
+fn journals_of_no_run_have_no_order(rt: HostRuntime) -> Result<(), Fail> {
+    let create = Came::System(SysMsg::Create, &[]);
+    let found = order_of(
+        rt.alloc(),
+        &[create],
+        &[create, Came::Envelope(user(2, 0, 1), &[tell(2)])],
+        &[create, Came::Envelope(user(1, 0, 2), &[tell(1)])],
+    )?;
+    assert!(rt; found.is_none());
+    Ok(())
+}
