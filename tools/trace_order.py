@@ -1,10 +1,27 @@
-"""Whether the order in the trace of a run on threads agrees with what caused what, by the lines of the trace and the scenario alone. It
+"""Whether the order in the trace of a run on threads agrees with what caused what, by the entries that it shows and the scenario alone. It
 shares nothing with the program: what it asks of an entry follows from docs/SEMANTICS.md."""
 
 import collections
+import json
 import re
+import typing
 
-ENTRY = re.compile(r"  (?! )(?:system #(?P<system>\d+)|(?P<sender>\S+(?: \d+)?) #(?P<number>\d+)) (?P<message>.*?): (?P<outcome>[a-z]+(?: [a-z]+| \d+)?)(?:, .*)?")
+LINE = re.compile(r"  (?! )(?:system #(?P<system>\d+)|(?P<sender>\S+(?: \d+)?) #(?P<number>\d+)) (?P<message>.*?): (?P<outcome>[a-z]+(?: [a-z]+| \d+)?)(?:, .*)?")
+
+
+class Entry(typing.NamedTuple):
+    """An entry of the journal of its owner: who sent what came (None of a system message) and under which number, the words of the
+    message and of the outcome, and the words of each effect."""
+
+    owner: str
+    sender: str | None
+    number: int
+    message: list
+    outcome: str
+    effects: list
+
+    def __str__(self):
+        return f"{self.sender or 'system'} #{self.number} {' '.join(self.message)}"
 
 
 class Actor:
@@ -15,45 +32,58 @@ class Actor:
         self.watching, self.came, self.did = set(), collections.Counter(), collections.Counter()
 
 
-def entries_of(trace):
-    """Each entry in the order of the trace: its actor, what its line says, and its effects, each as its words."""
+def entries_of_text(trace):
+    """The entries in the order of a trace's text."""
     found = []
     for line in trace.splitlines():
         if title := re.fullmatch(r"actor (\S+)", line):
             owner = title[1]
         elif line.startswith("    "):
-            found[-1][2].append(line.split())
+            found[-1].effects.append(line.split())
         elif line.startswith("  "):
-            found.append((owner, ENTRY.fullmatch(line), []))
+            parts = LINE.fullmatch(line)
+            number = int(parts["number"] or parts["system"])
+            found.append(Entry(owner, parts["sender"], number, parts["message"].split(), parts["outcome"], []))
     return found
 
 
-def order_faults(trace, top):
-    """What is wrong with the order in this trace of a run of the scenario."""
-    found = entries_of(trace)
-    actors = collections.defaultdict(Actor)
+def words_of(message):
+    """The words of a message that is an object."""
+    what = message["what"]
+    return [what, *(["by"] if what in ("watch", "unwatch") else []), *([message["actor"]] if "actor" in message else [])]
+
+
+def entries_of_lines(lines):
+    """The entries in the order of lines of JSON."""
+    found = [line for line in map(json.loads, lines.splitlines()) if line["line"] == "entry"]
+    effects = [[[effect["do"], effect["to"]] for effect in line["effects"]] for line in found]
+    return [Entry(line["actor"], line["sender"], line["number"], words_of(line["message"]), line["outcome"], asked) for line, asked in zip(found, effects)]
+
+
+def cause_faults(found, top):
+    """What is wrong with the order of these entries of a run of the scenario."""
+    found, actors = [*found], collections.defaultdict(Actor)
     parents = {table["name"]: table.get("parent", "guardian") for table in top.get("actor", [])}
     stopped = collections.Counter()
     for send in top.get("send", []):
         stopped[send["to"]] += send.get("times", 1) if send.get("what") == "stop" else 0
-    last = {owner: place for place, (owner, _, _) in enumerate(found)}
-    for place, (owner, line, effects) in enumerate(found):
-        actor, message = actors[owner], line["message"].split()
-        fault = cause_fault(actors, parents, stopped, last, place, owner, line, message)
+    last = {entry.owner: place for place, entry in enumerate(found)}
+    for place, entry in enumerate(found):
+        fault = missing_cause(actors, parents, stopped, last, place, entry)
         if fault:
-            return [f"{line[0].strip()} of {owner} at {place}: {fault}"]
-        take(actors, actor, owner, line, message, effects, stopped)
+            return [f"{entry} of {entry.owner} at {place}: {fault}"]
+        take(actors, entry, stopped)
     return []
 
 
-def cause_fault(actors, parents, stopped, last, place, owner, line, message):
+def missing_cause(actors, parents, stopped, last, place, entry):
     """What does not stand before the entry and should."""
-    if line["system"] is None:
-        sender = line["sender"]
-        if not sender.startswith("outside ") and actors[sender].sent <= int(line["number"]):
-            return f"{sender} has sent {actors[sender].sent} envelopes so far"
+    owner, message = entry.owner, entry.message
+    if entry.sender is not None:
+        if not entry.sender.startswith("outside ") and actors[entry.sender].sent <= entry.number:
+            return f"{entry.sender} has sent {actors[entry.sender].sent} envelopes so far"
         return None
-    if int(line["system"]) < actors[owner].arrived:
+    if entry.number < actors[owner].arrived:
         return None
     kind, parent = message[0], parents.get(owner)
     if kind == "died" and last.get(message[1], -1) > place:
@@ -73,17 +103,18 @@ def cause_fault(actors, parents, stopped, last, place, owner, line, message):
     return None
 
 
-def take(actors, actor, owner, line, message, effects, stopped):
+def take(actors, entry, stopped):
     """Notes what the entry says of its actor and what it asks for."""
-    kind, outcome = message[0], line["outcome"]
+    actor, owner, message = actors[entry.owner], entry.owner, entry.message
+    kind, outcome = message[0], entry.outcome
     actor.entries += 1
-    if line["system"] is not None and int(line["system"]) >= actor.arrived:
-        actor.arrived = int(line["system"]) + 1
+    if entry.sender is None and entry.number >= actor.arrived:
+        actor.arrived = entry.number + 1
         actor.came[kind] += 1
         actor.came[kind, message[2] if kind in ("watch", "unwatch") else message[1] if len(message) > 1 else ""] += 1
     if outcome == "set aside":
         return
-    if kind == "died" and line["system"] is not None and message[1] in actor.watching:
+    if kind == "died" and entry.sender is None and message[1] in actor.watching:
         actor.watching.discard(message[1])
         actor.sent += 1
     if kind == "terminate":
@@ -94,7 +125,7 @@ def take(actors, actor, owner, line, message, effects, stopped):
         actor.did["failure"] += 1
     stopped[owner] += kind == "poison"
     lasts = kind not in ("terminate", "died")
-    for verb, to, *_ in effects:
+    for verb, to, *_ in entry.effects:
         actor.sent += verb in ("tell", "control")
         if lasts:
             actor.did[verb, to] += 1

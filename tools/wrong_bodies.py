@@ -35,6 +35,20 @@ def changes(edit):
             yield path, old, line.removeprefix("new:").removeprefix(" ")
 
 
+def applied(edits):
+    """The texts of the files that these wrong bodies of a crate change, by their paths in it, with the changes of them all; none, if one of
+    them can't be applied: each old text has to stand once."""
+    texts = {}
+    for edit in edits:
+        for path, old, new in changes(edit):
+            file = edit.parent.parent / path
+            text = texts.get(path) or (file.read_text() if file.is_file() else "")
+            if text.count(old) != 1:
+                return {}
+            texts[path] = text.replace(old, new)
+    return texts
+
+
 def shortened(text, before, after):
     """The text where two differ, so many letters from its ends, with some words about it."""
     first, last = max(before - ABOUT, 0), len(text) - max(after - ABOUT, 0)

@@ -1,12 +1,16 @@
 -- An account's balance adds up.
-use Rattle.std.proofs.Common.{◌≡◌, ℕ, ◌+◌, ℤ, pos, negsuc, ◌+ℤ◌, ◌-ℤ◌, neg_ℤ, Bool, true, false, ◌==◌, if◌then◌else◌, List, [], ◌∷◌, refl, sym, ap, ◌∙◌}
-use Rattle.std.proofs.Math.IntN.{+ℤ_assoc, +ℤ_comm, +ℤ_idl, +ℤ_idr, +ℤ_invl, negsuc-eq}
+use Rattle.std.proofs.Common.{◌≡◌, ℤ, pos, ◌+ℤ◌, ◌-ℤ◌, neg_ℤ, Bool, true, false, if◌then◌else◌, ◌==◌, List, [], ◌∷◌, ◌++◌, refl, sym, ap, ◌∙◌}
+use Rattle.std.proofs.Math.IntN.{+ℤ_assoc, +ℤ_idl, +ℤ_idr}
 use Rattle.std.proofs.lemmas.Bool.{false≢true}
-use Rattle.std.proofs.lemmas.List.Sums.{sum_by-cons}
+use Rattle.std.proofs.lemmas.List.Sums.{fold-append}
+use Rattle.mb_actor.specs.declared.call.Call.{Call}
+use Rattle.mb_actor.specs.declared.call.Call.TheVariants.{Start, Receive, Restart, Stop}
+use Rattle.mb_actor.specs.declared.effect.Effect.{Effect}
 use Rattle.mb_actor.specs.declared.message.Message.{Message}
 use Rattle.mb_actor.specs.declared.message.Message.TheVariants.{User, Control, Terminated}
-use Rattle.bank_actors.specs.BankAccount.{balance_after, booked, is_balance, sum_with}
-use Rattle.bank_actors.specs.Bookings.{AreBooked, IsBooked, above, added_by, all_given, all_taken, below}
+use Rattle.mb_quantity.specs.Quantity.{AllBooked, HoldsWhatItBooks, LosesNothing, all_sent, sum_of}
+use Rattle.bank_actors.specs.BankAccount.{account_gives, balance_after, booked, is_balance, sum_with}
+use Rattle.bank_actors.specs.Bookings.{account, added_by, is_booked}
 use Rattle.bank_actors.specs.Money.{deposit, withdraw}
 
 sum-worth : (balance amount : ℤ) (is_deposit is_withdraw : Bool)
@@ -21,41 +25,30 @@ taken-if true sum balance h = refl
 taken-if false sum balance h = absurd (false≢true h)
 
 -- a message that is booked adds what it is worth
-booked-adds : (balance : ℤ) (m : Message) → IsBooked balance m → booked balance m ≡ balance +ℤ added_by m
+booked-adds : (balance : ℤ) (m : Message) → is_booked balance m ≡ true → booked balance m ≡ balance +ℤ added_by m
 booked-adds balance (User kind value) fits =
     taken-if (is_balance (sum_with balance kind value)) (sum_with balance kind value) balance fits
     ∙ sum-worth balance value (kind == deposit) (kind == withdraw)
 booked-adds balance (Control kind value) fits = sym (+ℤ_idr balance)
 booked-adds balance (Terminated who) fits = sym (+ℤ_idr balance)
 
--- a number is what it is above zero less what it is below
-above-below : (z : ℤ) → z +ℤ pos (below z) ≡ pos (above z)
-unfolding lib.IntN.one
-above-below (pos n) = +ℤ_idr (pos n)
-above-below (negsuc n) = ap (λ z. z +ℤ pos (n + 1)) (negsuc-eq n) ∙ +ℤ_invl (pos n +ℤ pos 1)
-
-pos-add : (a b : ℕ) → pos (a + b) ≡ pos a +ℤ pos b
-pos-add a b = refl
-
-one_more : (balance w rest : ℤ) (l g taken given : ℕ) → w +ℤ pos l ≡ pos g → rest +ℤ pos taken ≡ balance +ℤ w +ℤ pos given
-    → rest +ℤ pos (l + taken) ≡ balance +ℤ pos (g + given)
-one_more balance w rest l g taken given here before =
-    ap (λ n. rest +ℤ n) (pos-add l taken ∙ +ℤ_comm (pos l) (pos taken))
-    ∙ sym (+ℤ_assoc rest (pos taken) (pos l))
-    ∙ ap (λ n. n +ℤ pos l) before
-    ∙ +ℤ_assoc (balance +ℤ w) (pos given) (pos l)
-    ∙ ap (λ n. balance +ℤ w +ℤ n) (+ℤ_comm (pos given) (pos l))
-    ∙ sym (+ℤ_assoc (balance +ℤ w) (pos l) (pos given))
-    ∙ ap (λ n. n +ℤ pos given) (+ℤ_assoc balance w (pos l) ∙ ap (λ n. balance +ℤ n) here)
-    ∙ +ℤ_assoc balance (pos g) (pos given)
-    ∙ ap (λ n. balance +ℤ n) (sym (pos-add g given))
-
-pub balance_adds_up : (opening : ℤ) (messages : List Message) → AreBooked opening messages
-    → balance_after opening messages +ℤ pos (all_taken messages) ≡ opening +ℤ pos (all_given messages)
-balance_adds_up opening [] all = refl
+pub balance_adds_up : (opening : ℤ) (messages : List Message) → AllBooked (account opening) messages
+    → balance_after opening messages ≡ opening +ℤ sum_of added_by messages
+balance_adds_up opening [] all = sym (+ℤ_idr opening)
 balance_adds_up opening (m ∷ messages) all =
-    ap (λ n. balance_after opening (m ∷ messages) +ℤ pos n) (sum_by-cons (λ x. below (added_by x)) m messages)
-    ∙ one_more opening (added_by m) (balance_after (booked opening m) messages) (below (added_by m)) (above (added_by m))
-    (all_taken messages) (all_given messages) (above-below (added_by m))
-    (balance_adds_up (booked opening m) messages all.1 ∙ ap (λ b. b +ℤ pos (all_given messages)) (booked-adds opening m all.0))
-    ∙ ap (λ n. opening +ℤ pos n) (sym (sum_by-cons (λ x. above (added_by x)) m messages))
+    balance_adds_up (booked opening m) messages (λ before x rest is. all (m ∷ before) x rest (ap (λ l. m ∷ l) is))
+    ∙ ap (λ n. n +ℤ sum_of added_by messages) (booked-adds opening m (all [] m messages refl))
+    ∙ +ℤ_assoc opening (added_by m) (sum_of added_by messages)
+
+pub account-holds : (opening : ℤ) → HoldsWhatItBooks added_by (account opening) (account_gives opening)
+account-holds opening moment reply given = by_call moment.call reply.effects given.1
+  where
+    by_call : (call : Call) (effects : List Effect) → effects ≡ [] → LosesNothing added_by (account opening) moment.messages call effects
+    by_call Start effects none = ap (all_sent added_by) none
+    by_call (Restart cause) effects none = ap (all_sent added_by) none
+    by_call Stop effects none = ap (all_sent added_by) none
+    by_call (Receive m) effects none = λ fits.
+        (ap (λ n. balance_after opening (moment.messages ++ m ∷ []) +ℤ n) (ap (all_sent added_by) none)
+        ∙ +ℤ_idr (balance_after opening (moment.messages ++ m ∷ []))
+        ∙ fold-append booked opening moment.messages (m ∷ [])
+        ∙ booked-adds (balance_after opening moment.messages) m fits)

@@ -1,8 +1,9 @@
 //! Accounts.
-ghost use Rattle.std.specs.Prelude.{◌≡◌, ℤ, ◌+ℤ◌, pos, List};
+ghost use Rattle.std.specs.Prelude.{◌≡◌, ℤ, ◌+ℤ◌, List};
 ghost use Rattle.mb_actor.specs.declared.message.Message.{Message as MessageOf};
-ghost use Rattle.bank_actors.specs.BankAccount.{answer_at, balance_after, booked_amount};
-ghost use Rattle.bank_actors.specs.Bookings.{AreBooked, all_given, all_taken};
+ghost use Rattle.mb_quantity.specs.Quantity.{AllBooked, HoldsWhatItBooks, sum_of};
+ghost use Rattle.bank_actors.specs.BankAccount.{account_gives, answer_at, balance_after, booked_amount};
+ghost use Rattle.bank_actors.specs.Bookings.{account, added_by};
 
 use crate::kinds::{DEPOSIT, OUT_OF_RANGE, OVERDRAFT, WITHDRAW};
 use mb_actor::{Actor, Answer, Message, Outbox};
@@ -84,8 +85,14 @@ impl Actor for BankAccount {
     }
 }
 
-/// A law: where each message is booked, an account has what it was opened with and what it was given, less what was taken from it.
+/// A law: where each message is booked, an account has what it was opened with, and what the messages add.
 pub fn adds_up()
-    ensures { (opening : ℤ) (messages : List MessageOf) → AreBooked opening messages
-        → balance_after opening messages +ℤ pos (all_taken messages) ≡ opening +ℤ pos (all_given messages) }
+    ensures { (opening : ℤ) (messages : List MessageOf) → AllBooked (account opening) messages
+        → balance_after opening messages ≡ opening +ℤ sum_of added_by messages }
+{}
+
+/// A law: an account holds what it books. A message that is booked changes its balance by what the message is worth, and no call
+/// sends any money.
+pub fn holds_what_it_books()
+    ensures { (opening : ℤ) → HoldsWhatItBooks added_by (account opening) (account_gives opening) }
 {}

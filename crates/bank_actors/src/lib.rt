@@ -8,6 +8,6 @@ mod bank_account;
 mod kinds;
 mod teller;
 
-pub use bank_account::{BankAccount, adds_up};
+pub use bank_account::{BankAccount, adds_up, holds_what_it_books};
 pub use kinds::{DEPOSIT, NO_ACCOUNT, OUT_OF_RANGE, OVERDRAFT, TRANSFER, WITHDRAW};
 pub use teller::{Teller, gives_what_it_takes};

@@ -1,8 +1,8 @@
 //! Tellers.
 ghost use Rattle.std.specs.Prelude.{◌≡◌, [], pos};
-ghost use Rattle.mb_actor.specs.Behaviour.{Moment, Reply};
 ghost use Rattle.mb_msg.specs.declared.id.ActorId.{ActorId as Id};
-ghost use Rattle.bank_actors.specs.Bookings.{IsEven};
+ghost use Rattle.mb_quantity.specs.Quantity.{SendsEvenly};
+ghost use Rattle.bank_actors.specs.Bookings.{added_by};
 ghost use Rattle.bank_actors.specs.Teller.{answer_of_transfer, moved, opened, teller_gives};
 
 use crate::kinds::{DEPOSIT, NO_ACCOUNT, TRANSFER, WITHDRAW};
@@ -109,5 +109,5 @@ impl Actor for Teller {
 
 /// A law: in each call, a teller gives accounts as much as it takes from them.
 pub fn gives_what_it_takes()
-    ensures { (from to : Id) (moment : Moment) (reply : Reply) → teller_gives from to moment reply → IsEven reply.effects }
+    ensures { (from to : Id) → SendsEvenly added_by (teller_gives from to) }
 {}

@@ -10,7 +10,7 @@ mod held;
 mod paired;
 mod shown;
 
-use alone::{Work, measure};
+use alone::{GateWork, measure};
 use desk::{BenchHome, two};
 use held::fill;
 use mb_gate::{Gates, Pass};
@@ -46,15 +46,15 @@ fn measure_each<R: Clock + Wait + Print + Eprint>(
     requires same_gates { pass_id pass.old ≡ gates_id gates.now }
     requires present { 1 < actors_of gates.now }
 {
-    measure(rt, gates, pass, "a status load", Work::Load)?;
-    measure(rt, gates, pass, "a won turn", Work::Turn)?;
-    measure(rt, gates, pass, "an envelope noted", Work::Note)?;
-    measure(rt, gates, pass, "a drain of an empty list", Work::Drain)?;
+    measure(rt, gates, pass, "a status load", GateWork::Load)?;
+    measure(rt, gates, pass, "a won turn", GateWork::Turn)?;
+    measure(rt, gates, pass, "an envelope noted", GateWork::Note)?;
+    measure(rt, gates, pass, "a drain of an empty list", GateWork::Drain)?;
     let Some(()) = fill(rt, alloc, gates, pass) else {
         return Err(ErrorKind::OutOfMemory.into());
     };
     let what = "a system message put in, with its part of a drain";
-    measure(rt, gates, pass, what, Work::GoRound)
+    measure(rt, gates, pass, what, GateWork::GoRound)
 }
 
 fn two_threads<R: Clock + Threads + Sync + Print + Eprint>(

@@ -13,3 +13,10 @@ pub mod Ledger
 pub mod Told
 pub mod Lives
 pub mod Weighed
+pub mod Worth
+pub mod Held
+pub mod Conserved
+pub mod Lookup
+pub mod InOrder
+pub mod InTurn
+pub mod QuietReport

@@ -1,6 +1,6 @@
 -- Why a whole run gave no report, in the words of the plan.
 use Rattle.std.proofs.Common.{◌≡◌, ℕ, List, sym, subst}
-use Rattle.std.specs.Prelude.{All, ◌<◌}
+use Rattle.std.specs.Prelude.{All, Err, IfErr, Ok, Result, ◌<◌}
 use Rattle.mb_actor.specs.Behaviour.{Moment, Reply}
 use Rattle.mb_msg.specs.declared.plan.Plan.{Plan}
 use Rattle.mb_shutdown.specs.Mismatched.{of_whom}
@@ -17,7 +17,7 @@ use Rattle.mb_shutdown.proofs.NotFinished.{does-not-agree, work-left}
 use Rattle.mb_startup.proofs.Directories.{still-planned, still-senders, still-there}
 use Rattle.heddleorange.specs.NoReport.{IsErrorOfRun, IsRight, IsErrorFor, IsUnfit}
 use Rattle.heddleorange.specs.declared.error.Error.{Error}
-use Rattle.heddleorange.specs.declared.error.Error.TheVariants.{BadPlan, Sends, NoMemory, Run, NotQuiet, Mismatch}
+use Rattle.heddleorange.specs.declared.error.Error.TheVariants.{BadPlan, Sends, NoMemory, Run, NotQuiet, Mismatch, NameTaken}
 
 -- what is refused before anything is done has no story
 pub unfit : (gives : ℕ → Moment → Reply → Type 0) (plan : Plan) (actors : ℕ) (orders : List (List Order)) (error : Error)
@@ -30,6 +30,13 @@ unfit gives plan actors orders (Run Fault.NoMemory) refused = absurd refused
 unfit gives plan actors orders (Run Fault.JournalFull) refused = absurd refused
 unfit gives plan actors orders (NotQuiet id) refused = absurd refused
 unfit gives plan actors orders (Mismatch what) refused = absurd refused
+unfit gives plan actors orders (NameTaken id) refused = absurd refused
+
+-- what is right is not built only for want of memory
+pub only-memory : {T : Type 0} (gives : ℕ → Moment → Reply → Type 0) (plan : Plan) (actors : ℕ) (orders : List (List Order)) (result : Result T Error)
+    → IsRight plan actors orders → IfErr result (λ error. error ≡ NoMemory) → IfErr result (IsErrorOfRun gives plan actors orders)
+only-memory gives plan actors orders (Ok x) right told = tt
+only-memory gives plan actors orders (Err error) right told = subst (IsErrorOfRun gives plan actors orders) (sym told) right
 
 module _ {A K : Type 0} (gives : ℕ → Moment → Reply → Type 0) (plan : Plan) (first : Built A K) (begun : IsBegun gives plan first) (built : Built A K)
     (same : built.system ≡ first.system) where

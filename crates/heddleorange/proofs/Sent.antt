@@ -1,7 +1,7 @@
 -- Senders that carry out their orders, one after another.
 use Rattle.std.proofs.Common.{◌≡◌, ◌⊎◌, inl, inr, ℕ, zero, suc, ◌+◌, ◌-◌, ◌<◌, ◌≤◌, List, [], ◌∷◌, length, map, refl, sym, ap, ◌∙◌, subst, Some}
 use Rattle.std.proofs.Common.{arith, get_or, Vec}
-use Rattle.std.specs.Prelude.{◌≢◌, All, Err, IfErr, IsErrAnd, Ok, Result, slice_get, slice_set}
+use Rattle.std.specs.Prelude.{◌≢◌, All, Err, IfErr, IsErrAnd, Ok, OnOk, Result, slice_get, slice_set}
 use Rattle.std.specs.Global.{Box, Global}
 use Rattle.std.proofs.lemmas.Bool.{cases_eq}
 use Rattle.std.proofs.lemmas.List.{length-set}
@@ -35,13 +35,27 @@ pub err-of : {T E : Type 0} (Q : E → Type 0) (r : Result T E) (e : E) → IsEr
 err-of Q (Ok x) e passed holds = tt
 err-of Q (Err y) e passed holds = subst Q (sym passed) holds
 
+-- what holds anyway, and what follows of three that hold where all went well
+module _ {T E : Type 0} where
+  pub on-ok : {P : Type 0} (r : Result T E) → P → OnOk r P
+  on-ok (Ok x) p = p
+  on-ok (Err e) p = tt
+
+  pub on-all : {P Q R S : Type 0} (r : Result T E) → OnOk r P → OnOk r Q → OnOk r R → (P → Q → R → S) → OnOk r S
+  on-all (Ok x) p q s all = all p q s
+  on-all (Err e) p q s all = tt
+
+  pub err-weaker : (P Q : E → Type 0) (r : Result T E) → ((e : E) → P e → Q e) → IfErr r P → IfErr r Q
+  err-weaker P Q (Ok x) f p = tt
+  err-weaker P Q (Err e) f p = f e p
+
 module _ {X : Type 0} where
-  set-here : (xs : List X) (n : ℕ) (x : X) → n < length xs → slice_get (slice_set xs n x) n ≡ Some x
+  pub set-here : (xs : List X) (n : ℕ) (x : X) → n < length xs → slice_get (slice_set xs n x) n ≡ Some x
   set-here [] n x lt = absurd (omega (arith, lt))
   set-here (y ∷ xs) zero x lt = refl
   set-here (y ∷ xs) (suc n) x lt = set-here xs n x (omega (arith, lt))
 
-  set-other : (xs : List X) (n k : ℕ) (x : X) → (k ≡ n → ⊥) → slice_get (slice_set xs n x) k ≡ slice_get xs k
+  pub set-other : (xs : List X) (n k : ℕ) (x : X) → (k ≡ n → ⊥) → slice_get (slice_set xs n x) k ≡ slice_get xs k
   set-other [] n k x other = refl
   set-other (y ∷ xs) zero zero x other = absurd (other refl)
   set-other (y ∷ xs) zero (suc k) x other = refl

@@ -2,6 +2,7 @@
 use Rattle.std.proofs.Common.{◌≡◌, Bool, true, false, List, [], ◌∷◌, ◌++◌, refl, sym, ap, ◌∙◌, subst, map}
 use Rattle.std.specs.Prelude.{not, ◌&&◌, ◌||◌, if◌then◌else◌, Option, Some, None}
 use Rattle.std.specs.List.{flat_map}
+use Rattle.std.proofs.lemmas.List.{append-nil}
 use Rattle.mb_actor.specs.ActorList.{has, is_same}
 use Rattle.mb_actor.specs.Behaviour.{Moment, Reply}
 use Rattle.mb_actor.specs.OutboxView.{spawns_of}
@@ -63,6 +64,18 @@ asked-acts this watched (effect.Unwatch x ∷ effects) =
     by_test false same less = same
 asked-acts this watched (effect.Stop x ∷ effects) = asked-acts this watched effects
 asked-acts this watched (effect.Spawn x ∷ effects) = asked-acts this watched effects
+
+-- an envelope that was handled tells exactly what its effects tell, unless it is a PoisonPill
+pub told-of-call : (who : Identity) (before : List Entry) (c : Option Cause) (effects : List Effect)
+    → tells (effect_acts who.this (watching who before) effects ++ failure_acts who before c effects) ≡ asked effects
+told-of-call who before c effects =
+    tells-append (effect_acts who.this (watching who before) effects) (failure_acts who before c effects)
+    ∙ ap (λ l. l ++ tells (failure_acts who before c effects)) (asked-acts who.this (watching who before) effects)
+    ∙ ap (λ l. asked effects ++ l) (by_cause c) ∙ append-nil (asked effects)
+  where
+    by_cause : (c : Option Cause) → tells (failure_acts who before c effects) ≡ []
+    by_cause None = refl
+    by_cause (Some c) = tells-fail who (failed who before) (children who before ++ spawns_of effects) c []
 
 module _ (P : List AddressedBody → Type 0) (none : P []) (both : (a b : List AddressedBody) → P a → P b → P (a ++ b)) (who : Identity)
     (notice : (x : ActorId) → P ((who.this, body.Terminated x) ∷ [])) where
@@ -189,7 +202,7 @@ module _ (P : List AddressedBody → Type 0) (none : P []) (both : (a b : List A
     by_body body.Kill a effects holds = with_effects effects _ holds (by_failure (failure_of body.Kill a) effects)
     by_body (body.Terminated x) a effects holds = with_effects effects _ holds (by_failure (failure_of (body.Terminated x) a) effects)
 
-    by_entry : (e : Entry) → P (asked (outcome_effects (outcome_of e))) → Holds (acts who before e)
+    pub by_entry : (e : Entry) → P (asked (outcome_effects (outcome_of e))) → Holds (acts who before e)
     unfolding acts
     by_entry (Handled envelope reading (Applied a effects)) holds = by_body envelope.body a effects holds
     by_entry (Handled envelope reading SetAside) holds = by_body envelope.body None [] holds

@@ -58,7 +58,7 @@ module _ {A K : Type 0} (gates : Gates (Box Contents)) where
       let same = sym (same_Some x s is) in (
         ap (λ (y : Sender A K). y.inner.send_log.by.0) same ∙ ap (λ n. n.0) are.0.by ∙ (omega arith),
         ap (λ (y : Sender A K). y.inner.send_log.posted) same ∙ are.0.posted,
-        ap (λ (y : Sender A K). (pass_view y.inner.registrar.pass).sent_system) same ∙ are.0.silent,
+        ap (λ (y : Sender A K). (pass_view y.inner.registrar.pass).sent_system) same ∙ are.0.sent_nothing,
       )
   new-at number (row ∷ rows) (x ∷ senders) (suc place) s are is =
       let rest = new-at (number + 1) rows senders place s are.1 is in (rest.0 ∙ (omega arith), rest.1, rest.2)

@@ -5,3 +5,6 @@ pub mod HasRun
 pub mod Reading
 pub mod States
 pub mod Ledger
+pub mod Conservation
+pub mod Names
+pub mod Orders

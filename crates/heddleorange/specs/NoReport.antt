@@ -17,7 +17,7 @@ use Rattle.mb_shutdown.specs.declared.ending.FinishError.{FinishError}
 use Rattle.mb_shutdown.specs.declared.ending.FinishError.TheVariants as end
 use Rattle.mb_dispatch.specs.FullJournal.{HasFullJournal}
 use Rattle.heddleorange.specs.declared.error.Error.{Error}
-use Rattle.heddleorange.specs.declared.error.Error.TheVariants.{BadPlan, Sends, NoMemory, Run, NotQuiet, Mismatch}
+use Rattle.heddleorange.specs.declared.error.Error.TheVariants.{BadPlan, Sends, NoMemory, Run, NotQuiet, Mismatch, NameTaken}
 
 -- This can go to none of so many actors, of which the first has number 1: an envelope goes to one of them, a Terminate also to the guardian.
 abbrev pub is_for_nobody : ℕ → ActorId → OrderKind → Bool
@@ -49,6 +49,7 @@ IsUnfit plan actors orders (Run Fault.JournalFull) = ⊥
 IsUnfit plan actors orders NoMemory = ⊥
 IsUnfit plan actors orders (NotQuiet id) = ⊥
 IsUnfit plan actors orders (Mismatch what) = ⊥
+IsUnfit plan actors orders (NameTaken id) = ⊥
 
 -- The error of a whole run for this reason of a system that did not end. A system to which all ends and senders come back has none that speaks of a
 -- missing one.
@@ -72,3 +73,4 @@ IsErrorOfRun gives plan actors orders NoMemory = IsRight plan actors orders
 IsErrorOfRun gives plan actors orders (NotQuiet id) = IsRight plan actors orders × (id.0 < length (actors_in plan)) × HasWorkLeft plan id.0
 IsErrorOfRun gives plan actors orders (Mismatch what) = IsRight plan actors orders × (of_whom what < length (actors_in plan))
     × DoesNotAgree gives plan what
+IsErrorOfRun gives plan actors orders (NameTaken id) = ⊥

@@ -1,14 +1,17 @@
 //! Building the system of a run.
-ghost use Rattle.std.specs.Prelude.{◌≡◌, IfErr, IfOk, MatchResult, OnOk, length, map};
+ghost use Rattle.std.specs.Prelude.{◌≡◌, [], IfErr, IfOk, MatchResult, OnOk, length, map};
 ghost use Rattle.std.specs.List.{list_any};
 ghost use Rattle.mb_build.specs.BehavesAsPlanned.{BehaveAsPlanned};
+ghost use Rattle.mb_build.specs.Reasons.{reasons};
 ghost use Rattle.mb_startup.specs.Begun.{IsBegun};
 ghost use Rattle.heddleorange.specs.NoReport.{IsErrorOfRun, IsRight, IsUnfit, has_nobody, has_one_for_nobody};
+ghost use Rattle.heddleorange.specs.Orders.{is_from_nobody, lists_of};
+ghost use Rattle.heddleorange.specs.declared.error.Error.TheVariants.{NoMemory};
 
 use crate::error::Error;
 use mb_actor::{Actor, Behaviours};
 use mb_build::check_plan;
-use mb_msg::{ActorId, Order, OrderKind, Plan};
+use mb_msg::{ActorId, Order, OrderKind, Plan, SenderOrder};
 use mb_startup::{BuildError, build};
 use mb_system::{Built, RunError};
 use std::alloc::Global;
@@ -28,6 +31,38 @@ pub(crate) fn begin<A: Actor, K: Behaviours, R: Wait>(
     ensures refused { IfErr result (IsErrorOfRun K.gives plan (length actors.items) (map (λ orders. orders.items) sends.now)) }
 {
     check(&plan, actors.len(), sends)?;
+    build_checked::<A, K, R>(rt, alloc, plan, actors)
+}
+
+/// The same, where the orders of all senders stand in one row.
+pub(crate) fn begin_in_order<A: Actor, K: Behaviours, R: Wait>(
+    rt: &R,
+    alloc: Global,
+    plan: Plan,
+    actors: Vec<A>,
+    sends: &[SenderOrder],
+) -> Result<Built<A, K>, Error>
+    requires behaved { BehaveAsPlanned A.content A.after A.gives K.after K.gives 1 actors.items }
+    ensures begun { IfOk result (IsBegun K.gives plan) }
+    ensures right { OnOk result (IsRight plan (length actors.items) (lists_of plan.senders sends.now)) }
+    ensures refused { IfErr result (IsErrorOfRun K.gives plan (length actors.items) (lists_of plan.senders sends.now)) }
+{
+    check_in_order(&plan, actors.len(), sends)?;
+    build_checked::<A, K, R>(rt, alloc, plan, actors)
+}
+
+// The new system of a plan that is not refused.
+fn build_checked<A: Actor, K: Behaviours, R: Wait>(
+    rt: &R,
+    alloc: Global,
+    plan: Plan,
+    actors: Vec<A>,
+) -> Result<Built<A, K>, Error>
+    requires behaved { BehaveAsPlanned A.content A.after A.gives K.after K.gives 1 actors.items }
+    requires right { reasons plan (length actors.items) ≡ [] }
+    ensures begun { IfOk result (IsBegun K.gives plan) }
+    ensures refused { IfErr result (λ error. error ≡ NoMemory) }
+{
     match build::<A, K, R>(rt, alloc, plan, actors) {
         Ok(built) => Ok(built),
         Err(BuildError::NoMemory) => Err(Error::NoMemory),
@@ -50,6 +85,44 @@ fn check(plan: &Plan, actors: usize, sends: &[Vec<Order>]) -> Result<(), Error>
         return Err(Error::Run(RunError::NoSuchActor));
     }
     Ok(())
+}
+
+// The same, where the orders stand in one row.
+fn check_in_order(plan: &Plan, actors: usize, sends: &[SenderOrder]) -> Result<(), Error>
+    ensures { MatchResult result (λ _. IsRight plan.now actors (lists_of plan.now.senders sends.now))
+        (IsUnfit plan.now actors (lists_of plan.now.senders sends.now)) }
+{
+    if let Err(reason) = check_plan(plan, actors) {
+        return Err(Error::BadPlan(reason));
+    }
+    if has_one_from_nobody(plan.senders, sends) {
+        return Err(Error::Sends);
+    }
+    if has_one_to_nobody(actors, sends) {
+        return Err(Error::Run(RunError::NoSuchActor));
+    }
+    Ok(())
+}
+
+// Whether one of these is from none of so many senders.
+fn has_one_from_nobody(senders: u32, sends: &[SenderOrder]) -> bool
+    ensures { result ≡ list_any (is_from_nobody senders) sends.now }
+{
+    sends.iter().any(|send| is_from_nobody(senders, send))
+}
+
+// Whether this one is.
+fn is_from_nobody(senders: u32, send: &SenderOrder) -> bool
+    ensures { result ≡ is_from_nobody senders send.now }
+{
+    send.from >= senders
+}
+
+// Whether one of these can go to none of so many actors.
+fn has_one_to_nobody(actors: usize, sends: &[SenderOrder]) -> bool
+    ensures { result ≡ list_any (λ send. has_nobody actors send.order) sends.now }
+{
+    sends.iter().any(|send| has_nobody(actors, &send.order))
 }
 
 // Whether one of the orders of these senders can go to none of so many actors.

@@ -14,7 +14,8 @@ pub enum Error {
     /// No system can be built from the plan: the first reason of all. Nothing was done.
     #[error("no system can be built from the plan: {0:?}")]
     BadPlan(PlanError),
-    /// There are fewer lists of orders than the plan has senders, or more. Nothing was done.
+    /// There are fewer lists of orders than the plan has senders, or more; or an order of a row is from a sender that the plan does
+    /// not have. Nothing was done.
     #[error("there are not as many lists of orders as senders")]
     Sends,
     /// Memory was refused as the system was built, or as it was to end. The system is dropped, with all that it did.
@@ -31,6 +32,9 @@ pub enum Error {
     /// At the end, the parts of the system did not agree.
     #[error("at the end, the parts of the system did not agree: {0:?}")]
     Mismatch(Mismatch),
+    /// The actor with this number has the name under which another was to be added. Nothing was added.
+    #[error("an actor has this name already: {0:?}")]
+    NameTaken(ActorId),
 }
 
 impl From<AllocError> for Error {

@@ -1,33 +1,43 @@
 //! Heddleorange in one dependency: actors of your own are run by one call, and each report comes with its theorem.
 //!
 //! `PlannedSystem` collects actors with their plans. `run_here` runs them on the calling thread, `run_on_threads` with workers
-//! and senders on threads of their own. Both promise the same of the report, of the very actors that were handed in: the whole
-//! story of the run, and what follows from it for whoever reads a report, by `state`, `handled`, `dead_letters` and `journal`.
-//! Where there is no report, `Error` says why. To drive a system by hand, use `mb_dispatch`.
+//! and senders on threads of their own, and `run_in_order` is `run_here` for orders of all senders in one row. All promise the
+//! same of the report, of the very actors that were handed in: the whole story of the run, and what follows from it for whoever
+//! reads a report, by `state`, `handled`, `dead_letters` and `journal`. `PlannedSystem::run` is one of the first two, by the
+//! number of workers; it says too that a quantity is conserved that the actors conserve, as money. Where there is no report,
+//! `Error` says why. To drive a system by hand, use `mb_dispatch`.
 #![tactic(auto)]
 
 mod begin;
+mod by_workers;
+mod conservation;
 mod error;
 mod finish;
+mod in_order;
 mod laws;
+mod names;
 mod planned_system;
 mod reading;
 mod run;
 mod sending;
 mod together;
 
+pub use conservation::{a_run_conserves_what_its_actors_conserve, what_is_sent_adds_up};
 pub use error::Error;
+pub use in_order::{QuietRun, run_in_order};
 pub use laws::{an_actor_without_a_restart_has_handled_all, what_actors_send_is_asked_for};
 pub use mb_actor::{Actor, Answer, Effect, Message, Outbox, OutboxError, Phase};
 pub use mb_build::PlanError;
+pub use mb_dispatch::Turn;
 pub use mb_journal::{EntryRef, Journal, Received};
 pub use mb_msg::{
     ActorId, ActorPlan, Body, Cause, DeadLetter, Directive, Envelope, MailboxType, Order,
-    OrderKind, Pattern, Plan, PoolKind, RankRow, SenderId, Strategy, SysMsg, Why,
+    OrderKind, Pattern, Plan, PoolKind, RankRow, SenderId, SenderOrder, Strategy, SysMsg, Why,
 };
 pub use mb_report::{ActorReport, Report, SenderReport, report_text};
 pub use mb_shutdown::Mismatch;
 pub use mb_system::RunError;
+pub use names::Names;
 pub use planned_system::{PlannedSystem, SETTINGS, Settings};
 pub use reading::{dead_letters, handled, journal, state};
 pub use run::{run_here, run_on_threads};

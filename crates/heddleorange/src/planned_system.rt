@@ -1,14 +1,17 @@
 //! A plan and its actors, added together.
-ghost use Rattle.std.specs.Prelude.{◌≡◌, ◌+◌, ◌≤◌, ◌↔◌, [], ◌∷◌, ◌++◌, All, IfErr, IfOk, IsErrOf, OnErr, OnOk, length, map};
+ghost use Rattle.std.specs.Prelude.{◌≡◌, ◌⊎◌, ◌+◌, ◌<◌, ◌≤◌, ◌↔◌, [], ◌∷◌, ◌++◌, All, IfErr, IfOk, IsErrOf, IsTrue, OnErr, OnOk, Some, length, map};
 ghost use Rattle.mb_build.specs.declared.check.PlanError.TheVariants.{Actors};
 ghost use Rattle.mb_msg.specs.declared.pool_kind.PoolKind.TheVariants as pool_kind;
-ghost use Rattle.heddleorange.specs.declared.error.Error.TheVariants.{BadPlan, NoMemory};
+ghost use Rattle.mb_msg.specs.declared.id.ActorId.{ActorId as Id};
+ghost use Rattle.heddleorange.specs.declared.error.Error.TheVariants.{BadPlan, NameTaken, NoMemory};
 ghost use Rattle.heddleorange.specs.Ledger.{AddsUp};
+ghost use Rattle.heddleorange.specs.Names.{name_by_default, number_of, texts_of};
 ghost use Rattle.heddleorange.specs.NoReport.{IsErrorOfRun, IsRight};
 ghost use Rattle.heddleorange.specs.States.{ShowsStates};
 ghost use Rattle.heddleorange.specs.WholeRun.{IsReportOfRun, after_at, gives_at};
 
 use crate::error::Error;
+use crate::names::Names;
 use crate::run::{run_here, run_on_threads};
 use mb_actor::Actor;
 use mb_build::PlanError;
@@ -54,8 +57,12 @@ pub struct PlannedSystem<A: Drop> {
     pub plan: Plan,
     /// The actors, in the order of their numbers from 1 on.
     pub actors: Vec<A>,
+    /// The names of the actors.
+    pub names: Names,
     /// As many actors are planned as there are.
     pub ghost as_planned: { length plan.actors.items ≡ length actors.items },
+    /// Each actor has a name.
+    pub ghost as_named: { length names.texts.items ≡ length actors.items },
 }
 
 impl<A: Actor> PlannedSystem<A> {
@@ -63,6 +70,7 @@ impl<A: Actor> PlannedSystem<A> {
     pub fn new(alloc: Global, settings: Settings) -> Self
         ensures actors { result.actors.items ≡ [] }
         ensures planned { result.plan.actors.items ≡ [] }
+        ensures named { result.names.texts.items ≡ [] }
         ensures throughput { result.plan.throughput ≡ settings.throughput }
         ensures workers { result.plan.workers ≡ settings.workers }
         ensures pool { result.plan.pool ≡ settings.pool }
@@ -87,10 +95,12 @@ impl<A: Actor> PlannedSystem<A> {
                 actors: Vec::new(alloc),
             },
             actors: Vec::new(alloc),
+            names: Names::new(alloc),
         }
     }
 
-    /// Adds an actor with its plan, and answers its number: the first has number 1. No message may have come to the actor yet.
+    /// Adds an actor with its plan, and answers its number: the first has number 1. No message may have come to the actor yet. Its
+    /// name is `$` and its number. (Akka, too, makes such a name of a `$` and a number.)
     ///
     /// It answers `BadPlan(Actors)` if there are 63 actors, and else `NoMemory` if memory was refused. The plan and the actor are
     /// dropped then, and nothing has been added.
@@ -99,22 +109,89 @@ impl<A: Actor> PlannedSystem<A> {
         ensures id { IfOk result (λ id. id.0 ≡ length self.old.actors.items + 1) }
         ensures actors { OnOk result (self.new.actors.items ≡ self.old.actors.items ++ actor ∷ []) }
         ensures planned { OnOk result (self.new.plan.actors.items ≡ self.old.plan.actors.items ++ plan ∷ []) }
+        ensures named { OnOk result (texts_of self.new.names.texts.items
+            ≡ texts_of self.old.names.texts.items ++ name_by_default (length self.old.actors.items + 1) ∷ []) }
         ensures same { OnErr result ((self.new.actors.items ≡ self.old.actors.items) × (self.new.plan.actors.items ≡ self.old.plan.actors.items)) }
+        ensures same_names { OnErr result (self.new.names.texts.items ≡ self.old.names.texts.items) }
         ensures settings { self.new.plan ≡ record self.old.plan { actors = self.new.plan.actors } }
         ensures full { IsErrOf result (BadPlan Actors) ↔ (63 ≤ length self.old.actors.items) }
+        ensures errors { IfErr result (λ error. (error ≡ BadPlan Actors) ⊎ (error ≡ NoMemory)) }
         ensures unused { All (λ actor. A.content actor ≡ A.after actor []) self.old.actors.items
             → All (λ actor. A.content actor ≡ A.after actor []) self.new.actors.items }
     {
-        let count = self.actors.len() as u64;
-        if count + 1 >= ACTORS as u64 {
+        if self.is_full() {
             return Err(Error::BadPlan(PlanError::Actors));
         }
-        if self.plan.actors.reserve(1).is_err() || self.actors.reserve(1).is_err() {
+        let number = self.actors.len() + 1;
+        let alloc = *self.actors.allocator();
+        let Ok(name) = format!(in alloc; "${number}") else {
+            return Err(Error::NoMemory);
+        };
+        self.push(name, plan, actor)
+    }
+
+    /// Adds an actor with its plan under this name, and answers its number, as `add` does.
+    ///
+    /// If there is room for it, and an actor has this name already, it answers `NameTaken` with that actor's number. (In Akka
+    /// `actorOf` throws an `InvalidActorNameException` then. There a name has to differ from those of its siblings, and not every
+    /// text is one. This project's own profile: any text is, and it has to differ from the names of all actors that are there.)
+    pub fn add_named(&mut self, name: &str, plan: ActorPlan, actor: A) -> Result<ActorId, Error>
+        requires unused { A.content actor ≡ A.after actor [] }
+        ensures id { IfOk result (λ id. id.0 ≡ length self.old.actors.items + 1) }
+        ensures actors { OnOk result (self.new.actors.items ≡ self.old.actors.items ++ actor ∷ []) }
+        ensures planned { OnOk result (self.new.plan.actors.items ≡ self.old.plan.actors.items ++ plan ∷ []) }
+        ensures named { OnOk result (texts_of self.new.names.texts.items ≡ texts_of self.old.names.texts.items ++ name.now ∷ []) }
+        ensures same { OnErr result ((self.new.actors.items ≡ self.old.actors.items) × (self.new.plan.actors.items ≡ self.old.plan.actors.items)) }
+        ensures same_names { OnErr result (self.new.names.texts.items ≡ self.old.names.texts.items) }
+        ensures settings { self.new.plan ≡ record self.old.plan { actors = self.new.plan.actors } }
+        ensures full { IsErrOf result (BadPlan Actors) ↔ (63 ≤ length self.old.actors.items) }
+        ensures taken { (id : Id) → IsErrOf result (NameTaken id)
+            ↔ ((length self.old.actors.items < 63) × (number_of self.old.names.texts.items name.now ≡ Some id.0)) }
+        ensures errors { IfErr result (λ error. (error ≡ BadPlan Actors) ⊎ (error ≡ NoMemory) ⊎ ((id : Id) × (error ≡ NameTaken id))) }
+        ensures unused { All (λ actor. A.content actor ≡ A.after actor []) self.old.actors.items
+            → All (λ actor. A.content actor ≡ A.after actor []) self.new.actors.items }
+    {
+        if self.is_full() {
+            return Err(Error::BadPlan(PlanError::Actors));
+        }
+        if let Some(holder) = self.names.id_of(name) {
+            return Err(Error::NameTaken(holder));
+        }
+        let Ok(name) = String::from_str(*self.actors.allocator(), name) else {
+            return Err(Error::NoMemory);
+        };
+        self.push(name, plan, actor)
+    }
+
+    // Whether there are as many actors as there may be.
+    fn is_full(&self) -> bool
+        ensures { IsTrue result ↔ (63 ≤ length self.now.actors.items) }
+    {
+        self.actors.len() + 1 >= ACTORS as usize
+    }
+
+    // Adds an actor with its plan and its name. The only error: memory was refused.
+    fn push(&mut self, name: String, plan: ActorPlan, actor: A) -> Result<ActorId, Error>
+        requires not_full { length self.old.actors.items < 63 }
+        ensures id { IfOk result (λ id. id.0 ≡ length self.old.actors.items + 1) }
+        ensures actors { OnOk result (self.new.actors.items ≡ self.old.actors.items ++ actor ∷ []) }
+        ensures planned { OnOk result (self.new.plan.actors.items ≡ self.old.plan.actors.items ++ plan ∷ []) }
+        ensures named { OnOk result (self.new.names.texts.items ≡ self.old.names.texts.items ++ name ∷ []) }
+        ensures same { OnErr result ((self.new.actors.items ≡ self.old.actors.items) × (self.new.plan.actors.items ≡ self.old.plan.actors.items)) }
+        ensures same_names { OnErr result (self.new.names.texts.items ≡ self.old.names.texts.items) }
+        ensures settings { self.new.plan ≡ record self.old.plan { actors = self.new.plan.actors } }
+        ensures error { IfErr result (λ error. error ≡ NoMemory) }
+    {
+        if self.plan.actors.reserve(1).is_err()
+            || self.actors.reserve(1).is_err()
+            || self.names.texts.reserve(1).is_err()
+        {
             return Err(Error::NoMemory);
         }
         self.plan.actors.push_reserved(plan);
         self.actors.push_reserved(actor);
-        Ok(ActorId(count as u32 + 1))
+        self.names.texts.push_reserved(name);
+        Ok(ActorId(self.actors.len() as u32))
     }
 
     /// Runs it on this thread, as `run_here` does.
@@ -134,7 +211,11 @@ impl<A: Actor> PlannedSystem<A> {
         ensures lines { IfOk result (λ report. length report.actors.items ≡ length self.actors.items + 1) }
         ensures ledger { IfOk result (AddsUp self.plan (map (λ orders. orders.items) sends.now)) }
     {
-        let PlannedSystem { plan, actors } = self;
+        let PlannedSystem {
+            plan,
+            actors,
+            names: _,
+        } = self;
         run_here::<A, R>(rt, alloc, plan, actors, sends)
     }
 }
@@ -157,7 +238,11 @@ impl<A: Actor + Send> PlannedSystem<A> {
         ensures lines { IfOk result (λ report. length report.actors.items ≡ length self.actors.items + 1) }
         ensures ledger { IfOk result (AddsUp self.plan (map (λ orders. orders.items) sends.now)) }
     {
-        let PlannedSystem { plan, actors } = self;
+        let PlannedSystem {
+            plan,
+            actors,
+            names: _,
+        } = self;
         run_on_threads::<A, R>(rt, alloc, plan, actors, sends)
     }
 }

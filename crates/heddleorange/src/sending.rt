@@ -1,25 +1,29 @@
 //! Sending all that is to be sent, and running what that leaves to run.
-ghost use Rattle.std.specs.Prelude.{◌≡◌, ◌≢◌, [], All, IfErr, OnOk, length, map};
+ghost use Rattle.std.specs.Prelude.{◌≡◌, ◌≢◌, ◌<◌, [], All, IfErr, OnOk, length, map};
 ghost use Rattle.mb_system.specs.Belonging.{BelongsTogether};
-ghost use Rattle.mb_dispatch.specs.Faults.{BreaksSending};
-ghost use Rattle.mb_system.specs.Members.{IsSenderOf, StillSee, ends_numbers};
+ghost use Rattle.mb_dispatch.specs.Faults.{BreaksSending, BreaksWork};
+ghost use Rattle.mb_system.specs.Members.{AreEndsOf, IsSenderOf, StillSee, ends_numbers};
+ghost use Rattle.mb_system.specs.Obligations.{OwesNobody};
+ghost use Rattle.mb_system.specs.declared.end.WorkerEnd.{WorkerEnd as EndOf};
+ghost use Rattle.heddleorange.specs.Orders.{lists_of};
 ghost use Rattle.heddleorange.specs.Sent.{BreaksOff, BreaksOne, FoundNothing, HasSentAndRetried, HaveSent};
 
 use mb_actor::{Actor, Behaviours};
-use mb_dispatch::{run_quietly, send_all};
-use mb_msg::Order;
+use mb_dispatch::{Turn, run_quietly, send_all};
+use mb_msg::{Order, SenderOrder};
 use mb_system::{Built, RunError, Sender, System};
 use std::sync::Wait;
 
 /// Has each sender send what stands at its place, and runs on this thread what there is to run. Then neither the senders nor
-/// the end that ran owe anybody a look, and the end found the pool empty where it looks.
+/// the end that ran owe anybody a look, and the end found the pool empty where it looks. It answers what each run of a mailbox
+/// did, in order.
 ///
 /// It stops at the first error of a sender, in their order, and then of the run.
 pub(crate) fn send_and_run<A: Actor, K: Behaviours, R: Wait>(
     rt: &R,
     built: &mut Built<A, K>,
     sends: &[Vec<Order>],
-) -> Result<(), RunError>
+) -> Result<Vec<Turn>, RunError>
     requires together { BelongsTogether built.old }
     requires not_empty { built.old.ends.items ≢ [] }
     requires same_count { length built.old.senders.items ≡ length sends.now }
@@ -33,7 +37,68 @@ pub(crate) fn send_and_run<A: Actor, K: Behaviours, R: Wait>(
     ensures fault { IfErr result (BreaksOff K.gives built.old.system (map (λ orders. orders.items) sends.now)) }
 {
     send_each(rt, &built.system, &mut built.senders, sends)?;
-    let _turns = run_quietly(rt, &built.system, &mut built.ends[0])?;
+    run_first(rt, built)
+}
+
+/// The same, where the orders of all senders stand in one row: each is carried out in its turn, by its sender.
+pub(crate) fn send_in_order_and_run<A: Actor, K: Behaviours, R: Wait>(
+    rt: &R,
+    built: &mut Built<A, K>,
+    sends: &[SenderOrder],
+) -> Result<Vec<Turn>, RunError>
+    requires together { BelongsTogether built.old }
+    requires not_empty { built.old.ends.items ≢ [] }
+    requires owes_nobody { All (OwesNobody built.old.system.gates) built.old.senders.items }
+    requires from { All (λ send. send.from < length built.old.senders.items) sends.now }
+    ensures system { built.new.system ≡ built.old.system }
+    ensures together { OnOk result (BelongsTogether built.new) }
+    ensures ends { OnOk result (ends_numbers built.new.ends.items ≡ ends_numbers built.old.ends.items) }
+    ensures sent { OnOk result (HaveSent built.old.system.gates (lists_of (length built.old.senders.items) sends.now) built.old.senders.items
+        built.new.senders.items) }
+    ensures log_kept { OnOk result (StillSee built.old.ends.items built.new.ends.items) }
+    ensures found_nothing { OnOk result (FoundNothing K.gives built.old.system.gates built.new.ends.items) }
+    ensures fault { IfErr result (BreaksOff K.gives built.old.system (lists_of (length built.old.senders.items) sends.now)) }
+{
+    send_in_order(rt, &built.system, &mut built.senders, sends)?;
+    run_first(rt, built)
+}
+
+// Runs on this thread what there is to run: the first end does it.
+fn run_first<A: Actor, K: Behaviours, R: Wait>(
+    rt: &R,
+    built: &mut Built<A, K>,
+) -> Result<Vec<Turn>, RunError>
+    requires same_gates { AreEndsOf built.old.system.gates built.old.ends.items }
+    requires not_empty { built.old.ends.items ≢ [] }
+    ensures system { built.new.system ≡ built.old.system }
+    ensures senders { built.new.senders ≡ built.old.senders }
+    ensures same_gates { AreEndsOf built.old.system.gates built.new.ends.items }
+    ensures ends { ends_numbers built.new.ends.items ≡ ends_numbers built.old.ends.items }
+    ensures log_kept { StillSee built.old.ends.items built.new.ends.items }
+    ensures found_nothing { OnOk result (FoundNothing K.gives built.old.system.gates built.new.ends.items) }
+    ensures fault { IfErr result (λ error. (end : EndOf A K) × BreaksWork K.gives built.old.system end error) }
+{
+    run_quietly(rt, &built.system, &mut built.ends[0])
+}
+
+// Has each of these in its turn carried out by its sender.
+fn send_in_order<A: Actor, K: Behaviours, R: Wait>(
+    rt: &R,
+    system: &System<A, K>,
+    senders: &mut [Sender<A, K>],
+    sends: &[SenderOrder],
+) -> Result<(), RunError>
+    requires same_gates { All (λ s. IsSenderOf system.now.gates s.inner) senders.old }
+    requires owes_nobody { All (OwesNobody system.now.gates) senders.old }
+    requires from { All (λ send. send.from < length senders.old) sends.now }
+    ensures same_gates { All (λ s. IsSenderOf system.now.gates s.inner) senders.new }
+    ensures sent { OnOk result (HaveSent system.now.gates (lists_of (length senders.old) sends.now) senders.old senders.new) }
+    ensures fault { IfErr result (BreaksOne system.now.gates (lists_of (length senders.old) sends.now)) }
+{
+    for send in sends {
+        let sender = &mut senders[send.from as usize];
+        send_and_retry(rt, system, sender, &[send.order])?;
+    }
     Ok(())
 }
 

@@ -41,7 +41,7 @@ cell_state_at who journal retries acts fanout is_ready = record {
 }
 
 -- an actor that was not started has no children, watches nobody and has not failed
-pub record IsUntouched (who : Identity) (journal : List Entry) : Type 0 where
+pub record IsNotStarted (who : Identity) (journal : List Entry) : Type 0 where
   pub no_children : children who journal ≡ []
   pub none_watched : watching who journal ≡ []
   pub none_due : due who journal ≡ []
@@ -54,7 +54,7 @@ pub record Agrees (who : Identity) (journal : List Entry) (gives : Moment → Re
   pub lawful : IsLawful who gives journal
   pub booked : cell_state ≡ cell_state_at who journal cell_state.retries cell_state.acts cell_state.fanout cell_state.is_ready
   pub outbox : tray ≡ record { effects = []; actors = who.actors; unspawned = unspawned who journal }
-  pub fresh : phase who journal ≡ Fresh → IsUntouched who journal
+  pub fresh : phase who journal ≡ Fresh → IsNotStarted who journal
   pub small_limit : who.limit < 2 ^ 32
   pub few_prepared : length who.prepared ≤ most_actors
   pub fanout : cell_state.fanout ≡ length who.prepared

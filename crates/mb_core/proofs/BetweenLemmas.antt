@@ -8,7 +8,7 @@ use Rattle.std.proofs.lemmas.List.{length-set, get_or-set_other, get_or-set_same
 use Rattle.std.proofs.Math.ListN.{set}
 use Rattle.mb_core.specs.declared.event.Event.{Event}
 use Rattle.mb_core.specs.declared.event.Step.{Step}
-use Rattle.mb_core.specs.Actor.{Actor}
+use Rattle.mb_core.specs.Actor.{MachineActor}
 use Rattle.mb_core.specs.Held.{IsHeldRightly}
 use Rattle.mb_core.specs.Run.{Change, Transition, Run}
 use Rattle.mb_core.specs.Between.{HasSameCount, IsSetByHolder, IsGivenBack, IsOwnChange, StaysEnded, is_idle, sets_count}
@@ -18,21 +18,21 @@ use Rattle.mb_core.specs.Between.{StaysWithHolder, StaysWithHolderOver, IsSetByH
 use Rattle.mb_core.proofs.HeldLemmas.{held_step, held_run}
 
 -- an element that is written to, and one that is not
-get_set_same : (xs : List Actor) (i : ℕ) (y : Actor) → i < length xs → slice_get (set xs i y) i ≡ Some y
+get_set_same : (xs : List MachineActor) (i : ℕ) (y : MachineActor) → i < length xs → slice_get (set xs i y) i ≡ Some y
 get_set_same xs i y inside =
-    slice_get-get_or (set xs i y) i y (rw length-set inside) ∙ ap (λ (x : Actor). Some x) (get_or-set_same xs i y y inside)
+    slice_get-get_or (set xs i y) i y (rw length-set inside) ∙ ap (λ (x : MachineActor). Some x) (get_or-set_same xs i y y inside)
 
-get_set_other : (xs : List Actor) (i j : ℕ) (x y : Actor) → (j ≡ i → ⊥) → slice_get xs j ≡ Some x → slice_get (set xs i y) j ≡ Some x
+get_set_other : (xs : List MachineActor) (i j : ℕ) (x y : MachineActor) → (j ≡ i → ⊥) → slice_get xs j ≡ Some x → slice_get (set xs i y) j ≡ Some x
 get_set_other xs i j x y apart found =
     slice_get-get_or (set xs i y) j x (rw length-set (slice_get_within xs j x found)) ∙
-    ap (λ (z : Actor). Some z) (get_or-set_other xs i j y x apart ∙ get_or_from_slice_get xs j x x found)
+    ap (λ (z : MachineActor). Some z) (get_or-set_other xs i j y x apart ∙ get_or_from_slice_get xs j x x found)
 
 -- what an event makes of the actor of a number: nothing, or what its step does to it
 pub at_number :
-    (old : List Actor) (event : Event) (new : List Actor) → Transition old event new →
-    (number : ℕ) (x : Actor) → slice_get old number ≡ Some x →
+    (old : List MachineActor) (event : Event) (new : List MachineActor) → Transition old event new →
+    (number : ℕ) (x : MachineActor) → slice_get old number ≡ Some x →
     (slice_get new number ≡ Some x) ⊎
-    ((event.actor.0 ≡ number) × ((y : Actor) × (slice_get new number ≡ Some y) × Change x event.party event.step y))
+    ((event.actor.0 ≡ number) × ((y : MachineActor) × (slice_get new number ≡ Some y) × Change x event.party event.step y))
 at_number old event new step number x found =
     elim (cases_lt number event.actor.0) as (λ _. Result) [
       | inl below ↦ other (omega arith)
@@ -45,12 +45,12 @@ at_number old event new step number x found =
     Result : Type 0
     Result =
         (slice_get new number ≡ Some x) ⊎
-        ((event.actor.0 ≡ number) × ((y : Actor) × (slice_get new number ≡ Some y) × Change x event.party event.step y))
+        ((event.actor.0 ≡ number) × ((y : MachineActor) × (slice_get new number ≡ Some y) × Change x event.party event.step y))
 
     other : (number ≡ event.actor.0 → ⊥) → Result
     other apart =
         inl (
-        ap (λ (s : List Actor). slice_get s number) step.others_stay ∙
+        ap (λ (s : List MachineActor). slice_get s number) step.others_stay ∙
         get_set_other old event.actor.0 number x step.after apart found
         )
 
@@ -60,31 +60,31 @@ at_number old event new step number x found =
         let same_actor : step.before ≡ x = same_Some step.before x (sym step.actor_there ∙ at_event) in
         let inside : event.actor.0 < length old = slice_get_within old event.actor.0 x at_event in
         let made : slice_get new event.actor.0 ≡ Some step.after =
-        ap (λ (s : List Actor). slice_get s event.actor.0) step.others_stay ∙ get_set_same old event.actor.0 step.after inside in
+        ap (λ (s : List MachineActor). slice_get s event.actor.0) step.others_stay ∙ get_set_same old event.actor.0 step.after inside in
         inr (
           same,
           (
             step.after,
             ap (λ n. slice_get new n) (sym same) ∙ made,
-            subst (λ (z : Actor). Change z event.party event.step step.after) same_actor step.change,
+            subst (λ (z : MachineActor). Change z event.party event.step step.after) same_actor step.change,
           ),
         )
 
 -- A link that holds of an actor and itself where nothing happens, that an event elsewhere keeps, and that goes on over a
 -- step, holds over each stretch.
 pub over_stretch :
-    (R : List Actor → ℕ → List Event → Actor → Actor → Type 0) →
-    ((old : List Actor) (number : ℕ) (x : Actor) → R old number [] x x) →
-    ((old : List Actor) (event : Event) (next : List Actor) (events : List Event) (number : ℕ) (x y : Actor) →
+    (R : List MachineActor → ℕ → List Event → MachineActor → MachineActor → Type 0) →
+    ((old : List MachineActor) (number : ℕ) (x : MachineActor) → R old number [] x x) →
+    ((old : List MachineActor) (event : Event) (next : List MachineActor) (events : List Event) (number : ℕ) (x y : MachineActor) →
     Transition old event next → R next number events x y → R old number (event ∷ events) x y) →
-    ((old : List Actor) (event : Event) (next : List Actor) (events : List Event) (number : ℕ) (x y z : Actor) →
+    ((old : List MachineActor) (event : Event) (next : List MachineActor) (events : List Event) (number : ℕ) (x y z : MachineActor) →
     Transition old event next → event.actor.0 ≡ number → slice_get old number ≡ Some x → IsHeldRightly x →
     Change x event.party event.step y → R next number events y z → R old number (event ∷ events) x z) →
-    (old : List Actor) (events : List Event) (new : List Actor) → All IsHeldRightly old → Run old events new →
-    (number : ℕ) (x : Actor) → slice_get old number ≡ Some x →
-    (y : Actor) × (slice_get new number ≡ Some y) × R old number events x y
+    (old : List MachineActor) (events : List Event) (new : List MachineActor) → All IsHeldRightly old → Run old events new →
+    (number : ℕ) (x : MachineActor) → slice_get old number ≡ Some x →
+    (y : MachineActor) × (slice_get new number ≡ Some y) × R old number events x y
 over_stretch R stays elsewhere made old [] new held run number x found =
-    (x, ap (λ (s : List Actor). slice_get s number) run ∙ found, stays old number x)
+    (x, ap (λ (s : List MachineActor). slice_get s number) run ∙ found, stays old number x)
 over_stretch R stays elsewhere made old (event ∷ events) new held run number x found =
     elim (at_number old event run.0 run.1 number x found) as (λ _. Result) [
       | inl still ↦
@@ -99,7 +99,7 @@ over_stretch R stays elsewhere made old (event ∷ events) new held run number x
     ]
   where
     Result : Type 0
-    Result = (y : Actor) × (slice_get new number ≡ Some y) × R old number (event ∷ events) x y
+    Result = (y : MachineActor) × (slice_get new number ≡ Some y) × R old number (event ∷ events) x y
 
     after : All IsHeldRightly run.0
     after = held_step old event run.0 run.1 held
@@ -118,11 +118,11 @@ any_first P event events here = (0, event, omega arith, refl, here)
 
 -- nobody takes an actor from its holder
 pub stays_change :
-    (x : Actor) (party : ℕ) (step : Step) (y : Actor) → Change x party step y → IsHeldRightly x → StaysWithHolder party step x y
+    (x : MachineActor) (party : ℕ) (step : Step) (y : MachineActor) → Change x party step y → IsHeldRightly x → StaysWithHolder party step x y
 stays_change x party step y change held = grind (arith, common_steps)
 
 stays_later :
-    (old next : List Actor) (event : Event) (events : List Event) (number : ℕ) (x y : Actor) →
+    (old next : List MachineActor) (event : Event) (events : List Event) (number : ℕ) (x y : MachineActor) →
     StaysWithHolderOver next number events x y → StaysWithHolderOver old number (event ∷ events) x y
 stays_later old next event events number x y rest holder is =
     elim (rest holder is) as (λ _. (y.holder ≡ Some holder) ⊎ Any (IsGivenBack holder number) (event ∷ events)) [
@@ -131,7 +131,7 @@ stays_later old next event events number x y rest holder is =
     ]
 
 stays_made :
-    (old : List Actor) (event : Event) (next : List Actor) (events : List Event) (number : ℕ) (x y z : Actor) →
+    (old : List MachineActor) (event : Event) (next : List MachineActor) (events : List Event) (number : ℕ) (x y z : MachineActor) →
     Transition old event next → event.actor.0 ≡ number → slice_get old number ≡ Some x → IsHeldRightly x →
     Change x event.party event.step y → StaysWithHolderOver next number events y z →
     StaysWithHolderOver old number (event ∷ events) x z
@@ -153,11 +153,11 @@ stays_over words parties before old leads events new run number x found =
 
 -- who comes to hold an actor has scheduled it
 pub begins_change :
-    (x : Actor) (party : ℕ) (step : Step) (y : Actor) → Change x party step y → IsHeldBySchedule party step x y
+    (x : MachineActor) (party : ℕ) (step : Step) (y : MachineActor) → Change x party step y → IsHeldBySchedule party step x y
 begins_change x party step y change = grind (arith, common_steps)
 
 begins_later :
-    (old next : List Actor) (event : Event) (events : List Event) (number : ℕ) (x y : Actor) →
+    (old next : List MachineActor) (event : Event) (events : List Event) (number : ℕ) (x y : MachineActor) →
     IsHeldByScheduleOver next number events x y → IsHeldByScheduleOver old number (event ∷ events) x y
 begins_later old next event events number x y rest holder is =
     elim (rest holder is) as (λ _. (x.holder ≡ Some holder) ⊎ Any (IsScheduledBy holder number) (event ∷ events)) [
@@ -166,7 +166,7 @@ begins_later old next event events number x y rest holder is =
     ]
 
 begins_made :
-    (old : List Actor) (event : Event) (next : List Actor) (events : List Event) (number : ℕ) (x y z : Actor) →
+    (old : List MachineActor) (event : Event) (next : List MachineActor) (events : List Event) (number : ℕ) (x y z : MachineActor) →
     Transition old event next → event.actor.0 ≡ number → slice_get old number ≡ Some x → IsHeldRightly x →
     Change x event.party event.step y → IsHeldByScheduleOver next number events y z →
     IsHeldByScheduleOver old number (event ∷ events) x z
@@ -191,11 +191,11 @@ begins_over words parties before old leads events new run number x found =
 
 -- only the holder changes the count or closes
 pub alone_change :
-    (x : Actor) (party : ℕ) (step : Step) (y : Actor) → Change x party step y → IsSetByHolderAlone party step x y
+    (x : MachineActor) (party : ℕ) (step : Step) (y : MachineActor) → Change x party step y → IsSetByHolderAlone party step x y
 alone_change x party step y change = grind (arith, common_steps)
 
 set_later :
-    (old : List Actor) (event : Event) (next : List Actor) (events : List Event) (number : ℕ) →
+    (old : List MachineActor) (event : Event) (next : List MachineActor) (events : List Event) (number : ℕ) →
     Transition old event next → IsSetByHolder next number events → IsSetByHolder old number (event ∷ events)
 set_later old event next events number made set_ = record {
   earlier = event ∷ set_.earlier;
@@ -212,7 +212,7 @@ set_later old event next events number made set_ = record {
 }
 
 alone_later :
-    (old : List Actor) (event : Event) (next : List Actor) (events : List Event) (number : ℕ) (x y : Actor) →
+    (old : List MachineActor) (event : Event) (next : List MachineActor) (events : List Event) (number : ℕ) (x y : MachineActor) →
     Transition old event next → IsSetByHolderAloneOver next number events x y →
     IsSetByHolderAloneOver old number (event ∷ events) x y
 alone_later old event next events number x y made rest =
@@ -221,11 +221,11 @@ alone_later old event next events number x y made rest =
       | inr some ↦ inr (set_later old event next events number made some)
     ]
 
-same_count : (x y z : Actor) → HasSameCount x y → HasSameCount y z → HasSameCount x z
+same_count : (x y z : MachineActor) → HasSameCount x y → HasSameCount y z → HasSameCount x z
 same_count x y z one two = record { count = two.count ∙ one.count; closed = two.closed ∙ one.closed }
 
 alone_made :
-    (old : List Actor) (event : Event) (next : List Actor) (events : List Event) (number : ℕ) (x y z : Actor) →
+    (old : List MachineActor) (event : Event) (next : List MachineActor) (events : List Event) (number : ℕ) (x y z : MachineActor) →
     Transition old event next → event.actor.0 ≡ number → slice_get old number ≡ Some x → IsHeldRightly x →
     Change x event.party event.step y → IsSetByHolderAloneOver next number events y z →
     IsSetByHolderAloneOver old number (event ∷ events) x z
@@ -263,7 +263,7 @@ idle_own : (step : Step) → IsTrue (is_idle step) → IsTrue (sets_count step |
 idle_own step idle = grind arith
 
 known_later :
-    (old next : List Actor) (event : Event) (events : List Event) (number : ℕ) (x y : Actor) →
+    (old next : List MachineActor) (event : Event) (events : List Event) (number : ℕ) (x y : MachineActor) →
     StaysKnownToHolderOver next number events x y → StaysKnownToHolderOver old number (event ∷ events) x y
 known_later old next event events number x y rest holder is =
     elim (rest holder is) as (λ _. HasSameCount x y ⊎ Any (IsOwnChange holder number) (event ∷ events)) [
@@ -272,7 +272,7 @@ known_later old next event events number x y rest holder is =
     ]
 
 known_made :
-    (old : List Actor) (event : Event) (next : List Actor) (events : List Event) (number : ℕ) (x y z : Actor) →
+    (old : List MachineActor) (event : Event) (next : List MachineActor) (events : List Event) (number : ℕ) (x y z : MachineActor) →
     Transition old event next → event.actor.0 ≡ number → slice_get old number ≡ Some x → IsHeldRightly x →
     Change x event.party event.step y → StaysKnownToHolderOver next number events y z →
     StaysKnownToHolderOver old number (event ∷ events) x z
@@ -303,7 +303,7 @@ known_over words parties before old leads events new run number x found =
     known_made old events new (held_run words parties before old leads) run number x found
 
 -- what is closed or gone stays so
-pub ended_change : (x : Actor) (party : ℕ) (step : Step) (y : Actor) → Change x party step y → StaysEnded x y
+pub ended_change : (x : MachineActor) (party : ℕ) (step : Step) (y : MachineActor) → Change x party step y → StaysEnded x y
 ended_change x party step y change = grind (arith, common_steps)
 
 pub ended_over : StretchesLink (λ old number events x y. StaysEnded x y)

@@ -3,20 +3,20 @@ use Rattle.std.proofs.Common.{ℕ, ◌<◌, List, length, All, IsTrue, arith}
 use Rattle.std.proofs.lemmas.Grind.{common_steps}
 use Rattle.mb_core.specs.declared.event.Event.{Event}
 use Rattle.mb_core.specs.declared.event.Step.{Step}
-use Rattle.mb_core.specs.Actor.{Actor, at_start}
+use Rattle.mb_core.specs.Actor.{MachineActor, at_start}
 use Rattle.mb_core.specs.Held.{IsHeldRightly}
 use Rattle.mb_core.specs.Run.{Change, Transition, LeadsTo, can_start}
 use Rattle.mb_core.proofs.KeptLemmas.{at_before, after_step, after_run, after_start}
 
 -- the change keeps the fact
 pub held_change :
-    (x : Actor) (party : ℕ) (step : Step) (y : Actor) → Change x party step y → party < length x.owed →
+    (x : MachineActor) (party : ℕ) (step : Step) (y : MachineActor) → Change x party step y → party < length x.owed →
     IsHeldRightly x → IsHeldRightly y
 held_change x party step y change there held = grind (arith, common_steps)
 
 -- so the step keeps it of all
 pub held_step :
-    (old : List Actor) (event : Event) (new : List Actor) →
+    (old : List MachineActor) (event : Event) (new : List MachineActor) →
     Transition old event new → All IsHeldRightly old → All IsHeldRightly new
 held_step old event new step all =
     after_step IsHeldRightly old event new step
@@ -27,7 +27,7 @@ pub held_start : (parties word : ℕ) → IsTrue (can_start word) → IsHeldRigh
 held_start parties word can = grind (arith, common_steps)
 
 pub held_run :
-    (words : List ℕ) (parties : ℕ) (events : List Event) (state : List Actor) → LeadsTo words parties events state →
+    (words : List ℕ) (parties : ℕ) (events : List Event) (state : List MachineActor) → LeadsTo words parties events state →
     All IsHeldRightly state
 held_run words parties events state leads =
     after_run IsHeldRightly held_step _ events state leads.run (after_start IsHeldRightly held_start words parties leads.can_start)

@@ -9,7 +9,7 @@ use Rattle.std.proofs.lemmas.List.{length-set, length-append, get_or-set_other, 
 use Rattle.std.proofs.lemmas.List.Elements.{All-map}
 use Rattle.std.proofs.lemmas.List.Folds.{list_any-append, Any-from_list_any, list_any-from_Any}
 use Rattle.mb_core.specs.declared.debt.WakeObligation.{WakeObligation}
-use Rattle.mb_core.specs.Actor.{Actor, nothing, debt_of}
+use Rattle.mb_core.specs.Actor.{MachineActor, nothing, debt_of}
 use Rattle.mb_core.specs.Held.{IsHeldRightly}
 use Rattle.mb_core.specs.Settled.{IsOwedSystem, IsOwedMessage}
 use Rattle.mb_core.specs.Parties.{copied, moved, both, absorbed, IsOwedTheSame, SplitsKeep, JoinsKeep}
@@ -102,7 +102,7 @@ same_any cause old new same = (
 
 -- an actor of which only the debts and the holder differ
 same_owed :
-    (x y : Actor) → y.mailbox ≡ x.mailbox → y.system ≡ x.system → y.waiting ≡ x.waiting →
+    (x y : MachineActor) → y.mailbox ≡ x.mailbox → y.system ≡ x.system → y.waiting ≡ x.waiting →
     list_any (λ debt. debt.system) y.owed ≡ list_any (λ debt. debt.system) x.owed →
     list_any (λ debt. debt.message || debt.sending) y.owed ≡ list_any (λ debt. debt.message || debt.sending) x.owed →
     (IsHeldRightly x → IsHeldRightly y) → IsOwedTheSame x y
@@ -124,7 +124,7 @@ same_owed x y mailbox system waiting for_system for_message held =
       };
     }
 
-pub copied_owed : (x : Actor) (party : ℕ) → IsOwedTheSame x (copied x party)
+pub copied_owed : (x : MachineActor) (party : ℕ) → IsOwedTheSame x (copied x party)
 copied_owed x party =
     same_owed x (copied x party) refl refl refl
     (copied_any (λ debt. debt.system) refl x.owed party)
@@ -135,7 +135,7 @@ copied_owed x party =
       present = λ holder is. let inside = held.present holder is in omega (arith, length-append {A = WakeObligation});
     })
 
-pub moved_owed : (x : Actor) (party : ℕ) → IsOwedTheSame x (moved x party)
+pub moved_owed : (x : MachineActor) (party : ℕ) → IsOwedTheSame x (moved x party)
 moved_owed x party =
     same_owed x (moved x party) refl refl refl
     (moved_any (λ debt. debt.system) refl x.owed party)
@@ -147,14 +147,14 @@ moved_owed x party =
           let inside = held.present holder is in omega (arith, length-append {A = WakeObligation}, length-set {A = WakeObligation});
     })
 
-absorbed_held : (x : Actor) (into from : ℕ) → into < length x.owed → IsHeldRightly x → IsHeldRightly (absorbed x into from)
+absorbed_held : (x : MachineActor) (into from : ℕ) → into < length x.owed → IsHeldRightly x → IsHeldRightly (absorbed x into from)
 absorbed_held x into from there held = grind (arith, common_steps)
 
 both_message :
     (a b : WakeObligation) → ((both a b).message || (both a b).sending) ≡ ((a.message || a.sending) || (b.message || b.sending))
 both_message a b = grind arith
 
-pub absorbed_owed : (x : Actor) (into from : ℕ) → into ≢ from → into < length x.owed → IsOwedTheSame x (absorbed x into from)
+pub absorbed_owed : (x : MachineActor) (into from : ℕ) → into ≢ from → into < length x.owed → IsOwedTheSame x (absorbed x into from)
 absorbed_owed x into from two there =
     same_owed x (absorbed x into from) refl refl refl
     (absorbed_any (λ debt. debt.system) refl x.owed into from (both (debt_of x into) (debt_of x from)) two there refl)
@@ -164,11 +164,11 @@ absorbed_owed x into from two there =
 
 -- what a split of one actor keeps, it keeps of all
 pub split_keeps :
-    (P : Actor → Type 0) → ((x : Actor) (party : ℕ) → P x → P (copied x party)) →
-    ((x : Actor) (party : ℕ) → P x → P (moved x party)) → SplitsKeep P
+    (P : MachineActor → Type 0) → ((x : MachineActor) (party : ℕ) → P x → P (copied x party)) →
+    ((x : MachineActor) (party : ℕ) → P x → P (moved x party)) → SplitsKeep P
 split_keeps P by_copy by_move party old new split all number d inside =
     let within : number < length old = rw (sym split.same_actors) inside in
-    let before : Actor = get_or old number d in
+    let before : MachineActor = get_or old number d in
     let known : P before = all number d within in
     elim (split.each number before (slice_get-get_or old number d within)) as (λ _. P (get_or new number d)) [
       | inl copy ↦ subst P (sym (get_or_from_slice_get new number (copied before party) d copy)) (by_copy before party known)
@@ -176,8 +176,8 @@ split_keeps P by_copy by_move party old new split all number d inside =
     ]
 
 pub join_keeps :
-    (P : Actor → Type 0) →
-    ((x : Actor) (into from : ℕ) → into ≢ from → into < length x.owed → P x → P (absorbed x into from)) → JoinsKeep P
+    (P : MachineActor → Type 0) →
+    ((x : MachineActor) (into from : ℕ) → into ≢ from → into < length x.owed → P x → P (absorbed x into from)) → JoinsKeep P
 join_keeps P keeps into from old new join all =
     subst (All P) (sym join.each)
     (All-map P (λ x. absorbed x into from) old

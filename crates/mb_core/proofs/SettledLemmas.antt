@@ -12,7 +12,7 @@ use Rattle.mb_core.specs.declared.event.Event.{Event}
 use Rattle.mb_core.specs.declared.event.Step.{Step}
 use Rattle.mb_core.specs.declared.event.Step.TheVariants.{Read, Schedule, Idle, Suspend, Resume, Close, Sent, Unsent}
 use Rattle.mb_core.specs.declared.event.Step.TheVariants.{Taken, Count, Push, Take, SysAdd, SysRead, SysDrain, SysEnd}
-use Rattle.mb_core.specs.Actor.{Actor, at_start, nothing, owing, debt_of, has_work}
+use Rattle.mb_core.specs.Actor.{MachineActor, at_start, nothing, owing, debt_of, has_work}
 use Rattle.mb_core.specs.Held.{IsHeldRightly}
 use Rattle.mb_core.specs.Run.{Change, Transition, Run, LeadsTo, can_start, after_reading}
 use Rattle.mb_core.specs.Settled.{IsSettled, IsOwedSystem, IsOwedMessage}
@@ -41,7 +41,7 @@ any_set_kept P xs i y inside kept some =
 
 -- a free actor is held by nobody
 pub nobody :
-    (x : Actor) (party : ℕ) → IsHeldRightly x → IsFalse x.mailbox.closed → IsFalse x.mailbox.scheduled →
+    (x : MachineActor) (party : ℕ) → IsHeldRightly x → IsFalse x.mailbox.closed → IsFalse x.mailbox.scheduled →
     x.holder ≡ Some party → ⊥
 nobody x party held open_ free is = grind (arith, held.free open_ free)
 
@@ -57,24 +57,24 @@ read_message m debt open_ free unsuspended = grind (arith, nat_tests)
 
 -- the party owes no less than it did for system work
 pub system_kept :
-    (x : Actor) (party : ℕ) (debt : WakeObligation) → party < length x.owed → (IsTrue (debt_of x party).system → IsTrue debt.system) →
+    (x : MachineActor) (party : ℕ) (debt : WakeObligation) → party < length x.owed → (IsTrue (debt_of x party).system → IsTrue debt.system) →
     IsOwedSystem x → IsOwedSystem (owing x party debt)
 system_kept x party debt there kept some =
     any_set_kept (λ d. IsTrue d.system) x.owed party debt there kept some
 
 -- nor for envelopes
 pub message_kept :
-    (x : Actor) (party : ℕ) (debt : WakeObligation) → party < length x.owed →
+    (x : MachineActor) (party : ℕ) (debt : WakeObligation) → party < length x.owed →
     (IsTrue ((debt_of x party).message || (debt_of x party).sending) → IsTrue (debt.message || debt.sending)) →
     IsOwedMessage x → IsOwedMessage (owing x party debt)
 message_kept x party debt there kept some =
     any_set_kept (λ d. IsTrue (d.message || d.sending)) x.owed party debt there kept some
 
-pub owes_system : (x : Actor) (party : ℕ) (debt : WakeObligation) → party < length x.owed → IsTrue debt.system → IsOwedSystem (owing x party debt)
+pub owes_system : (x : MachineActor) (party : ℕ) (debt : WakeObligation) → party < length x.owed → IsTrue debt.system → IsOwedSystem (owing x party debt)
 owes_system x party debt there owes = any-set (λ d. IsTrue d.system) x.owed party debt there owes
 
 pub owes_message :
-    (x : Actor) (party : ℕ) (debt : WakeObligation) → party < length x.owed → IsTrue (debt.message || debt.sending) →
+    (x : MachineActor) (party : ℕ) (debt : WakeObligation) → party < length x.owed → IsTrue (debt.message || debt.sending) →
     IsOwedMessage (owing x party debt)
 owes_message x party debt there owes = any-set (λ d. IsTrue (d.message || d.sending)) x.owed party debt there owes
 
@@ -90,7 +90,7 @@ suspend-scheduled m = grind arith
 
 -- a look at the waiting number, by what it found
 settled_count :
-    (x : Actor) (party : ℕ) (y : Actor) (none : Bool) → (x.waiting == 0) ≡ none → party < length x.owed →
+    (x : MachineActor) (party : ℕ) (y : MachineActor) (none : Bool) → (x.waiting == 0) ≡ none → party < length x.owed →
     y ≡ (if none then owing x party (record (debt_of x party) { message = false }) else x) → IsSettled x → IsSettled y
 settled_count x party y false found there change settled = subst IsSettled (sym change) settled
 settled_count x party y true found there change settled = rw change (record {
@@ -100,7 +100,7 @@ settled_count x party y true found there change settled = rw change (record {
 
 -- a look at the system list, by what it found
 settled_look :
-    (x : Actor) (party : ℕ) (y : Actor) (work : Bool) → has_work x.system ≡ work → party < length x.owed →
+    (x : MachineActor) (party : ℕ) (y : MachineActor) (work : Bool) → has_work x.system ≡ work → party < length x.owed →
     y ≡ (if work then x else owing x party (record (debt_of x party) { system = false })) → IsSettled x → IsSettled y
 settled_look x party y true found there change settled = subst IsSettled (sym change) settled
 settled_look x party y false found there change settled = rw change (record {
@@ -111,7 +111,7 @@ settled_look x party y false found there change settled = rw change (record {
 
 -- The change keeps the fact. What its holder does to an actor cannot strand it: it is scheduled or closed.
 pub settled_change :
-    (x : Actor) (party : ℕ) (step : Step) (y : Actor) → Change x party step y → party < length x.owed →
+    (x : MachineActor) (party : ℕ) (step : Step) (y : MachineActor) → Change x party step y → party < length x.owed →
     IsHeldRightly x → IsSettled x → IsSettled y
 settled_change x party Read y change there held settled = rw change (record {
   system = λ open_ free work.
@@ -173,7 +173,7 @@ settled_change x party SysEnd y change there held settled =
 
 -- so the step keeps it of all
 pub settled_step :
-    (old : List Actor) (event : Event) (new : List Actor) → Transition old event new →
+    (old : List MachineActor) (event : Event) (new : List MachineActor) → Transition old event new →
     All IsHeldRightly old → All IsSettled old → All IsSettled new
 settled_step old event new step held settled =
     after_step IsSettled old event new step
@@ -189,14 +189,14 @@ settled_start parties word can = record {
 
 -- a run keeps it, beside who holds
 pub settled_events :
-    (old : List Actor) (events : List Event) (new : List Actor) → Run old events new →
+    (old : List MachineActor) (events : List Event) (new : List MachineActor) → Run old events new →
     All IsHeldRightly old → All IsSettled old → All IsSettled new
 settled_events old [] new run held settled = subst (All IsSettled) (sym run) settled
 settled_events old (event ∷ events) new run held settled =
     settled_events run.0 events new run.2 (held_step old event run.0 run.1 held) (settled_step old event run.0 run.1 held settled)
 
 pub settled_run :
-    (words : List ℕ) (parties : ℕ) (events : List Event) (state : List Actor) → LeadsTo words parties events state →
+    (words : List ℕ) (parties : ℕ) (events : List Event) (state : List MachineActor) → LeadsTo words parties events state →
     All IsSettled state
 settled_run words parties events state leads =
     settled_events _ events state leads.run

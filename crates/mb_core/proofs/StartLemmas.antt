@@ -3,7 +3,7 @@ use Rattle.std.proofs.Common.{◌≡◌, ℕ, ◌+◌, ◌<◌, false, List, [],
 use Rattle.std.proofs.Common.{IsTrue, ap, sym, ◌∙◌}
 use Rattle.std.proofs.lemmas.List.{take_more, map-append}
 use Rattle.mb_status.specs.Mailbox.{Mailbox, mailbox_of, is_valid}
-use Rattle.mb_core.specs.Actor.{Actor, at_start}
+use Rattle.mb_core.specs.Actor.{MachineActor, at_start}
 use Rattle.mb_core.specs.Run.{can_start, start}
 
 pub can_start_by :
@@ -19,7 +19,7 @@ start_more words i parties inside =
     ap (map (at_start parties)) (take_more words i 0 inside) ∙ map-append (at_start parties) (take i words) (get_or words i 0 ∷ [])
 
 pub at_start_of :
-    (parties word : ℕ) (m : Mailbox) (x : Actor) → m ≡ mailbox_of word → x ≡ record (at_start parties 0) { mailbox = m } →
+    (parties word : ℕ) (m : Mailbox) (x : MachineActor) → m ≡ mailbox_of word → x ≡ record (at_start parties 0) { mailbox = m } →
     x ≡ at_start parties word
 at_start_of parties word m x same made =
-    made ∙ ap {B = Actor} (λ (n : Mailbox). record (at_start parties 0) { mailbox = n }) same
+    made ∙ ap {B = MachineActor} (λ (n : Mailbox). record (at_start parties 0) { mailbox = n }) same

@@ -9,7 +9,7 @@ use Rattle.mb_core.specs.declared.debt.WakeObligation.{WakeObligation}
 -- One actor: its mailbox's status, its envelopes in order, the number counted as waiting (modulo 2^64), its system
 -- work (earliest first, or gone for good), the party that holds it if any, and what each party owes it, by the
 -- party's number.
-pub record Actor : Type 0 where
+pub record MachineActor : Type 0 where
   pub mailbox : Mailbox
   pub envelopes : List Envelope
   pub waiting : ℕ
@@ -22,15 +22,15 @@ abbrev pub nothing : WakeObligation
 nothing = record { system = false; message = false; sending = false }
 
 -- what a party owes the actor
-abbrev pub debt_of : Actor → ℕ → WakeObligation
+abbrev pub debt_of : MachineActor → ℕ → WakeObligation
 debt_of x party = slice_index_or x.owed party nothing
 
 -- what a party owes an actor of a state, by their numbers
-abbrev pub debt_between : List Actor → ℕ → ℕ → Option WakeObligation
+abbrev pub debt_between : List MachineActor → ℕ → ℕ → Option WakeObligation
 debt_between state party actor = option_and_then (λ x. slice_get x.owed party) (slice_get state actor)
 
 -- the actor, to which a party now owes this
-abbrev pub owing : Actor → ℕ → WakeObligation → Actor
+abbrev pub owing : MachineActor → ℕ → WakeObligation → MachineActor
 owing x party debt = record x { owed = slice_set x.owed party debt }
 
 -- there is system work: a message is listed
@@ -40,7 +40,7 @@ has_work (Some []) = false
 has_work (Some (m ∷ ms)) = true
 
 -- an actor as a run begins: of this status word, with empty lists, held by nobody and owed nothing
-abbrev pub at_start : ℕ → ℕ → Actor
+abbrev pub at_start : ℕ → ℕ → MachineActor
 at_start parties word =
     record {
       mailbox = mailbox_of word;

@@ -8,7 +8,7 @@ use Rattle.mb_core.specs.declared.event.Event.{Event}
 use Rattle.mb_core.specs.declared.event.Step.{Step}
 use Rattle.mb_core.specs.declared.event.Step.TheVariants.{Read, Schedule, Idle, Suspend, Resume, Close, Sent, Unsent}
 use Rattle.mb_core.specs.declared.event.Step.TheVariants.{Taken, Count, Push, Take, SysAdd, SysRead, SysDrain, SysEnd}
-use Rattle.mb_core.specs.Actor.{Actor, nothing, debt_of, owing, has_work, at_start}
+use Rattle.mb_core.specs.Actor.{MachineActor, nothing, debt_of, owing, has_work, at_start}
 
 -- What a party still owes once it has read this status: nothing where a worker holds the actor or it is closed; no wake-up
 -- for envelopes where it is suspended; else what it owed as `sending` it owes as `message` (this project's own profile).
@@ -40,12 +40,12 @@ abbrev pub drained : Option (List SysMsg) → Option (List SysMsg)
 drained system = option_map (λ listed. []) system
 
 -- the actor that its holder gives back, with system messages that it did not apply
-abbrev pub given_back : Actor → List SysMsg → Actor
+abbrev pub given_back : MachineActor → List SysMsg → MachineActor
 given_back x rest = record x { mailbox = idle x.mailbox; system = with_first x.system rest; holder = None }
 
 -- A step of a party, seen from its actor: where it is allowed, and what the actor is after it. The transitions of the
 -- mailbox are those of `akka.dispatch.Mailbox`; who owes what is this project's own profile.
-abbrev pub Change : Actor → ℕ → Step → Actor → Type 0
+abbrev pub Change : MachineActor → ℕ → Step → MachineActor → Type 0
 -- always
 Change x party Read y = y ≡ owing x party (after_reading x.mailbox (debt_of x party))
 -- where the mailbox is neither closed nor scheduled: the party holds the actor from now on, and owes it nothing
@@ -94,38 +94,38 @@ Change x party SysDrain y = (x.holder ≡ Some party) × (y ≡ record x { syste
 Change x party SysEnd y = (x.holder ≡ Some party) × IsTrue x.mailbox.closed × (y ≡ record x { system = None })
 
 -- From old, the event leads to new: its actor and its party exist, its step is allowed, and no other actor changes.
-pub record Transition (old : List Actor) (event : Event) (new : List Actor) : Type 0 where
-  pub before : Actor
-  pub after : Actor
+pub record Transition (old : List MachineActor) (event : Event) (new : List MachineActor) : Type 0 where
+  pub before : MachineActor
+  pub after : MachineActor
   pub actor_there : slice_get old event.actor.0 ≡ Some before
   pub party_there : event.party < length before.owed
   pub change : Change before event.party event.step after
   pub others_stay : new ≡ slice_set old event.actor.0 after
 
 -- From old, the events lead to new: they are a run, each allowed at its point.
-abbrev pub Run : List Actor → List Event → List Actor → Type 0
+abbrev pub Run : List MachineActor → List Event → List MachineActor → Type 0
 Run old [] new = new ≡ old
-Run old (event ∷ events) new = (next : List Actor) × Transition old event next × Run next events new
+Run old (event ∷ events) new = (next : List MachineActor) × Transition old event next × Run next events new
 
 -- a run may begin with an actor of this word: one that a mailbox has, and not scheduled
 abbrev pub can_start : ℕ → Bool
 can_start word = is_valid word && not (mailbox_of word).scheduled
 
 -- the actors of these words as a run begins, with this many parties
-abbrev pub start : List ℕ → ℕ → List Actor
+abbrev pub start : List ℕ → ℕ → List MachineActor
 start words parties = map (at_start parties) words
 
 -- the events are a run from actors of these words with this many parties, and lead to this state
-pub record LeadsTo (words : List ℕ) (parties : ℕ) (events : List Event) (state : List Actor) : Type 0 where
+pub record LeadsTo (words : List ℕ) (parties : ℕ) (events : List Event) (state : List MachineActor) : Type 0 where
   pub can_start : All (λ word. IsTrue (can_start word)) words
   pub run : Run (start words parties) events state
 
 -- the answer to a step of a party: it was carried out, or it is not allowed
-abbrev pub IsCarriedOut : Actor → ℕ → Step → Actor → Bool → Type 0
+abbrev pub IsCarriedOut : MachineActor → ℕ → Step → MachineActor → Bool → Type 0
 IsCarriedOut x party step y true = Change x party step y
-IsCarriedOut x party step y false = (z : Actor) → Change x party step z → ⊥
+IsCarriedOut x party step y false = (z : MachineActor) → Change x party step z → ⊥
 
 -- the answer to an event: it led from the one state to the other, or it leads nowhere
-abbrev pub IsMade : List Actor → Event → List Actor → Bool → Type 0
+abbrev pub IsMade : List MachineActor → Event → List MachineActor → Bool → Type 0
 IsMade old event new true = Transition old event new
-IsMade old event new false = (other : List Actor) → Transition old event other → ⊥
+IsMade old event new false = (other : List MachineActor) → Transition old event other → ⊥

@@ -28,9 +28,9 @@ pub struct ActorState {
 
 impl Model for ActorState {
     ghost use Rattle.std.specs.Prelude.{option_map};
-    ghost use Rattle.mb_core.specs.Actor.{Actor};
+    ghost use Rattle.mb_core.specs.Actor.{MachineActor};
 
-    ghost Value = { Actor };
+    ghost Value = { MachineActor };
 
     ghost view = { λ x. record {
       mailbox = x.status;

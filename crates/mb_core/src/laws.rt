@@ -1,6 +1,6 @@
 //! The laws of the machine, each a theorem about all its runs.
 ghost use Rattle.std.specs.Prelude.{◌≢◌, ◌⊎◌, ℕ, ◌<◌, length, IsTrue, IsFalse};
-ghost use Rattle.mb_core.specs.Actor.{Actor};
+ghost use Rattle.mb_core.specs.Actor.{MachineActor};
 ghost use Rattle.mb_core.specs.Between.{ChangesLink, ChangesLinkWhereHeld, StretchesLink};
 ghost use Rattle.mb_core.specs.Between.{StaysWithHolder, StaysWithHolderOver, IsHeldBySchedule, IsHeldByScheduleOver};
 ghost use Rattle.mb_core.specs.Between.{IsSetByHolderAlone, IsSetByHolderAloneOver, StaysKnownToHolderOver, StaysEnded};
@@ -46,8 +46,8 @@ pub fn every_run_keeps_debts()
 /// A law: where nothing is stranded, an actor that a worker should take is owed something. So where nothing is owed,
 /// there is no actor that a worker should take.
 pub fn runnable_is_owed()
-    ensures owed { (x : Actor) → IsSettled x → IsTrue (is_runnable x) → IsOwedSystem x ⊎ IsOwedMessage x }
-    ensures not_runnable { (x : Actor) → IsSettled x → IsOwedNothing x → IsFalse (is_runnable x) }
+    ensures owed { (x : MachineActor) → IsSettled x → IsTrue (is_runnable x) → IsOwedSystem x ⊎ IsOwedMessage x }
+    ensures not_runnable { (x : MachineActor) → IsSettled x → IsOwedNothing x → IsFalse (is_runnable x) }
 {}
 
 /// A law: nobody takes an actor from its holder. A step leaves the actor to the party that holds it, or is that party's
@@ -90,8 +90,8 @@ pub fn every_run_keeps_ended()
 /// A law, of the state and no event: where a party is split off another one and copies its debts or takes them over,
 /// each actor is owed what it was owed, and has the same holder. So all other laws still hold.
 pub fn split_keeps_debts()
-    ensures copied { (x : Actor) (party : ℕ) → IsOwedTheSame x (copied x party) }
-    ensures moved { (x : Actor) (party : ℕ) → IsOwedTheSame x (moved x party) }
+    ensures copied { (x : MachineActor) (party : ℕ) → IsOwedTheSame x (copied x party) }
+    ensures moved { (x : MachineActor) (party : ℕ) → IsOwedTheSame x (moved x party) }
     ensures held { SplitsKeep IsHeldRightly }
     ensures possible { SplitsKeep HasPossibleMailbox }
     ensures settled { SplitsKeep IsSettled }
@@ -100,7 +100,7 @@ pub fn split_keeps_debts()
 /// A law, of the state and no event: where a party takes over what another one owes and holds, each actor is owed what
 /// it was owed. So all other laws still hold.
 pub fn join_keeps_debts()
-    ensures absorbed { (x : Actor) (into from : ℕ) → into ≢ from → into < length x.owed → IsOwedTheSame x (absorbed x into from) }
+    ensures absorbed { (x : MachineActor) (into from : ℕ) → into ≢ from → into < length x.owed → IsOwedTheSame x (absorbed x into from) }
     ensures held { JoinsKeep IsHeldRightly }
     ensures possible { JoinsKeep HasPossibleMailbox }
     ensures settled { JoinsKeep IsSettled }

@@ -18,9 +18,9 @@ pub struct Model {
 
 impl std::marker::Model for Model {
     ghost use Rattle.std.specs.Prelude.{List};
-    ghost use Rattle.mb_core.specs.Actor.{Actor};
+    ghost use Rattle.mb_core.specs.Actor.{MachineActor};
 
-    ghost Value = { List Actor };
+    ghost Value = { List MachineActor };
 
     ghost view = { λ m. m.actors.items };
 }

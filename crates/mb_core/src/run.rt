@@ -1,6 +1,6 @@
 //! Replaying a list of events.
 ghost use Rattle.std.specs.Prelude.{◌≡◌, ◌↔◌, List, All, Some, IfOk, IfSome};
-ghost use Rattle.mb_core.specs.Actor.{Actor};
+ghost use Rattle.mb_core.specs.Actor.{MachineActor};
 ghost use Rattle.mb_core.specs.Held.{HasPossibleMailbox, IsHeldRightly};
 ghost use Rattle.mb_core.specs.Run.{LeadsTo};
 ghost use Rattle.mb_core.specs.Settled.{IsSettled};
@@ -19,7 +19,7 @@ pub fn replay(
     parties: usize,
     events: &[Event],
 ) -> Result<Option<Model>, AllocError>
-    ensures exact { IfOk result (λ found. (state : List Actor) →
+    ensures exact { IfOk result (λ found. (state : List MachineActor) →
         (found ≡ Some state) ↔ LeadsTo words.now parties events.now state) }
 
     // The laws of every run hold of the answer.

@@ -36,15 +36,26 @@ pub(crate) fn write_rows<W: Write>(
     geometry: &Geometry,
 ) -> io::Result<()> {
     for (index, row) in rows.rows.iter().enumerate() {
-        let to = geometry.x(lanes.position(row.shown.actor.0));
-        let y = geometry.row_y(index);
-        let from = match row.source {
-            Some(source) => geometry.x(lanes.position(source)),
-            None => to.saturating_sub(40),
-        };
-        write_row(w, picture.names, row, Way { from, to, y })?;
+        write_row(w, picture.names, row, way_of(row, index, lanes, geometry))?;
     }
     Ok(())
+}
+
+/// The way of the arrow of the row of this number.
+pub(crate) fn way_of(row: &Row<'_>, index: usize, lanes: &Lanes, geometry: &Geometry) -> Way {
+    let to = geometry.x(lanes.position(row.shown.actor.0));
+    let from = match row.source {
+        Some(source) => geometry.x(lanes.position(source)),
+        None => to.saturating_sub(40),
+    };
+    let y = geometry.row_y(index);
+    Way { from, to, y }
+}
+
+/// Where the message begins.
+pub(crate) fn label_left(way: Way) -> u64 {
+    let room = if way.from == way.to { 32 } else { 12 };
+    way.left().saturating_add(room)
 }
 
 fn write_row<W: Write>(w: &mut W, names: &[String], row: &Row<'_>, way: Way) -> io::Result<()> {
@@ -95,8 +106,7 @@ fn write_arrow<W: Write>(w: &mut W, is_user: bool, way: Way) -> io::Result<()> {
 
 /// The message, above the arrow; beside it where it is a loop.
 fn write_label<W: Write>(w: &mut W, names: &[String], row: &Row<'_>, way: Way) -> io::Result<()> {
-    let room = if way.from == way.to { 32 } else { 12 };
-    let left = way.left().saturating_add(room);
+    let left = label_left(way);
     let foot = way.y.saturating_sub(7);
     let message = Message {
         names,

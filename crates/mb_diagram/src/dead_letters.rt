@@ -21,13 +21,29 @@ pub(crate) fn write_letters<W: Write>(
     }
     write_line(w, geometry)?;
     for (index, row) in rows.letters.iter().enumerate() {
-        let envelope = row.letter.envelope;
-        let from = geometry.x(lanes.position(envelope.by.0));
-        let to = geometry.x(lanes.position(envelope.to.0));
-        let y = geometry.letter_y(index);
-        write_letter(w, picture.names, row, Way { from, to, y })?;
+        write_letter(
+            w,
+            picture.names,
+            row,
+            letter_way(row, index, lanes, geometry),
+        )?;
     }
     Ok(())
+}
+
+/// The way to the receiver of the dead letter of this number.
+pub(crate) fn letter_way(row: &LetterRow, index: usize, lanes: &Lanes, geometry: &Geometry) -> Way {
+    let envelope = row.letter.envelope;
+    Way {
+        from: geometry.x(lanes.position(envelope.by.0)),
+        to: geometry.x(lanes.position(envelope.to.0)),
+        y: geometry.letter_y(index),
+    }
+}
+
+/// Where the message begins.
+pub(crate) fn letter_label_left(way: Way) -> u64 {
+    way.from.min(stop_of(way)).saturating_add(12)
 }
 
 fn write_line<W: Write>(w: &mut W, geometry: &Geometry) -> io::Result<()> {
@@ -95,7 +111,7 @@ fn write_words<W: Write>(
         names,
         body: row.letter.envelope.body,
     };
-    let left = way.from.min(stop).saturating_add(12);
+    let left = letter_label_left(way);
     let foot = way.y.saturating_sub(7);
     writeln!(
         w,

@@ -1,27 +1,34 @@
 //! Where things stand in a picture, in its units.
 use crate::lanes::Lanes;
+use crate::order::EntryOrder;
 use crate::rows::Rows;
 
 /// The height of a row.
 pub(crate) const ROW: u64 = 28;
-/// Where the boxes with the names begin, and how high they are.
-pub(crate) const HEAD: u64 = 16;
+/// Where the boxes with the names begin where no line stands above them, and how high they are.
+const HEAD: u64 = 16;
 
 pub(crate) const BOX: u64 = 28;
+/// The height of the line above the boxes, and of its letters.
+const NOTE: u64 = 20;
 /// The height of the foot without names, and of the legend.
 pub(crate) const FOOT: u64 = 72;
 
 pub(crate) const LEGEND: u64 = 126;
 /// With more rows than this the names stand at the foot again.
 const TALL: u64 = 24;
-/// The room on the right, for the longest message.
+/// The least room on the right, and that behind the longest message.
 const RIGHT: u64 = 220;
+
+const MARGIN: u64 = 12;
 /// The least width, for the legend.
 const LEAST_WIDTH: u64 = 700;
 
 /// Where things stand.
 #[derive(Clone, Copy)]
 pub(crate) struct Geometry {
+    /// Where the boxes with the names begin.
+    head: u64,
     left: u64,
     /// From one lane to the next.
     spacing: u64,
@@ -29,19 +36,28 @@ pub(crate) struct Geometry {
     created: u64,
     rows: u64,
     letters: u64,
+    /// Where the longest message ends.
+    labels_end: u64,
 }
 
 impl Geometry {
-    pub(crate) fn of(lanes: &Lanes, rows: &Rows<'_>) -> Self {
+    pub(crate) fn of(lanes: &Lanes, rows: &Rows<'_>, order: EntryOrder) -> Self {
         let spacing = spacing_of(lanes);
         Geometry {
+            head: head_of(order),
             left: left_of(lanes, spacing),
             spacing,
             lanes: lanes.ids.len() as u64,
             created: if rows.created.is_empty() { 0 } else { 1 },
             rows: rows.rows.len() as u64,
             letters: rows.letters.len() as u64,
+            labels_end: 0,
         }
+    }
+
+    /// The same with room for messages up to here.
+    pub(crate) fn with_labels_to(self, labels_end: u64) -> Self {
+        Geometry { labels_end, ..self }
     }
 
     /// The middle of a lane.
@@ -56,9 +72,24 @@ impl Geometry {
         self.spacing.saturating_sub(16)
     }
 
+    /// Where the line above the boxes stands.
+    pub(crate) fn order_y(&self) -> u64 {
+        self.head.saturating_sub(8)
+    }
+
+    /// Where the boxes with the names begin.
+    pub(crate) fn head(&self) -> u64 {
+        self.head
+    }
+
+    /// Where the lanes begin.
+    pub(crate) fn lanes_top(&self) -> u64 {
+        self.head.saturating_add(BOX)
+    }
+
     /// The row of those that were created.
     pub(crate) fn created_y(&self) -> u64 {
-        HEAD + BOX + 34
+        self.lanes_top().saturating_add(34)
     }
 
     /// The row of this number.
@@ -66,7 +97,7 @@ impl Geometry {
         (row as u64)
             .saturating_add(self.created)
             .saturating_mul(ROW)
-            .saturating_add(HEAD + BOX + 34)
+            .saturating_add(self.created_y())
     }
 
     /// The line above the dead letters.
@@ -114,6 +145,7 @@ impl Geometry {
             .saturating_mul(self.lanes.saturating_sub(1))
             .saturating_add(self.left)
             .saturating_add(RIGHT)
+            .max(self.labels_end.saturating_add(MARGIN))
             .max(LEAST_WIDTH)
     }
 
@@ -122,13 +154,17 @@ impl Geometry {
     }
 }
 
-/// From one lane to the next: as much as the longest name needs.
+/// Below the line above the boxes, if there is one.
+fn head_of(order: EntryOrder) -> u64 {
+    match order.words() {
+        Some(_) => HEAD + NOTE,
+        None => HEAD,
+    }
+}
+
+/// From one lane to the next: as much as the widest name needs.
 fn spacing_of(lanes: &Lanes) -> u64 {
-    lanes
-        .longest
-        .saturating_mul(8)
-        .saturating_add(30)
-        .clamp(150, 350)
+    lanes.widest.saturating_add(30).clamp(150, 500)
 }
 
 /// The middle of the first lane: left of an actor's is room for what came of a message.

@@ -1,5 +1,5 @@
 //! The top of a picture: its size and style, the lanes and their names.
-use crate::geometry::{BOX, Geometry, HEAD, ROW};
+use crate::geometry::{BOX, Geometry, ROW};
 use crate::lanes::{Lanes, last_row};
 use crate::picture::Picture;
 use crate::rows::Rows;
@@ -54,24 +54,24 @@ pub(crate) fn write_lanes<W: Write>(
     lanes: &Lanes,
     geometry: &Geometry,
 ) -> io::Result<()> {
+    let top = geometry.lanes_top();
     for (lane, id) in lanes.ids.iter().enumerate() {
         let x = geometry.x(lane);
         match last_row(picture, rows, *id) {
-            Some(row) => write_ended_lane(w, x, geometry.row_y(row).saturating_add(ROW / 2))?,
-            None => write_lane(w, x, geometry.lanes_end())?,
+            Some(row) => write_ended_lane(w, x, top, geometry.row_y(row).saturating_add(ROW / 2))?,
+            None => write_lane(w, x, top, geometry.lanes_end())?,
         }
     }
     Ok(())
 }
 
-fn write_lane<W: Write>(w: &mut W, x: u64, end: u64) -> io::Result<()> {
-    let top = HEAD + BOX;
+fn write_lane<W: Write>(w: &mut W, x: u64, top: u64, end: u64) -> io::Result<()> {
     writeln!(w, "<path class=\"lane\" d=\"M{x},{top} V{end}\"/>")
 }
 
 /// The lane of an actor that has ended.
-fn write_ended_lane<W: Write>(w: &mut W, x: u64, end: u64) -> io::Result<()> {
-    write_lane(w, x, end)?;
+fn write_ended_lane<W: Write>(w: &mut W, x: u64, top: u64, end: u64) -> io::Result<()> {
+    write_lane(w, x, top, end)?;
     let left = x.saturating_sub(12);
     writeln!(w, "<path class=\"end\" d=\"M{left},{end} h24\"/>")
 }

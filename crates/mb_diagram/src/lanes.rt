@@ -1,7 +1,7 @@
 //! The lanes of a picture: a vertical line for each who sends or receives.
 use crate::picture::Picture;
 use crate::rows::Rows;
-use crate::words::length_of;
+use crate::words::width_of;
 use mb_actor::Phase;
 use mb_msg::limits::{ACTORS, OUTSIDE_SENDERS};
 use std::alloc::{AllocError, Global};
@@ -11,8 +11,8 @@ use std::alloc::{AllocError, Global};
 pub(crate) struct Lanes {
     /// The number of each as a sender, which is an actor's own.
     pub(crate) ids: Vec<u32>,
-    /// How many characters the longest name has.
-    pub(crate) longest: u64,
+    /// How much room the widest name needs, or the longest state.
+    pub(crate) widest: u64,
 }
 
 impl Lanes {
@@ -32,7 +32,7 @@ impl Lanes {
         }
         let mut lanes = Lanes {
             ids: Vec::new(alloc),
-            longest: 0,
+            widest: 0,
         };
         for id in ACTORS..most {
             lanes.add(&used, picture.names, id)?;
@@ -40,7 +40,7 @@ impl Lanes {
         for id in 0..ACTORS {
             lanes.add(&used, picture.names, id)?;
         }
-        lanes.longest = lanes.longest.max(longest_state(picture));
+        lanes.widest = lanes.widest.max(widest_state(picture));
         Ok(lanes)
     }
 
@@ -48,7 +48,7 @@ impl Lanes {
     fn add(&mut self, used: &[bool], names: &[String], id: u32) -> Result<(), AllocError> {
         if used.get(id as usize).copied() == Some(true) {
             self.ids.push(id)?;
-            self.longest = self.longest.max(length_of(names, id));
+            self.widest = self.widest.max(width_of(names, id));
         }
         Ok(())
     }
@@ -105,11 +105,11 @@ pub(crate) fn last_row(picture: &Picture<'_>, rows: &Rows<'_>, id: u32) -> Optio
     last
 }
 
-/// How many characters a state may need: more than most names, where a state is great.
-fn longest_state(picture: &Picture<'_>) -> u64 {
+/// How much room a state may need: more than most names, where a state is great.
+fn widest_state(picture: &Picture<'_>) -> u64 {
     let is_small = picture.report.actors.iter().all(|actor| match actor.state {
         None => true,
         Some(state) => state > -100_000_000 && state < 1_000_000_000,
     });
-    if is_small { 0 } else { 20 }
+    if is_small { 0 } else { 180 }
 }

@@ -14,13 +14,17 @@ mod html;
 mod journal;
 mod lanes;
 mod legend;
+mod order;
 mod picture;
+mod room;
 mod rows;
 mod sources;
 mod style;
 mod svg;
+mod widths;
 mod words;
 
 pub use html::write_html;
+pub use order::EntryOrder;
 pub use picture::{Picture, ShownEntry};
 pub use svg::write_svg;

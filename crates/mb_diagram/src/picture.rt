@@ -1,4 +1,5 @@
 //! What a picture is drawn from.
+use crate::order::EntryOrder;
 use mb_journal::EntryRef;
 use mb_msg::{ActorId, DeadLetter};
 use mb_report::Report;
@@ -21,8 +22,10 @@ pub struct Picture<'a> {
     pub names: &'a [String],
     /// What the run came to.
     pub report: &'a Report,
-    /// The entries that are shown, in the order in which they are drawn from top to bottom.
+    /// The entries that are shown, from top to bottom.
     pub entries: &'a [ShownEntry<'a>],
+    /// In which order they are. A picture of a run on threads says it.
+    pub order: EntryOrder,
     /// The dead letters that are shown.
     pub letters: &'a [DeadLetter],
 }

@@ -1,5 +1,6 @@
 //! What came to an actor and what it asked for, in the words of a scenario.
 use crate::escape::Escaped;
+use crate::widths::name_width;
 use mb_actor::{Answer, Effect, Phase};
 use mb_journal::Received;
 use mb_msg::limits::ACTORS;
@@ -29,14 +30,14 @@ impl fmt::Display for Name<'_> {
     }
 }
 
-/// How many characters the name has, at most 40.
-pub(crate) fn length_of(names: &[String], id: u32) -> u64 {
+/// How much room the name needs at most.
+pub(crate) fn width_of(names: &[String], id: u32) -> u64 {
     if id == 0 || id >= ACTORS {
-        return 10;
+        return 100;
     }
     match names.get(id as usize - 1) {
-        Some(name) => (name.as_str().len() as u64).min(40),
-        None => 10,
+        Some(name) => name_width(name.as_str()),
+        None => 100,
     }
 }
 

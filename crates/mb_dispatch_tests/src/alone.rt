@@ -2,10 +2,11 @@
 ghost use Rattle.std.specs.Prelude.{◌≡◌, [], All};
 
 use crate::seen::see;
+use crate::shown::outcome_text;
 use crate::together::Run;
 use heddleorange::run_here;
 use mb_actor::Actor;
-use mb_testkit::{TestCase, plan_and_sends, test_actors_of, text_of};
+use mb_testkit::{TestCase, plan_and_sends, test_actors_of};
 use std::alloc::Global;
 use std::process::Abort;
 use std::sync::Wait;
@@ -35,8 +36,6 @@ pub fn text_alone<A: Actor, R: Wait>(
     requires unused { All (λ actor. A.content actor ≡ A.after actor []) actors.items }
 {
     let (plan, orders) = plan_and_sends(alloc, story).ok()?;
-    match run_here(rt, alloc, plan, actors, &orders) {
-        Ok(report) => text_of(alloc, &report, story.parts.len()),
-        Err(error) => format!(in alloc; "{error:?}").ok(),
-    }
+    let outcome = run_here(rt, alloc, plan, actors, &orders);
+    outcome_text(alloc, outcome, story.parts.len())
 }

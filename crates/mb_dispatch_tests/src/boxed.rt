@@ -1,14 +1,13 @@
-//! Boxed actors of two kinds in one system.
-ghost use Rattle.std.specs.Prelude.{◌≡◌, [], All, IfOk};
+//! Boxed actors of two kinds in one planned system.
+ghost use Rattle.std.specs.Prelude.{◌≡◌, []};
 
 use crate::seen::see;
-use heddleorange::run_here;
-use mb_actor::{Actor, Outbox};
-use mb_msg::ActorId;
-use mb_testkit::{
-    ADD, COUNTER, Order, PLAIN, TestActor, TestCase, Watcher, plan_and_sends, poison, tell, text_of,
-};
-use std::alloc::{AllocError, Global};
+use crate::shown::outcome_text;
+use heddleorange::{Actor, Error, PlannedSystem, SETTINGS};
+use mb_msg::{ActorId, ActorPlan};
+use mb_report::Report;
+use mb_testkit::{ADD, COUNTER, Order, TestActor, Watcher, poison, sends_of, tell};
+use std::alloc::Global;
 use std::sync::Wait;
 use std::test::Fail;
 
@@ -28,51 +27,21 @@ fn run_both<R: Wait>(
     alloc: Global,
     first: Box<dyn Actor + Send>,
     second: Box<dyn Actor + Send>,
-) -> Option<String> {
-    let story = TestCase {
-        parts: &[COUNTER, COUNTER],
-        sends: SENDS,
-        ..PLAIN
-    };
-    let (plan, orders) = plan_and_sends(alloc, &story).ok()?;
-    let Ok(actors) = fresh(alloc, first, second) else {
-        return None;
-    };
-    match run_here::<Box<dyn Actor + Send>, R>(rt, alloc, plan, actors, &orders) {
-        Ok(report) => text_of(alloc, &report, 2),
-        Err(_) => None,
-    }
-}
-
-// These two, each of which has begun anew.
-fn fresh(
-    alloc: Global,
-    first: Box<dyn Actor + Send>,
-    second: Box<dyn Actor + Send>,
-) -> Result<Vec<Box<dyn Actor + Send>>, AllocError>
-    ensures { IfOk result (λ actors. All (λ actor. content actor ≡ after actor []) actors.items) }
+) -> Result<Report, Error>
+    requires unused { (content first ≡ after first []) × (content second ≡ after second []) }
 {
-    let mut actors = Vec::new(alloc);
-    actors.push(begun(alloc, first))?;
-    actors.push(begun(alloc, second))?;
-    Ok(actors)
-}
-
-// It has begun anew: so it shows what it shows after no message.
-fn begun(alloc: Global, actor: Box<dyn Actor + Send>) -> Box<dyn Actor + Send>
-    ensures { content result ≡ after result [] }
-{
-    let mut actor = actor;
-    let mut out = Outbox::new(1, &Vec::new(alloc));
-    let _answer = actor.start(&mut out);
-    actor
+    let mut planned = PlannedSystem::new(alloc, SETTINGS);
+    planned.add(ActorPlan::child_of(alloc, ActorId(0)), first)?;
+    planned.add(ActorPlan::child_of(alloc, ActorId(0)), second)?;
+    let sends = vec![in alloc; sends_of(alloc, SENDS)?]?;
+    planned.run_here(rt, alloc, &sends)
 }
 
 #[test]
 fn a_boxed_actor_watches_one_of_another_kind(rt: HostRuntime) -> Result<(), Fail> {
     let first: Box<dyn Actor + Send> = Box::new(rt.alloc(), Watcher { of: ActorId(2) })?;
     let second: Box<dyn Actor + Send> = Box::new(rt.alloc(), TestActor::new(COUNTER))?;
-    let found = run_both(&rt, rt.alloc(), first, second);
-    see(&rt, &found, REPORT);
+    let outcome = run_both(&rt, rt.alloc(), first, second);
+    see(&rt, &outcome_text(rt.alloc(), outcome, 2), REPORT);
     Ok(())
 }

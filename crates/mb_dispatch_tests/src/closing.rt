@@ -18,13 +18,16 @@ pub enum FinishRefusal {
 
 /// Why there is no report, and what came back.
 #[derive(Drop)]
-pub struct Unfinished {
+pub struct Unfinished<S: Drop> {
     pub why: FinishRefusal,
-    pub back: Option<TestSystem>,
+    pub back: Option<S>,
 }
 
 // All came back.
-pub(crate) fn come_back(why: FinishRefusal, built: Built<TestActor, Adding>) -> Unfinished
+pub(crate) fn come_back(
+    why: FinishRefusal,
+    built: Built<TestActor, Adding>,
+) -> Unfinished<TestSystem>
     requires together { BelongsTogether built }
 {
     Unfinished {

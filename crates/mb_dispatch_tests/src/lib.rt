@@ -1,4 +1,5 @@
-//! The tests of the dispatcher: whole runs, on threads and on one thread, each with the report that it must give.
+//! Tests of whole runs, on threads and on one thread, each with the report that it must give, or with why there is none; and of
+//! systems that a test drives step by step.
 #![tactic(auto)]
 
 #[cfg(test)]
@@ -24,8 +25,15 @@ mod meeting;
 #[cfg(test)]
 mod ordered;
 #[cfg(test)]
+mod planned;
+#[cfg(test)]
+mod reading;
+#[cfg(test)]
+mod refusals;
 #[cfg(test)]
 mod refused;
+#[cfg(test)]
+mod refused_run;
 #[cfg(test)]
 mod retried;
 #[cfg(test)]
@@ -34,6 +42,8 @@ mod seen;
 mod shown;
 #[cfg(test)]
 mod supervised;
+#[cfg(test)]
+mod system_driver;
 #[cfg(test)]
 mod system_script;
 #[cfg(test)]
@@ -46,5 +56,3 @@ mod thousand;
 mod throughput;
 #[cfg(test)]
 mod together;
-#[cfg(test)]
-mod unbuilt;

@@ -2,7 +2,7 @@
 use crate::seen::see;
 use crate::together::text_together;
 use mb_msg::PoolKind;
-use mb_testkit::{ADD, COUNTER, MeetingActor, PLAIN, Silent, TestCase, tell, two_meeting_actors};
+use mb_testkit::{ADD, COUNTER, PLAIN, TestCase, tell, two_meeting_actors};
 use std::alloc::Global;
 use std::sync::Wait;
 use std::thread::Threads;
@@ -28,7 +28,7 @@ const BY_STEALING: TestCase<'static> = TestCase {
 /// The report of two guests that are sent a message each.
 fn meet<R: Threads + Wait + Sync>(rt: &R, alloc: Global, story: &TestCase<'_>) -> Option<String> {
     match two_meeting_actors(alloc) {
-        Ok(guests) => text_together::<MeetingActor, Silent, R>(rt, alloc, story, guests),
+        Ok(guests) => text_together(rt, alloc, story, guests),
         Err(_) => None,
     }
 }

@@ -1,6 +1,7 @@
 //! A whole run on one thread, whose calls are made again where memory was refused: `tools/refuse_each_allocation system` runs
 //! this with each allocation refused in turn.
 use crate::closing::{FinishRefusal, Unfinished};
+use crate::system_driver::SystemDriver;
 use crate::test_system::TestSystem;
 use mb_dispatch::{Put, RunError, SendError};
 use mb_msg::{ActorId, Body, PoolKind, Why};
@@ -20,7 +21,7 @@ const CHILD: TestActorPlan = TestActorPlan {
 };
 
 /// With ample memory. The same where the last envelope finds no memory: it is dead in any case.
-const WITH_ALL: &str = "\
+pub const WITH_ALL: &str = "\
 guardian live state - suspended 0 handled 0 left 0 dead 0 restarts 0
 a1 live state 0 suspended 0 handled 0 left 0 dead 0 restarts 0
 a2 ended state 7 suspended 0 handled 4 left 0 dead 1 restarts 1
@@ -64,7 +65,7 @@ sent 5 handled 4 left 0 dead 1
 ";
 
 /// What the child is sent, and the report where that finds no memory.
-const SENDS: &[(Body, &str)] = &[
+pub const SENDS: &[(Body, &str)] = &[
     (
         Body::User {
             kind: ADD,
@@ -105,7 +106,7 @@ fn build_at_last<R: Wait>(rt: &R, alloc: Global, story: &TestCase<'_>) -> Option
 }
 
 /// Sends all: the report that is due.
-fn tell_each<R: Wait>(rt: &R, company: &mut TestSystem) -> Option<&'static str> {
+fn tell_each<S: SystemDriver, R: Wait>(rt: &R, company: &mut S) -> Option<&'static str> {
     let mut due = WITH_ALL;
     for (body, without) in SENDS {
         match tell_at_last(rt, company, *body)? {
@@ -118,9 +119,9 @@ fn tell_each<R: Wait>(rt: &R, company: &mut TestSystem) -> Option<&'static str> 
 }
 
 /// Sends this, again where nothing was sent.
-fn tell_at_last<R: Wait>(
+fn tell_at_last<S: SystemDriver, R: Wait>(
     rt: &R,
-    company: &mut TestSystem,
+    company: &mut S,
     body: Body,
 ) -> Option<Result<Put, SendError>> {
     match company.tell(rt, ActorId(2), body)? {
@@ -130,7 +131,7 @@ fn tell_at_last<R: Wait>(
 }
 
 /// Runs all, again where memory was refused; answers whether it ran.
-fn run_at_last<R: Wait>(rt: &R, company: &mut TestSystem) -> bool {
+fn run_at_last<S: SystemDriver, R: Wait>(rt: &R, company: &mut S) -> bool {
     let turns = match company.run_quietly(rt) {
         Some(Err(RunError::NoMemory)) => company.run_quietly(rt),
         turns => turns,
@@ -139,7 +140,7 @@ fn run_at_last<R: Wait>(rt: &R, company: &mut TestSystem) -> bool {
 }
 
 /// Ends the system, again where memory was refused.
-fn finish_at_last<R: Wait>(rt: &R, company: TestSystem) -> Option<Report> {
+fn finish_at_last<S: SystemDriver, R: Wait>(rt: &R, company: S) -> Option<Report> {
     match company.finish(rt) {
         Ok(report) => Some(report),
         Err(
@@ -153,7 +154,7 @@ fn finish_at_last<R: Wait>(rt: &R, company: TestSystem) -> Option<Report> {
 }
 
 /// Whether the report is the one that is due.
-fn is_as_due<R: Wait>(rt: &R, alloc: Global, company: TestSystem) -> Option<bool> {
+fn is_as_due<S: SystemDriver, R: Wait>(rt: &R, alloc: Global, company: S) -> Option<bool> {
     let mut company = company;
     let due = go_on(rt, &mut company);
     let report = finish_at_last(rt, company)?;
@@ -161,7 +162,7 @@ fn is_as_due<R: Wait>(rt: &R, alloc: Global, company: TestSystem) -> Option<bool
 }
 
 /// Sends all, and runs it: the report that is due.
-fn go_on<R: Wait>(rt: &R, company: &mut TestSystem) -> Option<&'static str> {
+fn go_on<S: SystemDriver, R: Wait>(rt: &R, company: &mut S) -> Option<&'static str> {
     let due = tell_each(rt, company)?;
     if run_at_last(rt, company) {
         Some(due)
@@ -170,7 +171,7 @@ fn go_on<R: Wait>(rt: &R, company: &mut TestSystem) -> Option<&'static str> {
     }
 }
 
-fn is_text_due(alloc: Global, report: &Report, due: &str) -> Option<bool> {
+pub fn is_text_due(alloc: Global, report: &Report, due: &str) -> Option<bool> {
     let text = text_at_last(alloc, report)?;
     let text = text.as_str();
     Some(text == due || due == WITH_ALL && text == LEFT)
@@ -183,7 +184,7 @@ fn text_at_last(alloc: Global, report: &Report) -> Option<String> {
     }
 }
 
-const BY_SHARED: TestCase<'static> = TestCase {
+pub const BY_SHARED: TestCase<'static> = TestCase {
     parts: &[PARENT, CHILD],
     ..PLAIN
 };

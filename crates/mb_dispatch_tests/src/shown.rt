@@ -1,7 +1,17 @@
-//! Answers of the dispatcher as texts.
+//! Answers of the dispatcher, and of whole runs, as texts.
+use heddleorange::Error;
 use mb_dispatch::{Look, Put, RunError, SendError, Turn};
-use mb_testkit::add;
+use mb_report::Report;
+use mb_testkit::{add, text_of};
 use std::alloc::{AllocError, Global};
+
+/// The text of the report of a whole run of so many actors, or why there is no report. Nothing where memory was refused.
+pub fn outcome_text(alloc: Global, outcome: Result<Report, Error>, count: usize) -> Option<String> {
+    match outcome {
+        Ok(report) => text_of(alloc, &report, count),
+        Err(error) => format!(in alloc; "{error:?}").ok(),
+    }
+}
 
 /// One run: its actor, its system messages and its envelopes.
 pub fn turn_text(alloc: Global, turn: &Turn) -> Result<String, AllocError> {

@@ -1,6 +1,8 @@
 //! Stories that go on step by step, on one thread.
 use crate::seen::see;
+use crate::system_driver::SystemDriver;
 use crate::system_test::SystemTest;
+use crate::test_system::TestSystem;
 use mb_testkit::{Order, TestCase};
 use std::alloc::Global;
 use std::process::Abort;
@@ -48,7 +50,22 @@ pub fn play<R: Abort + Wait>(rt: &R, alloc: Global, tales: &[SystemScript]) {
 }
 
 fn play_one<R: Abort + Wait>(rt: &R, alloc: Global, tale: &SystemScript) {
-    let mut stage = SystemTest::new(rt, alloc, &tale.story);
+    go_on(
+        rt,
+        alloc,
+        tale,
+        TestSystem::new(rt, alloc, &tale.story).ok(),
+    );
+}
+
+// Takes each step of the story in this system.
+fn go_on<S: SystemDriver, R: Abort + Wait>(
+    rt: &R,
+    alloc: Global,
+    tale: &SystemScript,
+    company: Option<S>,
+) {
+    let mut stage = SystemTest::new(alloc, tale.story.parts.len(), company);
     for (step, answer) in tale.steps {
         see(rt, &stage.take(rt, *step), *answer);
     }

@@ -1,32 +1,32 @@
 //! A system on which a story goes on step by step.
 use crate::closing::{FinishRefusal, Unfinished};
 use crate::shown::{look_text, put_text, run_text, stop_text, turn_text, turns_text};
+use crate::system_driver::SystemDriver;
 use crate::system_script::SystemStep;
-use crate::test_system::TestSystem;
 use mb_dispatch::{Look, Ticket};
 use mb_msg::{ActorId, Body};
 use mb_report::{ActorReport, Report};
-use mb_testkit::{ADD, Order, OrderKind, TestCase, add, journal_text, text_of};
+use mb_testkit::{ADD, Order, OrderKind, add, journal_text, text_of};
 use std::alloc::Global;
 use std::sync::Wait;
 
 /// A system until it has ended, and then its report; how many actors there are, and the ticket that the sender got last.
 #[derive(Drop)]
-pub struct SystemTest {
+pub struct SystemTest<S: Drop> {
     alloc: Global,
     count: usize,
-    company: Option<TestSystem>,
+    company: Option<S>,
     ticket: Option<Ticket>,
     report: Option<Report>,
 }
 
-impl SystemTest {
-    /// The beginning of this story.
-    pub fn new<R: Wait>(rt: &R, alloc: Global, story: &TestCase<'_>) -> Self {
+impl<S: SystemDriver> SystemTest<S> {
+    /// The beginning of a test of this system of so many actors, if there is one.
+    pub fn new(alloc: Global, count: usize, company: Option<S>) -> Self {
         SystemTest {
             alloc,
-            count: story.parts.len(),
-            company: TestSystem::new(rt, alloc, story).ok(),
+            count,
+            company,
             ticket: None,
             report: None,
         }
@@ -97,10 +97,10 @@ impl SystemTest {
 }
 
 // Takes a step that this company takes by itself: its answer.
-fn lead<R: Wait>(
+fn lead<S: SystemDriver, R: Wait>(
     rt: &R,
     alloc: Global,
-    company: &mut TestSystem,
+    company: &mut S,
     step: SystemStep,
 ) -> Option<String> {
     match step {
@@ -117,10 +117,10 @@ fn lead<R: Wait>(
     }
 }
 
-fn send_all<R: Wait>(
+fn send_all<S: SystemDriver, R: Wait>(
     rt: &R,
     alloc: Global,
-    company: &mut TestSystem,
+    company: &mut S,
     orders: &[Order],
 ) -> Option<String> {
     let mut text = String::new(alloc);
@@ -131,7 +131,12 @@ fn send_all<R: Wait>(
     Some(text)
 }
 
-fn send<R: Wait>(rt: &R, alloc: Global, company: &mut TestSystem, order: Order) -> Option<String> {
+fn send<S: SystemDriver, R: Wait>(
+    rt: &R,
+    alloc: Global,
+    company: &mut S,
+    order: Order,
+) -> Option<String> {
     match order.what {
         OrderKind::Tell(body) => put_text(alloc, company.tell(rt, order.to, body)?).ok(),
         OrderKind::Stop => stop_text(alloc, company.stop(rt, order.to)?).ok(),

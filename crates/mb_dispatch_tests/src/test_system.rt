@@ -1,11 +1,9 @@
-//! A system of players with all that belongs to it. The tests call its first end and its first sender. The calls have no
-//! preconditions: what those of the dispatcher ask for is in the type, or is checked first. Where there is no end, no sender or
-//! no such actor, a call does nothing.
+//! A system of players with all that belongs to it. What the dispatcher's calls ask for is in the type, or is checked first.
 ghost use Rattle.mb_system.specs.Belonging.{BelongsTogether};
 ghost use Rattle.mb_system.specs.Members.{IsEndOf};
 
 use crate::closing::{FinishRefusal, Unfinished, come_back};
-use crate::together::begin;
+use crate::system_driver::SystemDriver;
 use mb_dispatch::{
     Built, Look, Put, RunError, SendError, Sender, System, Ticket, Turn, WorkerEnd, run_mailbox,
     run_quietly, work,
@@ -14,6 +12,7 @@ use mb_msg::{ActorId, Body};
 use mb_register::Hint;
 use mb_report::Report;
 use mb_shutdown::{FinishError, finish};
+use mb_startup::build;
 use mb_testkit::{Adding, TestActor, TestCase, plan_of, test_actors_of};
 use std::alloc::{AllocError, Global};
 use std::marker::Model;
@@ -53,8 +52,10 @@ impl TestSystem {
     pub fn new<R: Wait>(rt: &R, alloc: Global, story: &TestCase<'_>) -> Result<Self, AllocError> {
         let plan = plan_of(alloc, story)?;
         let players = test_actors_of(alloc, story.parts)?;
-        let built = begin::<TestActor, Adding, R>(rt, alloc, plan, players)?;
-        Ok(TestSystem::of(built))
+        match build::<TestActor, Adding, R>(rt, alloc, plan, players) {
+            Ok(built) => Ok(TestSystem::of(built)),
+            Err(_) => Err(AllocError),
+        }
     }
 
     /// The system and all that is there of it.
@@ -72,9 +73,10 @@ impl TestSystem {
             senders,
         }
     }
+}
 
-    /// Ends the system, and answers the report.
-    pub fn finish<R: Wait>(self, rt: &R) -> Result<Report, Unfinished> {
+impl SystemDriver for TestSystem {
+    fn finish<R: Wait>(self, rt: &R) -> Result<Report, Unfinished<TestSystem>> {
         let TestSystem {
             system,
             ends,
@@ -105,74 +107,60 @@ impl TestSystem {
         }
     }
 
-    /// Drops the senders.
-    pub fn lose_senders(&mut self) {
+    fn lose_senders(&mut self) {
         self.senders.clear();
     }
 
-    /// Runs claims on this thread until none is there; answers what each run did.
-    pub fn run_quietly<R: Wait>(&mut self, rt: &R) -> Option<Result<Vec<Turn>, RunError>> {
+    fn run_quietly<R: Wait>(&mut self, rt: &R) -> Option<Result<Vec<Turn>, RunError>> {
         if self.ends.len() == 0 {
             return None;
         }
         Some(run_quietly(rt, &self.system, &mut self.ends[0]))
     }
 
-    /// Registers an actor; answers whether its claim went into the pool.
-    pub fn register<R: Wait>(&mut self, rt: &R, id: ActorId) -> Option<bool> {
+    fn register<R: Wait>(&mut self, rt: &R, id: ActorId) -> Option<bool> {
         if self.ends.len() == 0 || id.0 as usize >= self.system.gates.actors() {
             return None;
         }
         Some(self.ends[0].register(rt, &self.system, id, Hint::None))
     }
 
-    /// Takes a claim and runs its mailbox; answers what the run did. Nothing where there is no claim, or the run is broken off.
-    pub fn turn<R: Wait>(&mut self, rt: &R) -> Option<Turn> {
+    fn turn<R: Wait>(&mut self, rt: &R) -> Option<Turn> {
         if self.ends.len() == 0 {
             return None;
         }
         run_next(rt, &self.system, &mut self.ends[0])
     }
 
-    /// Works until there is no claim.
-    pub fn work<R: Wait>(&mut self, rt: &R) -> Option<Result<(), RunError>> {
+    fn work<R: Wait>(&mut self, rt: &R) -> Option<Result<(), RunError>> {
         if self.ends.len() == 0 {
             return None;
         }
         Some(work(rt, &self.system, &mut self.ends[0]))
     }
 
-    /// Tells an actor this body.
-    pub fn tell<R: Wait>(
-        &mut self,
-        rt: &R,
-        to: ActorId,
-        body: Body,
-    ) -> Option<Result<Put, SendError>> {
+    fn tell<R: Wait>(&mut self, rt: &R, to: ActorId, body: Body) -> Option<Result<Put, SendError>> {
         if self.senders.len() == 0 {
             return None;
         }
         Some(self.senders[0].tell(rt, &self.system, to, body))
     }
 
-    /// Stops an actor.
-    pub fn stop<R: Wait>(&mut self, rt: &R, id: ActorId) -> Option<Result<bool, SendError>> {
+    fn stop<R: Wait>(&mut self, rt: &R, id: ActorId) -> Option<Result<bool, SendError>> {
         if self.senders.len() == 0 {
             return None;
         }
         Some(self.senders[0].stop(rt, &self.system, id))
     }
 
-    /// Looks at an actor.
-    pub fn look(&mut self, to: ActorId) -> Option<Result<Look, SendError>> {
+    fn look(&mut self, to: ActorId) -> Option<Result<Look, SendError>> {
         if self.senders.len() == 0 {
             return None;
         }
         Some(self.senders[0].look(&self.system, to))
     }
 
-    /// Puts this body by a ticket.
-    pub fn put<R: Wait>(
+    fn put<R: Wait>(
         &mut self,
         rt: &R,
         ticket: Ticket,

@@ -1,57 +1,92 @@
-//! A thousand random plans, run on threads: what must be true of a run is true of each report.
-use crate::together::report_of;
-use mb_msg::PoolKind;
+//! A thousand random plans, half of them with each pool, each run on this thread and on threads: what must be true of a run is
+//! true of each report.
+use crate::reading::is_read_right;
+use heddleorange::{Error, run_here, run_on_threads};
+use mb_msg::{Order, PoolKind};
 use mb_report::Report;
 use mb_testkit::{
-    Adding, Order, RandomActor, actors_by_chance, is_right_of_these_alone, plan_by_chance,
-    random_actors, sends_by_chance,
+    actors_by_chance, is_right_of_these_alone, plan_by_chance, random_actors, sends_by_chance,
 };
 use std::alloc::{AllocError, Global};
+use std::ops::Range;
 use std::process::Abort;
 use std::sync::Wait;
 use std::thread::Threads;
 
-/// Runs the plan of this seed: whether its report is right.
-fn try_one<R: Threads + Wait + Sync>(
-    rt: &R,
-    alloc: Global,
-    seed: u64,
-    pool: PoolKind,
-) -> Result<bool, AllocError> {
-    let plan = plan_by_chance(alloc, seed, pool)?;
-    let sends = sends_by_chance(alloc, seed, plan.senders, actors_by_chance(seed))?;
-    match run_one(rt, alloc, seed, pool, &sends)? {
-        Some(report) => is_right_of_these_alone(alloc, &report, &plan, sends),
-        None => Ok(false),
+/// The seeds of the plans with this pool.
+fn seeds_of(pool: PoolKind) -> Range<u64> {
+    match pool {
+        PoolKind::Shared => 0..500,
+        PoolKind::Stealing => 500..1_000,
     }
 }
 
-/// The report of the plan of this seed, each of whose senders sends its own of these; nothing where there is none.
-fn run_one<R: Threads + Wait + Sync>(
+/// Runs the plan of this seed on this thread: whether its report is right.
+fn try_alone<R: Wait>(rt: &R, alloc: Global, seed: u64, pool: PoolKind) -> Result<bool, Error> {
+    let plan = plan_by_chance(alloc, seed, pool)?;
+    let sends = sends_by_chance(alloc, seed, plan.senders, actors_by_chance(seed))?;
+    let actors = random_actors(alloc, seed, actors_by_chance(seed))?;
+    let report = run_here(rt, alloc, plan, actors, &sends)?;
+    Ok(is_right(alloc, seed, pool, &report, sends)?)
+}
+
+/// The same on threads.
+fn try_together<R: Threads + Wait + Sync>(
     rt: &R,
     alloc: Global,
     seed: u64,
     pool: PoolKind,
-    sends: &[Vec<Order>],
-) -> Result<Option<Report>, AllocError> {
+) -> Result<bool, Error> {
     let plan = plan_by_chance(alloc, seed, pool)?;
-    let random_actors = random_actors(alloc, seed, actors_by_chance(seed))?;
-    report_of::<RandomActor, Adding, R>(rt, alloc, plan, random_actors, sends)
+    let sends = sends_by_chance(alloc, seed, plan.senders, actors_by_chance(seed))?;
+    let actors = random_actors(alloc, seed, actors_by_chance(seed))?;
+    let report = run_on_threads(rt, alloc, plan, actors, &sends)?;
+    Ok(is_right(alloc, seed, pool, &report, sends)?)
 }
 
-fn try_five_hundred<R: Abort + Threads + Wait + Sync>(rt: &R, alloc: Global, pool: PoolKind) {
-    for seed in 0..500 {
-        let is_right = try_one(rt, alloc, seed, pool);
+/// Whether this is right as the report of the plan of this seed, each of whose senders sent its own of these, and the calls that
+/// read it say what it says.
+fn is_right(
+    alloc: Global,
+    seed: u64,
+    pool: PoolKind,
+    report: &Report,
+    sends: Vec<Vec<Order>>,
+) -> Result<bool, AllocError> {
+    let plan = plan_by_chance(alloc, seed, pool)?;
+    Ok(is_right_of_these_alone(alloc, report, &plan, sends)? && is_read_right(report))
+}
+
+fn try_all_alone<R: Abort + Wait>(rt: &R, alloc: Global, pool: PoolKind) {
+    for seed in seeds_of(pool) {
+        let is_right = try_alone(rt, alloc, seed, pool);
+        assert!(rt; matches!(is_right, Ok(true)), "the plan of seed {seed}");
+    }
+}
+
+fn try_all_together<R: Abort + Threads + Wait + Sync>(rt: &R, alloc: Global, pool: PoolKind) {
+    for seed in seeds_of(pool) {
+        let is_right = try_together(rt, alloc, seed, pool);
         assert!(rt; matches!(is_right, Ok(true)), "the plan of seed {seed}");
     }
 }
 
 #[test]
+fn five_hundred_plans_by_a_shared_pool_come_out_right_on_one_thread(rt: HostRuntime) {
+    try_all_alone(&rt, rt.alloc(), PoolKind::Shared)
+}
+
+#[test]
+fn five_hundred_plans_by_a_stealing_pool_come_out_right_on_one_thread(rt: HostRuntime) {
+    try_all_alone(&rt, rt.alloc(), PoolKind::Stealing)
+}
+
+#[test]
 fn five_hundred_plans_by_a_shared_pool_come_out_right(rt: HostRuntime) {
-    try_five_hundred(&rt, rt.alloc(), PoolKind::Shared)
+    try_all_together(&rt, rt.alloc(), PoolKind::Shared)
 }
 
 #[test]
 fn five_hundred_plans_by_a_stealing_pool_come_out_right(rt: HostRuntime) {
-    try_five_hundred(&rt, rt.alloc(), PoolKind::Stealing)
+    try_all_together(&rt, rt.alloc(), PoolKind::Stealing)
 }

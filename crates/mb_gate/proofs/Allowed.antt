@@ -348,7 +348,7 @@ module _ {H : Type 0} (is_of : ℕ → H → Type 0) (facts : H → HomeFacts) w
   same_named : (n slots actor id : ℕ) (me : M) (x : Place) (vs : List View) (l : Lent) → slots ≡ 2 * n → F n actor x vs → get_elem? vs id ≡ some me.0
       → me.0.list ≡ Some l → l.actor ≡ actor → (l' : Lent) → me.0.list ≡ Some l' → (actors : ℕ) → slots ≡ 2 * actors
       → All (NamesBelow actors) l'.listed.messages
-  same_named n slots actor id me x vs l deep f at keeps of_list l' list' actors deep' =
+  same_named n slots actor id me x vs l slot_count f at keeps of_list l' list' actors slot_count' =
       let taken : l.listed ≡ x.ghost.listed = (is_lent is_of facts n actor id x vs me.0 l f at keeps
       of_list).1.taken in
       let many : n ≡ actors = omega arith in
@@ -548,7 +548,7 @@ module _ {H : Type 0} (is_of : ℕ → H → Type 0) (facts : H → HomeFacts) w
         → me.1 ≡ (slot_at actor 1, Listing (drained l.listed)) ∷ tail_of me.1 → new ≡ gate_word false (drained l.listed) (is_some_item
         l.listed.messages)
         → Allows (Rule n) slots id me i (λ _. new) (λ _. Drains (step slots i new 0 none) me new)
-    drains_allowed c l new e deep has of keeps of_list carried word = subst (λ j. Allows (Rule n) slots id me j (λ _. new) (λ _. Drains (step slots j
+    drains_allowed c l new e slot_count has of keeps of_list carried word = subst (λ j. Allows (Rule n) slots id me j (λ _. new) (λ _. Drains (step slots j
         new 0 none) me new)) (sym e)
         (allows word_offset slot_offset words_few slots_few n (F n) slots id me actor Gate (λ _. new) (λ _. Drains (step slots (word_at actor 9) new
         0 none) me new) inside
@@ -563,14 +563,14 @@ module _ {H : Type 0} (is_of : ℕ → H → Type 0) (facts : H → HomeFacts) w
             tail_of me.1,
           )),
           same_given n actor id me x vs c l f at has of keeps of_list l' c' has' claim',
-          same_named n slots actor id me x vs l deep f at keeps of_list l' has',
+          same_named n slots actor id me x vs l slot_count f at keeps of_list l' has',
         ))))
 
     pub ends_allowed : (c : Held) (l : Lent) (new : ℕ) → i ≡ word_at actor 9 → slots ≡ 2 * n → me.0.claim ≡ Some c → c.actor ≡ actor
         → me.0.list ≡ Some l → l.actor ≡ actor
         → me.1 ≡ (slot_at actor 1, Listing (ended l.listed)) ∷ tail_of me.1 → new ≡ gate_word false (ended l.listed) l.gave → c.word ≡ 1
         → Allows (Rule n) slots id me i (λ _. new) (λ _. Ends (step slots i new 0 none) me new)
-    ends_allowed c l new e deep has of keeps of_list carried word closed =
+    ends_allowed c l new e slot_count has of keeps of_list carried word closed =
         subst (λ j. Allows (Rule n) slots id me j (λ _. new) (λ _. Ends (step slots j new 0 none) me new)) (sym e)
         (allows word_offset slot_offset words_few slots_few n (F n) slots id me actor Gate (λ _. new) (λ _. Ends (step slots (word_at actor 9) new 0
         none) me new) inside
@@ -590,7 +590,7 @@ module _ {H : Type 0} (is_of : ℕ → H → Type 0) (facts : H → HomeFacts) w
             tail_of me.1,
           )),
           same_given n actor id me x vs c l f at has of keeps of_list l' c' list' claim',
-          same_named n slots actor id me x vs l deep f at keeps of_list l' list',
+          same_named n slots actor id me x vs l slot_count f at keeps of_list l' list',
         ))))
 
     pub glances_allowed : i ≡ word_at actor 9 → Allows (Rule n) slots id me i (λ k. k) (ChecksDrained (step slots i 0 0 none) me)

@@ -167,10 +167,10 @@ module _ {H : Type 0} (is_of : ℕ → H → Type 0) (facts : H → HomeFacts) (
       let y : Place = record { row = write word_offset x.row Gate (old + 1); slot = fill slot_offset x.slot ListSlot none; ghost = g } in
       let grows = grown x y (λ e. e) (λ one. one) (extends_self x.ghost.journal) refl in record {
         view = w;
-        deed = takes_from ListSlot (Listing x.ghost.listed);
+        slot_step = takes_from ListSlot (Listing x.ghost.listed);
         kept = g;
-        able = h.1.present;
-        here = record {
+        is_able = h.1.present;
+        holds = record {
           valid = f.valid;
           claims = stays_locked (claim_for actor) x.ghost.holder vs id v w at refl f.claims;
           cell =
@@ -242,10 +242,10 @@ module _ {H : Type 0} (is_of : ℕ → H → Type 0) (facts : H → HomeFacts) (
       in
       record {
         view = w;
-        deed = gives_to ListSlot (Listing (with_last l.listed m));
+        slot_step = gives_to ListSlot (Listing (with_last l.listed m));
         kept = g;
-        able = (tail_of me.1, carried);
-        here = record {
+        is_able = (tail_of me.1, carried);
+        holds = record {
           valid = f.valid;
           claims = stays_locked (claim_for actor) x.ghost.holder vs id v w at refl f.claims;
           cell = still_kept is_of facts actors actor x y refl refl refl refl refl
@@ -328,10 +328,10 @@ module _ {H : Type 0} (is_of : ℕ → H → Type 0) (facts : H → HomeFacts) (
       let same_given : l.listed.given ≡ x.ghost.listed.given = ap (λ (z : MessageList). z.given) k.1.taken in
       let grows = grown x y still (λ one. one) (extends_self x.ghost.journal) refl in record {
         view = w;
-        deed = gives_to ListSlot (Listing new);
+        slot_step = gives_to ListSlot (Listing new);
         kept = g;
-        able = (tail_of me.1, carried);
-        here = record {
+        is_able = (tail_of me.1, carried);
+        holds = record {
           valid = f.valid;
           claims = changes_ticket (claim_for actor) vs id v w c c' at (ap (λ z. held_of actor (regiven given gave z)) has ∙ held_here actor c' of)
               (subst (λ o. Locked (claim_for actor) o vs) h.0 f.claims);
@@ -393,10 +393,10 @@ module _ {H : Type 0} (is_of : ℕ → H → Type 0) (facts : H → HomeFacts) (
       → RuledStep word_offset slot_offset F actor id me Gate (x.row Gate) tell x vs
   refuses actor id me m tell x vs f at shut told = let v = me.0 in let w = refusing actor m v in record {
     view = w;
-    deed = stays;
+    slot_step = stays;
     kept = x.ghost;
-    able = tt;
-    here = load_here is_of facts actors actor x (set vs id w) Gate (views_change is_of facts actors actor x vs id v w at refl
+    is_able = tt;
+    holds = load_here is_of facts actors actor x (set vs id w) Gate (views_change is_of facts actors actor x vs id v w at refl
         refl (record { on = refl; off = refl; share = refl; got = refl; back = refl }) (λ _ p. p) (λ _ p. p) (λ k. record {
           seen = k.seen;
           sent_system =

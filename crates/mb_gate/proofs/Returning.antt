@@ -225,7 +225,7 @@ module _ {H : Type 0} (is_of : ℕ → H → Type 0) (facts : H → HomeFacts) w
     none_left t = let f = r.each actor inside in cases here.ghost.holder here.ghost.lent_to f.cell f.list_place
       where
         at : (k : ℕ) → k < 16 * n → get_elem? ws k ≡ some (slice_index s.words k)
-        at k l = subst (λ z. get_elem? z k ≡ some (slice_index s.words k)) words (word_there s.words k (let wide = r.wide in omega arith))
+        at k l = subst (λ z. get_elem? z k ≡ some (slice_index s.words k)) words (word_there s.words k (let word_count = r.word_count in omega arith))
 
         cases : (holder : Option (ℕ × Held)) (lent_to : Option (ℕ × Lent)) → CellPlace is_of facts actor here
             holder → ListPlace is_of

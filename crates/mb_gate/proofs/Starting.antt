@@ -147,8 +147,8 @@ module _ {H : Type 0} (is_of : ℕ → H → Type 0) (facts : H → HomeFacts) w
       (opening z.0 z.1 alone)) (λ i.
       (sym rows i, sym shelves i)) record {
         ghosts = begins hs;
-        wide = length-rows_of facts hs ∙ ap (λ k. 16 * k) (sym many);
-        deep = length-map (slots_of hs) (λ (x : Slot H). some x) ∙ (length-slots_of hs ∙ ap (λ k. 2 * k) (sym many));
+        word_count = length-rows_of facts hs ∙ ap (λ k. 16 * k) (sym many);
+        slot_count = length-map (slots_of hs) (λ (x : Slot H). some x) ∙ (length-slots_of hs ∙ ap (λ k. 2 * k) (sym many));
         each = λ a l. let b = begun facts hs a (omega arith) in let f = fresh a b.0 b.1.present in let m = (facts b.0).mailbox in record {
           valid = subst (λ k. IsTrue (is_valid k)) (sym b.1.status) (valid_word m f.possible);
           claims = nobody_has (claim_for a) refl;

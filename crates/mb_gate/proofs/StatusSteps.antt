@@ -130,10 +130,10 @@ module _ {H : Type 0} (is_of : ℕ → H → Type 0) (facts : H → HomeFacts) (
       → RuledStep word_offset slot_offset F actor id me Status (x.row Status) tell x vs
   reads actor id me tell x vs f at told = let v = me.0 in let r = x.row Status in record {
     view = reading actor r v;
-    deed = stays;
+    slot_step = stays;
     kept = x.ghost;
-    able = tt;
-    here = load_here is_of facts actors actor x (set vs id (reading actor r v)) Status
+    is_able = tt;
+    holds = load_here is_of facts actors actor x (set vs id (reading actor r v)) Status
         (views_change is_of facts actors actor x vs id v (reading actor r v) at refl refl
         (counts_no_more actor (Read actor r) v (reading actor r v) refl (refl, refl) refl refl refl)
         (λ due owed. subst (λ (d : WakeObligation). IsTrue (d.message || d.sending)) (sym (owes_here actor (after_reading (mailbox_of r) (obligation_to actor v))
@@ -198,10 +198,10 @@ module _ {H : Type 0} (is_of : ℕ → H → Type 0) (facts : H → HomeFacts) (
       } in
       let grows = grown x y (λ e. e) (λ one. absurd (omega arith)) (extends_self x.ghost.journal) refl in record {
         view = w;
-        deed = takes_from CellSlot (Home h.1.home);
+        slot_step = takes_from CellSlot (Home h.1.home);
         kept = record x.ghost { holder = Some (id, c) };
-        able = h.1.present;
-        here = record {
+        is_able = h.1.present;
+        holds = record {
           valid = subst (λ n. IsTrue (is_valid (n + 2))) is (scheduled_valid (x.row Status) free f.valid);
           claims = takes_up (claim_for actor) vs id v w c at (held_here actor c refl) (subst (λ o. Locked (claim_for actor) o vs) h.0 f.claims);
           cell = record {
@@ -253,10 +253,10 @@ module _ {H : Type 0} (is_of : ℕ → H → Type 0) (facts : H → HomeFacts) (
       let shut : x.row Status ≡ 1 → new ≡ 1 = (λ one. closed (sym h.1.word ∙ one)) in
       let grows = grown x y (λ e. e) shut (extends_self x.ghost.journal) refl in record {
         view = w;
-        deed = stays;
+        slot_step = stays;
         kept = record x.ghost { holder = Some (id, d) };
-        able = tt;
-        here = record {
+        is_able = tt;
+        holds = record {
           valid = valid;
           claims = changes_ticket (claim_for actor) vs id v w c d at (ap (λ z. held_of actor (rewritten new z)) has ∙ held_here actor d of)
               (subst (λ o. Locked (claim_for actor) o vs) h.0 f.claims);
@@ -326,10 +326,10 @@ module _ {H : Type 0} (is_of : ℕ → H → Type 0) (facts : H → HomeFacts) (
       let grows = grown x y (λ e. e) shut farther refl in
       let debt : WakeObligation = record (obligation_to actor v) { system = true; message = true } in record {
         view = w;
-        deed = gives_to CellSlot (Home home);
+        slot_step = gives_to CellSlot (Home home);
         kept = g;
-        able = ([], carried);
-        here = record {
+        is_able = ([], carried);
+        holds = record {
           valid = valid;
           claims = puts_back (claim_for actor) vs id v w c at refl (subst (λ o. Locked (claim_for actor) o vs) h.0 f.claims);
           cell = record {
@@ -393,10 +393,10 @@ module _ {H : Type 0} (is_of : ℕ → H → Type 0) (facts : H → HomeFacts) (
       let grows = grown x y (λ e. e) (λ one. one) farther refl in
       let debt : WakeObligation = record (obligation_to actor v) { system = true; message = true } in record {
         view = w;
-        deed = gives_to CellSlot (Home home);
+        slot_step = gives_to CellSlot (Home home);
         kept = g;
-        able = ([], carried);
-        here = record {
+        is_able = ([], carried);
+        holds = record {
           valid = f.valid;
           claims = puts_back (claim_for actor) vs id v w c at refl (subst (λ o. Locked (claim_for actor) o vs) h.0 f.claims);
           cell = record {

@@ -159,10 +159,10 @@ module _ {H : Type 0} (is_of : ℕ → H → Type 0) (facts : H → HomeFacts) (
       let y : Place = record { row = write word_offset x.row Waiting n; slot = x.slot; ghost = x.ghost } in
       let grows = grown x y (λ e. e) (λ one. one) (extends_self x.ghost.journal) refl in record {
         view = w;
-        deed = stays;
+        slot_step = stays;
         kept = x.ghost;
-        able = tt;
-        here = record {
+        is_able = tt;
+        holds = record {
           valid = f.valid;
           claims = stays_locked (claim_for actor) x.ghost.holder vs id v w at refl f.claims;
           cell =
@@ -230,10 +230,10 @@ module _ {H : Type 0} (is_of : ℕ → H → Type 0) (facts : H → HomeFacts) (
       let y : Place = record { row = write word_offset x.row Waiting n; slot = x.slot; ghost = x.ghost } in
       let grows = grown x y (λ e. e) (λ one. one) (extends_self x.ghost.journal) refl in record {
         view = w;
-        deed = stays;
+        slot_step = stays;
         kept = x.ghost;
-        able = tt;
-        here = record {
+        is_able = tt;
+        holds = record {
           valid = f.valid;
           claims = stays_locked (claim_for actor) x.ghost.holder vs id v w at refl f.claims;
           cell =
@@ -272,10 +272,10 @@ module _ {H : Type 0} (is_of : ℕ → H → Type 0) (facts : H → HomeFacts) (
       → tell (with_obligation actor d (seeing s me.0), me.1) → RuledStep word_offset slot_offset F actor id me name (x.row name) tell x vs
   finds actor id name d s me tell x vs so none f at message system told = let v = me.0 in let w = with_obligation actor d (seeing s v) in record {
     view = w;
-    deed = stays;
+    slot_step = stays;
     kept = x.ghost;
-    able = tt;
-    here = load_here is_of facts actors actor x (set vs id w) name
+    is_able = tt;
+    holds = load_here is_of facts actors actor x (set vs id w) name
         (views_change is_of facts actors actor x vs id v w at refl refl (counts_no_more actor s v w refl
         (none actor) refl refl refl)
         (λ due p. subst (λ (z : WakeObligation). IsTrue (z.message || z.sending)) (sym (owes_here actor d v)) (message due p))
@@ -293,10 +293,10 @@ module _ {H : Type 0} (is_of : ℕ → H → Type 0) (facts : H → HomeFacts) (
       (x.row name) tell x vs
   sees actor id name s me tell x vs so none f at told = let v = me.0 in let w = seeing s v in record {
     view = w;
-    deed = stays;
+    slot_step = stays;
     kept = x.ghost;
-    able = tt;
-    here = load_here is_of facts actors actor x (set vs id w) name (views_change is_of facts actors actor x vs id v w at refl
+    is_able = tt;
+    holds = load_here is_of facts actors actor x (set vs id w) name (views_change is_of facts actors actor x vs id v w at refl
         refl (counts_no_more actor s v w refl (none actor) refl refl refl) (λ _ p. p) (λ _ p. p) (λ k. record {
           seen =
               (so actor x, k.seen);
@@ -311,10 +311,10 @@ module _ {H : Type 0} (is_of : ℕ → H → Type 0) (facts : H → HomeFacts) (
       me.0 → tell me → RuledStep word_offset slot_offset F actor id me name (x.row name) tell x vs
   glances actor id name me tell x vs f at told = let v = me.0 in record {
     view = v;
-    deed = stays;
+    slot_step = stays;
     kept = x.ghost;
-    able = tt;
-    here = load_here is_of facts actors actor x (set vs id v) name (views_change is_of facts actors actor x vs id v v at refl
+    is_able = tt;
+    holds = load_here is_of facts actors actor x (set vs id v) name (views_change is_of facts actors actor x vs id v v at refl
         refl (record { on = refl; off = refl; share = refl; got = refl; back = refl }) (λ _ p. p) (λ _ p. p)
         (λ k. record { seen = k.seen; sent_system = k.sent_system }) (λ b p. p) f);
     others = λ a n y g. elsewhere is_of facts actors a y vs id v v at (record {

@@ -44,7 +44,7 @@ use Rattle.mb_gate.specs.Rule.{is_some_item}
 use Rattle.mb_gate.specs.Claims.{held_in, claimed, is_busy}
 use Rattle.mb_gate.specs.TableSteps.{ExtendsSeen, Won}
 use Rattle.mb_gate.specs.Accessors.{claim_view, held_actor, status_of, gave_last, recorded_by}
-use Rattle.mb_gate.specs.Tries.{IsFree, Taken, IsGot}
+use Rattle.mb_gate.specs.Tries.{IsFree, WonClaim, IsGot}
 
 head_same : {A : Type 0} (a b : A) (xs ys : List A) → a ∷ xs ≡ b ∷ ys → a ≡ b
 head_same a b xs ys e = cc
@@ -72,7 +72,7 @@ module _ {H : Type 0} (is_of : ℕ → H → Type 0) (facts : H → HomeFacts) (
     Me (Slot H) View) (w : Won is_of facts actor found m m') where
   -- the seat has the claim and the cell
   pub taken : (status : Mailbox) → word_of status ≡ found + 2 → m.1 ≡ [] → m.0.list ≡ None → is_some_item m.0.share ≡ true
-      → Taken facts actor status m'
+      → WonClaim facts actor status m'
   taken status word bare no_list share = record {
     home = w.home;
     carried = ap (λ (z : Me (Slot H) View). z.1) w.now ∙ ap (λ c. (slot_at actor 0, Home w.home) ∷ c) bare;

@@ -59,7 +59,7 @@ module _ {H : Type 0} (is_of : ℕ → H → Type 0) (facts : H → HomeFacts) w
     pub of : (held_in me.0).actor ≡ actor
     pub word : (held_in me.0).word ≡ word_of status
     pub of_actor : is_of actor home
-    pub longer : Extends (facts home).journal (held_in me.0).journal
+    pub extends : Extends (facts home).journal (held_in me.0).journal
     pub fold : word_of (facts home).mailbox ≡ word_of (idle status)
     pub count : (facts home).given ≡ (held_in me.0).given
     pub known_closed : Each (λ other. IsKnownClosed other (held_in me.0).closed_to me.0) (facts home).closed_to

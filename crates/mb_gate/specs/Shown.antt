@@ -7,7 +7,7 @@ use Rattle.atomic_table.specs.Table.{State}
 use Rattle.mb_status.specs.Mailbox.{mailbox_of, word_of}
 use Rattle.mb_msg.specs.declared.system.SysMsg.{SysMsg}
 use Rattle.mb_journal.specs.Entry.{Entry}
-use Rattle.mb_core.specs.Actor.{Actor}
+use Rattle.mb_core.specs.Actor.{MachineActor}
 use Rattle.mb_core.specs.Held.{IsHeldRightly, HasPossibleMailbox}
 use Rattle.mb_core.specs.Settled.{IsSettled}
 use Rattle.mb_ghost.specs.Layout.{Spot, spot_of}
@@ -33,7 +33,7 @@ abbrev pub work_of : Ghost → List SysMsg → Option (List SysMsg)
 work_of g rest = if g.listed.closed then None else Some (rest ++ g.listed.messages)
 
 -- The actor of the machine, with this rest of what was drained and not applied.
-abbrev pub shown : {H : Type 0} → ℕ → Spot Word SlotName (Slot H) Ghost → List View → List SysMsg → Actor
+abbrev pub shown : {H : Type 0} → ℕ → Spot Word SlotName (Slot H) Ghost → List View → List SysMsg → MachineActor
 shown actor x vs rest = record {
   mailbox = mailbox_of (x.row Status);
   envelopes = [];

@@ -23,7 +23,7 @@ pub record IsFree (seen : Mailbox) : Type 0 where
   pub free : seen.scheduled ≡ false
 
 -- What the seat has once its exchange won: the claim of the actor with this status, the cell, and nothing else.
-pub record Taken {H : Type 0} (facts : H → HomeFacts) (actor : ℕ) (status : Mailbox) (me : Me (Slot H) View) : Type 0 where
+pub record WonClaim {H : Type 0} (facts : H → HomeFacts) (actor : ℕ) (status : Mailbox) (me : Me (Slot H) View) : Type 0 where
   pub home : H
   pub carried : me.1 ≡ (slot_at actor 0, Home home) ∷ []
   pub gave : Bool

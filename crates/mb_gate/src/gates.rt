@@ -32,8 +32,8 @@ pub struct Gates<H: MailboxState> {
     pub(crate) first: Snapshot<H>,
     /// Padding that nobody reads or writes.
     pub(crate) after: [u64; 8],
-    ghost wide: { table.shared.table_id.words ≡ 16 * actors },
-    ghost deep: { table.shared.table_id.slots ≡ 2 * actors },
+    ghost word_count: { table.shared.table_id.words ≡ 16 * actors },
+    ghost slot_count: { table.shared.table_id.slots ≡ 2 * actors },
     ghost keyed: { table.shared.key.actors ≡ actors },
     ghost known: { first ≡ table.shared.key.first },
     ghost not_empty: { (0 < actors) × (actors ≤ 4294967296) },

@@ -109,7 +109,7 @@ impl<H: MailboxState> Gates<H> {
         requires same_gates { (claim_id claim ≡ gates_id self.now) × (pass_id pass.old ≡ gates_id self.now) }
         requires present { held_actor claim < actors_of self.now }
         requires home_of_actor { H.is_of (first_home self.now) (held_actor claim) claim.home }
-        requires longer { Extends (H.facts claim.home).journal (taken_with claim) }
+        requires extends { Extends (H.facts claim.home).journal (taken_with claim) }
         requires fold { word_of (H.facts claim.home).mailbox ≡ word_of (idle (status_of claim)) }
         requires count { (H.facts claim.home).given ≡ given_to claim }
         requires known_closed { Each (λ other. IsKnownClosed other (closed_with claim) (taking_in (claim_view claim) (pass_view pass.old)))

@@ -43,7 +43,7 @@ impl<H: MailboxState> Gates<H> {
         requires present { id.0 < actors_of self.now }
         requires in_slot { is_locked word.bits ≡ false }
         requires no_list { seat.old.me.0.list ≡ None }
-        requires may { may_lock_list id.0 seat.old.me.0 ≡ true }
+        requires may_lock { may_lock_list id.0 seat.old.me.0 ≡ true }
         ensures same_gates { seat.new.table_id ≡ seat.old.table_id }
         ensures answer { MatchOption result (seat.new.me ≡ seat.old.me) (λ list. IsLentBy id.0 word.bits list seat.old.me seat.new.me) }
     {

@@ -4,7 +4,7 @@ ghost use Rattle.mb_status.specs.Mailbox.{Mailbox, word_of};
 ghost use Rattle.mb_ghost.specs.Layout.{slot_at};
 ghost use Rattle.mb_gate.specs.View.{claim_alone, without_claim};
 ghost use Rattle.mb_gate.specs.Claims.{is_busy};
-ghost use Rattle.mb_gate.specs.Tries.{IsFree, IsClaimOf, IsExchanged, IsTried, Taken};
+ghost use Rattle.mb_gate.specs.Tries.{IsFree, IsClaimOf, IsExchanged, IsTried, WonClaim};
 ghost use Rattle.mb_gate.specs.Accessors.{gates_id, pass_id, claim_id, actors_of, first_home, pass_view, claim_view};
 ghost use Rattle.mb_gate.specs.Accessors.{held_actor, status_of, recorded_by};
 ghost use Rattle.mb_gate.specs.declared.slot.Slot.TheVariants.{First, Home};
@@ -102,7 +102,7 @@ impl<H: MailboxState> Gates<H> {
         requires same_gates { seat.old.table_id ≡ gates_id self.now }
         requires present { id.0 < actors_of self.now }
         requires busy { is_busy (word_of status) ≡ true }
-        requires won { Taken H.facts id.0 status seat.old.me }
+        requires won { WonClaim H.facts id.0 status seat.old.me }
         ensures same_gates { (seat.new.table_id ≡ seat.old.table_id) × (claim_id result ≡ seat.old.table_id) }
         ensures rest { seat.new.me ≡ (without_claim seat.old.me.0, []) }
         ensures claim { (claim_view result ≡ claim_alone seat.old.me.0) × (held_actor result ≡ id.0) × (status_of result ≡ status) }

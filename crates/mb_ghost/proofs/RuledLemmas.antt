@@ -104,12 +104,12 @@ module _ {W P S G V : Type 0} (word_offset : W → ℕ) (slot_offset : P → ℕ
       → Rule record { words = set s.words (word_at place (word_offset name)) n; homes = homes'; views = vs' }
   changes s r place inside name n g homes' slot' vs' moved here others = record {
     ghosts = put r.ghosts place g;
-    wide = length-set s.words (word_at place (word_offset name)) n ∙ r.wide;
-    deep = moved.long ∙ r.deep;
+    word_count = length-set s.words (word_at place (word_offset name)) n ∙ r.word_count;
+    slot_count = moved.long ∙ r.slot_count;
     each = λ a l. dite (ℕ_discrete a place)
         (λ e. subst (λ z. Fact z (At record { words = set s.words (word_at place (word_offset name)) n; homes = homes'; views = vs' } (put
         r.ghosts place g) z) vs') (sym e)
-        (subst (λ y. Fact place y vs') (sym (at_place s r.ghosts place inside r.wide name n g homes' slot' vs' moved)) here))
+        (subst (λ y. Fact place y vs') (sym (at_place s r.ghosts place inside r.word_count name n g homes' slot' vs' moved)) here))
         (λ other. subst (λ y. Fact a y vs') (sym (elsewhere s r.ghosts place name n g homes' slot' vs' moved a other)) (others a other (At s
         r.ghosts a) (r.each a l)));
   }
@@ -123,11 +123,11 @@ module _ {W P S G V : Type 0} (word_offset : W → ℕ) (slot_offset : P → ℕ
       let x = At s r.ghosts place in
       let g = step x s.views (r.each place inside) at fits in (
         g.view,
-        act_of slot_offset place g.deed,
-        valid_done s.homes me.1 place g.deed g.able,
-        changes s r place inside name (f (x.row name)) g.kept (homes_after s.homes me.1 (act_of slot_offset place g.deed))
-            (slot_after slot_offset x.slot g.deed) (set s.views id g.view)
-            (homes_done s.homes me.1 place g.deed inside r.deep g.able) g.here g.others,
+        act_of slot_offset place g.slot_step,
+        valid_done s.homes me.1 place g.slot_step g.is_able,
+        changes s r place inside name (f (x.row name)) g.kept (homes_after s.homes me.1 (act_of slot_offset place g.slot_step))
+            (slot_after slot_offset x.slot g.slot_step) (set s.views id g.view)
+            (homes_done s.homes me.1 place g.slot_step inside r.slot_count g.is_able) g.holds g.others,
         g.tells,
       )
 
@@ -137,8 +137,8 @@ module _ {W P S G V : Type 0} (word_offset : W → ℕ) (slot_offset : P → ℕ
       → Splits Rule id v left right
   splits id v left right step s r at = record {
     ghosts = r.ghosts;
-    wide = r.wide;
-    deep = r.deep;
+    word_count = r.word_count;
+    slot_count = r.slot_count;
     each = λ a l. step a (At s r.ghosts a) s.views at (r.each a l);
   }
 
@@ -149,7 +149,7 @@ module _ {W P S G V : Type 0} (word_offset : W → ℕ) (slot_offset : P → ℕ
       → Joins Rule id v other w both spent
   joins id v other w both spent step s r at apart there = record {
     ghosts = r.ghosts;
-    wide = r.wide;
-    deep = r.deep;
+    word_count = r.word_count;
+    slot_count = r.slot_count;
     each = λ a l. step a (At s r.ghosts a) s.views at apart there (r.each a l);
   }

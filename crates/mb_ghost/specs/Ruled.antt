@@ -8,8 +8,8 @@ use Rattle.mb_ghost.specs.Layout.{slot_at, Spot, spot_of, write, fill}
 pub record Ruled {W P S G V : Type 0} (word_offset : W → ℕ) (slot_offset : P → ℕ) (places : ℕ) (Fact : ℕ → Spot W P S G → List V → Type 0) (s :
     State S V) : Type 0 where
   pub ghosts : ℕ → G
-  pub wide : length s.words ≡ 16 * places
-  pub deep : length s.homes ≡ 2 * places
+  pub word_count : length s.words ≡ 16 * places
+  pub slot_count : length s.homes ≡ 2 * places
   pub each : (place : ℕ) → place < places → Fact place (spot_of word_offset slot_offset s ghosts place) s.views
 
 -- what a step does with the slots of its place: nothing; or it takes a thing out of one; or it puts one in
@@ -42,10 +42,10 @@ module _ {W P S G V : Type 0} (word_offset : W → ℕ) (slot_offset : P → ℕ
   pub record RuledStep (Fact : ℕ → Spot W P S G → List V → Type 0) (place id : ℕ) (me : Me S V) (name : W) (n : ℕ) (tell : Me S V → Type 0) (x : Spot
       W P S G) (vs : List V) : Type 0 where
     pub view : V
-    pub deed : SlotStep P S
+    pub slot_step : SlotStep P S
     pub kept : G
-    pub able : IsAble slot_offset place x.slot me.1 deed
-    pub here : Fact place (record { row = write word_offset x.row name n; slot = slot_after slot_offset x.slot deed; ghost = kept }) (slice_set
+    pub is_able : IsAble slot_offset place x.slot me.1 slot_step
+    pub holds : Fact place (record { row = write word_offset x.row name n; slot = slot_after slot_offset x.slot slot_step; ghost = kept }) (slice_set
         vs id view)
     pub others : (a : ℕ) → a ≢ place → (y : Spot W P S G) → Fact a y vs → Fact a y (slice_set vs id view)
-    pub tells : tell (view, carried_after me.1 (act_of slot_offset place deed))
+    pub tells : tell (view, carried_after me.1 (act_of slot_offset place slot_step))

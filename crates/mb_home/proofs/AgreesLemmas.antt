@@ -32,7 +32,7 @@ use Rattle.mb_journal.specs.Fates.{begun}
 use Rattle.mb_journal.specs.Tells.{AddressedBody, tells, told}
 use Rattle.mb_home.specs.Contents.{Contents}
 use Rattle.mb_home.specs.Directory.{DirectoryEntry, queues_of, IsBounded}
-use Rattle.mb_home.specs.AgreesWithJournal.{IsOwn, IsFit, IsCounted, IsReason, AgreesWithJournal, messages_of}
+use Rattle.mb_home.specs.AgreesWithJournal.{IsOwn, IsFit, CountsSystemMessages, IsReason, AgreesWithJournal, messages_of}
 use Rattle.mb_home.specs.Steps.{most_tells, next_envelope, with_pushed}
 use Rattle.mb_home.proofs.CountLemmas.{rest-first}
 use Rattle.mb_home.proofs.GuardianLemmas.{watches-none}
@@ -116,7 +116,7 @@ own-more h e take rest aside_dead same own = record {
 -- the home with one entry more, whose acts are to be carried out
 pub settled-more : (h : Contents) (gives : Moment → Reply → Type 0) (e : Entry) (take : TakePassView) (rest : List (ℕ × SysMsg)) (aside_dead : ℕ) →
     AgreesWithJournal gives [] h → closed h.cell.who h.cell.journal ≡ false → IsLawful h.cell.who gives (e ∷ h.cell.journal) → most_tells ≤ h.room →
-    SameQueue take h.take → take.taken ≡ begun (e ∷ h.cell.journal) → IsCounted (with_more h e take rest aside_dead) →
+    SameQueue take h.take → take.taken ≡ begun (e ∷ h.cell.journal) → CountsSystemMessages (with_more h e take rest aside_dead) →
     AgreesWithJournal gives (acts h.cell.who h.cell.journal e) (with_more h e take rest aside_dead)
 settled-more h gives e take rest aside_dead s not_ended lawful room same taken counted =
     let none : h.cleaned ≡ [] = s.open_keeps not_ended in
@@ -412,7 +412,7 @@ same-own h rest dropped own = record {
 
 rest-changed : (h : Contents) (gives : Moment → Reply → Type 0) (pending : List Act) (rest : List (ℕ × SysMsg)) (dropped : ℕ) →
     AgreesWithJournal gives pending h →
-    IsCounted (record h { rest = rest; dropped = dropped }) → AgreesWithJournal gives pending (record h { rest = rest; dropped = dropped })
+    CountsSystemMessages (record h { rest = rest; dropped = dropped }) → AgreesWithJournal gives pending (record h { rest = rest; dropped = dropped })
 rest-changed h gives pending rest dropped s counted = record {
   is_own = same-own h rest dropped s.is_own;
   lawful = s.lawful;

@@ -60,7 +60,7 @@ aside_at_end who (e ∷ before) = if closed who (e ∷ before) then length (asid
 
 -- The system messages that came are counted: those that have an entry, and those that were dropped once the actor ended. What is drained and not
 -- applied is numbered on from these. All that were set aside when the actor ended are counted.
-pub record IsCounted (h : Contents) : Type 0 where
+pub record CountsSystemMessages (h : Contents) : Type 0 where
   pub rest : h.rest ≡ numbered ((next_number h.cell.journal + h.dropped) % 2 ^ 64) (messages_of h.rest)
   pub aside : h.aside_dead ≡ aside_at_end h.cell.who h.cell.journal
   pub none : closed h.cell.who h.cell.journal ≡ false → h.dropped ≡ 0
@@ -82,5 +82,5 @@ pub record AgreesWithJournal (gives : Moment → Reply → Type 0) (pending : Li
   pub open_keeps : closed h.cell.who h.cell.journal ≡ false → h.cleaned ≡ []
   pub fit : IsFit pending h
   pub posted : IsPosted pending h
-  pub counted : IsCounted h
+  pub counted : CountsSystemMessages h
   pub reasons : All (λ (d : DeadLetter). IsReason h.directory d.why d.envelope.to.0) h.dead

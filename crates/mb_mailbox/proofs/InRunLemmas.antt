@@ -23,14 +23,14 @@ ok-passed P (Err y) e passed = tt
 
 -- what answers well stops nothing
 pub stops-none : {T : Type 0} (x : T) (claim : Claim (Box Contents)) → StopsRun {T = T} (Ok x) claim
-stops-none x claim = record { full = λ full. absurd (cc full); short = λ short. absurd (cc short) }
+stops-none x claim = record { full = λ full. absurd (cc full); out_of_memory = λ short. absurd (cc short) }
 
 -- what passes a fault on stops the run as the step did that had it
 pub stops-passed : {T U : Type 0} (first : Result T ReadyError) (r : Result U ReadyError) (fault : ReadyError) (claim : Claim (Box Contents)) →
     first ≡ Err fault → IsErrAnd r (λ passed. passed ≡ fault) → StopsRun first claim → StopsRun r claim
 stops-passed first r fault claim was passed s = record {
   full = λ full. s.full (was ∙ ap (λ (f : ReadyError). Err f) (passed-fault r fault passed full));
-  short = λ short. s.short (was ∙ ap (λ (f : ReadyError). Err f) (passed-fault r fault passed short));
+  out_of_memory = λ short. s.out_of_memory (was ∙ ap (λ (f : ReadyError). Err f) (passed-fault r fault passed short));
 }
 
 module _ {W : Type 0} {pushed refused : W → List (Claim (Box Contents))} {T E : Type 0} where

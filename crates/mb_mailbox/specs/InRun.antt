@@ -40,4 +40,4 @@ module _ {W : Type 0} where
 -- A step that answers a fault stops the run: the journal is full, or memory can have been refused.
 pub record StopsRun {T : Type 0} (result : Result T ReadyError) (claim : Claim (Box Contents)) : Type 0 where
   pub full : IsErrOf result JournalFull → claim.home.value.cell.who.limit ≤ length claim.home.value.cell.journal
-  pub short : IsErrOf result NoMemory → IsShortOfMemory claim.home.value.cell.who claim.home.value.cell.journal
+  pub out_of_memory : IsErrOf result NoMemory → IsShortOfMemory claim.home.value.cell.who claim.home.value.cell.journal

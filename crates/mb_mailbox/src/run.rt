@@ -47,7 +47,7 @@ pub fn run_mailbox<A: Actor, K: Behaviours, W: RunQueue<BoxedHome<A, K>>, R: Wai
         × LeavesRun throughput claim (pass_view registrar.old.pass) (pass_view registrar.new.pass) journal turn stopped)
         (λ _. (turn : Turn) × LeavesRun throughput claim (pass_view registrar.old.pass) (pass_view registrar.new.pass) journal turn NoRoom
         × (IsErrOf result ReadyError.JournalFull → claim.home.value.cell.who.limit ≤ length journal)) }
-    ensures short { IsErrOf result ReadyError.NoMemory → (journal : List Entry) × (turn : Turn)
+    ensures out_of_memory { IsErrOf result ReadyError.NoMemory → (journal : List Entry) × (turn : Turn)
         × LeavesRun throughput claim (pass_view registrar.old.pass) (pass_view registrar.new.pass) journal turn NoRoom
         × IsShortOfMemory claim.home.value.cell.who journal }
 {

@@ -5,7 +5,7 @@ use Rattle.std.proofs.lemmas.List.{append-nil, length-map, length-replicate, map
 use Rattle.std.proofs.lemmas.List.Elements.{All-cons, All-get_or, All-head, All-nil, All-replicate, All-tail}
 use Rattle.mb_gate.specs.declared.claim.Claim.{Claim}
 use Rattle.mb_gate.specs.Untouched.{Origin}
-use Rattle.mb_pool.specs.Account.{Account}
+use Rattle.mb_pool.specs.Account.{ClaimAccount}
 use Rattle.mb_pool.specs.Ledger.{IndexedClaim, indexed_claim}
 use Rattle.mb_pool.specs.Moves.{Pushes}
 use Rattle.mb_pool.specs.Places.{AreEnds, AreFeeds, PoolPort, Parts, PoolEndpoint, PoolView, feed_parts, gates_of, parts_of, pushed_at}
@@ -69,6 +69,6 @@ push_goes_in {H} IsFit old new c p =
     let of : IndexedClaim (Claim H) → Claim H = λ t. t.claim in
     let first : List (PoolPort H) → List (Claim H) = λ ls. pushed_at (take 1 ls) in
     let before = p.pool_port.ledger.pushed in
-    ap first p.then' ∙ append-nil (map of p.after.pushed) ∙ ap (λ (l : Account H). map of l.pushed) p.last.2
+    ap first p.then' ∙ append-nil (map of p.after.pushed) ∙ ap (λ (l : ClaimAccount H). map of l.pushed) p.last.2
     ∙ map-append of before (indexed_claim (length (p.last.1.gone ++ p.last.0)) c ∷ [])
     ∙ ap (λ cs. cs ++ c ∷ []) (sym (ap first p.found ∙ append-nil (map of before)))

@@ -8,12 +8,12 @@ use Rattle.mb_msg.specs.declared.pool_kind.PoolKind.{PoolKind}
 use Rattle.mb_msg.specs.declared.pool_kind.PoolKind.TheVariants.{Shared, Stealing}
 use Rattle.mb_pool.specs.declared.end_deques.EndDeques.{EndDeques}
 use Rattle.mb_pool.specs.Begins.{AreEndDeques, AreNew, AreNewOf, borrowed, borrowed_next, bound_of, fresh, lent, new_shared_port, with_shares}
-use Rattle.mb_pool.specs.Made.{AreDeques, AreUnused, IsBegun, IsDeque, IsOfKind, IsWhole, spots_of}
+use Rattle.mb_pool.specs.Made.{AreDeques, AreUnused, IsNewPool, IsDeque, IsOfKind, IsWhole, queues_of}
 use Rattle.mb_gate.specs.Untouched.{Origin}
 use Rattle.mb_pool.specs.Places.{AreEnds, AreFeeds, PoolPort, Parts, QueueInfo, PoolEndpoint, PoolView, shared_port_part, ports_of}
 use Rattle.mb_pool.specs.Places.{numbers, part_of, parts_of, pushed_at, taken_at}
 use Rattle.mb_pool.specs.Ledger.{claims_in, opened}
-use Rattle.mb_pool.specs.Endpoints.{AreOpen, IsOpen, next_of, of_feed, own_of, endpoint_of}
+use Rattle.mb_pool.specs.Endpoints.{AreOpen, IsOpenPort, next_of, of_feed, own_of, endpoint_of}
 
 module _ {A : Type 0} where
   -- the first ones mapped, the rest as they are
@@ -67,35 +67,35 @@ pub numbers_push : (first count : ℕ) → numbers first (suc count) ≡ numbers
 numbers_push first zero = ap (λ n. n ∷ []) (omega arith)
 numbers_push first (suc count) = ap (λ l. first ∷ l) (numbers_push (first + 1) count ∙ ap (λ n. numbers (first + 1) count ++ n ∷ []) (omega arith))
 
-pub deques_push : (first : ℕ) (spots : List QueueInfo) (spot : QueueInfo) → AreDeques first spots → IsDeque (first + length spots) spot
-    → AreDeques first (spots ++ spot ∷ [])
-deques_push first [] spot h is = let e : first + 0 ≡ first = omega arith in (subst (λ n. IsDeque n spot) e is, tt)
-deques_push first (s ∷ spots) spot h is = let e : first + suc (length spots) ≡ first + 1 + length spots = omega arith in
-    (h.0, deques_push (first + 1) spots spot h.1 (subst (λ n. IsDeque n spot) e is))
+pub deques_push : (first : ℕ) (queues : List QueueInfo) (queue : QueueInfo) → AreDeques first queues → IsDeque (first + length queues) queue
+    → AreDeques first (queues ++ queue ∷ [])
+deques_push first [] queue h is = let e : first + 0 ≡ first = omega arith in (subst (λ n. IsDeque n queue) e is, tt)
+deques_push first (s ∷ queues) queue h is = let e : first + suc (length queues) ≡ first + 1 + length queues = omega arith in
+    (h.0, deques_push (first + 1) queues queue h.1 (subst (λ n. IsDeque n queue) e is))
 
 module _ {H : Type 0} where
   pub new_none : (o : Origin H) (shares : ℕ) → AreNew o shares 0 []
   new_none o shares = record { same_count = refl; unused = refl; deques = tt }
 
-  pub new_more : (o : Origin H) (shares count : ℕ) (owns : List (PoolPort H)) (own_deque : PoolPort H) → AreNew o shares count owns → IsDeque count own_deque.spot
-      → own_deque ≡ fresh o shares shares own_deque.spot
+  pub new_more : (o : Origin H) (shares count : ℕ) (owns : List (PoolPort H)) (own_deque : PoolPort H) → AreNew o shares count owns → IsDeque count own_deque.queue
+      → own_deque ≡ fresh o shares shares own_deque.queue
       → AreNew o shares (count + 1) (owns ++ own_deque ∷ [])
   new_more o shares count owns own_deque new is e =
-      let spots : spots_of (owns ++ own_deque ∷ []) ≡ spots_of owns ++ own_deque.spot ∷ [] = map_push (λ (l : PoolPort H). l.spot) owns own_deque in
-      let there : count ≡ 0 + length (spots_of owns) = let l = length-map owns (λ (l : PoolPort H). l.spot) in let m = new.same_count in omega (arith, l, m) in
+      let queues : queues_of (owns ++ own_deque ∷ []) ≡ queues_of owns ++ own_deque.queue ∷ [] = map_push (λ (l : PoolPort H). l.queue) owns own_deque in
+      let there : count ≡ 0 + length (queues_of owns) = let l = length-map owns (λ (l : PoolPort H). l.queue) in let m = new.same_count in omega (arith, l, m) in
       record {
         same_count = length_push owns own_deque ∙ ap (λ n. n + 1) new.same_count;
-        unused = (λ k. new.unused k ++ e k ∷ []) ∙ sym (map_push (fresh o shares shares) (spots_of owns) own_deque.spot)
-            ∙ ap (map (fresh o shares shares)) (sym spots);
-        deques = subst (AreDeques 0) (sym spots) (deques_push 0 (spots_of owns) own_deque.spot new.deques (subst (λ n. IsDeque n own_deque.spot) there is));
+        unused = (λ k. new.unused k ++ e k ∷ []) ∙ sym (map_push (fresh o shares shares) (queues_of owns) own_deque.queue)
+            ∙ ap (map (fresh o shares shares)) (sym queues);
+        deques = subst (AreDeques 0) (sym queues) (deques_push 0 (queues_of owns) own_deque.queue new.deques (subst (λ n. IsDeque n own_deque.queue) there is));
       }
 
-  pub new_opened : (o : Origin H) (shares count : ℕ) (owns : List (PoolPort H)) (own_deque own_deque' : PoolPort H) → AreNew o shares count owns → IsDeque count own_deque.spot
+  pub new_opened : (o : Origin H) (shares count : ℕ) (owns : List (PoolPort H)) (own_deque own_deque' : PoolPort H) → AreNew o shares count owns → IsDeque count own_deque.queue
       → own_deque' ≡ record own_deque { ledger = opened (Some o) shares shares }
       → AreNew o shares (count + 1) (owns ++ own_deque' ∷ [])
   new_opened o shares count owns own_deque own_deque' new is e =
-      let spot : own_deque'.spot ≡ own_deque.spot = ap (λ (l : PoolPort H). l.spot) e in
-      new_more o shares count owns own_deque' new (subst (IsDeque count) (sym spot) is) (e ∙ ap (fresh o shares shares) (sym spot))
+      let queue : own_deque'.queue ≡ own_deque.queue = ap (λ (l : PoolPort H). l.queue) e in
+      new_more o shares count owns own_deque' new (subst (IsDeque count) (sym queue) is) (e ∙ ap (fresh o shares shares) (sym queue))
 
   -- the ports after some ends borrowed of the next ones: rotated once for each end, with the shares that they have then
   abbrev pub rotated : List (PoolPort H) → ℕ → List (PoolPort H)
@@ -105,7 +105,7 @@ module _ {H : Type 0} where
   same_shares n [] h = refl
   same_shares n (o ∷ owns) h =
       let P : PoolPort H → Type 0 = λ l. l.ledger.shares ≡ n in
-      let one : with_shares n o ≡ o = λ i. record { spot = o.spot; ledger = record o.ledger { shares = sym (All-head P o owns h) i } } in
+      let one : with_shares n o ≡ o = λ i. record { queue = o.queue; ledger = record o.ledger { shares = sym (All-head P o owns h) i } } in
       (λ i. one i ∷ same_shares n owns (All-tail P o owns h) i)
 
   pub rotated_none : (owns : List (PoolPort H)) → All (λ (l : PoolPort H). l.ledger.shares ≡ length owns) owns → rotated owns 0 ≡ owns
@@ -258,10 +258,10 @@ module _ {H : Type 0} where
 
     -- an open port that is not used yet
     abbrev pub IsReady : PoolPort H → Type 0
-    IsReady l = IsOpen (Some pool.gates) (part_of l) × IsUnused l
+    IsReady l = IsOpenPort (Some pool.gates) (part_of l) × IsUnused l
 
-    all_ready : (spots : List QueueInfo) → All IsReady (map one spots)
-    all_ready spots = All-map IsReady one spots (each spots)
+    all_ready : (queues : List QueueInfo) → All IsReady (map one queues)
+    all_ready queues = All-map IsReady one queues (each queues)
       where
         each : (ss : List QueueInfo) → All (λ s. IsReady (one s)) ss
         each [] = All-nil (λ s. IsReady (one s))
@@ -276,7 +276,7 @@ module _ {H : Type 0} where
 
     pub members_open : All (λ m. AreOpen (endpoint_of (new_shared_port pool) m)) ms
     members_open = All-weaker (λ m. All IsReady (ports_of (endpoint_of (new_shared_port pool) m))) (λ m. AreOpen (endpoint_of (new_shared_port pool) m))
-        (λ m h. All-weaker IsReady (λ (l : PoolPort H). IsOpen (Some pool.gates) (part_of l)) (λ l x. x.0)
+        (λ m h. All-weaker IsReady (λ (l : PoolPort H). IsOpenPort (Some pool.gates) (part_of l)) (λ l x. x.0)
         (ports_of (endpoint_of (new_shared_port pool) m)) h) ms members_ready
 
     pub are_ends : (ends : List (PoolEndpoint H)) → ends ≡ map (endpoint_of (new_shared_port pool)) ms → AreEnds pool ends
@@ -303,11 +303,11 @@ module _ {H : Type 0} where
         (All-cons IsUnused (new_shared_port pool) [] (refl, refl) (All-nil IsUnused)))))
 
   module _ (pool : PoolView H) (ms : List (Option (EndDeques H))) where
-    nothing_taken : (k : ℕ) (spots : List QueueInfo) → spots ≡ [] → map (fresh pool.gates pool.ends 1) (take 1 (drop k spots)) ≡ []
-    nothing_taken k spots e = ap (λ l. map (fresh pool.gates pool.ends 1) (take 1 l)) (ap (drop k) e ∙ drop_all k [] (omega arith))
+    nothing_taken : (k : ℕ) (queues : List QueueInfo) → queues ≡ [] → map (fresh pool.gates pool.ends 1) (take 1 (drop k queues)) ≡ []
+    nothing_taken k queues e = ap (λ l. map (fresh pool.gates pool.ends 1) (take 1 l)) (ap (drop k) e ∙ drop_all k [] (omega arith))
 
-    nothing_next : (k : ℕ) (spots : List QueueInfo) → spots ≡ [] → map (fresh pool.gates pool.ends 1) (drop (k + 1) spots ++ take k spots) ≡ []
-    nothing_next k spots e = ap (λ l. map (fresh pool.gates pool.ends 1) (drop (k + 1) l ++ take k l)) e
+    nothing_next : (k : ℕ) (queues : List QueueInfo) → queues ≡ [] → map (fresh pool.gates pool.ends 1) (drop (k + 1) queues ++ take k queues) ≡ []
+    nothing_next k queues e = ap (λ l. map (fresh pool.gates pool.ends 1) (drop (k + 1) l ++ take k l)) e
         ∙ (λ i. map (fresh pool.gates pool.ends 1) (drop_all (k + 1) [] (omega arith) i ++ take_all k [] (omega arith) i))
 
     -- of a shared pool
@@ -346,29 +346,29 @@ module _ {H : Type 0} where
       (All-nil (λ (l : PoolPort H). l.ledger.shares ≡ length owns))
   new_shares Stealing o count owns new =
       let P : PoolPort H → Type 0 = λ l. l.ledger.shares ≡ length owns in
-      subst (All P) (sym new.unused) (All-map P (fresh o count count) (spots_of owns)
-      (all_const (count ≡ length owns) (spots_of owns) (λ _. sym new.same_count)))
+      subst (All P) (sym new.unused) (All-map P (fresh o count count) (queues_of owns)
+      (all_const (count ≡ length owns) (queues_of owns) (λ _. sym new.same_count)))
 
   -- the pool that is made of the port of the queue that all share and of deques
   module _ (o : Origin H) (kind : PoolKind) (workers feeds : ℕ) (owns : List (PoolPort H)) (shared_port : QueueInfo) (new : AreNewOf kind o workers owns)
       (some : 0 < workers) where
     abbrev pub made : PoolView H
-    made = record { gates = o; shared_port = shared_port; deques = spots_of owns; ends = workers; feeds = feeds }
+    made = record { gates = o; shared_port = shared_port; deques = queues_of owns; ends = workers; feeds = feeds }
 
     pub made_whole : IsWhole made
     made_whole = by_kind kind new
       where
         by_kind : (k : PoolKind) → AreNewOf k o workers owns → IsWhole made
-        by_kind Shared e = let none : spots_of owns ≡ [] = ap spots_of e in
+        by_kind Shared e = let none : queues_of owns ≡ [] = ap queues_of e in
             record { not_empty = some; deques = subst (AreDeques 0) (sym none) tt; same_count = inl none }
-        by_kind Stealing n = record { not_empty = some; deques = n.deques; same_count = inr (length-map owns (λ (l : PoolPort H). l.spot) ∙ n.same_count) }
+        by_kind Stealing n = record { not_empty = some; deques = n.deques; same_count = inr (length-map owns (λ (l : PoolPort H). l.queue) ∙ n.same_count) }
 
     pub made_kind : shared_port.capacity ≡ bound_of kind → IsOfKind kind made
     made_kind bound = by_kind kind new bound
       where
         by_kind : (k : PoolKind) → AreNewOf k o workers owns → shared_port.capacity ≡ bound_of k → IsOfKind k made
-        by_kind Shared e b = (b, ap spots_of e)
-        by_kind Stealing n b = (b, length-map owns (λ (l : PoolPort H). l.spot) ∙ n.same_count, n.deques)
+        by_kind Shared e b = (b, ap queues_of e)
+        by_kind Stealing n b = (b, length-map owns (λ (l : PoolPort H). l.queue) ∙ n.same_count, n.deques)
 
     pub made_members : (ms : List (Option (EndDeques H))) → (owns ≡ [] → ms ≡ replicate workers None)
         → (0 < length owns → map (own_of {H = H}) ms ≡ map (λ (l : PoolPort H). with_shares 1 l ∷ []) owns)
@@ -376,7 +376,7 @@ module _ {H : Type 0} where
     made_members ms none own_deque next = by_kind kind new
       where
         by_kind : (k : PoolKind) → AreNewOf k o workers owns → AreEndDeques made ms
-        by_kind Shared e = members_none made ms (ap spots_of e) (none e)
+        by_kind Shared e = members_none made ms (ap queues_of e) (none e)
         by_kind Stealing n = let many = n.same_count in let there : 0 < length owns = omega (arith, many, some) in
             members_some made ms owns n.unused n.same_count (own_deque there) (next there)
 
@@ -386,7 +386,7 @@ module _ {H : Type 0} where
 
     pub begun : (ms : List (Option (EndDeques H))) (of_workers of_feeds : List (PoolEndpoint H)) → shared_port.capacity ≡ bound_of kind → AreEndDeques made ms
         → of_workers ≡ map (endpoint_of (new_shared_port made)) ms
-        → of_feeds ≡ replicate feeds (of_feed (new_shared_port made)) → IsBegun o kind workers feeds made of_workers of_feeds
+        → of_feeds ≡ replicate feeds (of_feed (new_shared_port made)) → IsNewPool o kind workers feeds made of_workers of_feeds
     begun ms of_workers of_feeds bound m ew ef = record {
       gates = refl;
       ends_are = refl;

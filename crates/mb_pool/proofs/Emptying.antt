@@ -11,9 +11,9 @@ use Rattle.mb_gate.specs.declared.claim.Claim.{Claim}
 use Rattle.mb_pool.specs.Ends.{Empties, TakesIn, joined}
 use Rattle.mb_pool.specs.Ledger.{IndexedClaim, claims_in, indexed_claim, indexed}
 use Rattle.mb_gate.specs.Untouched.{Origin}
-use Rattle.mb_pool.specs.Account.{Account}
+use Rattle.mb_pool.specs.Account.{ClaimAccount}
 use Rattle.mb_pool.specs.Places.{PoolPort, pushed_at, taken_at}
-use Rattle.mb_pool.specs.Rule.{Moment, TakesFirst}
+use Rattle.mb_pool.specs.Rule.{QueueMoment, TakesFirst}
 use Rattle.mb_pool.proofs.Lists.{same_elements, from_left, behind, past}
 use Rattle.mb_pool.proofs.Ports.{all_right}
 
@@ -97,17 +97,17 @@ module _ {H : Type 0} (IsFit : Option (Origin H) → Claim H → Type 0) where
         more = e.more ++ c ∷ [];
         added = n ∙ ap (λ l. l ++ c ∷ []) e.added ∙ append_assoc old e.more (c ∷ []);
         fit = All-push (IsFit base.ledger.gates) e.more c e.fit fits;
-        gates = ap (λ (a : Account H). a.gates) is ∙ e.gates;
-        members = ap (λ (a : Account H). a.members) is ∙ e.members;
-        shares = ap (λ (a : Account H). a.shares) is ∙ e.shares;
-        pushed = ap (λ (a : Account H). a.pushed) is ∙ e.pushed;
-        taken = ap (λ (a : Account H). claims_in a.taken) is ∙ map_push (λ (x : IndexedClaim (Claim H)). x.claim) now.ledger.taken (indexed_claim (length m.gone) c)
+        gates = ap (λ (a : ClaimAccount H). a.gates) is ∙ e.gates;
+        members = ap (λ (a : ClaimAccount H). a.members) is ∙ e.members;
+        shares = ap (λ (a : ClaimAccount H). a.shares) is ∙ e.shares;
+        pushed = ap (λ (a : ClaimAccount H). a.pushed) is ∙ e.pushed;
+        taken = ap (λ (a : ClaimAccount H). claims_in a.taken) is ∙ map_push (λ (x : IndexedClaim (Claim H)). x.claim) now.ledger.taken (indexed_claim (length m.gone) c)
             ∙ ap (λ l. l ++ c ∷ []) e.taken ∙ append_assoc (claims_in base.ledger.taken) e.more (c ∷ []);
       }
 
   -- at the end the queue was empty
   pub emptying_all : (base : PoolPort H) (old : List (Claim H)) (now : PoolPort H) (left : List (Claim H)) → Emptying base old now left
-      → Moment IsFit now.ledger [] → Empties IsFit base.ledger.gates (base ∷ []) old left
+      → QueueMoment IsFit now.ledger [] → Empties IsFit base.ledger.gates (base ∷ []) old left
   emptying_all base old now left e m =
       let Few : PoolPort H → Type 0 = HasFew in let All' : PoolPort H → Type 0 = HasAll in
       let few = m.within_limit in let shares = e.shares in let members = e.members in record {

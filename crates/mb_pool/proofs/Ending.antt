@@ -7,7 +7,7 @@ use Rattle.mb_pool.specs.Ends.{AreAlike, AreMatched, Empties, Gathers, IsAllOf, 
 use Rattle.mb_pool.specs.Ends.{owns_of, where_is}
 use Rattle.mb_gate.specs.Untouched.{Origin}
 use Rattle.mb_pool.specs.Places.{PoolPort, PoolEndpoint, gates_of, owner_of, part_of}
-use Rattle.mb_pool.specs.Endpoints.{AreOpen, HasShare, IsOpen, of_feed}
+use Rattle.mb_pool.specs.Endpoints.{AreOpen, HasShare, IsOpenPort, of_feed}
 use Rattle.mb_pool.proofs.Emptying.{empties_append, empties_gates, empties_none}
 use Rattle.mb_pool.proofs.Gathering.{Gathering, gathering_more, gathers_one, still_among, still_matched}
 use Rattle.mb_pool.proofs.Ports.{all_right, all_unmap, shared_port_open, own_open, stealing}
@@ -16,7 +16,7 @@ module _ {H : Type 0} where
   -- an end whose ports of the other deques were taken is still open
   pub alone_open : (own_deque shared_port : PoolPort H) (next none : List (PoolPort H)) → none ≡ [] → AreOpen (stealing own_deque shared_port next) → AreOpen (stealing own_deque shared_port none)
   alone_open own_deque shared_port next none e h =
-      let P : PoolPort H → Type 0 = λ l. IsOpen shared_port.ledger.gates (part_of l) in
+      let P : PoolPort H → Type 0 = λ l. IsOpenPort shared_port.ledger.gates (part_of l) in
       let alone : All P (own_deque ∷ shared_port ∷ []) =
       All-cons P own_deque (shared_port ∷ []) (All-head P own_deque (shared_port ∷ next) h)
       (All-cons P shared_port [] (All-head P shared_port next (All-tail P own_deque (shared_port ∷ next) h)) (All-nil P)) in
@@ -26,11 +26,11 @@ module _ {H : Type 0} where
   pub joined_open : (own_deque own_deque' thief shared_port : PoolPort H) (next : List (PoolPort H)) → own_deque' ≡ joined own_deque thief → AreOpen (stealing own_deque shared_port next)
       → AreOpen (stealing own_deque' shared_port next)
   joined_open own_deque own_deque' thief shared_port next e h =
-      let P : PoolPort H → Type 0 = λ l. IsOpen shared_port.ledger.gates (part_of l) in
-      let mine : IsOpen shared_port.ledger.gates (part_of own_deque) = own_open own_deque shared_port next h in
+      let P : PoolPort H → Type 0 = λ l. IsOpenPort shared_port.ledger.gates (part_of l) in
+      let mine : IsOpenPort shared_port.ledger.gates (part_of own_deque) = own_open own_deque shared_port next h in
       let some : 0 < own_deque.ledger.shares = mine.share in
       let more : 0 < own_deque.ledger.shares + thief.ledger.shares = omega (arith, some) in
-      let first : IsOpen shared_port.ledger.gates (part_of (joined own_deque thief)) = record { share = more; same = mine.same } in
+      let first : IsOpenPort shared_port.ledger.gates (part_of (joined own_deque thief)) = record { share = more; same = mine.same } in
       subst (λ o. AreOpen (stealing o shared_port next)) (sym e) (All-cons P (joined own_deque thief) (shared_port ∷ next) first (All-tail P own_deque (shared_port ∷ next) h))
 
   -- the next port is of a deque of one of the ends
@@ -41,11 +41,11 @@ module _ {H : Type 0} where
       still_among old now (part_of t) g.frames (All-head P t rest (all_right P done (t ∷ rest) (subst (All P) (sym e) h)))
 
   -- so that end may join it
-  pub may_own : (now : List (PoolEndpoint H)) (t : PoolPort H) (n : ℕ) (d : PoolEndpoint H) → n ≡ owner_of t.spot → IsAmong now (part_of t)
+  pub may_own : (now : List (PoolEndpoint H)) (t : PoolPort H) (n : ℕ) (d : PoolEndpoint H) → n ≡ owner_of t.queue → IsAmong now (part_of t)
       → MayJoin (get_or now n d).own_deque (part_of t)
   may_own now t n d e among = subst (λ (k : ℕ). MayJoin (get_or now k d).own_deque (part_of t)) (sym e) (among.1 d)
 
-  pub gathers_at : (old now : List (PoolEndpoint H)) (done : List (PoolPort H)) (t : PoolPort H) (n : ℕ) (d new : PoolEndpoint H) → n ≡ owner_of t.spot
+  pub gathers_at : (old now : List (PoolEndpoint H)) (done : List (PoolPort H)) (t : PoolPort H) (n : ℕ) (d new : PoolEndpoint H) → n ≡ owner_of t.queue
       → new ≡ record (get_or now n d) { own_deque = joined_first (get_or now n d).own_deque t } → Gathers old done now → IsAmong now (part_of t)
       → Gathers old (done ++ t ∷ []) (set now n new)
   gathers_at old now done t n d new e is g among =
@@ -75,8 +75,8 @@ module _ {H : Type 0} where
       let Q : PoolEndpoint H → Type 0 = λ w. P w.shared_port in
       All-head Q end rest (all_right Q done (end ∷ rest) (subst (All Q) (sym e) (all_unmap P (λ (w : PoolEndpoint H). w.shared_port) all h)))
 
-  pub same_place : (base shared_port other : PoolPort H) → where_is shared_port ≡ where_is base → where_is other ≡ where_is base → other.spot ≡ shared_port.spot
-  same_place base shared_port other d o = ap (λ (w : Where H). w.spot) (o ∙ sym d)
+  pub same_place : (base shared_port other : PoolPort H) → where_is shared_port ≡ where_is base → where_is other ≡ where_is base → other.queue ≡ shared_port.queue
+  same_place base shared_port other d o = ap (λ (w : Where H). w.queue) (o ∙ sym d)
 
   pub both_share : (shared_port other : PoolPort H) → HasShare shared_port → HasShare other → HasShare (joined shared_port other)
   both_share shared_port other d o = let here : 0 < shared_port.ledger.shares = d in omega (arith, here)

@@ -65,12 +65,12 @@ module _ {H : Type 0} where
   may_join (x ∷ xs) (y ∷ ys) t e h = (h.0 ∙ sym (ap spot_or e), h.1)
     where
       spot_or : List (Where H) → QueueInfo
-      spot_or [] = x.spot
-      spot_or (w ∷ ws) = w.spot
+      spot_or [] = x.queue
+      spot_or (w ∷ ws) = w.queue
 
   pub still_among : (old new : List (PoolEndpoint H)) (t : Part H) → map (frame_of {H = H}) new ≡ map (frame_of {H = H}) old → IsAmong old t → IsAmong new t
   still_among old new t e h =
-      let n : ℕ = owner_of t.spot in
+      let n : ℕ = owner_of t.queue in
       let count : length new ≡ length old = sym (length-map new (frame_of {H = H})) ∙ ap length e ∙ length-map old (frame_of {H = H}) in
       let there : n < length old = h.0 in
       let there' : n < length new = omega (arith, count, there) in (
@@ -113,10 +113,10 @@ module _ {H : Type 0} where
   }
 
   pub gathers_one : (old mid : List (PoolEndpoint H)) (more : List (PoolPort H)) (t : PoolPort H) (d : PoolEndpoint H) → Gathers old more mid → IsAmong mid (part_of t)
-      → Gathers old (more ++ t ∷ []) (set mid (owner_of t.spot) (record (get_or mid (owner_of t.spot) d)
-      { own_deque = joined_first (get_or mid (owner_of t.spot) d).own_deque t }))
+      → Gathers old (more ++ t ∷ []) (set mid (owner_of t.queue) (record (get_or mid (owner_of t.queue) d)
+      { own_deque = joined_first (get_or mid (owner_of t.queue) d).own_deque t }))
   gathers_one old mid more t d g among =
-      let n : ℕ = owner_of t.spot in let lt : n < length mid = among.0 in
+      let n : ℕ = owner_of t.queue in let lt : n < length mid = among.0 in
       let w : PoolEndpoint H = get_or mid n d in let may = among.1 d in
       let w' : PoolEndpoint H = record w { own_deque = joined_first w.own_deque t } in
       let one : PoolPort H → List (PoolPort H) = λ l. l ∷ [] in

@@ -74,6 +74,6 @@ own_one {H} owns now e = ap (map (λ (o : PoolPort H). o ∷ [])) e ∙ map_map 
 
 -- the port of the queue that all share, of a new pool
 pub shared_port_is : {H : Type 0} (origin : Origin H) (ports count : ℕ) (old new : PoolPort H) → new ≡ record old { ledger = opened (Some origin) ports ports }
-    → ports ≡ count → borrowed new ≡ fresh origin count 1 new.spot
+    → ports ≡ count → borrowed new ≡ fresh origin count 1 new.queue
 shared_port_is {H} origin ports count old new e p =
-    subst (λ (l : PoolPort H). borrowed l ≡ fresh origin count 1 l.spot) (sym e) (ap (λ (n : ℕ). fresh origin n 1 old.spot) p)
+    subst (λ (l : PoolPort H). borrowed l ≡ fresh origin count 1 l.queue) (sym e) (ap (λ (n : ℕ). fresh origin n 1 old.queue) p)

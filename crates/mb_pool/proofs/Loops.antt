@@ -4,7 +4,7 @@ use Rattle.std.proofs.Common.{◌∙◌, map, arith, append_assoc}
 use Rattle.std.proofs.lemmas.List.{map_push, length-map, length-replicate, replicate_more}
 use Rattle.mb_pool.specs.Begins.{borrowed, borrowed_next, lent, with_shares}
 use Rattle.mb_pool.specs.Ledger.{opened}
-use Rattle.mb_pool.specs.Account.{Account}
+use Rattle.mb_pool.specs.Account.{ClaimAccount}
 use Rattle.mb_pool.specs.Places.{PoolPort, numbers}
 use Rattle.mb_pool.proofs.Begins.{cons_head, cons_tail, numbers_push, take_suc}
 use Rattle.mb_pool.proofs.Begins.{upto, upto_set}
@@ -43,7 +43,7 @@ module _ {A B : Type 0} (f : A → B) (d : B) where
 
 module _ {H : Type 0} where
   pub with_all : (l : PoolPort H) (n : ℕ) → l.ledger.shares ≡ n → with_shares n l ≡ l
-  with_all l n e = λ i. record { spot = l.spot; ledger = record l.ledger { shares = sym e i } }
+  with_all l n e = λ i. record { queue = l.queue; ledger = record l.ledger { shares = sym e i } }
 
   -- the first port of a queue after it lent another share
   pub lent_one : (l first : PoolPort H) (shares : ℕ) → l ≡ with_shares shares first → (lent l ≡ with_shares (shares - 1) first)
@@ -53,7 +53,7 @@ module _ {H : Type 0} where
   -- and once it has one share itself
   pub last_one : (first : PoolPort H) (count : ℕ) → first.ledger ≡ opened first.ledger.gates first.ledger.members count
       → with_shares 1 first ≡ borrowed first
-  last_one first count e = ap (λ (a : Account H). let l : PoolPort H = record { spot = first.spot; ledger = record a { shares = 1 } } in l) e
+  last_one first count e = ap (λ (a : ClaimAccount H). let l : PoolPort H = record { queue = first.queue; ledger = record a { shares = 1 } } in l) e
 
   module _ {V : Type 0} (f : V → PoolPort H) (doors new : List V) (last : V) (first : PoolPort H) (k count : ℕ)
       (before : map f doors ≡ replicate (k - 1) (borrowed first)) (more : new ≡ doors ++ last ∷ []) where

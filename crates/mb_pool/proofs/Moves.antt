@@ -8,8 +8,8 @@ use Rattle.std.proofs.lemmas.List.Concat.{flat_map-append}
 use Rattle.std.proofs.lemmas.List.Elements.{All-nil, All-cons, All-head, All-tail, All-push}
 use mathlib.Core.Option.{some}
 use lib.ListN.{get_elem?}
-use Rattle.mb_pool.specs.Ledger.{IndexedClaim, indexed_claim, indexed, indexed_from, Ledger, opened, unused, pushing, taking, lending, borrowing, joining, spent}
-use Rattle.mb_pool.specs.Rule.{all_pushed, all_taken, all_shares, Agrees, Kept, Moment, PutsLast, TakesFirst}
+use Rattle.mb_pool.specs.Ledger.{IndexedClaim, indexed_claim, indexed, indexed_from, PortAccount, opened, unused, pushing, taking, lending, borrowing, joining, spent}
+use Rattle.mb_pool.specs.Rule.{all_pushed, all_taken, all_shares, PortAgrees, Kept, QueueMoment, PutsLast, TakesFirst}
 use Rattle.mb_pool.proofs.Lists.{same_elements, from_left, behind, before, past, to_end, nothing_more, others, set_swap, get_other, pulls}
 use Rattle.mb_pool.proofs.Lists.{pulls_own, weighs, weighs_own, holds_at, holds_others, holds_set}
 
@@ -30,40 +30,40 @@ module _ {C : Type 0} where
       IsSome (x ∷ xs) = Unit {0}
 
 module _ {G C : Type 0} where
-  abbrev of_pushed : Ledger G C → List (IndexedClaim C)
+  abbrev of_pushed : PortAccount G C → List (IndexedClaim C)
   of_pushed l = l.pushed
 
-  abbrev of_taken : Ledger G C → List (IndexedClaim C)
+  abbrev of_taken : PortAccount G C → List (IndexedClaim C)
   of_taken l = l.taken
 
-  abbrev of_shares : Ledger G C → ℕ
+  abbrev of_shares : PortAccount G C → ℕ
   of_shares l = l.shares
 
   -- ports without a share know nothing
-  pub no_shares : (g : Option G) (n : ℕ) (ls : List (Ledger G C)) → all_shares ls ≡ 0 → All (Agrees g n) ls → (all_pushed ls ≡ [])
+  pub no_shares : (g : Option G) (n : ℕ) (ls : List (PortAccount G C)) → all_shares ls ≡ 0 → All (PortAgrees g n) ls → (all_pushed ls ≡ [])
       × (all_taken ls ≡ [])
   no_shares g n [] none h = (refl, refl)
   no_shares g n (l ∷ ls) none h =
       let sums = sum_by-cons of_shares l ls in
-      let mine = (All-head (Agrees g n) l ls h).idle (omega (arith, sums, none)) in
-      let rest = no_shares g n ls (omega (arith, sums, none)) (All-tail (Agrees g n) l ls h) in
+      let mine = (All-head (PortAgrees g n) l ls h).idle (omega (arith, sums, none)) in
+      let rest = no_shares g n ls (omega (arith, sums, none)) (All-tail (PortAgrees g n) l ls h) in
       (ap (λ x. x ++ all_pushed ls) mine.0 ∙ rest.0, ap (λ x. x ++ all_taken ls) mine.1 ∙ rest.1)
 
   -- and agree on anything
-  agree_anew : (g g' : Option G) (n n' : ℕ) (ls : List (Ledger G C)) → all_shares ls ≡ 0 → All (Agrees g n) ls → All (Agrees g' n') ls
-  agree_anew g g' n n' [] none h = All-nil (Agrees g' n')
+  agree_anew : (g g' : Option G) (n n' : ℕ) (ls : List (PortAccount G C)) → all_shares ls ≡ 0 → All (PortAgrees g n) ls → All (PortAgrees g' n') ls
+  agree_anew g g' n n' [] none h = All-nil (PortAgrees g' n')
   agree_anew g g' n n' (l ∷ ls) none h =
       let sums = sum_by-cons of_shares l ls in
-      All-cons (Agrees g' n') l ls (record { same = λ some. absurd (omega (arith, sums, none, some)); idle = (All-head (Agrees g n) l ls h).idle })
-      (agree_anew g g' n n' ls (omega (arith, sums, none)) (All-tail (Agrees g n) l ls h))
+      All-cons (PortAgrees g' n') l ls (record { same = λ some. absurd (omega (arith, sums, none, some)); idle = (All-head (PortAgrees g n) l ls h).idle })
+      (agree_anew g g' n n' ls (omega (arith, sums, none)) (All-tail (PortAgrees g n) l ls h))
 
-module _ {G C : Type 0} (IsFit : Option G → C → Type 0) (items : List C) (views : List (Ledger G C)) (port : ℕ) (v : Ledger G C)
+module _ {G C : Type 0} (IsFit : Option G → C → Type 0) (items : List C) (views : List (PortAccount G C)) (port : ℕ) (v : PortAccount G C)
     (k : Kept IsFit items views) (at : get_elem? views port ≡ some v) where
-  abbrev pub rest : List (Ledger G C)
+  abbrev pub rest : List (PortAccount G C)
   rest = others port views
 
-  pub mine : Agrees k.gates k.members v
-  mine = holds_at (Agrees k.gates k.members) views port v at k.agree
+  pub mine : PortAgrees k.gates k.members v
+  mine = holds_at (PortAgrees k.gates k.members) views port v at k.agree
 
   pub shares_are : v.shares + all_shares rest ≡ k.members
   shares_are = sym (weighs_own of_shares views port v at) ∙ k.whole
@@ -76,7 +76,7 @@ module _ {G C : Type 0} (IsFit : Option G → C → Type 0) (items : List C) (vi
   pushed_through = IsPermutation-trans (v.taken ++ all_taken rest) (all_taken views) (indexed k.gone)
       (IsPermutation-sym (all_taken views) (v.taken ++ all_taken rest) (pulls_own of_taken views port v at)) k.went
 
-  abbrev pub moment : 0 < v.shares → Moment IsFit v items
+  abbrev pub moment : 0 < v.shares → QueueMoment IsFit v items
   moment share = let same = mine.same share in record {
     gone = k.gone;
     pushed = all_pushed rest;
@@ -86,14 +86,14 @@ module _ {G C : Type 0} (IsFit : Option G → C → Type 0) (items : List C) (vi
     went = pushed_through;
     within_limit = let e = shares_are in let s = same.1 in omega (arith, e, s);
     alone = λ all. no_shares k.gates k.members rest (let e = shares_are in let s = same.1 in omega (arith, e, s, all))
-        (holds_others (Agrees k.gates k.members) views port k.agree);
+        (holds_others (PortAgrees k.gates k.members) views port k.agree);
   }
 
   -- a push
-  pub puts : (c : C) → 0 < v.shares → IsFit v.gates c → (w : Ledger G C) × Kept IsFit (items ++ c ∷ []) (set views port w) × PutsLast IsFit v c w
+  pub puts : (c : C) → 0 < v.shares → IsFit v.gates c → (w : PortAccount G C) × Kept IsFit (items ++ c ∷ []) (set views port w) × PutsLast IsFit v c w
   puts c share fit = let same = mine.same share in
       let t : IndexedClaim C = indexed_claim (length (k.gone ++ items)) c in
-      let w : Ledger G C = pushing v t in
+      let w : PortAccount G C = pushing v t in
       let more : k.gone ++ (items ++ c ∷ []) ≡ (k.gone ++ items) ++ c ∷ [] = sym (append_assoc k.gone items (c ∷ [])) in (
         w,
         record {
@@ -111,8 +111,8 @@ module _ {G C : Type 0} (IsFit : Option G → C → Type 0) (items : List C) (vi
           went = IsPermutation-trans (all_taken (set views port w)) (v.taken ++ all_taken rest) (indexed k.gone)
               (pulls of_taken views port v w at) pushed_through;
           whole = weighs of_shares views port v w at ∙ shares_are;
-          agree = holds_set (Agrees k.gates k.members) views port w (record { same = λ _. same; idle = λ none. absurd (omega (arith, none, share)) })
-              (holds_others (Agrees k.gates k.members) views port k.agree);
+          agree = holds_set (PortAgrees k.gates k.members) views port w (record { same = λ _. same; idle = λ none. absurd (omega (arith, none, share)) })
+              (holds_others (PortAgrees k.gates k.members) views port k.agree);
         },
         (items, moment share, refl),
       )
@@ -120,14 +120,14 @@ module _ {G C : Type 0} (IsFit : Option G → C → Type 0) (items : List C) (vi
   -- so the port of a queue that is not opened yet is the only one
   is_all : v ≡ unused → (all_shares rest ≡ 0) × (k.gone ++ items ≡ []) × (all_pushed rest ≡ []) × (all_taken rest ≡ [])
   is_all e =
-      let one : v.shares ≡ 1 = ap (λ (l : Ledger G C). l.shares) e in
+      let one : v.shares ≡ 1 = ap (λ (l : PortAccount G C). l.shares) e in
       let same = mine.same (omega (arith, one)) in
-      let members : v.members ≡ 1 = ap (λ (l : Ledger G C). l.members) e in
+      let members : v.members ≡ 1 = ap (λ (l : PortAccount G C). l.members) e in
       let none : all_shares rest ≡ 0 = let s = shares_are in let m = same.1 in omega (arith, one, members, s, m) in
-      let no = no_shares k.gates k.members rest none (holds_others (Agrees k.gates k.members) views port k.agree) in (
+      let no = no_shares k.gates k.members rest none (holds_others (PortAgrees k.gates k.members) views port k.agree) in (
         none,
         indexed_none 0 (k.gone ++ items) (nothing_more (indexed (k.gone ++ items))
-            (subst (λ l. IsPermutation l (indexed (k.gone ++ items))) (ap (λ (l : Ledger G C). l.pushed ++ all_pushed rest) e ∙ no.0) came_by)),
+            (subst (λ l. IsPermutation l (indexed (k.gone ++ items))) (ap (λ (l : PortAccount G C). l.pushed ++ all_pushed rest) e ∙ no.0) came_by)),
         no.0,
         no.1,
       )
@@ -141,19 +141,19 @@ module _ {G C : Type 0} (IsFit : Option G → C → Type 0) (items : List C) (vi
       IsSome (y ∷ l) = Unit {0}
 
   -- a new port comes
-  came_more : (f : Ledger G C → List (IndexedClaim C)) (w n : Ledger G C) → f n ≡ []
+  came_more : (f : PortAccount G C → List (IndexedClaim C)) (w n : PortAccount G C) → f n ≡ []
       → IsPermutation (flat_map f (set views port w ++ n ∷ [])) (f w ++ flat_map f rest)
   came_more f w n e = from_left (flat_map f (set views port w ++ n ∷ [])) (flat_map f (set views port w)) (f w ++ flat_map f rest)
       (flat_map-append f (set views port w) (n ∷ []) ∙ ap (λ l. flat_map f (set views port w) ++ (l ++ [])) e
       ∙ append-nil (flat_map f (set views port w)))
       (pulls f views port v w at)
 
-  shares_more : (w n : Ledger G C) → all_shares (set views port w ++ n ∷ []) ≡ w.shares + all_shares rest + n.shares
+  shares_more : (w n : PortAccount G C) → all_shares (set views port w ++ n ∷ []) ≡ w.shares + all_shares rest + n.shares
   shares_more w n = let a = sum_by-append of_shares (set views port w) (n ∷ []) in let b = weighs of_shares views port v w at in
       let c = sum_by-cons of_shares n [] in omega (arith, a, b, c)
 
   pub opens : (g : Option G) (m : ℕ) → v ≡ unused → Kept IsFit items (set views port (opened g m m) ++ spent ∷ [])
-  opens g m e = let all = is_all e in let w : Ledger G C = opened g m m in record {
+  opens g m e = let all = is_all e in let w : PortAccount G C = opened g m m in record {
     gates = g;
     members = m;
     gone = k.gone;
@@ -164,14 +164,14 @@ module _ {G C : Type 0} (IsFit : Option G → C → Type 0) (items : List C) (vi
     went = IsPermutation-trans (all_taken (set views port w ++ spent ∷ [])) (all_taken rest) (indexed k.gone) (came_more of_taken w spent refl)
         (same_elements (all_taken rest) (indexed k.gone) (all.3 ∙ ap indexed (sym (none_of k.gone items all.1))));
     whole = let s = shares_more w spent in let n = all.0 in omega (arith, s, n);
-    agree = All-push (Agrees g m) (set views port w) spent
-        (holds_set (Agrees g m) views port w (record { same = λ _. (refl, refl); idle = λ _. (refl, refl) })
-        (agree_anew k.gates g k.members m rest all.0 (holds_others (Agrees k.gates k.members) views port k.agree)))
+    agree = All-push (PortAgrees g m) (set views port w) spent
+        (holds_set (PortAgrees g m) views port w (record { same = λ _. (refl, refl); idle = λ _. (refl, refl) })
+        (agree_anew k.gates g k.members m rest all.0 (holds_others (PortAgrees k.gates k.members) views port k.agree)))
         (record { same = λ some. absurd (omega (arith, some)); idle = λ _. (refl, refl) });
   }
 
   pub lends : 1 < v.shares → Kept IsFit items (set views port (lending 1 v) ++ borrowing 1 v ∷ [])
-  lends shares = let same = mine.same (omega (arith, shares)) in let w : Ledger G C = lending 1 v in let n : Ledger G C = borrowing 1 v in record {
+  lends shares = let same = mine.same (omega (arith, shares)) in let w : PortAccount G C = lending 1 v in let n : PortAccount G C = borrowing 1 v in record {
     gates = k.gates;
     members = k.members;
     gone = k.gone;
@@ -181,20 +181,20 @@ module _ {G C : Type 0} (IsFit : Option G → C → Type 0) (items : List C) (vi
     went = IsPermutation-trans (all_taken (set views port w ++ n ∷ [])) (v.taken ++ all_taken rest) (indexed k.gone)
         (came_more of_taken w n refl) pushed_through;
     whole = let s = shares_more w n in let t = shares_are in omega (arith, s, t, shares);
-    agree = All-push (Agrees k.gates k.members) (set views port w) n
-        (holds_set (Agrees k.gates k.members) views port w (record { same = λ _. same; idle = λ none. absurd (omega (arith, none, shares)) })
-        (holds_others (Agrees k.gates k.members) views port k.agree))
+    agree = All-push (PortAgrees k.gates k.members) (set views port w) n
+        (holds_set (PortAgrees k.gates k.members) views port w (record { same = λ _. same; idle = λ none. absurd (omega (arith, none, shares)) })
+        (holds_others (PortAgrees k.gates k.members) views port k.agree))
         (record { same = λ _. same; idle = λ none. absurd (omega (arith, none)) });
   }
 
-module _ {G C : Type 0} (IsFit : Option G → C → Type 0) (c : C) (items : List C) (views : List (Ledger G C)) (port : ℕ) (v : Ledger G C)
+module _ {G C : Type 0} (IsFit : Option G → C → Type 0) (c : C) (items : List C) (views : List (PortAccount G C)) (port : ℕ) (v : PortAccount G C)
     (k : Kept IsFit (c ∷ items) views) (at : get_elem? views port ≡ some v) where
   -- a take
-  pub takes : 0 < v.shares → (w : Ledger G C) × Kept IsFit items (set views port w) × TakesFirst IsFit v c w
+  pub takes : 0 < v.shares → (w : PortAccount G C) × Kept IsFit items (set views port w) × TakesFirst IsFit v c w
   takes share = let same = (mine IsFit (c ∷ items) views port v k at).same share in
       let t : IndexedClaim C = indexed_claim (length k.gone) c in
-      let w : Ledger G C = taking v t in
-      let left : List (Ledger G C) = others port views in
+      let w : PortAccount G C = taking v t in
+      let left : List (PortAccount G C) = others port views in
       let more : k.gone ++ (c ∷ items) ≡ (k.gone ++ c ∷ []) ++ items = sym (append_assoc k.gone (c ∷ []) items) in (
         w,
         record {
@@ -212,23 +212,23 @@ module _ {G C : Type 0} (IsFit : Option G → C → Type 0) (c : C) (items : Lis
               (to_end v.taken (all_taken left) t)
               (before (v.taken ++ all_taken left) (indexed k.gone) (t ∷ []) (pushed_through IsFit (c ∷ items) views port v k at))));
           whole = weighs of_shares views port v w at ∙ shares_are IsFit (c ∷ items) views port v k at;
-          agree = holds_set (Agrees k.gates k.members) views port w (record { same = λ _. same; idle = λ none. absurd (omega (arith, none, share)) })
-              (holds_others (Agrees k.gates k.members) views port k.agree);
+          agree = holds_set (PortAgrees k.gates k.members) views port w (record { same = λ _. same; idle = λ none. absurd (omega (arith, none, share)) })
+              (holds_others (PortAgrees k.gates k.members) views port k.agree);
         },
         (items, moment IsFit (c ∷ items) views port v k at share, refl),
       )
 
-module _ {G C : Type 0} (IsFit : Option G → C → Type 0) (items : List C) (views : List (Ledger G C)) (port : ℕ) (v : Ledger G C) (other : ℕ)
-    (u : Ledger G C) (k : Kept IsFit items views)
+module _ {G C : Type 0} (IsFit : Option G → C → Type 0) (items : List C) (views : List (PortAccount G C)) (port : ℕ) (v : PortAccount G C) (other : ℕ)
+    (u : PortAccount G C) (k : Kept IsFit items views)
     (at : get_elem? views port ≡ some v) (two : ¬ (other ≡ port)) (at_other : get_elem? (set views port (joining v u)) other ≡ some u) where
-  abbrev both : Ledger G C
+  abbrev both : PortAccount G C
   both = joining v u
 
   -- without the other one
-  abbrev without : List (Ledger G C)
+  abbrev without : List (PortAccount G C)
   without = set views other spent
 
-  abbrev left : List (Ledger G C)
+  abbrev left : List (PortAccount G C)
   left = others port without
 
   was : get_elem? views other ≡ some u
@@ -240,7 +240,7 @@ module _ {G C : Type 0} (IsFit : Option G → C → Type 0) (items : List C) (vi
   swapped : set (set views port both) other spent ≡ set without port both
   swapped = set_swap views port other both spent (λ e. two (sym e))
 
-  gathers : (f : Ledger G C → List (IndexedClaim C)) → f spent ≡ [] → f both ≡ f v ++ f u
+  gathers : (f : PortAccount G C → List (IndexedClaim C)) → f spent ≡ [] → f both ≡ f v ++ f u
       → IsPermutation (flat_map f (set without port both)) (flat_map f views)
   gathers f none sum =
       let away : List (IndexedClaim C) = flat_map f (others other views) in
@@ -258,7 +258,7 @@ module _ {G C : Type 0} (IsFit : Option G → C → Type 0) (items : List C) (vi
 
   pub joins : 0 < v.shares → 0 < u.shares → Kept IsFit items (set (set views port both) other spent)
   joins mine_some theirs_some = subst (Kept IsFit items) (sym swapped)
-      (let Agree = Agrees {G = G} {C = C} k.gates k.members in
+      (let Agree = PortAgrees {G = G} {C = C} k.gates k.members in
       let mine' = (holds_at Agree views port v at k.agree).same mine_some in
       record {
         gates = k.gates;
@@ -285,5 +285,5 @@ begins {G} {C} IsFit = record {
   came = IsPermutation-refl [];
   went = IsPermutation-refl [];
   whole = refl;
-  agree = All-cons (Agrees None 1) unused [] (record { same = λ _. (refl, refl); idle = λ _. (refl, refl) }) (All-nil (Agrees None 1));
+  agree = All-cons (PortAgrees None 1) unused [] (record { same = λ _. (refl, refl); idle = λ _. (refl, refl) }) (All-nil (PortAgrees None 1));
 }

@@ -8,10 +8,10 @@ use Rattle.mb_pool.specs.declared.claim_refused.ClaimRefused.{ClaimRefused}
 use Rattle.mb_pool.specs.declared.claim_refused.ClaimRefused.TheVariants.{NoMemory}
 use Rattle.mb_pool.specs.Moves.{given_back, IsRefusal, IsRefusedBy, Pushes, PutsFirst, Takes, TakesOne, WasEmpty}
 use Rattle.mb_gate.specs.Untouched.{Origin}
-use Rattle.mb_pool.specs.Account.{Account}
+use Rattle.mb_pool.specs.Account.{ClaimAccount}
 use Rattle.mb_pool.specs.Places.{PoolPort, Part, Parts, PoolEndpoint, gates_of, ports_of, part_of, parts_of}
-use Rattle.mb_pool.specs.Rule.{Moment, PutsLast, TakesFirst}
-use Rattle.mb_pool.specs.Endpoints.{AreOpen, HasShare, IsOpen, of_feed}
+use Rattle.mb_pool.specs.Rule.{QueueMoment, PutsLast, TakesFirst}
+use Rattle.mb_pool.specs.Endpoints.{AreOpen, HasShare, IsOpenPort, of_feed}
 
 pub all_right : {X : Type 0} (P : X → Type 0) (xs ys : List X) → All P (xs ++ ys) → All P ys
 all_right P [] ys h = h
@@ -33,8 +33,8 @@ set_at (x ∷ xs) zero v lt = refl
 set_at (x ∷ xs) (suc k) v lt = ap (λ l. x ∷ l) (set_at xs k v (omega (arith, lt)))
 
 module _ {H : Type 0} where
-  pub moved : (l l' : PoolPort H) → l'.spot ≡ l.spot → l' ≡ record l { ledger = l'.ledger }
-  moved l l' s i = record { spot = s i; ledger = l'.ledger }
+  pub moved : (l l' : PoolPort H) → l'.queue ≡ l.queue → l' ≡ record l { ledger = l'.ledger }
+  moved l l' s i = record { queue = s i; ledger = l'.ledger }
 
   map_mid : (before rest : List (PoolPort H)) (l l' : PoolPort H) → part_of l' ≡ part_of l
       → map (part_of {H = H}) (before ++ l' ∷ rest) ≡ map (part_of {H = H}) (before ++ l ∷ rest)
@@ -53,9 +53,9 @@ module _ {H : Type 0} where
       let gates : gates_of w' ≡ gates_of w = ap (λ (p : Parts H). p.shared_port.gates) e in
       let ports : map (part_of {H = H}) (ports_of w') ≡ map (part_of {H = H}) (ports_of w) = ports_of_parts w'.own_deque w'.next w'.shared_port ∙ ap of_parts e
       ∙ sym (ports_of_parts w.own_deque w.next w.shared_port) in
-      all_unmap (IsOpen (gates_of w')) (part_of {H = H}) (ports_of w')
-      (subst (λ (y : Option (Origin H) × List (Part H)). All (IsOpen y.0) y.1) (λ i. (sym gates i, sym ports i))
-      (All-map (IsOpen (gates_of w)) (part_of {H = H}) (ports_of w) h))
+      all_unmap (IsOpenPort (gates_of w')) (part_of {H = H}) (ports_of w')
+      (subst (λ (y : Option (Origin H) × List (Part H)). All (IsOpenPort y.0) y.1) (λ i. (sym gates i, sym ports i))
+      (All-map (IsOpenPort (gates_of w)) (part_of {H = H}) (ports_of w) h))
 
   pub feed_parts : (shared_port door' : PoolPort H) → part_of door' ≡ part_of shared_port → parts_of (of_feed door') ≡ parts_of (of_feed shared_port)
   feed_parts shared_port door' e = ap (λ (p : Part H). let ps : Parts H = record { own_deque = []; shared_port = p; next = [] } in ps) e
@@ -69,33 +69,33 @@ module _ {H : Type 0} where
   own_parts own_deque own_deque' shared_port next e = ap (λ (p : Part H). let ps : Parts H = record
       { own_deque = p ∷ []; shared_port = part_of shared_port; next = map (part_of {H = H}) next } in ps) e
 
-  pub shared_port_open : (w : PoolEndpoint H) → AreOpen w → IsOpen (gates_of w) (part_of w.shared_port)
-  shared_port_open w h = let P : PoolPort H → Type 0 = λ l. IsOpen (gates_of w) (part_of l) in All-head P w.shared_port w.next (all_right P w.own_deque (w.shared_port ∷ w.next) h)
+  pub shared_port_open : (w : PoolEndpoint H) → AreOpen w → IsOpenPort (gates_of w) (part_of w.shared_port)
+  shared_port_open w h = let P : PoolPort H → Type 0 = λ l. IsOpenPort (gates_of w) (part_of l) in All-head P w.shared_port w.next (all_right P w.own_deque (w.shared_port ∷ w.next) h)
 
   pub own_open : (own_deque shared_port : PoolPort H) (next : List (PoolPort H)) → AreOpen (stealing own_deque shared_port next)
-      → IsOpen (gates_of (stealing own_deque shared_port next)) (part_of own_deque)
-  own_open own_deque shared_port next h = All-head (λ (l : PoolPort H). IsOpen shared_port.ledger.gates (part_of l)) own_deque (shared_port ∷ next) h
+      → IsOpenPort (gates_of (stealing own_deque shared_port next)) (part_of own_deque)
+  own_open own_deque shared_port next h = All-head (λ (l : PoolPort H). IsOpenPort shared_port.ledger.gates (part_of l)) own_deque (shared_port ∷ next) h
 
   pub next_open : (own_deque shared_port : PoolPort H) (next : List (PoolPort H)) → AreOpen (stealing own_deque shared_port next) → All (HasShare {H = H}) next
   next_open own_deque shared_port next h =
-      let P : PoolPort H → Type 0 = λ l. IsOpen shared_port.ledger.gates (part_of l) in
+      let P : PoolPort H → Type 0 = λ l. IsOpenPort shared_port.ledger.gates (part_of l) in
       All-weaker P (HasShare {H = H}) (λ l o. o.share) next (All-tail P shared_port next (All-tail P own_deque (shared_port ∷ next) h))
 
   module _ (IsFit : Option (Origin H) → Claim H → Type 0) where
-    puts_part : (l : PoolPort H) (c : Claim H) (after : Account H) → PutsLast IsFit l.ledger c after → part_of (record l { ledger = after }) ≡ part_of l
-    puts_part l c after p = ap (λ (a : Account H). part_of (record l { ledger = a })) p.2
+    puts_part : (l : PoolPort H) (c : Claim H) (after : ClaimAccount H) → PutsLast IsFit l.ledger c after → part_of (record l { ledger = after }) ≡ part_of l
+    puts_part l c after p = ap (λ (a : ClaimAccount H). part_of (record l { ledger = a })) p.2
 
-    takes_part : (l : PoolPort H) (c : Claim H) (after : Account H) → TakesFirst IsFit l.ledger c after
+    takes_part : (l : PoolPort H) (c : Claim H) (after : ClaimAccount H) → TakesFirst IsFit l.ledger c after
         → part_of (record l { ledger = after }) ≡ part_of l
-    takes_part l c after t = ap (λ (a : Account H). part_of (record l { ledger = a })) t.2
+    takes_part l c after t = ap (λ (a : ClaimAccount H). part_of (record l { ledger = a })) t.2
 
-    pub put_part : (l l' : PoolPort H) (c : Claim H) → l'.spot ≡ l.spot → PutsLast IsFit l.ledger c l'.ledger → part_of l' ≡ part_of l
+    pub put_part : (l l' : PoolPort H) (c : Claim H) → l'.queue ≡ l.queue → PutsLast IsFit l.ledger c l'.ledger → part_of l' ≡ part_of l
     put_part l l' c s p = ap (part_of {H = H}) (moved l l' s) ∙ puts_part l c l'.ledger p
 
-    pub took_part : (l l' : PoolPort H) (c : Claim H) → l'.spot ≡ l.spot → TakesFirst IsFit l.ledger c l'.ledger → part_of l' ≡ part_of l
+    pub took_part : (l l' : PoolPort H) (c : Claim H) → l'.queue ≡ l.queue → TakesFirst IsFit l.ledger c l'.ledger → part_of l' ≡ part_of l
     took_part l l' c s t = ap (part_of {H = H}) (moved l l' s) ∙ takes_part l c l'.ledger t
 
-    pub puts_first : (l l' : PoolPort H) (rest : List (PoolPort H)) (c : Claim H) → l'.spot ≡ l.spot → PutsLast IsFit l.ledger c l'.ledger
+    pub puts_first : (l l' : PoolPort H) (rest : List (PoolPort H)) (c : Claim H) → l'.queue ≡ l.queue → PutsLast IsFit l.ledger c l'.ledger
         → PutsFirst IsFit (l ∷ rest) c (l' ∷ rest)
     puts_first l l' rest c s p = record {
       pool_port = l;
@@ -106,7 +106,7 @@ module _ {H : Type 0} where
       then' = ap (λ x. x ∷ rest) (moved l l' s);
     }
 
-    pub takes_here : (before : List (PoolPort H)) (l l' : PoolPort H) (rest : List (PoolPort H)) (c : Claim H) → All (WasEmpty IsFit) before → l'.spot ≡ l.spot
+    pub takes_here : (before : List (PoolPort H)) (l l' : PoolPort H) (rest : List (PoolPort H)) (c : Claim H) → All (WasEmpty IsFit) before → l'.queue ≡ l.queue
         → TakesFirst IsFit l.ledger c l'.ledger
         → TakesOne IsFit (before ++ l ∷ rest) c (before ++ l' ∷ rest)
     takes_here before l l' rest c empty s t = record {
@@ -122,7 +122,7 @@ module _ {H : Type 0} where
 
     -- at its number, the ones before it being empty
     pub takes_at : (old : List (PoolPort H)) (k : ℕ) (d l' : PoolPort H) (c : Claim H) → k < length old → All (WasEmpty IsFit) (take k old)
-        → l'.spot ≡ (get_or old k d).spot
+        → l'.queue ≡ (get_or old k d).queue
         → TakesFirst IsFit (get_or old k d).ledger c l'.ledger → TakesOne IsFit old c (set old k l')
     takes_at old k d l' c lt empty s t =
         subst (λ (y : List (PoolPort H) × List (PoolPort H)). TakesOne IsFit y.0 c y.1) (λ i. (sym (split_at old k d lt) i, sym (set_at old k l' lt) i))
@@ -147,11 +147,11 @@ module _ {H : Type 0} where
         ∙ sym (ap (map (part_of {H = H})) t.found)
 
     -- what was taken is of the gates of the ports
-    pub takes_fit : (g : Option (Origin H)) (old new : List (PoolPort H)) (c : Claim H) → All (λ (l : PoolPort H). IsOpen g (part_of l)) old
+    pub takes_fit : (g : Option (Origin H)) (old new : List (PoolPort H)) (c : Claim H) → All (λ (l : PoolPort H). IsOpenPort g (part_of l)) old
         → TakesOne IsFit old c new → IsFit g c
     takes_fit g old new c opened t =
-        let Open : PoolPort H → Type 0 = λ l. IsOpen g (part_of l) in
-        let mine : IsOpen g (part_of t.pool_port) = All-head Open t.pool_port t.rest
+        let Open : PoolPort H → Type 0 = λ l. IsOpenPort g (part_of l) in
+        let mine : IsOpenPort g (part_of t.pool_port) = All-head Open t.pool_port t.rest
         (all_right Open t.before (t.pool_port ∷ t.rest) (subst (All Open) t.found opened)) in
         let m = t.first.1 in
         subst (λ x. IsFit x c) mine.same (All-head (IsFit t.pool_port.ledger.gates) c t.first.0
@@ -164,24 +164,24 @@ module _ {H : Type 0} where
 
     -- an end of a stealing pool looks in its own deque, in the injector, and in the next ends' deques
     module _ (own_deque own_deque' shared_port door' : PoolPort H) (next next' : List (PoolPort H)) where
-      pub push_by_own : (c : Claim H) → own_deque'.spot ≡ own_deque.spot → PutsLast IsFit own_deque.ledger c own_deque'.ledger
+      pub push_by_own : (c : Claim H) → own_deque'.queue ≡ own_deque.queue → PutsLast IsFit own_deque.ledger c own_deque'.ledger
           → Pushes IsFit (stealing own_deque shared_port next) c (stealing own_deque' shared_port next)
       push_by_own c s p = puts_first own_deque own_deque' (shared_port ∷ next) c s p
 
-      pub refused_by_own : (c : Claim H) → own_deque.spot.capacity ≡ None → IsRefusedBy IsFit (stealing own_deque shared_port next) (NoMemory c)
+      pub refused_by_own : (c : Claim H) → own_deque.queue.capacity ≡ None → IsRefusedBy IsFit (stealing own_deque shared_port next) (NoMemory c)
       refused_by_own c none = (own_deque, shared_port ∷ next, refl, none)
 
-      pub took_own : (c : Claim H) → own_deque'.spot ≡ own_deque.spot → TakesFirst IsFit own_deque.ledger c own_deque'.ledger
+      pub took_own : (c : Claim H) → own_deque'.queue ≡ own_deque.queue → TakesFirst IsFit own_deque.ledger c own_deque'.ledger
           → Takes IsFit (stealing own_deque shared_port next) c (stealing own_deque' shared_port next)
       took_own c s t = takes_here [] own_deque own_deque' (shared_port ∷ next) c (All-nil (WasEmpty IsFit)) s t
 
       module _ (still : own_deque' ≡ own_deque) (empty : WasEmpty IsFit own_deque) where
-        pub took_shared_port : (c : Claim H) → door'.spot ≡ shared_port.spot → TakesFirst IsFit shared_port.ledger c door'.ledger
+        pub took_shared_port : (c : Claim H) → door'.queue ≡ shared_port.queue → TakesFirst IsFit shared_port.ledger c door'.ledger
             → Takes IsFit (stealing own_deque shared_port next) c (stealing own_deque' door' next)
         took_shared_port c s t = subst (λ o. TakesOne IsFit (own_deque ∷ shared_port ∷ next) c (o ∷ door' ∷ next)) (sym still)
             (takes_later own_deque (shared_port ∷ next) (door' ∷ next) c empty (takes_here [] shared_port door' next c (All-nil (WasEmpty IsFit)) s t))
 
-        pub took_shared_port_same : (c : Claim H) → door'.spot ≡ shared_port.spot → TakesFirst IsFit shared_port.ledger c door'.ledger
+        pub took_shared_port_same : (c : Claim H) → door'.queue ≡ shared_port.queue → TakesFirst IsFit shared_port.ledger c door'.ledger
             → parts_of (stealing own_deque' door' next) ≡ parts_of (stealing own_deque shared_port next)
         took_shared_port_same c s t = (λ i. record { own_deque = part_of (still i) ∷ []; shared_port = took_part shared_port door' c s t i; next = map (part_of {H = H}) next })
 
@@ -203,7 +203,7 @@ module _ {H : Type 0} where
           took_next_same (Some c) t = (λ i. record { own_deque = part_of (still i) ∷ []; shared_port = part_of (still' i); next = takes_parts next next' c t i })
 
     -- by the port of the queue that all share alone
-    module _ (shared_port door' : PoolPort H) (same : door'.spot ≡ shared_port.spot) where
+    module _ (shared_port door' : PoolPort H) (same : door'.queue ≡ shared_port.queue) where
       pub push_by_shared_port : (c : Claim H) (r : Result (Unit {0}) (ClaimRefused H))
           → MatchResult r (λ _. PutsLast IsFit shared_port.ledger c door'.ledger) (λ f. (given_back f ≡ c) × (door' ≡ shared_port) × IsRefusal IsFit shared_port f)
           → MatchResult r (λ _. Pushes IsFit (of_feed shared_port) c (of_feed door'))
@@ -217,14 +217,14 @@ module _ {H : Type 0} where
       push_same c (Ok u) p = put_part shared_port door' c same p
       push_same c (Err f) h = ap (part_of {H = H}) h.1
 
-      pub take_by_shared_port : (r : Option (Claim H)) → MatchOption r ((door' ≡ shared_port) × Moment IsFit shared_port.ledger [])
+      pub take_by_shared_port : (r : Option (Claim H)) → MatchOption r ((door' ≡ shared_port) × QueueMoment IsFit shared_port.ledger [])
           (λ c. TakesFirst IsFit shared_port.ledger c door'.ledger)
           → MatchOption r ((of_feed door' ≡ of_feed shared_port) × All (WasEmpty IsFit) (ports_of (of_feed shared_port)))
           (λ c. Takes IsFit (of_feed shared_port) c (of_feed door'))
       take_by_shared_port None h = (ap (of_feed {H = H}) h.0, All-cons (WasEmpty IsFit) shared_port [] h.1 (All-nil (WasEmpty IsFit)))
       take_by_shared_port (Some c) t = takes_here [] shared_port door' [] c (All-nil (WasEmpty IsFit)) same t
 
-      pub take_same : (r : Option (Claim H)) → MatchOption r ((door' ≡ shared_port) × Moment IsFit shared_port.ledger [])
+      pub take_same : (r : Option (Claim H)) → MatchOption r ((door' ≡ shared_port) × QueueMoment IsFit shared_port.ledger [])
           (λ c. TakesFirst IsFit shared_port.ledger c door'.ledger) → part_of door' ≡ part_of shared_port
       take_same None h = ap (part_of {H = H}) h.0
       take_same (Some c) t = took_part shared_port door' c same t

@@ -8,7 +8,7 @@ use Rattle.mb_gate.specs.declared.claim.Claim.{Claim}
 use Rattle.mb_pool.specs.Moves.{TakesOne, WasEmpty}
 use Rattle.mb_gate.specs.Untouched.{Origin}
 use Rattle.mb_pool.specs.Places.{PoolPort, part_of}
-use Rattle.mb_pool.specs.Rule.{Moment, TakesFirst}
+use Rattle.mb_pool.specs.Rule.{QueueMoment, TakesFirst}
 use Rattle.mb_pool.proofs.Begins.{take_suc}
 use Rattle.mb_pool.proofs.Ports.{takes_at, takes_parts}
 
@@ -19,18 +19,18 @@ of_none N P r e h = subst (λ x. MatchOption x N P) e h
 module _ {H : Type 0} (IsFit : Option (Origin H) → Claim H → Type 0) (old now : List (PoolPort H)) (same : now ≡ old) where
   module _ (k : ℕ) (d after : PoolPort H) (lt : k < length old) (empty : All (WasEmpty IsFit) (take k old)) where
     -- this one has a claim
-    pub steals_at : (c : Claim H) → after.spot ≡ (get_or now k d).spot → TakesFirst IsFit (get_or now k d).ledger c after.ledger
+    pub steals_at : (c : Claim H) → after.queue ≡ (get_or now k d).queue → TakesFirst IsFit (get_or now k d).ledger c after.ledger
         → TakesOne IsFit old c (set now k after)
     steals_at c s t =
         subst (λ (l : List (PoolPort H)). TakesOne IsFit old c (set l k after)) (sym same)
-        (takes_at IsFit old k d after c lt empty (subst (λ (l : List (PoolPort H)). after.spot ≡ (get_or l k d).spot) same s)
+        (takes_at IsFit old k d after c lt empty (subst (λ (l : List (PoolPort H)). after.queue ≡ (get_or l k d).queue) same s)
         (subst (λ (l : List (PoolPort H)). TakesFirst IsFit (get_or l k d).ledger c after.ledger) same t))
 
     -- this one was empty too
-    pub passes_by : after ≡ get_or now k d → Moment IsFit (get_or now k d).ledger [] → (set now k after ≡ old)
+    pub passes_by : after ≡ get_or now k d → QueueMoment IsFit (get_or now k d).ledger [] → (set now k after ≡ old)
         × All (WasEmpty IsFit) (take (k + 1) old)
     passes_by e m =
-        let was : WasEmpty IsFit (get_or old k d) = subst (λ (l : List (PoolPort H)). Moment IsFit (get_or l k d).ledger []) same m in
+        let was : WasEmpty IsFit (get_or old k d) = subst (λ (l : List (PoolPort H)). QueueMoment IsFit (get_or l k d).ledger []) same m in
         let more : take k old ++ get_or old k d ∷ [] ≡ take (k + 1) old = sym (take_suc old k d lt)
         ∙ ap (λ (n : ℕ). take n old) (let one : suc k ≡ k + 1 = omega arith in one) in (
           ap (set now k) e ∙ set-get_or now k d ∙ same,

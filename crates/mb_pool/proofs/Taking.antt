@@ -22,7 +22,7 @@ module _ {H : Type 0} (IsFit : Option (Origin H) → Claim H → Type 0) (base s
   end_here = alike_next base all done rest end list alike
 
   -- the next one's port is of the same queue
-  pub here : other.spot ≡ shared_port.spot
+  pub here : other.queue ≡ shared_port.queue
   here = same_place base shared_port other took.same (ap (where_is {H = H}) same ∙ end_here)
 
   -- once it is joined

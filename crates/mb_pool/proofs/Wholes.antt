@@ -87,11 +87,11 @@ module _ {H : Type 0} where
       ∙ ap (end_parts pool) (numbers_at 0 pool.ends k 0 small ∙ (let z : 0 + k ≡ k = omega arith in z))
 
   abbrev pub deque_part : PoolView H → QueueInfo → Part H
-  deque_part pool s = record { spot = s; gates = Some pool.gates; members = pool.ends; shares = 1 }
+  deque_part pool s = record { queue = s; gates = Some pool.gates; members = pool.ends; shares = 1 }
 
   may_join_one : (xs : List (PoolPort H)) (p : Part H) → map (part_of {H = H}) xs ≡ p ∷ [] → 0 < p.shares → MayJoin xs p
   may_join_one [] p e some = absurd (cons_nil p [] (sym e))
-  may_join_one (x ∷ xs) p e some = (sym (ap (λ (q : Part H). q.spot) (cons_head (part_of x) p (map (part_of {H = H}) xs) [] e)), some)
+  may_join_one (x ∷ xs) p e some = (sym (ap (λ (q : Part H). q.queue) (cons_head (part_of x) p (map (part_of {H = H}) xs) [] e)), some)
 
   -- the deque at each index is that of the end with this number
   own_deques : (pool : PoolView H) (ends : List (PoolEndpoint H)) → AreEnds pool ends → (pre post : List QueueInfo) → pool.deques ≡ pre ++ post
@@ -214,10 +214,10 @@ module _ {H : Type 0} where
 
   -- the queue that all share, as each port of it has it
   abbrev pub shared_port_where : PoolView H → Where H
-  shared_port_where pool = record { spot = pool.shared_port; gates = Some pool.gates; members = pool.ends + pool.feeds }
+  shared_port_where pool = record { queue = pool.shared_port; gates = Some pool.gates; members = pool.ends + pool.feeds }
 
   abbrev where_of : Part H → Where H
-  where_of p = record { spot = p.spot; gates = p.gates; members = p.members }
+  where_of p = record { queue = p.queue; gates = p.gates; members = p.members }
 
   pub end_shared_ports : (pool : PoolView H) (ends : List (PoolEndpoint H)) → AreEnds pool ends
       → map (part_of {H = H}) (shared_ports_of ends) ≡ replicate pool.ends (shared_port_part pool)

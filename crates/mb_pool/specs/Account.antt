@@ -1,8 +1,8 @@
 -- What a port of a queue of claims knows (this project's own profile).
 use Rattle.mb_gate.specs.declared.claim.Claim.{Claim}
 use Rattle.mb_gate.specs.Untouched.{Origin}
-use Rattle.mb_pool.specs.Ledger.{Ledger}
+use Rattle.mb_pool.specs.Ledger.{PortAccount}
 
 -- what a port of a queue of claims knows
-abbrev pub Account : Type 0 → Type 0
-Account H = Ledger (Origin H) (Claim H)
+abbrev pub ClaimAccount : Type 0 → Type 0
+ClaimAccount H = PortAccount (Origin H) (Claim H)

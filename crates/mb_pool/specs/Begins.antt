@@ -4,14 +4,14 @@ use Rattle.mb_msg.specs.declared.pool_kind.PoolKind.{PoolKind}
 use Rattle.mb_msg.specs.declared.pool_kind.PoolKind.TheVariants.{Shared, Stealing}
 use Rattle.mb_pool.specs.declared.end_deques.EndDeques.{EndDeques}
 use Rattle.mb_pool.specs.Ledger.{borrowing, lending, opened}
-use Rattle.mb_pool.specs.Made.{AreDeques, spots_of}
+use Rattle.mb_pool.specs.Made.{AreDeques, queues_of}
 use Rattle.mb_gate.specs.Untouched.{Origin}
 use Rattle.mb_pool.specs.Places.{PoolPort, QueueInfo, PoolView, numbers}
 use Rattle.mb_pool.specs.Endpoints.{next_of, own_of}
 
 -- the pool for the claims of these gates with these queues and this many ends and feeds
 abbrev pub whole_of : {H : Type 0} → Origin H → PoolPort H → List (PoolPort H) → ℕ → ℕ → PoolView H
-whole_of origin shared_port owns ends feeds = record { gates = origin; shared_port = shared_port.spot; deques = spots_of owns; ends = ends; feeds = feeds }
+whole_of origin shared_port owns ends feeds = record { gates = origin; shared_port = shared_port.queue; deques = queues_of owns; ends = ends; feeds = feeds }
 
 -- how many claims the queue that all share holds at most
 abbrev pub bound_of : PoolKind → Option ℕ
@@ -20,7 +20,7 @@ bound_of Stealing = None
 
 -- a port with this many shares of a queue, through which nothing was pushed or taken yet
 abbrev pub fresh : {H : Type 0} → Origin H → ℕ → ℕ → QueueInfo → PoolPort H
-fresh origin members shares spot = record { spot = spot; ledger = opened (Some origin) members shares }
+fresh origin members shares queue = record { queue = queue; ledger = opened (Some origin) members shares }
 
 -- the port that each end and each feed of a new pool has of the queue that all share
 abbrev pub new_shared_port : {H : Type 0} → PoolView H → PoolPort H
@@ -41,8 +41,8 @@ borrowed l = record l { ledger = borrowing 1 l.ledger }
 -- ports of the own deques of this many ends, each with this many shares
 pub record AreNew {H : Type 0} (origin : Origin H) (shares count : ℕ) (owns : List (PoolPort H)) : Type 0 where
   pub same_count : length owns ≡ count
-  pub unused : owns ≡ map (fresh origin shares shares) (spots_of owns)
-  pub deques : AreDeques 0 (spots_of owns)
+  pub unused : owns ≡ map (fresh origin shares shares) (queues_of owns)
+  pub deques : AreDeques 0 (queues_of owns)
 
 -- of a stealing pool, each with all shares of its deque; of a shared one there are none
 abbrev pub AreNewOf : {H : Type 0} → PoolKind → Origin H → ℕ → List (PoolPort H) → Type 0

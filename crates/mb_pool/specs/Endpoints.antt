@@ -9,7 +9,7 @@ abbrev pub HasShare : {H : Type 0} → PoolPort H → Type 0
 HasShare pool_port = 0 < pool_port.ledger.shares
 
 -- a port with a share of a queue for claims of these gates
-pub record IsOpen {H : Type 0} (gates : Option (Origin H)) (port : Part H) : Type 0 where
+pub record IsOpenPort {H : Type 0} (gates : Option (Origin H)) (port : Part H) : Type 0 where
   pub share : 0 < port.shares
   pub same : port.gates ≡ gates
 
@@ -33,4 +33,4 @@ of_feed shared_port = record { own_deque = []; shared_port = shared_port; next =
 
 -- each of its ports has a share, and is of the same gates
 abbrev pub AreOpen : {H : Type 0} → PoolEndpoint H → Type 0
-AreOpen {H} endpoint = All (λ (l : PoolPort H). IsOpen (gates_of endpoint) (part_of l)) (ports_of endpoint)
+AreOpen {H} endpoint = All (λ (l : PoolPort H). IsOpenPort (gates_of endpoint) (part_of l)) (ports_of endpoint)

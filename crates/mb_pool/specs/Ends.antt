@@ -12,7 +12,7 @@ joined l m = record l { ledger = joining l.ledger m.ledger }
 -- such a port may be joined by the first of these: it is of the same queue, and has a share
 abbrev pub MayJoin : {H : Type 0} → List (PoolPort H) → Part H → Type 0
 MayJoin [] p = ⊥
-MayJoin (l ∷ ls) p = (p.spot ≡ l.spot) × (0 < p.shares)
+MayJoin (l ∷ ls) p = (p.queue ≡ l.queue) × (0 < p.shares)
 
 -- these ports, once the first has joined the other one
 abbrev pub joined_first : {H : Type 0} → List (PoolPort H) → PoolPort H → List (PoolPort H)
@@ -21,16 +21,16 @@ joined_first (l ∷ ls) m = joined l m ∷ ls
 
 -- such a port may be joined by the owner of its deque, one of these ends
 abbrev pub IsAmong : {H : Type 0} → List (PoolEndpoint H) → Part H → Type 0
-IsAmong {H} ends p = (owner_of p.spot < length ends) × ((d : PoolEndpoint H) → MayJoin (get_or ends (owner_of p.spot) d).own_deque p)
+IsAmong {H} ends p = (owner_of p.queue < length ends) × ((d : PoolEndpoint H) → MayJoin (get_or ends (owner_of p.queue) d).own_deque p)
 
 -- of a port, what joining others does not change
 pub record Where (H : Type 0) : Type 0 where
-  pub spot : QueueInfo
+  pub queue : QueueInfo
   pub gates : Option (Origin H)
   pub members : ℕ
 
 abbrev pub where_is : {H : Type 0} → PoolPort H → Where H
-where_is l = record { spot = l.spot; gates = l.ledger.gates; members = l.ledger.members }
+where_is l = record { queue = l.queue; gates = l.ledger.gates; members = l.ledger.members }
 
 -- the own deques of these ends and their ports of the queue that all share, without what they know
 pub record Frame (H : Type 0) : Type 0 where

@@ -9,16 +9,16 @@ use Rattle.mb_msg.specs.declared.pool_kind.PoolKind.TheVariants.{Shared, Stealin
 
 -- it is a deque without a bound, of the end with this number
 abbrev pub IsDeque : ℕ → QueueInfo → Type 0
-IsDeque number spot = (rows : RowsId) × (spot ≡ record { place = deque_at number rows; capacity = None })
+IsDeque number queue = (rows : RowsId) × (queue ≡ record { place = deque_at number rows; capacity = None })
 
 -- they are the deques of the ends from this number on, in order
 abbrev pub AreDeques : ℕ → List QueueInfo → Type 0
 AreDeques number [] = Unit {0}
-AreDeques number (spot ∷ spots) = IsDeque number spot × AreDeques (number + 1) spots
+AreDeques number (queue ∷ queues) = IsDeque number queue × AreDeques (number + 1) queues
 
 -- the queues of ports
-abbrev pub spots_of : {H : Type 0} → List (PoolPort H) → List QueueInfo
-spots_of {H} = map (λ (l : PoolPort H). l.spot)
+abbrev pub queues_of : {H : Type 0} → List (PoolPort H) → List QueueInfo
+queues_of {H} = map (λ (l : PoolPort H). l.queue)
 
 -- a shared pool has one queue, which holds at most 64 claims; a stealing one has an injector and a deque for each end, none
 -- of which has a bound
@@ -37,7 +37,7 @@ abbrev pub AreUnused : {H : Type 0} → List (PoolEndpoint H) → Type 0
 AreUnused endpoints = (pushed_by endpoints ≡ []) × (taken_by endpoints ≡ [])
 
 -- a new pool of this kind for the claims of these gates, with this many ends and feeds
-pub record IsBegun {H : Type 0} (origin : Origin H) (kind : PoolKind) (workers feeds : ℕ) (pool : PoolView H)
+pub record IsNewPool {H : Type 0} (origin : Origin H) (kind : PoolKind) (workers feeds : ℕ) (pool : PoolView H)
     (of_workers of_feeds : List (PoolEndpoint H)) : Type 0 where
   pub gates : pool.gates ≡ origin
   pub ends_are : pool.ends ≡ workers

@@ -4,8 +4,8 @@
 use Rattle.std.specs.Prelude.{◌≡◌, ℕ, List, [], ◌∷◌, ◌++◌, length, All, Option, Some, None}
 use Rattle.mb_gate.specs.declared.claim.Claim.{Claim}
 use Rattle.mb_gate.specs.Untouched.{Origin}
-use Rattle.mb_pool.specs.Account.{Account}
-use Rattle.mb_pool.specs.Rule.{Moment, PutsLast, TakesFirst}
+use Rattle.mb_pool.specs.Account.{ClaimAccount}
+use Rattle.mb_pool.specs.Rule.{QueueMoment, PutsLast, TakesFirst}
 use Rattle.mb_pool.specs.Places.{PoolPort, PoolEndpoint, ports_of}
 use Rattle.mb_pool.specs.declared.claim_refused.ClaimRefused.{ClaimRefused}
 use Rattle.mb_pool.specs.declared.claim_refused.ClaimRefused.TheVariants.{Full, NoMemory}
@@ -18,17 +18,17 @@ given_back (NoMemory c) = c
 module _ {H : Type 0} (IsFit : Option (Origin H) → Claim H → Type 0) where
   -- at one moment the queue was empty
   abbrev pub WasEmpty : PoolPort H → Type 0
-  WasEmpty pool_port = Moment IsFit pool_port.ledger []
+  WasEmpty pool_port = QueueMoment IsFit pool_port.ledger []
 
   -- at one moment the queue was full: it held this many claims
-  abbrev pub WasFull : ℕ → Account H → Type 0
-  WasFull most ledger = (items : List (Claim H)) × (length items ≡ most) × Moment IsFit ledger items
+  abbrev pub WasFull : ℕ → ClaimAccount H → Type 0
+  WasFull most ledger = (items : List (Claim H)) × (length items ≡ most) × QueueMoment IsFit ledger items
 
   -- the claim was pushed into the queue of the first of these ports
   pub record PutsFirst (old : List (PoolPort H)) (c : Claim H) (new : List (PoolPort H)) : Type 0 where
     pub pool_port : PoolPort H
     pub rest : List (PoolPort H)
-    pub after : Account H
+    pub after : ClaimAccount H
     pub found : old ≡ pool_port ∷ rest
     pub last : PutsLast IsFit pool_port.ledger c after
     pub then' : new ≡ record pool_port { ledger = after } ∷ rest
@@ -38,7 +38,7 @@ module _ {H : Type 0} (IsFit : Option (Origin H) → Claim H → Type 0) where
     pub before : List (PoolPort H)
     pub pool_port : PoolPort H
     pub rest : List (PoolPort H)
-    pub after : Account H
+    pub after : ClaimAccount H
     pub found : old ≡ before ++ pool_port ∷ rest
     pub empty : All WasEmpty before
     pub first : TakesFirst IsFit pool_port.ledger c after
@@ -55,8 +55,8 @@ module _ {H : Type 0} (IsFit : Option (Origin H) → Claim H → Type 0) where
   -- why a push was refused: by a queue with a bound only since it was full, and by one without only since memory was
   -- refused
   abbrev pub IsRefusal : PoolPort H → ClaimRefused H → Type 0
-  IsRefusal pool_port (Full c) = (most : ℕ) × (pool_port.spot.capacity ≡ Some most) × WasFull most pool_port.ledger
-  IsRefusal pool_port (NoMemory c) = pool_port.spot.capacity ≡ None
+  IsRefusal pool_port (Full c) = (most : ℕ) × (pool_port.queue.capacity ≡ Some most) × WasFull most pool_port.ledger
+  IsRefusal pool_port (NoMemory c) = pool_port.queue.capacity ≡ None
 
   -- the first port that a push goes to refused it, and the claim came back
   abbrev pub IsRefusedBy : PoolEndpoint H → ClaimRefused H → Type 0

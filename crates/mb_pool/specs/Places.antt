@@ -6,7 +6,7 @@ use Rattle.atomic_table.specs.Seated.{TableId}
 use Rattle.mb_gate.specs.declared.claim.Claim.{Claim}
 use Rattle.mb_pool.specs.Ledger.{claims_in}
 use Rattle.mb_gate.specs.Untouched.{Origin}
-use Rattle.mb_pool.specs.Account.{Account}
+use Rattle.mb_pool.specs.Account.{ClaimAccount}
 
 -- which queue it is, by where it is in memory; of a deque also the number of the end that it belongs to
 pub data QueueId : Type 0 where
@@ -27,12 +27,12 @@ owner_in (deque_at number rows) = number
 
 -- the number of the end that the queue belongs to
 abbrev pub owner_of : QueueInfo → ℕ
-owner_of spot = owner_in spot.place
+owner_of queue = owner_in queue.place
 
 -- a port: its queue, and what it knows of that
 pub record PoolPort (H : Type 0) : Type 0 where
-  pub spot : QueueInfo
-  pub ledger : Account H
+  pub queue : QueueInfo
+  pub ledger : ClaimAccount H
 
 -- An end or a feed, by its ports: of its own deque, if it has one; of the queue that all share; and of the next ends'
 -- deques.
@@ -51,14 +51,14 @@ gates_of w = w.shared_port.ledger.gates
 
 -- of a port, what no call of an end or a feed changes
 pub record Part (H : Type 0) : Type 0 where
-  pub spot : QueueInfo
+  pub queue : QueueInfo
   pub gates : Option (Origin H)
   pub members : ℕ
   pub shares : ℕ
 
 -- what no call of an end or a feed changes of a port
 abbrev pub part_of : {H : Type 0} → PoolPort H → Part H
-part_of l = record { spot = l.spot; gates = l.ledger.gates; members = l.ledger.members; shares = l.ledger.shares }
+part_of l = record { queue = l.queue; gates = l.ledger.gates; members = l.ledger.members; shares = l.ledger.shares }
 
 -- the same of an end or a feed
 pub record Parts (H : Type 0) : Type 0 where
@@ -94,10 +94,10 @@ pub record PoolView (H : Type 0) : Type 0 where
 
 -- a port with one share of its queue: of the queue that all share each end and each feed has one, of a deque each end
 abbrev pub shared_port_part : {H : Type 0} → PoolView H → Part H
-shared_port_part pool = record { spot = pool.shared_port; gates = Some pool.gates; members = pool.ends + pool.feeds; shares = 1 }
+shared_port_part pool = record { queue = pool.shared_port; gates = Some pool.gates; members = pool.ends + pool.feeds; shares = 1 }
 
 abbrev pub deque_parts : {H : Type 0} → PoolView H → List QueueInfo → List (Part H)
-deque_parts {H} pool = map (λ (spot : QueueInfo). record { spot = spot; gates = Some pool.gates; members = pool.ends; shares = 1 })
+deque_parts {H} pool = map (λ (queue : QueueInfo). record { queue = queue; gates = Some pool.gates; members = pool.ends; shares = 1 })
 
 -- the ports of an end of the pool, by its number: where there are deques one of its own; one of the queue that all share;
 -- and one of each of the next ends' deques, in order

@@ -3,13 +3,13 @@ use Rattle.std.specs.Prelude.{Some, None}
 use Rattle.crossbeam_queue.specs.Passes.{Pass, view, ruled_capacity}
 use Rattle.crossbeam_deque.specs.Injected.{InjectorPass, injector_view}
 use Rattle.mb_pool.specs.declared.slots.Slots.{Slots}
-use Rattle.mb_pool.specs.Account.{Account}
+use Rattle.mb_pool.specs.Account.{ClaimAccount}
 use Rattle.mb_pool.specs.Places.{PoolPort, slots_at, feed_queue_at}
 
 -- a port of the bounded queue, as contracts see it
-abbrev pub slots_view : {T H : Type 0} → Slots H → Pass T (Account H) → PoolPort H
-slots_view slots pass = record { spot = record { place = slots_at pass.table_id; capacity = Some (ruled_capacity slots.queue) }; ledger = view pass }
+abbrev pub slots_view : {T H : Type 0} → Slots H → Pass T (ClaimAccount H) → PoolPort H
+slots_view slots pass = record { queue = record { place = slots_at pass.table_id; capacity = Some (ruled_capacity slots.queue) }; ledger = view pass }
 
 -- a port of the injector, as contracts see it
-abbrev pub feed_queue_view : {T A H : Type 0} → InjectorPass T (Account H) A → PoolPort H
-feed_queue_view pass = record { spot = record { place = feed_queue_at pass.web; capacity = None }; ledger = injector_view pass }
+abbrev pub feed_queue_view : {T A H : Type 0} → InjectorPass T (ClaimAccount H) A → PoolPort H
+feed_queue_view pass = record { queue = record { place = feed_queue_at pass.web; capacity = None }; ledger = injector_view pass }

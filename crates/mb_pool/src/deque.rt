@@ -2,7 +2,7 @@
 ghost use Rattle.std.specs.Prelude.{◌≡◌, ◌<◌, [], IfOk, MatchOption, MatchResult};
 ghost use Rattle.crossbeam_deque.specs.Handles.{view, IsPassOf, worker_deque, worker_flavor, worker_view};
 ghost use Rattle.mb_pool.specs.Ledger.{borrowing, joining, lending, opened, unused};
-ghost use Rattle.mb_pool.specs.Rule.{Moment, PutsLast, TakesFirst};
+ghost use Rattle.mb_pool.specs.Rule.{QueueMoment, PutsLast, TakesFirst};
 ghost use Rattle.mb_gate.specs.Untouched.{IsUntouched};
 
 use crate::pooled_claim::PooledClaim;
@@ -44,7 +44,7 @@ impl<H: MailboxState> Deque<H> {
     #[inline]
     pub fn push(&mut self, claim: Claim<H>) -> Result<(), Claim<H>>
         requires share { 0 < (worker_view self.old.worker).shares }
-        requires fit { IsUntouched H.is_of H.facts (worker_view self.old.worker).gates claim }
+        requires untouched { IsUntouched H.is_of H.facts (worker_view self.old.worker).gates claim }
         ensures same { (worker_deque self.new.worker ≡ worker_deque self.old.worker)
             × (worker_flavor self.new.worker ≡ worker_flavor self.old.worker) }
         ensures pushed { MatchResult result
@@ -67,7 +67,7 @@ impl<H: MailboxState> Deque<H> {
             × (worker_flavor self.new.worker ≡ worker_flavor self.old.worker) }
         ensures taken { MatchOption result
             ((worker_view self.new.worker ≡ worker_view self.old.worker)
-            × Moment (IsUntouched H.is_of H.facts) (worker_view self.old.worker) [])
+            × QueueMoment (IsUntouched H.is_of H.facts) (worker_view self.old.worker) [])
             (λ c. TakesFirst (IsUntouched H.is_of H.facts) (worker_view self.old.worker) c
             (worker_view self.new.worker)) }
     {

@@ -63,7 +63,7 @@ impl<H: MailboxState> PoolEnd<H> {
     /// `Dispatcher.registerForExecution`.)
     #[inline]
     pub fn push<R: Wait>(&mut self, rt: &R, claim: Claim<H>) -> Result<(), ClaimRefused<H>>
-        requires fit { IsUntouched H.is_of H.facts (gates_of self.old) claim }
+        requires untouched { IsUntouched H.is_of H.facts (gates_of self.old) claim }
         ensures pushed { MatchResult result
             (λ _. Pushes (IsUntouched H.is_of H.facts) self.old claim self.new)
             (λ refused. (given_back refused ≡ claim) × (self.new ≡ self.old)
@@ -82,7 +82,7 @@ impl<H: MailboxState> PoolEnd<H> {
         ensures taken { MatchOption result
             ((self.new ≡ self.old) × All (WasEmpty (IsUntouched H.is_of H.facts)) (ports_of self.old))
             (λ c. Takes (IsUntouched H.is_of H.facts) self.old c self.new) }
-        ensures fit { IfSome result (λ c. IsUntouched H.is_of H.facts (gates_of self.old) c) }
+        ensures untouched { IfSome result (λ c. IsUntouched H.is_of H.facts (gates_of self.old) c) }
         ensures same { parts_of self.new ≡ parts_of self.old }
     {
         take_first(rt, &mut self.shared_port, &mut self.member)
@@ -111,7 +111,7 @@ fn push_first<H: MailboxState, R: Wait>(
     claim: Claim<H>,
 ) -> Result<(), ClaimRefused<H>>
     requires open { AreOpen (endpoint_of (port_view shared_port.old) member.old) }
-    requires fit { IsUntouched H.is_of H.facts (port_view shared_port.old).ledger.gates claim }
+    requires untouched { IsUntouched H.is_of H.facts (port_view shared_port.old).ledger.gates claim }
     ensures pushed { MatchResult result
         (λ _. Pushes (IsUntouched H.is_of H.facts) (endpoint_of (port_view shared_port.old) member.old) claim
         (endpoint_of (port_view shared_port.new) member.new))

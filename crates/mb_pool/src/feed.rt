@@ -47,7 +47,7 @@ impl<H: MailboxState> Feed<H> {
     /// Akka a mailbox is given to the executor, by `Dispatcher.registerForExecution`.)
     #[inline]
     pub fn push<R: Wait>(&mut self, rt: &R, claim: Claim<H>) -> Result<(), ClaimRefused<H>>
-        requires fit { IsUntouched H.is_of H.facts (gates_of self.old) claim }
+        requires untouched { IsUntouched H.is_of H.facts (gates_of self.old) claim }
         ensures pushed { MatchResult result
             (λ _. Pushes (IsUntouched H.is_of H.facts) self.old claim self.new)
             (λ refused. (given_back refused ≡ claim) × (self.new ≡ self.old)

@@ -2,7 +2,7 @@
 ghost use Rattle.std.specs.Prelude.{◌≡◌, ◌<◌, [], MatchOption, MatchResult};
 ghost use Rattle.crossbeam_deque.specs.Injected.{injector_view, IsInjectorPassOf};
 ghost use Rattle.mb_pool.specs.Ledger.{borrowing, joining, lending, opened, unused};
-ghost use Rattle.mb_pool.specs.Rule.{Moment, PutsLast, TakesFirst};
+ghost use Rattle.mb_pool.specs.Rule.{QueueMoment, PutsLast, TakesFirst};
 ghost use Rattle.mb_gate.specs.Untouched.{IsUntouched};
 
 use crate::pooled_claim::PooledClaim;
@@ -34,7 +34,7 @@ impl<H: MailboxState> FeedQueue<H> {
     ) -> Result<(), Claim<H>>
         requires queue { IsInjectorPassOf self.now.queue pass.old }
         requires share { 0 < (injector_view pass.old).shares }
-        requires fit { IsUntouched H.is_of H.facts (injector_view pass.old).gates claim }
+        requires untouched { IsUntouched H.is_of H.facts (injector_view pass.old).gates claim }
         ensures queue { IsInjectorPassOf self.now.queue pass.new }
         ensures pushed { MatchResult result
             (λ _. PutsLast (IsUntouched H.is_of H.facts) (injector_view pass.old) claim
@@ -58,7 +58,7 @@ impl<H: MailboxState> FeedQueue<H> {
         ensures queue { IsInjectorPassOf self.now.queue pass.new }
         ensures taken { MatchOption result
             ((injector_view pass.new ≡ injector_view pass.old)
-            × Moment (IsUntouched H.is_of H.facts) (injector_view pass.old) [])
+            × QueueMoment (IsUntouched H.is_of H.facts) (injector_view pass.old) [])
             (λ c. TakesFirst (IsUntouched H.is_of H.facts) (injector_view pass.old) c
             (injector_view pass.new)) }
     {

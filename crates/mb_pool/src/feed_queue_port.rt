@@ -2,7 +2,7 @@
 ghost use Rattle.std.specs.Prelude.{◌≡◌, ◌<◌, [], None, IfOk, MatchOption, MatchResult};
 ghost use Rattle.mb_pool.specs.Ledger.{borrowing, joining, lending, opened, unused};
 ghost use Rattle.mb_pool.specs.Moves.{given_back, IsRefusal};
-ghost use Rattle.mb_pool.specs.Rule.{Moment, PutsLast, TakesFirst};
+ghost use Rattle.mb_pool.specs.Rule.{QueueMoment, PutsLast, TakesFirst};
 ghost use Rattle.mb_gate.specs.Untouched.{IsUntouched};
 
 use crate::claim_refused::ClaimRefused;
@@ -45,7 +45,7 @@ impl<H: MailboxState> FeedQueuePort<H> {
     /// The first port of a new queue without a bound. Whose gates' claims go in is not fixed yet. The only error:
     /// memory was refused.
     pub fn new(alloc: Global) -> Result<FeedQueuePort<H>, AllocError>
-        ensures { IfOk result (λ port. (port.spot.capacity ≡ None) × (port.ledger ≡ unused)) }
+        ensures { IfOk result (λ port. (port.queue.capacity ≡ None) × (port.ledger ≡ unused)) }
     {
         let (queue, pass) = Injector::new_as(alloc)?;
         let inlet = Arc::new(alloc, FeedQueue { queue })?;
@@ -56,8 +56,8 @@ impl<H: MailboxState> FeedQueuePort<H> {
     #[inline]
     pub fn push<R: Wait>(&mut self, rt: &R, claim: Claim<H>) -> Result<(), ClaimRefused<H>>
         requires share { 0 < self.old.ledger.shares }
-        requires fit { IsUntouched H.is_of H.facts self.old.ledger.gates claim }
-        ensures spot { self.new.spot ≡ self.old.spot }
+        requires untouched { IsUntouched H.is_of H.facts self.old.ledger.gates claim }
+        ensures same_queue { self.new.queue ≡ self.old.queue }
         ensures pushed { MatchResult result
             (λ _. PutsLast (IsUntouched H.is_of H.facts) self.old.ledger claim self.new.ledger)
             (λ refused. (given_back refused ≡ claim) × (self.new ≡ self.old)
@@ -73,9 +73,9 @@ impl<H: MailboxState> FeedQueuePort<H> {
     #[inline]
     pub fn take<R: Wait>(&mut self, rt: &R) -> Option<Claim<H>>
         requires share { 0 < self.old.ledger.shares }
-        ensures spot { self.new.spot ≡ self.old.spot }
+        ensures same_queue { self.new.queue ≡ self.old.queue }
         ensures taken { MatchOption result
-            ((self.new ≡ self.old) × Moment (IsUntouched H.is_of H.facts) self.old.ledger [])
+            ((self.new ≡ self.old) × QueueMoment (IsUntouched H.is_of H.facts) self.old.ledger [])
             (λ c. TakesFirst (IsUntouched H.is_of H.facts) self.old.ledger c self.new.ledger) }
     {
         self.inlet.take(rt, &mut self.pass)
@@ -104,7 +104,7 @@ impl<H: MailboxState> FeedQueuePort<H> {
 
     /// Joins another port of the same queue, with its shares and its account.
     pub fn join(&mut self, other: FeedQueuePort<H>)
-        requires place { other.spot ≡ self.old.spot }
+        requires place { other.queue ≡ self.old.queue }
         requires shares { (0 < self.old.ledger.shares) × (0 < other.ledger.shares) }
         ensures { self.new ≡ record self.old { ledger = joining self.old.ledger other.ledger } }
     {
@@ -114,7 +114,7 @@ impl<H: MailboxState> FeedQueuePort<H> {
 
     /// For proofs alone: its queue has no bound.
     pub fn has_none(&self)
-        ensures { self.now.spot.capacity ≡ None }
+        ensures { self.now.queue.capacity ≡ None }
     {
         // Reading a field gives the proof the port's invariant.
         let _ = &self.pass;

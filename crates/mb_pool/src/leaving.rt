@@ -42,7 +42,7 @@ pub fn remaining<H: MailboxState, R: Wait>(
     requires feeds { AreFeeds pool feeds.items }
     ensures left { MatchResult result (λ claims. IsLeft (ends.items ++ feeds.items) claims.items)
         (λ back. (back.pool ≡ pool) × (back.ends.items ≡ ends.items) × (back.feeds.items ≡ feeds.items)) }
-    ensures fit { IfOk result (λ claims. All (IsUntouched H.is_of H.facts (Some pool.gates)) claims.items) }
+    ensures untouched { IfOk result (λ claims. All (IsUntouched H.is_of H.facts (Some pool.gates)) claims.items) }
 {
     let mut left = match Vec::with_capacity(alloc, pool.actors) {
         Ok(left) => left,

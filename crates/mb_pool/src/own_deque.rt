@@ -3,7 +3,7 @@ ghost use Rattle.std.specs.Prelude.{◌≡◌, ◌<◌, [], None, Some, IfOk, Ma
 ghost use Rattle.mb_pool.specs.Ledger.{borrowing, joining, lending, opened, unused};
 ghost use Rattle.mb_gate.specs.Untouched.{origin_of, IsUntouched};
 ghost use Rattle.mb_pool.specs.Made.{IsDeque};
-ghost use Rattle.mb_pool.specs.Rule.{Moment, PutsLast, TakesFirst};
+ghost use Rattle.mb_pool.specs.Rule.{QueueMoment, PutsLast, TakesFirst};
 
 use crate::deque::Deque;
 use crate::padding::Padding;
@@ -51,7 +51,7 @@ impl<H: MailboxState> OwnDeque<H> {
     /// An empty deque of the end with this number. Whose gates' claims go in is not fixed yet. The only error: memory
     /// was refused.
     pub fn new(alloc: Global, number: usize) -> Result<OwnDeque<H>, AllocError>
-        ensures { IfOk result (λ own_deque. IsDeque number own_deque.spot × (own_deque.ledger ≡ unused)) }
+        ensures { IfOk result (λ own_deque. IsDeque number own_deque.queue × (own_deque.ledger ≡ unused)) }
     {
         let deque = Deque::new(alloc)?;
         let apart = Box::new(alloc, Padding::new())?;
@@ -66,12 +66,12 @@ impl<H: MailboxState> OwnDeque<H> {
     #[inline]
     pub fn push(&mut self, claim: Claim<H>) -> Result<(), Claim<H>>
         requires share { 0 < self.old.ledger.shares }
-        requires fit { IsUntouched H.is_of H.facts self.old.ledger.gates claim }
-        ensures spot { self.new.spot ≡ self.old.spot }
+        requires untouched { IsUntouched H.is_of H.facts self.old.ledger.gates claim }
+        ensures same_queue { self.new.queue ≡ self.old.queue }
         ensures pushed { MatchResult result
             (λ _. PutsLast (IsUntouched H.is_of H.facts) self.old.ledger claim self.new.ledger)
             (λ back. (back ≡ claim) × (self.new ≡ self.old)) }
-        ensures unbounded { self.old.spot.capacity ≡ None }
+        ensures unbounded { self.old.queue.capacity ≡ None }
     {
         self.deque.push(claim)
     }
@@ -80,9 +80,9 @@ impl<H: MailboxState> OwnDeque<H> {
     #[inline]
     pub fn take(&mut self) -> Option<Claim<H>>
         requires share { 0 < self.old.ledger.shares }
-        ensures spot { self.new.spot ≡ self.old.spot }
+        ensures same_queue { self.new.queue ≡ self.old.queue }
         ensures taken { MatchOption result
-            ((self.new ≡ self.old) × Moment (IsUntouched H.is_of H.facts) self.old.ledger [])
+            ((self.new ≡ self.old) × QueueMoment (IsUntouched H.is_of H.facts) self.old.ledger [])
             (λ c. TakesFirst (IsUntouched H.is_of H.facts) self.old.ledger c self.new.ledger) }
     {
         self.deque.take()
@@ -127,7 +127,7 @@ impl<H: MailboxState> OwnDeque<H> {
 
     /// Joins another end's port, with its share and its account.
     pub fn join(&mut self, other: Thief<H>)
-        requires place { other.spot ≡ self.old.spot }
+        requires place { other.queue ≡ self.old.queue }
         requires shares { (0 < self.old.ledger.shares) × (0 < other.ledger.shares) }
         ensures { self.new ≡ record self.old { ledger = joining self.old.ledger other.ledger } }
     {

@@ -1,7 +1,7 @@
 //! Making a pool with its ends and feeds.
 ghost use Rattle.std.specs.Prelude.{◌≡◌, ◌+◌, ◌<◌, All, IfOk, length, map, replicate};
 ghost use Rattle.mb_pool.specs.Begins.{new_shared_port, whole_of};
-ghost use Rattle.mb_pool.specs.Made.{IsBegun, IsWhole};
+ghost use Rattle.mb_pool.specs.Made.{IsNewPool, IsWhole};
 ghost use Rattle.mb_gate.specs.Untouched.{origin_of};
 ghost use Rattle.mb_pool.specs.Parts.{port_view};
 ghost use Rattle.mb_pool.specs.Endpoints.{AreOpen, of_feed, endpoint_of};
@@ -56,22 +56,22 @@ impl<H: MailboxState> Model for Pool<H> {
 
     ghost Value = { PoolView H };
 
-    ghost use Rattle.mb_pool.specs.Made.{IsWhole, spots_of};
+    ghost use Rattle.mb_pool.specs.Made.{IsWhole, queues_of};
     ghost use Rattle.mb_gate.specs.Untouched.{origin_of};
     ghost use Rattle.mb_pool.specs.Parts.{port_view};
 
     ghost view = { λ p. record {
       gates = origin_of p.gates.value;
-      shared_port = (port_view p.shared_port.value).spot;
-      deques = spots_of p.deques.value.items;
+      shared_port = (port_view p.shared_port.value).queue;
+      deques = queues_of p.deques.value.items;
       ends = p.ends;
       feeds = p.feeds;
     } };
 
     ghost invariant = { λ p. IsWhole (record {
       gates = origin_of p.gates.value;
-      shared_port = (port_view p.shared_port.value).spot;
-      deques = spots_of p.deques.value.items;
+      shared_port = (port_view p.shared_port.value).queue;
+      deques = queues_of p.deques.value.items;
       ends = p.ends;
       feeds = p.feeds;
     }) };
@@ -89,7 +89,7 @@ impl<H: MailboxState> Pool<H> {
         feeds: usize,
     ) -> Result<(Pool<H>, Vec<PoolEnd<H>>, Vec<Feed<H>>), AllocError>
         requires { 0 < workers }
-        ensures { IfOk result (λ r. IsBegun (origin_of gates.now) kind workers feeds r.0 r.1.items r.2.items) }
+        ensures { IfOk result (λ r. IsNewPool (origin_of gates.now) kind workers feeds r.0 r.1.items r.2.items) }
     {
         let Some(ports) = workers.checked_add(feeds) else {
             return Err(AllocError);

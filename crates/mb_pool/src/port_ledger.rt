@@ -9,9 +9,9 @@ pub struct PortLedger<H> {
 
 impl<H> Model for PortLedger<H> {
     ghost use Rattle.mb_pool.specs.Ledger.{unused};
-    ghost use Rattle.mb_pool.specs.Account.{Account};
+    ghost use Rattle.mb_pool.specs.Account.{ClaimAccount};
 
-    ghost Value = { Account H };
+    ghost Value = { ClaimAccount H };
 
     ghost view = { λ _. unused };
 }

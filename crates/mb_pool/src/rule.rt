@@ -47,11 +47,11 @@ impl<H: MailboxState> queue::Outcome<PooledClaim<H>, PortLedger<H>> for Pushed {
 
 /// What a push learns of a queue that it found full.
 impl<H: MailboxState> queue::Lesson<PooledClaim<H>, PortLedger<H>> for Pushed {
-    ghost use Rattle.mb_pool.specs.Rule.{Moment};
+    ghost use Rattle.mb_pool.specs.Rule.{QueueMoment};
     ghost use Rattle.mb_pool.specs.Items.{claims_of};
     ghost use Rattle.mb_gate.specs.Untouched.{IsUntouched};
 
-    ghost fact = { λ old items. Moment (IsUntouched H.is_of H.facts) old (claims_of items) };
+    ghost fact = { λ old items. QueueMoment (IsUntouched H.is_of H.facts) old (claims_of items) };
 }
 
 impl<H: MailboxState> deque::Outcome<PooledClaim<H>, PortLedger<H>> for Pushed {
@@ -77,24 +77,24 @@ impl<H: MailboxState> queue::Outcome<PooledClaim<H>, PortLedger<H>> for Taken {
 
 /// What a take learns of a queue that it found empty.
 impl<H: MailboxState> queue::Lesson<PooledClaim<H>, PortLedger<H>> for Taken {
-    ghost use Rattle.mb_pool.specs.Rule.{Moment};
+    ghost use Rattle.mb_pool.specs.Rule.{QueueMoment};
     ghost use Rattle.mb_pool.specs.Items.{claims_of};
     ghost use Rattle.mb_gate.specs.Untouched.{IsUntouched};
 
-    ghost fact = { λ old items. Moment (IsUntouched H.is_of H.facts) old (claims_of items) };
+    ghost fact = { λ old items. QueueMoment (IsUntouched H.is_of H.facts) old (claims_of items) };
 }
 
 impl<H: MailboxState> deque::Outcome<PooledClaim<H>, PortLedger<H>> for Taken {
     ghost use Rattle.std.specs.Prelude.{◌≡◌, [], ◌∷◌};
     ghost use Rattle.mb_gate.specs.declared.claim.Claim.{Claim};
-    ghost use Rattle.mb_pool.specs.Rule.{Moment, TakesFirst};
+    ghost use Rattle.mb_pool.specs.Rule.{QueueMoment, TakesFirst};
     ghost use Rattle.mb_pool.specs.Items.{claims_of};
     ghost use Rattle.mb_gate.specs.Untouched.{IsUntouched};
 
     ghost then = { λ old ps new. (c : Claim H) × (claims_of ps ≡ c ∷ [])
         × TakesFirst (IsUntouched H.is_of H.facts) old c new };
 
-    ghost empty = { λ old. Moment (IsUntouched H.is_of H.facts) old [] };
+    ghost empty = { λ old. QueueMoment (IsUntouched H.is_of H.facts) old [] };
 }
 
 /// Whose gates' claims go into a queue, and how many ports it has. The caller chooses it.

@@ -4,7 +4,7 @@ ghost use Rattle.mb_pool.specs.Ledger.{borrowing, joining, lending, opened, unus
 ghost use Rattle.mb_pool.specs.Moves.{given_back, IsRefusal};
 ghost use Rattle.mb_gate.specs.Untouched.{origin_of, IsUntouched};
 ghost use Rattle.mb_pool.specs.Parts.{port_view};
-ghost use Rattle.mb_pool.specs.Rule.{Moment, PutsLast, TakesFirst};
+ghost use Rattle.mb_pool.specs.Rule.{QueueMoment, PutsLast, TakesFirst};
 
 use crate::claim_refused::ClaimRefused;
 use crate::feed_queue_port::FeedQueuePort;
@@ -38,8 +38,8 @@ impl<H: MailboxState> SharedPort<H> {
     #[inline(always)]
     pub fn push<R: Wait>(&mut self, rt: &R, claim: Claim<H>) -> Result<(), ClaimRefused<H>>
         requires share { 0 < (port_view self.old).ledger.shares }
-        requires fit { IsUntouched H.is_of H.facts (port_view self.old).ledger.gates claim }
-        ensures spot { (port_view self.new).spot ≡ (port_view self.old).spot }
+        requires untouched { IsUntouched H.is_of H.facts (port_view self.old).ledger.gates claim }
+        ensures same_queue { (port_view self.new).queue ≡ (port_view self.old).queue }
         ensures pushed { MatchResult result
             (λ _. PutsLast (IsUntouched H.is_of H.facts) (port_view self.old).ledger claim
             (port_view self.new).ledger)
@@ -56,10 +56,10 @@ impl<H: MailboxState> SharedPort<H> {
     #[inline(always)]
     pub fn take<R: Wait>(&mut self, rt: &R) -> Option<Claim<H>>
         requires share { 0 < (port_view self.old).ledger.shares }
-        ensures spot { (port_view self.new).spot ≡ (port_view self.old).spot }
+        ensures same_queue { (port_view self.new).queue ≡ (port_view self.old).queue }
         ensures taken { MatchOption result
             ((port_view self.new ≡ port_view self.old)
-            × Moment (IsUntouched H.is_of H.facts) (port_view self.old).ledger [])
+            × QueueMoment (IsUntouched H.is_of H.facts) (port_view self.old).ledger [])
             (λ c. TakesFirst (IsUntouched H.is_of H.facts) (port_view self.old).ledger c
             (port_view self.new).ledger) }
     {
@@ -114,7 +114,7 @@ impl<H: MailboxState> SharedPort<H> {
 
     /// Joins another port of the same queue, with its shares and its account.
     pub fn join(&mut self, other: SharedPort<H>)
-        requires place { (port_view other).spot ≡ (port_view self.old).spot }
+        requires place { (port_view other).queue ≡ (port_view self.old).queue }
         requires shares { (0 < (port_view self.old).ledger.shares) × (0 < (port_view other).ledger.shares) }
         ensures { port_view self.new ≡ record (port_view self.old) { ledger = joining (port_view self.old).ledger (port_view other).ledger } }
     {
@@ -132,7 +132,7 @@ impl<H: MailboxState> SharedPort<H> {
 
     /// The port, of a shared pool.
     fn into_bounded(self) -> SlotsPort<H>
-        requires { IsSome (port_view self).spot.capacity }
+        requires { IsSome (port_view self).queue.capacity }
         ensures { result ≡ port_view self }
     {
         match self {
@@ -146,7 +146,7 @@ impl<H: MailboxState> SharedPort<H> {
 
     /// The port, of a stealing pool.
     fn into_unbounded(self) -> FeedQueuePort<H>
-        requires { (port_view self).spot.capacity ≡ None }
+        requires { (port_view self).queue.capacity ≡ None }
         ensures { result ≡ port_view self }
     {
         match self {

@@ -19,7 +19,7 @@ pub fn first_shared_port<H: MailboxState>(
     alloc: Global,
     kind: PoolKind,
 ) -> Result<SharedPort<H>, AllocError>
-    ensures { IfOk result (λ shared_port. ((port_view shared_port).spot.capacity ≡ bound_of kind) × ((port_view shared_port).ledger ≡ unused)) }
+    ensures { IfOk result (λ shared_port. ((port_view shared_port).queue.capacity ≡ bound_of kind) × ((port_view shared_port).ledger ≡ unused)) }
 {
     match kind {
         PoolKind::Shared => {

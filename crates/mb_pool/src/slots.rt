@@ -3,7 +3,7 @@ ghost use Rattle.std.specs.Prelude.{◌≡◌, ◌<◌, [], MatchOption, MatchRe
 ghost use Rattle.crossbeam_queue.specs.Passes.{view, IsPassOf, ruled_capacity};
 ghost use Rattle.mb_pool.specs.Ledger.{borrowing, joining, lending, opened, unused};
 ghost use Rattle.mb_pool.specs.Moves.{WasFull};
-ghost use Rattle.mb_pool.specs.Rule.{Moment, PutsLast, TakesFirst};
+ghost use Rattle.mb_pool.specs.Rule.{QueueMoment, PutsLast, TakesFirst};
 ghost use Rattle.mb_gate.specs.Untouched.{IsUntouched};
 
 use crate::pooled_claim::PooledClaim;
@@ -34,7 +34,7 @@ impl<H: MailboxState> Slots<H> {
     ) -> Result<(), Claim<H>>
         requires queue { IsPassOf self.now.queue pass.old }
         requires share { 0 < (view pass.old).shares }
-        requires fit { IsUntouched H.is_of H.facts (view pass.old).gates claim }
+        requires untouched { IsUntouched H.is_of H.facts (view pass.old).gates claim }
         ensures queue { (IsPassOf self.now.queue pass.new) × (pass.new.table_id ≡ pass.old.table_id) }
         ensures pushed { MatchResult result
             (λ _. PutsLast (IsUntouched H.is_of H.facts) (view pass.old) claim (view pass.new))
@@ -57,7 +57,7 @@ impl<H: MailboxState> Slots<H> {
         requires share { 0 < (view pass.old).shares }
         ensures queue { (IsPassOf self.now.queue pass.new) × (pass.new.table_id ≡ pass.old.table_id) }
         ensures taken { MatchOption result
-            ((view pass.new ≡ view pass.old) × Moment (IsUntouched H.is_of H.facts) (view pass.old) [])
+            ((view pass.new ≡ view pass.old) × QueueMoment (IsUntouched H.is_of H.facts) (view pass.old) [])
             (λ c. TakesFirst (IsUntouched H.is_of H.facts) (view pass.old) c (view pass.new)) }
     {
         match self.queue.pop_as::<Taken, R>(rt, pass) {

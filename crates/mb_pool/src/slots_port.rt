@@ -2,7 +2,7 @@
 ghost use Rattle.std.specs.Prelude.{◌≡◌, ◌<◌, [], Some, None, IsSome, IfOk, MatchOption, MatchResult};
 ghost use Rattle.mb_pool.specs.Ledger.{borrowing, joining, lending, opened, unused};
 ghost use Rattle.mb_pool.specs.Moves.{given_back, IsRefusal};
-ghost use Rattle.mb_pool.specs.Rule.{Moment, PutsLast, TakesFirst};
+ghost use Rattle.mb_pool.specs.Rule.{QueueMoment, PutsLast, TakesFirst};
 ghost use Rattle.mb_gate.specs.Untouched.{IsUntouched};
 
 use crate::claim_refused::ClaimRefused;
@@ -46,7 +46,7 @@ impl<H: MailboxState> SlotsPort<H> {
     /// memory was refused.
     pub fn new(alloc: Global, capacity: usize) -> Result<SlotsPort<H>, AllocError>
         requires { 0 < capacity }
-        ensures { IfOk result (λ port. (port.spot.capacity ≡ Some capacity) × (port.ledger ≡ unused)) }
+        ensures { IfOk result (λ port. (port.queue.capacity ≡ Some capacity) × (port.ledger ≡ unused)) }
     {
         let (queue, pass) = RuledArrayQueue::ruled(alloc, capacity)?;
         let slots = Arc::new(alloc, Slots { queue })?;
@@ -57,8 +57,8 @@ impl<H: MailboxState> SlotsPort<H> {
     #[inline]
     pub fn push<R: Wait>(&mut self, rt: &R, claim: Claim<H>) -> Result<(), ClaimRefused<H>>
         requires share { 0 < self.old.ledger.shares }
-        requires fit { IsUntouched H.is_of H.facts self.old.ledger.gates claim }
-        ensures spot { self.new.spot ≡ self.old.spot }
+        requires untouched { IsUntouched H.is_of H.facts self.old.ledger.gates claim }
+        ensures same_queue { self.new.queue ≡ self.old.queue }
         ensures pushed { MatchResult result
             (λ _. PutsLast (IsUntouched H.is_of H.facts) self.old.ledger claim self.new.ledger)
             (λ refused. (given_back refused ≡ claim) × (self.new ≡ self.old)
@@ -74,9 +74,9 @@ impl<H: MailboxState> SlotsPort<H> {
     #[inline]
     pub fn take<R: Wait>(&mut self, rt: &R) -> Option<Claim<H>>
         requires share { 0 < self.old.ledger.shares }
-        ensures spot { self.new.spot ≡ self.old.spot }
+        ensures same_queue { self.new.queue ≡ self.old.queue }
         ensures taken { MatchOption result
-            ((self.new ≡ self.old) × Moment (IsUntouched H.is_of H.facts) self.old.ledger [])
+            ((self.new ≡ self.old) × QueueMoment (IsUntouched H.is_of H.facts) self.old.ledger [])
             (λ c. TakesFirst (IsUntouched H.is_of H.facts) self.old.ledger c self.new.ledger) }
     {
         self.slots.take(rt, &mut self.pass)
@@ -105,7 +105,7 @@ impl<H: MailboxState> SlotsPort<H> {
 
     /// Joins another port of the same queue, with its shares and its account.
     pub fn join(&mut self, other: SlotsPort<H>)
-        requires place { other.spot ≡ self.old.spot }
+        requires place { other.queue ≡ self.old.queue }
         requires shares { (0 < self.old.ledger.shares) × (0 < other.ledger.shares) }
         ensures { self.new ≡ record self.old { ledger = joining self.old.ledger other.ledger } }
     {
@@ -115,7 +115,7 @@ impl<H: MailboxState> SlotsPort<H> {
 
     /// For proofs alone: its queue has a bound.
     pub fn has_bound(&self)
-        ensures { IsSome self.now.spot.capacity }
+        ensures { IsSome self.now.queue.capacity }
     {
         // Reading a field gives the proof the port's invariant.
         let _ = &self.pass;

@@ -2,7 +2,7 @@
 ghost use Rattle.std.specs.Prelude.{◌≡◌, ◌<◌, [], MatchOption};
 ghost use Rattle.crossbeam_deque.specs.Handles.{view, IsPassOf, stealer_deque, stealer_flavor};
 ghost use Rattle.mb_pool.specs.Places.{owner_of};
-ghost use Rattle.mb_pool.specs.Rule.{Moment, TakesFirst};
+ghost use Rattle.mb_pool.specs.Rule.{QueueMoment, TakesFirst};
 ghost use Rattle.mb_gate.specs.Untouched.{IsUntouched};
 
 use crate::pooled_claim::PooledClaim;
@@ -42,7 +42,7 @@ impl<H: MailboxState> Model for Thief<H> {
 impl<H: MailboxState> Thief<H> {
     /// The number of the end whose deque it is.
     pub fn number(&self) -> usize
-        ensures { result ≡ owner_of self.now.spot }
+        ensures { result ≡ owner_of self.now.queue }
     {
         self.number
     }
@@ -51,9 +51,9 @@ impl<H: MailboxState> Thief<H> {
     #[inline]
     pub fn take<R: Wait>(&mut self, rt: &R) -> Option<Claim<H>>
         requires share { 0 < self.old.ledger.shares }
-        ensures spot { self.new.spot ≡ self.old.spot }
+        ensures same_queue { self.new.queue ≡ self.old.queue }
         ensures taken { MatchOption result
-            ((self.new ≡ self.old) × Moment (IsUntouched H.is_of H.facts) self.old.ledger [])
+            ((self.new ≡ self.old) × QueueMoment (IsUntouched H.is_of H.facts) self.old.ledger [])
             (λ c. TakesFirst (IsUntouched H.is_of H.facts) self.old.ledger c self.new.ledger) }
     {
         steal_first(rt, &self.stealer, &mut self.pass)
@@ -72,7 +72,7 @@ fn steal_first<H: MailboxState, R: Wait>(
     requires share { 0 < (view pass.old).shares }
     ensures deque { IsPassOf (stealer_deque stealer.now) pass.new }
     ensures taken { MatchOption result
-        ((view pass.new ≡ view pass.old) × Moment (IsUntouched H.is_of H.facts) (view pass.old) [])
+        ((view pass.new ≡ view pass.old) × QueueMoment (IsUntouched H.is_of H.facts) (view pass.old) [])
         (λ c. TakesFirst (IsUntouched H.is_of H.facts) (view pass.old) c (view pass.new)) }
 {
     for _ in rt.forever() {

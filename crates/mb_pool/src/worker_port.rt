@@ -36,7 +36,7 @@ impl<H: MailboxState> WorkerPort<H> {
     /// each queue in which the end looks was empty at a moment of the call; then the end is as it was.
     #[inline(always)]
     pub fn take<R: Wait>(&mut self, rt: &R) -> Option<Claim<H>>
-        ensures fit { IfSome result (IsUntouched H.is_of H.facts (gates_of self.old.end)) }
+        ensures untouched { IfSome result (IsUntouched H.is_of H.facts (gates_of self.old.end)) }
         ensures taken { IfSome result (λ claim.
             Takes (IsUntouched H.is_of H.facts) self.old.end claim self.new.end) }
         ensures parts { parts_of self.new.end ≡ parts_of self.old.end }

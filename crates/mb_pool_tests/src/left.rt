@@ -43,7 +43,7 @@ pub fn are_of<H: MailboxState>(
     end: u32,
 ) -> bool
     requires same_gates { pass_id pass.old ≡ gates_id gates.now }
-    requires fit { All (IsUntouched H.is_of H.facts (Some (origin_of gates.now))) claims.items }
+    requires untouched { All (IsUntouched H.is_of H.facts (Some (origin_of gates.now))) claims.items }
     ensures same_gates { pass_id pass.new ≡ gates_id gates.now }
 {
     let mut are_those = true;

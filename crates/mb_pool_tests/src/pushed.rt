@@ -24,7 +24,7 @@ pub fn push_at_last<H: MailboxState, R: Wait>(
     end: &mut PoolEnd<H>,
     claim: Claim<H>,
 ) -> PushAnswer
-    requires fit { IsUntouched H.is_of H.facts (gates_of end.old) claim }
+    requires untouched { IsUntouched H.is_of H.facts (gates_of end.old) claim }
     ensures same { parts_of end.new ≡ parts_of end.old }
 {
     match end.push(rt, claim) {
@@ -39,7 +39,7 @@ pub fn feed_at_last<H: MailboxState, R: Wait>(
     feed: &mut Feed<H>,
     claim: Claim<H>,
 ) -> PushAnswer
-    requires fit { IsUntouched H.is_of H.facts (gates_of feed.old) claim }
+    requires untouched { IsUntouched H.is_of H.facts (gates_of feed.old) claim }
     ensures same { parts_of feed.new ≡ parts_of feed.old }
 {
     match feed.push(rt, claim) {

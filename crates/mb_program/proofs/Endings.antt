@@ -1,5 +1,5 @@
 -- How a run ends.
-use Rattle.std.proofs.Common.{◌≡◌, ℕ, ◌<◌, Bool, true, false, ◌||◌, List, take, Option, Some, None, IfSome, refl, sym, subst, inl, ap, ◌∙◌}
+use Rattle.std.proofs.Common.{◌≡◌, ℕ, Bool, true, false, ◌||◌, List, take, Option, Some, None, IfSome, refl, sym, subst, inl, ap, ◌∙◌}
 use Rattle.std.proofs.Common.{inr, Result, Ok, Err, IfOk, IfErr, String, string_bytes}
 use Rattle.std.specs.declared.alloc.Global.{Global}
 use Rattle.mb_scenario.specs.declared.read_error.ReadError.{ReadError}

@@ -1,12 +1,5 @@
 pub mod Actors
-pub mod BrokenLemmas
-pub mod EndLemmas
 pub mod Endings
-pub mod FaultLemmas
-pub mod JobLemmas
-pub mod MemberLemmas
 pub mod OrderLemmas
-pub mod PlanLemmas
 pub mod Refusals
 pub mod Runnable
-pub mod SenderLemmas

@@ -1,36 +1,35 @@
--- What the sends of a scenario are to one sender, one send after another.
-use Rattle.std.proofs.Common.{◌≡◌, ℕ, ◌+◌, ◌<◌, ◌==◌, Bool, true, false, cond, List, [], ◌∷◌, ◌++◌, length, map, sym, ap, ◌∙◌, take, get_or}
-use Rattle.std.proofs.Common.{eq-eqb}
-use Rattle.std.proofs.lemmas.Bool.{ne_eqb}
-use Rattle.std.proofs.lemmas.List.{map-append, take_more}
-use Rattle.std.proofs.lemmas.List.Elements.{filter-append}
+-- What the sends of a scenario are to its senders, one send after another, and one sender after another.
+use Rattle.std.proofs.Common.{◌≡◌, ℕ, zero, suc, ◌+◌, ◌<◌, List, [], ◌∷◌, ◌++◌, length, map, sym, ap, ◌∙◌, take, get_or, arith, Vec}
+use Rattle.std.specs.Global.{Global}
+use Rattle.std.proofs.lemmas.List.{map-append}
+use Rattle.mb_build.specs.Numbers.{numbers}
 use Rattle.mb_msg.specs.declared.order.Order.{Order}
 use Rattle.mb_msg.specs.declared.order.SenderOrder.{SenderOrder}
-use Rattle.mb_program.specs.Orders.{orders_of, sends_by}
-
--- what is ordered
-abbrev pub ordered : List SenderOrder → List Order
-ordered = map (λ (s : SenderOrder). s.order)
+use Rattle.heddleorange.specs.Orders.{orders_of}
+use Rattle.heddleorange.proofs.InOrder.{orders-next}
 
 -- the next send comes behind the first
-pub orders-next : (from : ℕ) (sends : List SenderOrder) (i : ℕ) (d : SenderOrder) → i < length sends
-    → orders_of from (take (i + 1) sends) ≡ orders_of from (take i sends) ++ orders_of from (get_or sends i d ∷ [])
-orders-next from sends i d lt =
-    ap (orders_of from) (take_more sends i d lt)
-    ∙ ap ordered (filter-append (λ (s : SenderOrder). s.from == from) (take i sends) (get_or sends i d ∷ []))
-    ∙ map-append (λ (s : SenderOrder). s.order) (sends_by from (take i sends)) (sends_by from (get_or sends i d ∷ []))
-
 pub orders-step : (from : ℕ) (sends : List SenderOrder) (i : ℕ) (d : SenderOrder) (old new : List Order) → i < length sends
     → old ≡ orders_of from (take i sends) → new ≡ old ++ orders_of from (get_or sends i d ∷ []) → new ≡ orders_of from (take (i + 1) sends)
 orders-step from sends i d old new lt before is =
     is ∙ ap (λ l. l ++ orders_of from (get_or sends i d ∷ [])) before ∙ sym (orders-next from sends i d lt)
 
-one : (from : ℕ) (s : SenderOrder) (own : Bool) → (s.from == from) ≡ own → orders_of from (s ∷ []) ≡ ordered (cond own (s ∷ []) [])
-one from s own is = ap (λ b. ordered (cond b (s ∷ []) [])) is
+-- ---- the senders
 
--- it is the sender's own, or it is not
-pub orders-own : (from : ℕ) (s : SenderOrder) → s.from ≡ from → orders_of from (s ∷ []) ≡ s.order ∷ []
-orders-own from s same = one from s true (eq-eqb s.from from same)
+-- so many numbers, and one more
+numbers-next : (first count : ℕ) → numbers first (count + 1) ≡ numbers first count ++ (first + count) ∷ []
+numbers-next first zero = ap (λ n. n ∷ []) (let e : first ≡ first + 0 = omega arith in e)
+numbers-next first (suc count) =
+    ap (numbers first) (let e : suc count + 1 ≡ suc (count + 1) = omega arith in e)
+    ∙ ap (λ l. first ∷ l) (numbers-next (first + 1) count ∙ ap (λ n. numbers (first + 1) count ++ n ∷ [])
+    (let e : first + 1 + count ≡ first + suc count = omega arith in e))
 
-pub orders-other : (from : ℕ) (s : SenderOrder) → (s.from ≡ from → ⊥) → orders_of from (s ∷ []) ≡ []
-orders-other from s other = one from s false (ne_eqb s.from from other)
+-- the list of the next sender comes behind those of the first
+pub lists-step : (sends : List SenderOrder) (from : ℕ) (old new : List (Vec Order Global)) (one : Vec Order Global)
+    → map (λ (v : Vec Order Global). v.items) old ≡ map (λ number. orders_of number sends) (numbers 0 from) → one.items ≡ orders_of from sends
+    → new ≡ old ++ one ∷ [] → map (λ (v : Vec Order Global). v.items) new ≡ map (λ number. orders_of number sends) (numbers 0 (from + 1))
+lists-step sends from old new one before is pushed =
+    ap (map (λ (v : Vec Order Global). v.items)) pushed ∙ map-append (λ (v : Vec Order Global). v.items) old (one ∷ [])
+    ∙ (λ i. before i ++ is i ∷ [])
+    ∙ sym (ap (map (λ number. orders_of number sends)) (numbers-next 0 from ∙ ap (λ n. numbers 0 from ++ n ∷ []) (let e : 0 + from ≡ from = omega arith in e))
+    ∙ map-append (λ number. orders_of number sends) (numbers 0 from) (from ∷ []))

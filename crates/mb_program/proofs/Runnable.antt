@@ -1,11 +1,12 @@
 -- A scenario that was read can be run.
-use Rattle.std.proofs.Common.{◌≡◌, ℕ, ◌+◌, ◌<◌, ◌≤◌, ◌==◌, ◌&&◌, Bool, true, false, not, List, [], ◌∷◌, ◌++◌, length, map, max, refl, sym, ap, ◌∙◌, subst, arith}
+use Rattle.std.proofs.Common.{◌≡◌, ℕ, ◌+◌, ◌<◌, ◌≤◌, ◌==◌, ◌&&◌, Bool, true, false, List, [], ◌∷◌, ◌++◌, length, map, max, refl, sym, ap, ◌∙◌, subst, arith}
 use Rattle.std.proofs.Common.{codes, None}
-use Rattle.std.specs.Prelude.{All, nat_le, nat_lt}
+use Rattle.std.specs.Prelude.{◌||◌, All, nat_le, nat_lt}
+use Rattle.std.specs.List.{list_any}
 use Rattle.std.proofs.lemmas.Bool.Decides.{nat_tests}
 use Rattle.std.proofs.lemmas.List.{length-map}
-use Rattle.std.proofs.lemmas.List.Elements.{All-cons, All-head, All-nil, All-tail}
-use Rattle.toml.specs.Data.{Data, Items, Members, get_member}
+use Rattle.std.proofs.lemmas.List.Elements.{All-head, All-tail}
+use Rattle.toml.specs.Data.{Members, get_member}
 use Rattle.mb_schema.specs.Check.{actor_entries_of, document_check, items_in}
 use Rattle.mb_schema.specs.Value.{item_count}
 use Rattle.mb_msg.specs.declared.id.ActorId.{ActorId}
@@ -13,10 +14,11 @@ use Rattle.mb_msg.specs.declared.actor_plan.ActorPlan.{ActorPlan}
 use Rattle.mb_msg.specs.declared.mailbox_type.MailboxType.{MailboxType}
 use Rattle.mb_msg.specs.declared.mailbox_type.MailboxType.TheVariants.{Unbounded, Bounded, Priority, Control}
 use Rattle.mb_msg.specs.declared.plan.Plan.{Plan}
+use Rattle.mb_build.specs.Numbers.{numbers}
 use Rattle.mb_build.specs.Reasons.{bad_bounds, bad_numbers, bad_parents, may_be_bound, reasons, unless}
 use Rattle.mb_build.specs.declared.check.PlanError.{PlanError}
 use Rattle.mb_build.specs.declared.check.PlanError.TheVariants.{Actors, Boxes, Parent, Capacity, Senders, Workers, JournalLimit}
-use Rattle.mb_scenario.specs.Fields.{map_items, number_or, small}
+use Rattle.mb_scenario.specs.Fields.{number_or, small}
 use Rattle.mb_scenario.specs.Plans.{PlanData, ScenarioData, name_of, planned_actor, plan_of, scenario_of, sends_in, workers_in}
 use Rattle.mb_scenario.specs.Reading.{IsReadAs}
 use Rattle.mb_scenario.specs.Scripts.{scripted_of}
@@ -25,14 +27,18 @@ use Rattle.mb_scenario.specs.View.{actor_data, kind_data, plan_data}
 use Rattle.mb_msg.specs.declared.order.SenderOrder.{SenderOrder}
 use Rattle.mb_msg.specs.declared.order.OrderKind.{OrderKind}
 use Rattle.mb_msg.specs.declared.order.OrderKind.TheVariants.{Tell, Stop}
-use Rattle.mb_script.specs.Script.{Scripted}
-use Rattle.mb_program.specs.Given.{AreSendable, CanRun, IsReceiver, IsSendable}
+use Rattle.mb_actor.specs.Behaviour.{Moment, Reply}
+use Rattle.mb_msg.specs.declared.order.Order.{Order}
 use Rattle.mb_program.specs.Faults.{IsFaultOf}
 use Rattle.mb_streams.specs.declared.fault.RunFault.{RunFault}
-use Rattle.mb_streams.specs.declared.program_error.ProgramError.TheVariants.{Run}
-use Rattle.mb_program.specs.Answer.{IsRefused}
-use Rattle.mb_program.specs.Scripts.{gives_by_scripts}
-use Rattle.mb_scenario.proofs.Passed.{AreActorData, IsActorData, IsBoundData, IsPassed, IsReceived, IsSendData, length-items, passed, senders-right}
+use Rattle.mb_streams.specs.declared.fault.RunFault.TheVariants as told
+use Rattle.mb_system.specs.declared.failure.RunError.TheVariants as Fault
+use Rattle.heddleorange.specs.NoReport.{IsErrorOfRun, IsRight, has_nobody, is_for_nobody}
+use Rattle.heddleorange.specs.Orders.{lists_of, orders_of}
+use Rattle.heddleorange.specs.declared.error.Error.{Error}
+use Rattle.heddleorange.specs.declared.error.Error.TheVariants.{BadPlan, Sends, NoMemory, Run, NotQuiet, Mismatch, NameTaken}
+use Rattle.heddleorange.proofs.InOrder.{for-nobody, length-lists, many-from}
+use Rattle.mb_scenario.proofs.Passed.{AreActorData, IsBoundData, IsReceived, IsSendData, length-items, passed, senders-right}
 
 -- ---- no reason against the plan
 
@@ -53,6 +59,13 @@ within low n high least most = λ i. at-most low n least i && at-most n high mos
 
 same : (a b : ℕ) → a ≡ b → (a == b) ≡ true
 same a b is = grind (arith, nat_tests)
+
+not-below : (a b : ℕ) → b < a + 1 → nat_lt a b ≡ false
+not-below a b most = grind (arith, nat_tests)
+
+both-false : (a b : Bool) → b ≡ false → (a && b) ≡ false
+both-false true b is = is
+both-false false b is = refl
 
 no-parents : (id : ℕ) (actors : List ActorPlan) → AreActorData id (map actor_data actors) → bad_parents id actors ≡ []
 no-parents id [] are = refl
@@ -92,22 +105,26 @@ no-reasons plan actors few as_many are senders least most limit =
 
 -- ---- what is sent
 
-receiver : (actors : ℕ) (to : ActorId) (what : OrderKind) → IsReceived actors to what → IsReceiver actors to what
-receiver actors to (Tell body) is = is
-receiver actors to Stop is = is
+-- none of them is for nobody
+for-somebody : (actors : ℕ) (to : ActorId) (what : OrderKind) → IsReceived (actors + 1) to what → is_for_nobody actors to what ≡ false
+for-somebody actors to (Tell body) is = λ i. above to.0 is.0 i || not-below actors to.0 is.1 i
+  where
+    above : (n : ℕ) → 0 < n → (n == 0) ≡ false
+    above n lt = grind (arith, nat_tests)
+for-somebody actors to Stop is = not-below actors to.0 is
 
-sendable : (actors senders : ℕ) (sends : List SenderOrder) → All (IsSendData actors) sends → All (λ (s : SenderOrder). s.from < senders) sends
-    → AreSendable senders actors sends
-sendable actors senders [] all from = All-nil (IsSendable senders actors)
-sendable actors senders (s ∷ sends) all from =
-    All-cons (IsSendable senders actors) s sends
-    (All-head (λ (s : SenderOrder). s.from < senders) s sends from, receiver actors s.order.to s.order.what (All-head (IsSendData actors) s sends all).1)
-    (sendable actors senders sends (All-tail (IsSendData actors) s sends all) (All-tail (λ (s : SenderOrder). s.from < senders) s sends from))
+sendable : (actors : ℕ) (sends : List SenderOrder) → All (IsSendData (actors + 1)) sends
+    → list_any (λ (s : SenderOrder). has_nobody actors s.order) sends ≡ false
+sendable actors [] all = refl
+sendable actors (s ∷ sends) all =
+    let here = for-somebody actors s.order.to s.order.what (All-head (IsSendData (actors + 1)) s sends all).1 in
+    λ i. both-false (nat_lt 0 s.order.times) (is_for_nobody actors s.order.to s.order.what) here i
+    || sendable actors sends (All-tail (IsSendData (actors + 1)) s sends all) i
 
 -- ---- the scenario
 
 of-document : (top : Members) (plan : Plan) → document_check top ≡ None → plan_data plan ≡ plan_of top
-    → CanRun plan (length (scenario_of top).scripts) (sends_in top)
+    → IsRight plan (length (scenario_of top).scripts) (lists_of plan.senders (sends_in top))
 of-document top plan none planned =
     let items = items_in (get_member (codes "actor") top) in
     let is = passed top none in
@@ -124,35 +141,49 @@ of-document top plan none planned =
     let most_senders = right.0 in
     let most_workers = is.workers in
     let least_limit = is.limit in
-    record {
-      right = no-reasons plan (length (scenario_of top).scripts) (omega (arith, few, many)) (omega (arith, many, scripts))
-          (subst (AreActorData 1) (sym actors) is.actors) (omega (arith, senders, most_senders)) (omega (arith, workers))
-          (omega (arith, workers, most_workers)) (omega (arith, limit, least_limit));
-      sendable =
-          sendable (length plan.actors.items + 1) plan.senders (sends_in top)
-          (subst (λ n. All (IsSendData n) (sends_in top)) (omega (arith, many)) is.sends)
-          (subst (λ n. All (λ (s : SenderOrder). s.from < n) (sends_in top)) (sym senders) right.1);
-    }
+    let from : All (λ (s : SenderOrder). s.from < plan.senders) (sends_in top) =
+    subst (λ n. All (λ (s : SenderOrder). s.from < n) (sends_in top)) (sym senders) right.1 in
+    let count = length (scenario_of top).scripts in
+    let next : 1 + item_count items ≡ count + 1 = omega (arith, scripts) in (
+      no-reasons plan count (omega (arith, few, many)) (omega (arith, many, scripts)) (subst (AreActorData 1) (sym actors) is.actors)
+          (omega (arith, senders, most_senders)) (omega (arith, workers)) (omega (arith, workers, most_workers)) (omega (arith, limit, least_limit)),
+      length-lists plan.senders (sends_in top) ∙ many-from plan.senders (sends_in top) from,
+      for-nobody count plan.senders (sends_in top) from
+          ∙ sendable count (sends_in top) (subst (λ n. All (IsSendData n) (sends_in top)) next is.sends),
+    )
 
 -- a scenario that was read can be run
 pub can-run : (text : List ℕ) (scenario : ScenarioData) (plan : Plan) → IsReadAs text scenario → plan_data plan ≡ scenario.plan
-    → CanRun plan (length scenario.scripts) scenario.sends
+    → IsRight plan (length scenario.scripts) (lists_of plan.senders scenario.sends)
 can-run text scenario plan read planned =
     let is : scenario ≡ scenario_of read.0 = read.2.1 in
-    subst (λ (s : ScenarioData). CanRun plan (length s.scripts) s.sends) (sym is)
+    subst (λ (s : ScenarioData). IsRight plan (length s.scripts) (lists_of plan.senders s.sends)) (sym is)
     (of-document read.0 plan read.2.0 (planned ∙ ap (λ (s : ScenarioData). s.plan) is))
 
 -- there are as many names as actors
-pub as-many-names : (text : List ℕ) (scenario : ScenarioData) (plan : Plan) (names : List (List ℕ)) → IsReadAs text scenario
-    → plan_data plan ≡ scenario.plan → names ≡ scenario.names → length plan.actors.items ≡ length names
-as-many-names text scenario plan names read planned named =
+pub as-many-names : (text : List ℕ) (scenario : ScenarioData) (names : List (List ℕ)) → IsReadAs text scenario → names ≡ scenario.names
+    → length scenario.scripts ≡ length names
+as-many-names text scenario names read named =
     let is : scenario ≡ scenario_of read.0 = read.2.1 in
     let items = items_in (get_member (codes "actor") read.0) in
-    sym (length-map plan.actors.items actor_data) ∙ ap (λ (p : PlanData). length p.actors) (planned ∙ ap (λ (s : ScenarioData). s.plan) is)
-    ∙ length-items (planned_actor (actor_entries_of items)) items ∙ sym (length-items name_of items)
+    ap (λ (s : ScenarioData). length s.scripts) is ∙ length-items (scripted_of (actor_entries_of items)) items ∙ sym (length-items name_of items)
     ∙ sym (ap length (named ∙ ap (λ (s : ScenarioData). s.names) is))
 
--- a fault of the run of a scenario that was read is why there is no report of it
-pub refused-run : (text : List ℕ) (scenario : ScenarioData) (plan : Plan) (fault : RunFault) → IsReadAs text scenario
-    → plan_data plan ≡ scenario.plan → IsFaultOf (gives_by_scripts scenario.scripts) plan fault → IsRefused text (Run fault)
-refused-run text scenario plan fault read planned is = (scenario, read, record { plan = plan; planned = planned; fault_of = is })
+-- a fault tells of the error of a run whose plan and orders are right
+pub some-fault : (gives : ℕ → Moment → Reply → Type 0) (plan : Plan) (actors : ℕ) (orders : List (List Order)) (error : Error)
+    → IsRight plan actors orders → IsErrorOfRun gives plan actors orders error → (fault : RunFault) × IsFaultOf error fault
+some-fault gives plan actors orders (BadPlan reason) right is = let none = ap length (sym is.1 ∙ right.0) in absurd (omega (arith, none))
+some-fault gives plan actors orders Sends right is = absurd (is.1 right.1)
+some-fault gives plan actors orders NoMemory right is = (told.NoMemory, refl)
+some-fault gives plan actors orders (Run Fault.NoMemory) right is = (told.NoMemory, refl)
+some-fault gives plan actors orders (Run Fault.JournalFull) right is = (told.JournalFull, refl)
+some-fault gives plan actors orders (Run Fault.NoSuchActor) right is = absurd (cc (right.2, is.2))
+some-fault gives plan actors orders (NotQuiet id) right is = (told.NotQuiet id, refl)
+some-fault gives plan actors orders (Mismatch what) right is = (told.Mismatch, refl)
+some-fault gives plan actors orders (NameTaken id) right is = absurd is
+
+-- the lists of all senders are those of the orders in a row
+pub lists-are : (senders : ℕ) (sends : List SenderOrder) (lists : List (List Order)) → length (lists_of senders sends) ≡ senders
+    → lists ≡ map (λ number. orders_of number sends) (numbers 0 senders) → lists ≡ lists_of senders sends
+lists-are senders sends lists right is =
+    is ∙ ap (λ n. map (λ number. orders_of number sends) (numbers 0 n)) (sym right ∙ length-lists senders sends)

@@ -1,16 +1,19 @@
--- Why a run gave no report.
-use Rattle.std.specs.Prelude.{ℕ, ◌+◌, ◌<◌, length}
-use Rattle.mb_actor.specs.Behaviour.{Moment, Reply}
-use Rattle.mb_msg.specs.declared.plan.Plan.{Plan}
-use Rattle.mb_shutdown.specs.declared.mismatch.Mismatch.{Mismatch as What}
-use Rattle.mb_shutdown.specs.NotFinished.{DoesNotAgree, HasWorkLeft}
-use Rattle.mb_dispatch.specs.FullJournal.{HasFullJournal}
+-- How the program tells why a run gave no report (this project's own profile).
+use Rattle.std.specs.Prelude.{◌≡◌}
+use Rattle.mb_system.specs.declared.failure.RunError.TheVariants as Fault
+use Rattle.heddleorange.specs.declared.error.Error.{Error}
+use Rattle.heddleorange.specs.declared.error.Error.TheVariants.{BadPlan, Sends, NoMemory, Run, NotQuiet, Mismatch, NameTaken}
 use Rattle.mb_streams.specs.declared.fault.RunFault.{RunFault}
-use Rattle.mb_streams.specs.declared.fault.RunFault.TheVariants.{NoMemory, JournalFull, NotQuiet, Mismatch}
+use Rattle.mb_streams.specs.declared.fault.RunFault.TheVariants as told
 
--- The fault is one of a run of this plan. An actor that was found to have something to run still is the plan's, or the guardian.
-abbrev pub IsFaultOf : (ℕ → Moment → Reply → Type 0) → Plan → RunFault → Type 0
-IsFaultOf gives plan NoMemory = Unit {0}
-IsFaultOf gives plan JournalFull = HasFullJournal gives plan
-IsFaultOf gives plan (NotQuiet id) = (id.0 < length plan.actors.items + 1) × HasWorkLeft plan id.0
-IsFaultOf gives plan Mismatch = (what : What) × DoesNotAgree gives plan what
+-- The fault that tells of this error. None tells of a plan, orders or a name that are not right: a scenario that was read has no such.
+abbrev pub IsFaultOf : Error → RunFault → Type 0
+IsFaultOf (BadPlan reason) fault = ⊥
+IsFaultOf Sends fault = ⊥
+IsFaultOf NoMemory fault = fault ≡ told.NoMemory
+IsFaultOf (Run Fault.NoMemory) fault = fault ≡ told.NoMemory
+IsFaultOf (Run Fault.JournalFull) fault = fault ≡ told.JournalFull
+IsFaultOf (Run Fault.NoSuchActor) fault = ⊥
+IsFaultOf (NotQuiet id) fault = fault ≡ told.NotQuiet id
+IsFaultOf (Mismatch what) fault = fault ≡ told.Mismatch
+IsFaultOf (NameTaken id) fault = ⊥

@@ -1,10 +1,4 @@
-pub mod Orders
-pub mod Given
-pub mod Senders
-pub mod Ready
-pub mod Ran
 pub mod Faults
-pub mod Broken
 pub mod Scripts
 pub mod Scenario
 pub mod Answer

@@ -1,12 +1,15 @@
 -- What the report of a scenario tells of.
-use Rattle.std.specs.Prelude.{◌≡◌}
+use Rattle.std.specs.Prelude.{◌≡◌, length}
 use Rattle.mb_msg.specs.declared.plan.Plan.{Plan}
 use Rattle.mb_scenario.specs.Plans.{ScenarioData}
 use Rattle.mb_scenario.specs.View.{plan_data}
 use Rattle.mb_report.specs.declared.report.Report.{Report}
-use Rattle.mb_program.specs.Faults.{IsFaultOf}
-use Rattle.mb_program.specs.Ran.{HasRun}
+use Rattle.heddleorange.specs.NoReport.{IsErrorOfRun}
+use Rattle.heddleorange.specs.Orders.{lists_of}
+use Rattle.heddleorange.specs.WholeRun.{IsReportOfRun}
+use Rattle.heddleorange.specs.declared.error.Error.{Error}
 use Rattle.mb_streams.specs.declared.fault.RunFault.{RunFault}
+use Rattle.mb_program.specs.Faults.{IsFaultOf}
 use Rattle.mb_program.specs.Scripts.{after_by_scripts, gives_by_scripts}
 
 -- The report tells of the actors of the scenario's plan, each of which does what its script says, and of the scenario's senders, each of which sent
@@ -14,10 +17,12 @@ use Rattle.mb_program.specs.Scripts.{after_by_scripts, gives_by_scripts}
 pub record IsOfScenario (scenario : ScenarioData) (report : Report) : Type 0 where
   pub plan : Plan
   pub planned : plan_data plan ≡ scenario.plan
-  pub ran : HasRun (after_by_scripts scenario.scripts) (gives_by_scripts scenario.scripts) plan scenario.sends report
+  pub ran : IsReportOfRun (after_by_scripts scenario.scripts) (gives_by_scripts scenario.scripts) plan (lists_of plan.senders scenario.sends) report
 
--- A run of the actors of the scenario's plan, each of which does what its script says, ended in this fault.
+-- A run of the actors of the scenario's plan, each of which does what its script says, ended in an error of which this fault tells.
 pub record EndsIn (scenario : ScenarioData) (fault : RunFault) : Type 0 where
   pub plan : Plan
   pub planned : plan_data plan ≡ scenario.plan
-  pub fault_of : IsFaultOf (gives_by_scripts scenario.scripts) plan fault
+  pub error : Error
+  pub of_run : IsErrorOfRun (gives_by_scripts scenario.scripts) plan (length scenario.scripts) (lists_of plan.senders scenario.sends) error
+  pub told : IsFaultOf error fault

@@ -52,7 +52,7 @@ pub fn run_program<T: Threads + Wait + Sync, R: Read, W: Write, E: Write>(
         × IsLineSaid (E.contents errors.old.stream) (E.contents errors.new.stream) errors.new.failed (error_line failure) }
 
     // For whatever is no scenario, the writer is not called.
-    ensures silent { IfSome (R.remaining reader.old.stream) (λ input. (failure : ProgramError) → IsAtFault (take most_read input) failure →
+    ensures unwritten_without_scenario { IfSome (R.remaining reader.old.stream) (λ input. (failure : ProgramError) → IsAtFault (take most_read input) failure →
         writer.new ≡ writer.old) }
 {
     let report = answer_to(rt, alloc, arguments, reader);

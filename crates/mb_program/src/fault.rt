@@ -1,19 +1,23 @@
-//! Why a run was broken off.
-ghost use Rattle.std.specs.Prelude.{◌≢◌};
-ghost use Rattle.mb_system.specs.declared.failure.RunError.TheVariants as Fault;
-ghost use Rattle.mb_program.specs.Broken.{IsFaultOfRun};
+//! What the program says of a run that gave no report.
+ghost use Rattle.mb_streams.specs.declared.fault.RunFault.{RunFault as FaultOf};
+ghost use Rattle.mb_program.specs.Faults.{IsFaultOf};
 
+use heddleorange::{Error, RunError};
 use mb_streams::RunFault;
-use mb_system::RunError;
 
-/// Why a run was broken off whose orders name actors that there are.
-pub(crate) fn of_run(error: RunError) -> RunFault
-    requires present { error ≢ Fault.NoSuchActor }
-    ensures { IsFaultOfRun error result }
+/// The fault that tells of this error of a run whose plan and orders were right.
+pub(crate) fn fault_of(error: &Error) -> RunFault
+    requires { (fault : FaultOf) × IsFaultOf error.now fault }
+    ensures { IsFaultOf error.now result }
 {
     match error {
-        RunError::NoMemory => RunFault::NoMemory,
-        RunError::JournalFull => RunFault::JournalFull,
-        RunError::NoSuchActor => unreachable!(),
+        Error::NoMemory | Error::Run(RunError::NoMemory) => RunFault::NoMemory,
+        Error::Run(RunError::JournalFull) => RunFault::JournalFull,
+        Error::NotQuiet(id) => RunFault::NotQuiet(*id),
+        Error::Mismatch(_) => RunFault::Mismatch,
+        Error::BadPlan(_)
+        | Error::Sends
+        | Error::NameTaken(_)
+        | Error::Run(RunError::NoSuchActor) => unreachable!(),
     }
 }

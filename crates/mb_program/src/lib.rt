@@ -5,14 +5,12 @@
 //! everything.
 #![tactic(auto)]
 
-mod alone;
 mod answer;
 mod drive;
 mod fault;
 mod orders;
 mod running;
 mod scenario;
-mod together;
 
 pub use drive::run_program;
 pub use mb_streams::{RunFault, TrackedStream};

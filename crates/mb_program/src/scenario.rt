@@ -3,12 +3,11 @@ ghost use Rattle.std.specs.Prelude.{IfErr, IfOk, map, string_bytes};
 ghost use Rattle.mb_program.specs.Answer.{IsRefused};
 ghost use Rattle.mb_program.specs.RunOf.{IsRunOf};
 
+use crate::fault::fault_of;
 use crate::running::{FinishedRun, run};
 use mb_scenario::{Scenario, read};
-use mb_script::Script;
 use mb_streams::ProgramError;
 use std::alloc::Global;
-use std::marker::Brand;
 use std::sync::Wait;
 use std::thread::Threads;
 
@@ -37,6 +36,8 @@ pub fn run_scenario<R: Threads + Wait + Sync>(
         sends,
         quiet,
     } = read(alloc, text)?;
-    let run = run::<Script, Brand, R>(rt, alloc, plan, scripts, &sends, quiet)?;
-    Ok(ScenarioRun { names, run })
+    match run(rt, alloc, plan, scripts, &sends, quiet) {
+        Ok(run) => Ok(ScenarioRun { names, run }),
+        Err(error) => Err(ProgramError::Run(fault_of(&error))),
+    }
 }

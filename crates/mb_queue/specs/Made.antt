@@ -42,7 +42,7 @@ pub record IsEmpty (kind : MailboxType) (to : ℕ) (senders : List ℕ) (t : Tak
   pub taken : t.taken ≡ []
 
 -- the take pass of a queue before any account was lent
-pub record IsOpened (kind : MailboxType) (to : ℕ) (senders : List ℕ) (t : TakePassView) : Type 0 where
+pub record IsNewTakePass (kind : MailboxType) (to : ℕ) (senders : List ℕ) (t : TakePassView) : Type 0 where
   pub empty : IsEmpty kind to senders t
   pub accounts : t.accounts ≡ []
 

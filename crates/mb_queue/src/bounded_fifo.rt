@@ -83,7 +83,7 @@ impl BoundedFifo {
     /// Lends the account of one sender to a pass of its own.
     pub fn lend<N: FifoSender>(&self, pass: &mut BoundedFifoPass) -> BoundedFifoPass
         requires queue { IsPassOf self.now.queue pass.old }
-        requires may { MayLend N.by (view pass.old) }
+        requires may_lend { MayLend N.by (view pass.old) }
         ensures queue { IsPassOf self.now.queue pass.new × IsPassOf self.now.queue result }
         ensures lent { (view pass.new) ≡ lending N.by (view pass.old) }
         ensures borrowed { (view result) ≡ borrowing N.by (view pass.old) }

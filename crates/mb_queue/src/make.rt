@@ -4,7 +4,7 @@ ghost use Rattle.mb_queue.specs.declared.ledger.Ledger.TheVariants.{Taker};
 ghost use Rattle.mb_queue.specs.Ledger.{account, lent, scope_of};
 ghost use Rattle.mb_queue.specs.Representation.{IsTaking, taking_of};
 ghost use Rattle.mb_queue.specs.Lent.{LendsControl, MayLendControl};
-ghost use Rattle.mb_queue.specs.Made.{IsMakeable, IsNew, IsOpened, numbers_of, unused};
+ghost use Rattle.mb_queue.specs.Made.{IsMakeable, IsNew, IsNewTakePass, numbers_of, unused};
 ghost use Rattle.mb_queue.specs.Passes.{SendPassView, TakePassView};
 
 use crate::ledger::{Account, QueuePart};
@@ -54,7 +54,7 @@ fn open(
     senders: &[SenderId],
 ) -> Result<TakePass, AllocError>
     requires { IsMakeable kind }
-    ensures { IfOk result (IsOpened kind to.0 (numbers_of senders.now)) }
+    ensures { IfOk result (IsNewTakePass kind to.0 (numbers_of senders.now)) }
 {
     match kind {
         MailboxType::Unbounded => {

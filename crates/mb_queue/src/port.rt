@@ -142,7 +142,7 @@ impl Port {
 
     /// The same under a brand that knows the sender.
     fn lend_as<N: FifoSender>(&mut self, by: SenderId) -> Result<Port, AllocError>
-        requires may { MayLend by.0 self.old.ledger }
+        requires may_lend { MayLend by.0 self.old.ledger }
         requires same_sender { N.by ≡ by.0 }
         ensures { MatchResult result
             (λ port. (self.new ≡ record self.old { ledger = lending by.0 self.old.ledger })

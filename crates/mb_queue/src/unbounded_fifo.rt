@@ -87,7 +87,7 @@ impl UnboundedFifo {
     /// Lends the account of one sender to a pass of its own.
     pub fn lend<N: FifoSender>(&self, pass: &mut UnboundedFifoPass) -> UnboundedFifoPass
         requires queue { IsSegPassOf self.now.queue pass.old }
-        requires may { MayLend N.by pass.old.me.view.client }
+        requires may_lend { MayLend N.by pass.old.me.view.client }
         ensures queue { IsSegPassOf self.now.queue pass.new × IsSegPassOf self.now.queue result }
         ensures lent { pass.new.me.view.client ≡ lending N.by pass.old.me.view.client }
         ensures borrowed { result.me.view.client ≡ borrowing N.by pass.old.me.view.client }

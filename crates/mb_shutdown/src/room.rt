@@ -65,7 +65,7 @@ fn room_around<A: Actor, K: Behaviours>(
 ) -> Result<Room<A, K>, AllocError>
     requires within_limit { (actors ≤ 64) × (outside ≤ 16) }
     requires counted { length waiting.items ≡ actors }
-    requires lefts { AllZip IsEmptyWithRoom waiting.items lefts.items }
+    requires empty_with_room { AllZip IsEmptyWithRoom waiting.items lefts.items }
     ensures { IfOk result (λ room. IsRoom actors outside room × (counted_in room ≡ waiting.items)) }
 {
     let senders = actors + outside;

@@ -61,7 +61,7 @@ module _ {A K : Type 0} (gates : Gates (Box Contents)) where
     pub nobody : IsNobody s.inner.registrar.owed
     pub settled : HasNoObligations (pass_view s.inner.registrar.pass)
     pub blank : (pass_view s.inner.registrar.pass).log ≡ []
-    pub silent : (pass_view s.inner.registrar.pass).sent_system ≡ []
+    pub sent_nothing : (pass_view s.inner.registrar.pass).sent_system ≡ []
     pub unclaimed : (pass_view s.inner.registrar.pass).got ≡ []
 
   -- New senders, numbered on from this one.

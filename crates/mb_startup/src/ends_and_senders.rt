@@ -45,7 +45,7 @@ pub(crate) fn open<A: Actor, K: Behaviours, R: Wait>(
     outside: Vec<Vec<SendPass>>,
 ) -> Result<EndsAndSenders<A, K>, AllocError>
     requires same_gates { pass_id pass ≡ gates_id gates.now }
-    requires blank { ((pass_view pass).log ≡ []) × ((pass_view pass).got ≡ []) × ((pass_view pass).obligations ≡ []) }
+    requires nothing_done { ((pass_view pass).log ≡ []) × ((pass_view pass).got ≡ []) × ((pass_view pass).obligations ≡ []) }
     requires whole { IsWhole (pass_view pass).share }
     requires actors { (0 < actors_of gates.now) × (actors_of gates.now ≤ 64) }
     requires not_empty { (0 < length ends.items) × (length ends.items ≤ 16) }
@@ -143,7 +143,7 @@ fn start<H: MailboxState, R: Wait>(
     pass: &mut Pass<H>,
 ) -> Result<(), AllocError>
     requires same_gates { (pass_id pass.old ≡ gates_id gates.now) × (0 < actors_of gates.now) }
-    requires blank { ((pass_view pass.old).log ≡ []) × ((pass_view pass.old).got ≡ []) × ((pass_view pass.old).obligations ≡ []) }
+    requires nothing_done { ((pass_view pass.old).log ≡ []) × ((pass_view pass.old).got ≡ []) × ((pass_view pass.old).obligations ≡ []) }
     requires whole { IsWhole (pass_view pass.old).share }
     ensures same_gates { pass_id pass.new ≡ pass_id pass.old }
     ensures created { IfOk result (λ _. IsCreated (pass_view pass.new) × OwesFirstRun (pass_view pass.new)) }

@@ -99,7 +99,7 @@ impl<A: Actor, K: Behaviours> WorkerEnd<A, K> {
     /// the end is as it was.
     #[inline(always)]
     pub fn take<R: Wait>(&mut self, rt: &R) -> Option<Claim<BoxedHome<A, K>>>
-        ensures fit { IfSome result (IsFreshClaim K.gives (gates_of self.old.registrar.run_queue.end)) }
+        ensures untouched { IfSome result (IsFreshClaim K.gives (gates_of self.old.registrar.run_queue.end)) }
         ensures taken { IfSome result (λ claim. Takes (IsFreshClaim K.gives) self.old.registrar.run_queue.end claim self.new.registrar.run_queue.end) }
         ensures none { IfNone result ((self.new ≡ self.old) × All (WasEmpty (IsFreshClaim K.gives)) (ports_of self.old.registrar.run_queue.end)) }
         ensures same { (self.new.registrar.pass ≡ self.old.registrar.pass) × (self.new.registrar.owed ≡ self.old.registrar.owed)

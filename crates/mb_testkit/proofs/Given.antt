@@ -26,8 +26,8 @@ module _ {H : Type 0} (is_of : H → ℕ → H → Type 0) (facts : H → HomeFa
   same_journal : taken_with claim ≡ (facts claim.home).journal
   same_journal = ap (λ (v : View). (held_in v).journal) fit.known
 
-  pub longer : Extends (facts claim.home).journal (taken_with claim)
-  longer = record { newer = []; joined = sym same_journal }
+  pub extends : Extends (facts claim.home).journal (taken_with claim)
+  extends = record { newer = []; joined = sym same_journal }
 
   pub count : (facts claim.home).given ≡ given_to claim
   count = sym (ap (λ (v : View). (held_in v).given) fit.known)

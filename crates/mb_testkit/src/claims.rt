@@ -15,7 +15,7 @@ pub fn attempt<H: MailboxState>(
     requires same_gates { pass_id pass.old ≡ gates_id gates.now }
     requires present { id.0 < actors_of gates.now }
     ensures same_gates { pass_id pass.new ≡ pass_id pass.old }
-    ensures fit { IfSome result
+    ensures untouched { IfSome result
         (IsUntouched H.is_of H.facts (Some (origin_of gates.now))) }
 {
     match gates.try_schedule(pass, id) {
@@ -27,7 +27,7 @@ pub fn attempt<H: MailboxState>(
 /// Releases the claim, with its home unchanged.
 pub fn give<H: MailboxState>(gates: &Gates<H>, claim: Claim<H>, pass: &mut Pass<H>)
     requires same_gates { pass_id pass.old ≡ gates_id gates.now }
-    requires fit { IsUntouched H.is_of H.facts (Some (origin_of gates.now)) claim }
+    requires untouched { IsUntouched H.is_of H.facts (Some (origin_of gates.now)) claim }
     ensures same_gates { pass_id pass.new ≡ pass_id pass.old }
 {
     gates.release(claim, pass);

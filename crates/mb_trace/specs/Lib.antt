@@ -2,3 +2,4 @@ pub mod Words
 pub mod Standing
 pub mod Entries
 pub mod Ends
+pub mod Filter

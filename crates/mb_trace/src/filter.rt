@@ -1,7 +1,12 @@
 //! Which entries a trace shows.
+ghost use Rattle.std.specs.Prelude.{◌≡◌};
+ghost use Rattle.mb_journal.specs.Entry.{answered_failed, is_failed};
+ghost use Rattle.mb_journal.specs.JournalView.{entry_of};
+ghost use Rattle.mb_trace.specs.Filter.{brings_failure, is_about_failure, is_of_envelope, is_of_kind, shows, shows_actor};
+
 use crate::steps::TraceStep;
 use mb_actor::Answer;
-use mb_journal::Received;
+use mb_journal::{EntryRef, Received};
 use mb_msg::SysMsg;
 
 /// Which kinds of entries are shown.
@@ -30,54 +35,74 @@ pub struct Filter<'a> {
 
 impl Filter<'_> {
     /// Whether the entry passes, whatever the limit is.
-    pub fn passes(&self, step: &TraceStep<'_>) -> bool {
-        self.has_actor(step.actor.0) && is_of(self.only, step.entry.arrival)
+    pub fn passes(&self, step: &TraceStep<'_>) -> bool
+        ensures { result ≡ shows self.now step.now.actor.0 (entry_of step.now.entry) }
+    {
+        self.has_actor(step.actor.0) && is_of(self.only, &step.entry)
     }
 
     /// Whether the entries of the actor of this number are shown.
-    pub fn has_actor(&self, actor: u32) -> bool {
+    pub fn has_actor(&self, actor: u32) -> bool
+        ensures { result ≡ shows_actor self.now.actors.now actor }
+    {
         self.actors.is_empty() || self.actors.contains(&actor)
     }
 }
 
-/// Whether what came is of this kind.
-fn is_of(only: EntryKinds, arrival: Received) -> bool {
+/// Whether the entry is of this kind.
+fn is_of(only: EntryKinds, entry: &EntryRef<'_>) -> bool
+    ensures { result ≡ is_of_kind only (entry_of entry.now) }
+{
     match only {
         EntryKinds::All => true,
-        EntryKinds::User => is_envelope(arrival),
-        EntryKinds::System => !is_envelope(arrival),
-        EntryKinds::Failures => tells_of_failure(arrival),
+        EntryKinds::User => is_envelope(entry),
+        EntryKinds::System => !is_envelope(entry),
+        EntryKinds::Failures => has_failed(entry) || tells_of_failure(entry),
     }
 }
 
-fn is_envelope(arrival: Received) -> bool {
-    match arrival {
+fn is_envelope(entry: &EntryRef<'_>) -> bool
+    ensures { result ≡ is_of_envelope (entry_of entry.now) }
+{
+    match entry.arrival {
         Received::Handled { .. } | Received::Dropped { .. } => true,
         Received::System { .. } | Received::SetAside { .. } => false,
     }
 }
 
-fn tells_of_failure(arrival: Received) -> bool {
-    match arrival {
-        Received::Handled { answer, .. } => has_failed(answer),
-        Received::System {
-            answer,
-            message,
-            ..
-        } => has_failed(answer) || is_of_failure(message),
-        Received::SetAside { message, .. } => is_of_failure(message),
-        Received::Dropped { .. } => false,
+/// Whether the actor's call failed.
+fn has_failed(entry: &EntryRef<'_>) -> bool
+    ensures { result ≡ answered_failed (entry_of entry.now) }
+{
+    match entry.arrival {
+        Received::Handled { answer, .. } => is_failure(answer),
+        Received::System { answer, .. } => is_failure(answer),
+        Received::SetAside { .. } | Received::Dropped { .. } => false,
     }
 }
 
-fn has_failed(answer: Option<Answer>) -> bool {
+fn is_failure(answer: Option<Answer>) -> bool
+    ensures { result ≡ is_failed answer }
+{
     match answer {
         Some(Answer::Failed(_)) => true,
         _ => false,
     }
 }
 
-fn is_of_failure(message: SysMsg) -> bool {
+fn tells_of_failure(entry: &EntryRef<'_>) -> bool
+    ensures { result ≡ brings_failure (entry_of entry.now) }
+{
+    match entry.arrival {
+        Received::System { message, .. } => is_of_failure(message),
+        Received::SetAside { message, .. } => is_of_failure(message),
+        Received::Handled { .. } | Received::Dropped { .. } => false,
+    }
+}
+
+fn is_of_failure(message: SysMsg) -> bool
+    ensures { result ≡ is_about_failure message }
+{
     match message {
         SysMsg::Failed(_, _) | SysMsg::Recreate(_) => true,
         _ => false,

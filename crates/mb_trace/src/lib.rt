@@ -1,7 +1,7 @@
 //! The trace of a run: what came to each actor and what became of it, entry by entry.
 //!
 //! The journals of a report have all entries, each actor's own in order. Of a quiet run the turns give one order of all of them. Of a
-//! run on threads they are shown actor by actor.
+//! run on threads they are shown in one order that agrees with what caused what, or actor by actor where none is found.
 #![tactic(auto)]
 
 mod effect_lines;

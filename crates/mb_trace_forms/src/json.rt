@@ -7,8 +7,7 @@ use mb_trace_json::entry_line;
 use std::alloc::Global;
 use std::io::Write;
 
-/// Writes the trace as lines of JSON: one for each entry that the filter leaves, of a quiet run turn by turn, of a run on threads actor by
-/// actor; then one for each dead letter, for what is left, and for what is set aside. `docs/trace.schema.json` describes a line. Each is
+/// Writes the trace as lines of JSON: one for each entry that the filter leaves, in the order of the text; then one for each dead letter, for what is left, and for what is set aside. `docs/trace.schema.json` describes a line. Each is
 /// written as it is made.
 ///
 /// The errors: `NoMemory`, `Closed` where whoever reads the output has closed it, and `Os` where writing failed otherwise.
@@ -20,22 +19,22 @@ pub fn write_json<W: Write>(
 ) -> Result<(), TraceError> {
     let order = order_of(alloc, trace)?;
     let mut shown = Shown::new(alloc, trace, filter)?;
-    for turn in &order {
-        write_turn(alloc, &mut shown, trace.names, turn, out)?;
+    for part in &order.parts {
+        write_part(alloc, &mut shown, trace.names, part, out)?;
     }
     write_rest(alloc, trace, filter, out)
 }
 
-/// Writes the entries of a turn that are shown.
-fn write_turn<W: Write>(
+/// Writes the entries of a part of the order that are shown.
+fn write_part<W: Write>(
     alloc: Global,
     shown: &mut Shown<'_>,
     names: &[String],
-    turn: &TurnLength,
+    part: &TurnLength,
     out: &mut W,
 ) -> Result<(), TraceError> {
-    for _ in 0..turn.entries {
-        if let Some(step) = shown.pass(turn.actor) {
+    for _ in 0..part.entries {
+        if let Some(step) = shown.pass(part.actor) {
             let line = entry_line(alloc, names, step.actor, step.index, &step.entry)?;
             out.write_all(line.as_bytes())?;
         }

@@ -1,6 +1,7 @@
 //! The forms of a trace beside text: lines of JSON, a sequence diagram in SVG, and a page of HTML.
 //!
-//! Each shows the entries that the text shows, in the same order.
+//! Each shows the entries that the text shows, in the same order: of a quiet run turn by turn, of a run on threads in one that agrees with
+//! what caused what.
 #![tactic(auto)]
 
 mod json;

@@ -8,8 +8,8 @@ use mb_trace::{Filter, Trace, TraceError, TurnLength};
 use std::alloc::{AllocError, Global};
 use std::io::Write;
 
-/// Writes the sequence diagram of the entries and the dead letters that the filter leaves, as an SVG document. From top to bottom it has a
-/// quiet run turn by turn, and one on threads actor by actor.
+/// Writes the sequence diagram of the entries and the dead letters that the filter leaves, as an SVG document. From top to bottom the
+/// entries stand in the order of the text, and the picture of a run on threads says that it is one that agrees with what caused what.
 ///
 /// The errors: `NoMemory`, `Closed` where whoever reads the output has closed it, and `Os` where writing failed otherwise.
 pub fn write_svg<W: Write>(
@@ -18,12 +18,14 @@ pub fn write_svg<W: Write>(
     filter: &Filter<'_>,
     out: &mut W,
 ) -> Result<(), TraceError> {
-    let entries = entries_of(alloc, trace, filter)?;
+    let order = order_of(alloc, trace)?;
+    let entries = entries_of(alloc, trace, filter, &order.parts)?;
     let letters = letters_of(alloc, trace, filter)?;
     let picture = Picture {
         names: trace.names,
         report: trace.report,
         entries: &entries,
+        order: order.kind,
         letters: &letters,
     };
     mb_diagram::write_svg(alloc, out, &picture)?;
@@ -39,12 +41,14 @@ pub fn write_html<W: Write>(
     filter: &Filter<'_>,
     out: &mut W,
 ) -> Result<(), TraceError> {
-    let entries = entries_of(alloc, trace, filter)?;
+    let order = order_of(alloc, trace)?;
+    let entries = entries_of(alloc, trace, filter, &order.parts)?;
     let letters = letters_of(alloc, trace, filter)?;
     let picture = Picture {
         names: trace.names,
         report: trace.report,
         entries: &entries,
+        order: order.kind,
         letters: &letters,
     };
     let report = report_of(alloc, trace)?;
@@ -60,29 +64,29 @@ fn report_of(alloc: Global, trace: &Trace<'_>) -> Result<String, AllocError> {
     report_text(alloc, trace.report, trace.names)
 }
 
-/// The entries that are shown, in order.
+/// The entries that are shown, in this order.
 fn entries_of<'a>(
     alloc: Global,
     trace: &Trace<'a>,
     filter: &Filter<'a>,
+    order: &[TurnLength],
 ) -> Result<Vec<mb_diagram::ShownEntry<'a>>, AllocError> {
-    let order = order_of(alloc, trace)?;
     let mut shown = Shown::new(alloc, trace, filter)?;
     let mut entries = Vec::new(alloc);
-    for turn in &order {
-        add_turn(&mut entries, &mut shown, turn)?;
+    for part in order {
+        add_part(&mut entries, &mut shown, part)?;
     }
     Ok(entries)
 }
 
-/// Adds the entries of a turn that are shown.
-fn add_turn<'a>(
+/// Adds the entries of a part of the order that are shown.
+fn add_part<'a>(
     entries: &mut Vec<mb_diagram::ShownEntry<'a>>,
     shown: &mut Shown<'a>,
-    turn: &TurnLength,
+    part: &TurnLength,
 ) -> Result<(), AllocError> {
-    for _ in 0..turn.entries {
-        if let Some(step) = shown.pass(turn.actor) {
+    for _ in 0..part.entries {
+        if let Some(step) = shown.pass(part.actor) {
             entries.push(mb_diagram::ShownEntry {
                 actor: step.actor,
                 index: step.index,

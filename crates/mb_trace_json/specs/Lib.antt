@@ -1,5 +1,7 @@
 pub mod Effects
 pub mod Entries
+pub mod Lines
 pub mod Messages
 pub mod Names
 pub mod Rest
+pub mod Telling

@@ -1,11 +1,11 @@
 //! What pictures have: each entry once, names escaped, repeated messages in one row.
 use crate::made::{letters, names, report, shown_entries};
-use mb_diagram::{Picture, write_html, write_svg};
+use mb_diagram::{EntryOrder, Picture, write_html, write_svg};
 use std::alloc::{AllocError, Global};
 use std::test::Fail;
 
-/// The diagram of the run that was made by hand, or its page.
-fn drawn(alloc: Global, is_page: bool) -> Option<Vec<u8>> {
+/// The diagram of the run that was made by hand, or its page, with its entries in this order.
+fn drawn(alloc: Global, is_page: bool, order: EntryOrder) -> Option<Vec<u8>> {
     let report = report(alloc)?;
     let names = names(alloc)?;
     let letters = letters(alloc)?;
@@ -14,6 +14,7 @@ fn drawn(alloc: Global, is_page: bool) -> Option<Vec<u8>> {
         names: &names,
         report: &report,
         entries: &shown_entries,
+        order,
         letters: &letters,
     };
     let mut out = Vec::new(alloc);
@@ -34,7 +35,7 @@ fn count(text: &[u8], word: &[u8]) -> usize {
 
 #[test]
 fn a_picture_has_each_entry_once(rt: HostRuntime) -> Result<(), Fail> {
-    let svg = drawn(rt.alloc(), false).ok_or(AllocError)?;
+    let svg = drawn(rt.alloc(), false, EntryOrder::Turns).ok_or(AllocError)?;
     // Of 1,012 entries three Creates share a row, and a thousand envelopes; the other nine have a row each.
     for (word, wanted) in [
         ("data-entries=", 11),
@@ -56,7 +57,7 @@ fn a_picture_has_each_entry_once(rt: HostRuntime) -> Result<(), Fail> {
 #[test]
 fn names_are_escaped(rt: HostRuntime) -> Result<(), Fail> {
     for is_page in [false, true] {
-        let text = drawn(rt.alloc(), is_page).ok_or(AllocError)?;
+        let text = drawn(rt.alloc(), is_page, EntryOrder::Turns).ok_or(AllocError)?;
         assert!(rt; count(&text, b"<\"c\"") == 0);
         assert!(rt; count(&text, b"& '") == 0);
         assert!(rt; count(&text, b"&lt;&quot;c&quot; &amp; &#39;d&#39;&gt;") > 0);
@@ -66,7 +67,7 @@ fn names_are_escaped(rt: HostRuntime) -> Result<(), Fail> {
 
 #[test]
 fn a_page_has_each_entry_once_in_a_journal(rt: HostRuntime) -> Result<(), Fail> {
-    let page = drawn(rt.alloc(), true).ok_or(AllocError)?;
+    let page = drawn(rt.alloc(), true, EntryOrder::Turns).ok_or(AllocError)?;
     for (word, wanted) in [
         ("<tr class=\"entry", 1_012),
         ("<details class=\"journal\"", 4),
@@ -77,6 +78,20 @@ fn a_page_has_each_entry_once_in_a_journal(rt: HostRuntime) -> Result<(), Fail> 
         ("src=", 0),
     ] {
         assert!(rt; count(&page, word.as_bytes()) == wanted, "{word}");
+    }
+    Ok(())
+}
+
+#[test]
+fn a_picture_of_threads_says_its_order(rt: HostRuntime) -> Result<(), Fail> {
+    for (order, said, found) in [
+        (EntryOrder::Turns, 0, 0),
+        (EntryOrder::Causes, 1, 0),
+        (EntryOrder::Actors, 1, 1),
+    ] {
+        let svg = drawn(rt.alloc(), false, order).ok_or(AllocError)?;
+        assert!(rt; count(&svg, b">on threads: ") == said);
+        assert!(rt; count(&svg, b">on threads: no order found ") == found);
     }
     Ok(())
 }

@@ -16,7 +16,7 @@ pub const ACTOR: ActorId = ActorId(1);
 
 /// What is done repeatedly.
 #[derive(Clone, Copy)]
-pub enum Work {
+pub enum GateWork {
     /// The status is read.
     Load,
     /// The status is read, the actor is scheduled and its claim released.
@@ -35,7 +35,7 @@ pub fn measure<R: Clock + Wait + Print + Eprint>(
     gates: &Gates<BenchHome>,
     pass: &mut Pass<BenchHome>,
     what: &str,
-    work: Work,
+    work: GateWork,
 ) -> io::Result<()>
     requires same_gates { pass_id pass.old ≡ gates_id gates.now }
     requires present { 1 < actors_of gates.now }
@@ -52,17 +52,22 @@ pub fn measure<R: Clock + Wait + Print + Eprint>(
     show(rt, what, PoolFigure { done, median })
 }
 
-fn often<R: Wait>(rt: &R, gates: &Gates<BenchHome>, pass: &mut Pass<BenchHome>, work: Work) -> u64
+fn often<R: Wait>(
+    rt: &R,
+    gates: &Gates<BenchHome>,
+    pass: &mut Pass<BenchHome>,
+    work: GateWork,
+) -> u64
     requires same_gates { pass_id pass.old ≡ gates_id gates.now }
     requires present { 1 < actors_of gates.now }
     ensures same_gates { pass_id pass.new ≡ pass_id pass.old }
 {
     match work {
-        Work::Load => load_often(gates, pass),
-        Work::Turn => turn_often(gates, pass, ACTOR),
-        Work::Note => note_often(gates, pass),
-        Work::Drain => drains(rt, gates, pass),
-        Work::GoRound => goes_round(rt, gates, pass),
+        GateWork::Load => load_often(gates, pass),
+        GateWork::Turn => turn_often(gates, pass, ACTOR),
+        GateWork::Note => note_often(gates, pass),
+        GateWork::Drain => drains(rt, gates, pass),
+        GateWork::GoRound => goes_round(rt, gates, pass),
     }
 }
 

@@ -1,6 +1,6 @@
 //! Benchmark of a pool with four ends on four threads.
 ghost use Rattle.std.specs.Prelude.{All, IfSome};
-ghost use Rattle.bench.specs.Ready.{AreReady, IsReady};
+ghost use Rattle.bench.specs.Ready.{AreReady, IsReadyWorker};
 
 use crate::pools::shown::{Made, PoolFigure};
 use crate::pools::worker::{Worker, work};
@@ -19,7 +19,7 @@ pub fn measure<R: Clock + Threads + Wait + Sync>(
     gates: &Gates<StubHome>,
     all: &mut Vec<Worker>,
 ) -> Made
-    requires { All (IsReady gates.now) all.old.items }
+    requires { All (IsReadyWorker gates.now) all.old.items }
 {
     let first = two_of(gates, all)?;
     let second = two_of(gates, all)?;
@@ -28,8 +28,8 @@ pub fn measure<R: Clock + Threads + Wait + Sync>(
 
 /// The last two of these workers, if there are two.
 fn two_of(gates: &Gates<StubHome>, all: &mut Vec<Worker>) -> Option<Pair>
-    requires { All (IsReady gates.now) all.old.items }
-    ensures rest { All (IsReady gates.now) all.new.items }
+    requires { All (IsReadyWorker gates.now) all.old.items }
+    ensures rest { All (IsReadyWorker gates.now) all.new.items }
     ensures pair { IfSome result (AreReady gates.now) }
 {
     let _ = gates;
@@ -87,12 +87,12 @@ fn two<R: Clock + Threads + Wait + Sync>(rt: &R, gates: &Gates<StubHome>, pair: 
     join(
         rt,
         || -> Worker
-            requires { IsReady gates.now a }
-            ensures { IsReady gates.entry.now result }
+            requires { IsReadyWorker gates.now a }
+            ensures { IsReadyWorker gates.entry.now result }
         { work(rt, gates, a) },
         || -> Worker
-            requires { IsReady gates.now b }
-            ensures { IsReady gates.entry.now result }
+            requires { IsReadyWorker gates.now b }
+            ensures { IsReadyWorker gates.entry.now result }
         { work(rt, gates, b) },
     )
 }

@@ -5,7 +5,7 @@ ghost use Rattle.mb_gate.specs.Untouched.{origin_of};
 ghost use Rattle.mb_pool.specs.Moves.{given_back};
 ghost use Rattle.mb_pool.specs.Places.{PoolEndpoint, gates_of};
 ghost use Rattle.mb_testkit.specs.declared.stub_home.StubHome.{StubHome};
-ghost use Rattle.bench.specs.Ready.{IsReady};
+ghost use Rattle.bench.specs.Ready.{IsReadyWorker};
 
 use crate::pools::shown::TURNS;
 use crate::times::Times;
@@ -38,7 +38,7 @@ pub fn workers(
 ) -> Option<Vec<Worker>>
     requires same_gates { pass_id pass.old ≡ gates_id gates.now }
     requires present { (0 < count) × (count ≤ actors_of gates.now) }
-    ensures { IfSome result (λ workers. All (IsReady gates.now) workers.items) }
+    ensures { IfSome result (λ workers. All (IsReadyWorker gates.now) workers.items) }
 {
     let Ok((_pool, mut ends, _feeds)) = Pool::new(alloc, gates, kind, count as usize, 0) else {
         return None;
@@ -57,7 +57,7 @@ fn workers_of(
     requires same_gates { pass_id pass.old ≡ gates_id gates.now }
     requires present { count ≤ actors_of gates.now }
     requires same_origin { All (λ (w : PoolEndpoint StubHome). gates_of w ≡ Some (origin_of gates.now)) ends.old.items }
-    ensures { IfSome result (λ workers. All (IsReady gates.now) workers.items) }
+    ensures { IfSome result (λ workers. All (IsReadyWorker gates.now) workers.items) }
 {
     let Ok(mut workers) = Vec::with_capacity(alloc, ends.len()) else {
         return None;
@@ -84,7 +84,7 @@ fn worker_of(
     requires present { actor.0 < actors_of gates.now }
     requires same_origin { gates_of end ≡ Some (origin_of gates.now) }
     ensures same_gates { pass_id pass.new ≡ gates_id gates.now }
-    ensures ready { IsReady gates.now result }
+    ensures ready { IsReadyWorker gates.now result }
 {
     Worker {
         end,
@@ -97,8 +97,8 @@ fn worker_of(
 
 /// The worker after one more round, in which it pushed its actor's claim and took one repeatedly.
 pub fn work<R: Clock + Wait>(rt: &R, gates: &Gates<StubHome>, mut worker: Worker) -> Worker
-    requires { IsReady gates.now worker }
-    ensures { IsReady gates.now result }
+    requires { IsReadyWorker gates.now worker }
+    ensures { IsReadyWorker gates.now result }
 {
     let begin = Instant::now(rt).ok();
     worker.done = turn_often(rt, gates, &mut worker.pass, &mut worker.end, worker.actor);

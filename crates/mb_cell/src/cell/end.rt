@@ -40,7 +40,7 @@ impl<A: Actor, K: Behaviours> Cell<A, K> {
         requires may_take { MayTake self.old number SysMsg.Terminate }
         requires applied { sets_aside self.old.who self.old.journal SysMsg.Terminate ≡ false }
         requires not_ending { phase_is (phase_of self.old.who self.old.journal) Ending ≡ false }
-        requires silent { (not (is_guardian self.old.who) && phase_is (phase_of self.old.who self.old.journal) Live) ≡ false }
+        requires is_not_live { (not (is_guardian self.old.who) && phase_is (phase_of self.old.who self.old.journal) Live) ≡ false }
         requires no_children { is_empty (children self.old.who self.old.journal) ≡ true }
         ensures taken { TakesSystem self.old self.new number SysMsg.Terminate }
         ensures lawful { IsLawful self.new.who (K.gives self.new.who.this.0) self.new.journal }
@@ -75,7 +75,7 @@ impl<A: Actor, K: Behaviours> Cell<A, K> {
     pub(super) fn apply_last_end(&mut self, number: u64, id: ActorId)
         requires may_take { MayTake self.old number (SysMsg.Died id) }
         requires applied { sets_aside self.old.who self.old.journal (SysMsg.Died id) ≡ false }
-        requires silent { (not (is_guardian self.old.who) && was_live_at self.old.who self.old.journal) ≡ false }
+        requires is_not_live { (not (is_guardian self.old.who) && was_live_at self.old.who self.old.journal) ≡ false }
         requires last { (phase_is (phase_of self.old.who self.old.journal) Ending && is_alone (children self.old.who self.old.journal) id) ≡ true }
         ensures taken { TakesSystem self.old self.new number (SysMsg.Died id) }
         ensures lawful { IsLawful self.new.who (K.gives self.new.who.this.0) self.new.journal }

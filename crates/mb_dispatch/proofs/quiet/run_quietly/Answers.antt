@@ -89,7 +89,7 @@ run_one-requires-clause-same_gates g c =
 
 pub run_one-requires-clause-untouched : goal.run_one-requires-clause-untouched
 run_one-requires-clause-untouched g c =
-    subst (λ (o : Option (Origin (Box Contents))). IsFreshClaim g.K.Behaviours.gives o c.in-Some-take.claim) c.loop.invariant.0.1 c.in-Some-take.ensures.fit
+    subst (λ (o : Option (Origin (Box Contents))). IsFreshClaim g.K.Behaviours.gives o c.in-Some-take.claim) c.loop.invariant.0.1 c.in-Some-take.ensures.untouched
 
 pub returns-then-is_err-clause-same_gates : goal.returns-then-is_err-clause-same_gates
 returns-then-is_err-clause-same_gates g c = c.loop.invariant.0

@@ -9,7 +9,7 @@ run_mailbox-requires-clause-same_gates g c = took c.args.system.now.gates c.args
 
 pub run_mailbox-requires-clause-untouched : goal.run_mailbox-requires-clause-untouched
 run_mailbox-requires-clause-untouched g c =
-    subst (λ origin. IsFreshClaim (λ (n : ℕ) (m : Moment) (r : Reply). Unit {0}) origin c.in-Some.claim) c.requires.same_gates.1 c.in-Some.ensures.fit
+    subst (λ origin. IsFreshClaim (λ (n : ℕ) (m : Moment) (r : Reply). Unit {0}) origin c.in-Some.claim) c.requires.same_gates.1 c.in-Some.ensures.untouched
 
 pub returns-in-None : goal.returns-in-None
 returns-in-None g c = record { same_gates = took c.args.system.now.gates c.args.end.now c.take.new.self c.take.ensures.same c.requires.same_gates }

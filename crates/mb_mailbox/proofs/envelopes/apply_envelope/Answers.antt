@@ -107,7 +107,7 @@ returns-in_err-ready-clause-stops g c =
     record {
       full = λ is. full-ready old c.ready.new.self _ _ same
           (full.0 (c.in_err-ready.was ∙ ap (λ (f : ReadyError). Err f) (passed-fault c.from_residual.result fault c.from_residual.ensures.1 is)));
-      short = λ is. inl (room-ready old c.ready.new.self _ _ same (room-short c.ready.result _ _ full
+      out_of_memory = λ is. inl (room-ready old c.ready.new.self _ _ same (room-short c.ready.result _ _ full
           (c.in_err-ready.was ∙ ap (λ (f : ReadyError). Err f) (passed-fault c.from_residual.result fault c.from_residual.ensures.1 is))));
     }
 
@@ -469,5 +469,5 @@ pub returns-in-Err-clause-stops : goal.returns-in-Err-clause-stops
 returns-in-Err-clause-stops g c = record {
   full = λ full. absurd (not-full c.carry_out.result c.carry_out.ensures.refused
       (c.in-Err.is ∙ ap (λ (f : ReadyError). Err f) (same-fault c.in-Err.fault full)));
-  short = λ short. inr (err-at c.carry_out.result c.in-Err.fault c.in-Err.is c.carry_out.ensures.ended);
+  out_of_memory = λ short. inr (err-at c.carry_out.result c.in-Err.fault c.in-Err.is c.carry_out.ensures.ended);
 }

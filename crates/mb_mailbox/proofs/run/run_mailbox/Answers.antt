@@ -46,8 +46,8 @@ pub release-requires-clause-home_of_actor : goal.release-requires-clause-home_of
 release-requires-clause-home_of_actor g c =
     home-own _ _ _ c.run_claim-outcome.new.claim c.run_claim-outcome.ensures.in_run.running c.run_claim-outcome.ensures.in_run.carried_out
 
-pub release-requires-clause-longer : goal.release-requires-clause-longer
-release-requires-clause-longer g c = home-longer _ _ _ c.run_claim-outcome.new.claim c.run_claim-outcome.ensures.in_run.running
+pub release-requires-clause-extends : goal.release-requires-clause-extends
+release-requires-clause-extends g c = home-longer _ _ _ c.run_claim-outcome.new.claim c.run_claim-outcome.ensures.in_run.running
 
 pub release-requires-clause-fold : goal.release-requires-clause-fold
 release-requires-clause-fold g c = home-fold _ _ _ c.run_claim-outcome.new.claim c.run_claim-outcome.ensures.in_run.running
@@ -190,8 +190,8 @@ returns-in-Err-clause-ran g c =
       ),
     )
 
-pub returns-in-Err-clause-short : goal.returns-in-Err-clause-short
-returns-in-Err-clause-short g c = λ short.
+pub returns-in-Err-clause-out_of_memory : goal.returns-in-Err-clause-out_of_memory
+returns-in-Err-clause-out_of_memory g c = λ short.
     let run = c.run_claim-outcome in
     let last = run.new.claim in
     let turn = run.new.turn in
@@ -214,8 +214,8 @@ returns-in-Err-clause-short g c = λ short.
           run.ensures.in_run.run_counts run.ensures.within_limit tt tt tt run.ensures.in_run.running.only_drained saw part fresh at_first
           run.ensures.in_run.running.settled.taken run.ensures.in_run.running.settled.open_keeps (λ ends. absurd ends),
       subst (λ (w : Identity). IsShortOfMemory w journal) run.ensures.advances.same.who
-          (run.ensures.stops.short (c.in-Err.is ∙ ap (λ (f : ReadyError). Err f) (same-fault c.in-Err.fault short))),
+          (run.ensures.stops.out_of_memory (c.in-Err.is ∙ ap (λ (f : ReadyError). Err f) (same-fault c.in-Err.fault short))),
     )
 
-pub returns-in-Ok-clause-short : goal.returns-in-Ok-clause-short
-returns-in-Ok-clause-short g c = λ short. absurd (cc short)
+pub returns-in-Ok-clause-out_of_memory : goal.returns-in-Ok-clause-out_of_memory
+returns-in-Ok-clause-out_of_memory g c = λ short. absurd (cc short)

@@ -65,7 +65,7 @@ returns-in_err-ready-clause-stops g c =
     record {
       full = λ is. full-ready old c.ready.new.self _ _ same
           (full.0 (c.in_err-ready.was ∙ ap (λ (f : ReadyError). Err f) (passed-fault c.from_residual.result fault c.from_residual.ensures.1 is)));
-      short = λ is. inl (room-ready old c.ready.new.self _ _ same (room-short c.ready.result _ _ full
+      out_of_memory = λ is. inl (room-ready old c.ready.new.self _ _ same (room-short c.ready.result _ _ full
           (c.in_err-ready.was ∙ ap (λ (f : ReadyError). Err f) (passed-fault c.from_residual.result fault c.from_residual.ensures.1 is))));
     }
 
@@ -199,5 +199,5 @@ returns-clause-advances g c =
 pub returns-clause-stops : goal.returns-clause-stops
 returns-clause-stops g c = record {
   full = λ full. absurd (not-full _ c.carry_out.ensures.refused full);
-  short = λ short. inr (err-at c.carry_out.result NoMemory short c.carry_out.ensures.ended);
+  out_of_memory = λ short. inr (err-at c.carry_out.result NoMemory short c.carry_out.ensures.ended);
 }

@@ -19,25 +19,25 @@ returns-in-None-clause-pushed g c =
     (λ f. (given_back f ≡ c.args.claim) × (endpoint_of new m ≡ endpoint_of old m)
     × IsRefusedBy (IsUntouched g.H.MailboxState.is_of g.H.MailboxState.facts) (endpoint_of old m) f))
     (sym c.in-None.is) (push_by_shared_port
-    (IsUntouched g.H.MailboxState.is_of g.H.MailboxState.facts) old new c.push.ensures.spot c.args.claim c.push.result c.push.ensures.pushed)
+    (IsUntouched g.H.MailboxState.is_of g.H.MailboxState.facts) old new c.push.ensures.same_queue c.args.claim c.push.result c.push.ensures.pushed)
 
 pub returns-in-None-clause-same : goal.returns-in-None-clause-same
 returns-in-None-clause-same g c =
     let old = port_view c.args.shared_port.now in let new = port_view c.push.new.self in
     subst (λ m. parts_of (endpoint_of new m) ≡ parts_of (endpoint_of old m)) (sym c.in-None.is)
     (feed_parts old new (push_same
-    (IsUntouched g.H.MailboxState.is_of g.H.MailboxState.facts) old new c.push.ensures.spot c.args.claim c.push.result c.push.ensures.pushed))
+    (IsUntouched g.H.MailboxState.is_of g.H.MailboxState.facts) old new c.push.ensures.same_queue c.args.claim c.push.result c.push.ensures.pushed))
 
 pub push-requires-in-Some-clause-share : goal.push-requires-in-Some-clause-share
 push-requires-in-Some-clause-share g c =
     let m = c.in-Some.member in let shared_port = port_view c.args.shared_port.now in
     (own_open m.own_deque shared_port m.thieves.items (subst (λ o. AreOpen (endpoint_of shared_port o)) c.in-Some.is c.requires.open)).share
 
-pub push-requires-in-Some-clause-fit : goal.push-requires-in-Some-clause-fit
-push-requires-in-Some-clause-fit g c =
+pub push-requires-in-Some-clause-untouched : goal.push-requires-in-Some-clause-untouched
+push-requires-in-Some-clause-untouched g c =
     let m = c.in-Some.member in let shared_port = port_view c.args.shared_port.now in
     subst (λ x. IsUntouched g.H.MailboxState.is_of g.H.MailboxState.facts x c.args.claim)
-    (sym (own_open m.own_deque shared_port m.thieves.items (subst (λ o. AreOpen (endpoint_of shared_port o)) c.in-Some.is c.requires.open)).same) c.requires.fit
+    (sym (own_open m.own_deque shared_port m.thieves.items (subst (λ o. AreOpen (endpoint_of shared_port o)) c.in-Some.is c.requires.open)).same) c.requires.untouched
 
 pub returns-in-Ok-clause-pushed : goal.returns-in-Ok-clause-pushed
 returns-in-Ok-clause-pushed g c =
@@ -46,17 +46,17 @@ returns-in-Ok-clause-pushed g c =
     (ports_of (endpoint_of shared_port o)) c.args.claim (new ∷ shared_port ∷ m.thieves.items))
     (sym c.in-Some.is)
     (push_by_own (IsUntouched g.H.MailboxState.is_of g.H.MailboxState.facts)
-    m.own_deque new shared_port shared_port m.thieves.items m.thieves.items c.args.claim c.push-in-Some.ensures.spot c.in-Ok.ensures.pushed)
+    m.own_deque new shared_port shared_port m.thieves.items m.thieves.items c.args.claim c.push-in-Some.ensures.same_queue c.in-Ok.ensures.pushed)
 
-pub push-requires-clause-fit : goal.push-requires-clause-fit
-push-requires-clause-fit g c = c.requires.fit
+pub push-requires-clause-untouched : goal.push-requires-clause-untouched
+push-requires-clause-untouched g c = c.requires.untouched
 
 pub returns-in-Ok-clause-same : goal.returns-in-Ok-clause-same
 returns-in-Ok-clause-same g c =
     let m = c.in-Some.member in let new = c.push-in-Some.new.self in let shared_port = port_view c.args.shared_port.now in
     subst (λ o. parts_of (stealing new shared_port m.thieves.items) ≡ parts_of (endpoint_of shared_port o)) (sym c.in-Some.is)
     (own_parts m.own_deque new shared_port m.thieves.items (put_part (IsUntouched g.H.MailboxState.is_of g.H.MailboxState.facts) m.own_deque new c.args.claim
-    c.push-in-Some.ensures.spot c.in-Ok.ensures.pushed))
+    c.push-in-Some.ensures.same_queue c.in-Ok.ensures.pushed))
 
 pub returns-in-Err-clause-pushed : goal.returns-in-Err-clause-pushed
 returns-in-Err-clause-pushed g c =

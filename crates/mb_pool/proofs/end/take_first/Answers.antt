@@ -19,14 +19,14 @@ returns-in-None-clause-taken g c =
     (IsUntouched g.H.MailboxState.is_of g.H.MailboxState.facts)
     (endpoint_of old m) x (endpoint_of new m)))
     (sym c.in-None.is) (take_by_shared_port
-    (IsUntouched g.H.MailboxState.is_of g.H.MailboxState.facts) old new c.take.ensures.spot c.take.result c.take.ensures.taken)
+    (IsUntouched g.H.MailboxState.is_of g.H.MailboxState.facts) old new c.take.ensures.same_queue c.take.result c.take.ensures.taken)
 
 pub returns-in-None-clause-same : goal.returns-in-None-clause-same
 returns-in-None-clause-same g c =
     let old = port_view c.args.shared_port.now in let new = port_view c.take.new.self in
     subst (λ m. parts_of (endpoint_of new m) ≡ parts_of (endpoint_of old m)) (sym c.in-None.is)
     (feed_parts old new (take_same
-    (IsUntouched g.H.MailboxState.is_of g.H.MailboxState.facts) old new c.take.ensures.spot c.take.result c.take.ensures.taken))
+    (IsUntouched g.H.MailboxState.is_of g.H.MailboxState.facts) old new c.take.ensures.same_queue c.take.result c.take.ensures.taken))
 
 pub take_somewhere-requires : goal.take_somewhere-requires
 take_somewhere-requires g c = subst (λ o. AreOpen (endpoint_of (port_view c.args.shared_port.now) o)) c.in-Some.is c.requires

@@ -9,7 +9,7 @@ returns-in-Some g c =
     let lt : at.index < length c.args.thieves.now = omega (arith, c.loop-index-test.true) in
     steals_at (IsUntouched g.H.MailboxState.is_of g.H.MailboxState.facts)
     c.args.thieves.now at.thieves at.invariant.0 at.index c.index-thieves-index.result c.take.new.self lt at.invariant.1 c.in-Some.claim
-    c.take.ensures.spot c.in-Some.ensures.taken
+    c.take.ensures.same_queue c.in-Some.ensures.taken
 
 pub loop-index-preserved : goal.loop-index-preserved
 loop-index-preserved g c =

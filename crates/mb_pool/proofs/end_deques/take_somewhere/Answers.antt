@@ -14,12 +14,12 @@ take-requires g c = record { share = (own_open c.args.member.now.own_deque (port
 pub returns-in-Some-clause-taken : goal.returns-in-Some-clause-taken
 returns-in-Some-clause-taken g c = let m = c.args.member.now in let d = port_view c.args.shared_port.now in
     took_own (IsUntouched g.H.MailboxState.is_of g.H.MailboxState.facts) m.own_deque c.take.new.self d d m.thieves.items m.thieves.items c.in-Some.claim
-    c.take.ensures.spot c.in-Some.ensures.taken
+    c.take.ensures.same_queue c.in-Some.ensures.taken
 
 pub returns-in-Some-clause-same : goal.returns-in-Some-clause-same
 returns-in-Some-clause-same g c = let m = c.args.member.now in let d = port_view c.args.shared_port.now in
     own_parts m.own_deque c.take.new.self d m.thieves.items
-    (took_part (IsUntouched g.H.MailboxState.is_of g.H.MailboxState.facts) m.own_deque c.take.new.self c.in-Some.claim c.take.ensures.spot c.in-Some.ensures.taken)
+    (took_part (IsUntouched g.H.MailboxState.is_of g.H.MailboxState.facts) m.own_deque c.take.new.self c.in-Some.claim c.take.ensures.same_queue c.in-Some.ensures.taken)
 
 pub take-requires-2 : goal.take-requires-2
 take-requires-2 g c = record { share = (shared_port_open (endpoint_of (port_view c.args.shared_port.now) (Some c.args.member.now)) c.requires).share }
@@ -28,7 +28,7 @@ pub returns-in-Some-take-clause-taken : goal.returns-in-Some-take-clause-taken
 returns-in-Some-take-clause-taken g c = let m = c.args.member.now in let d = port_view c.args.shared_port.now in
     let none = of_none _ _ c.take.result c.in_default.is c.take.ensures.taken in
     took_shared_port (IsUntouched g.H.MailboxState.is_of g.H.MailboxState.facts)
-    m.own_deque c.take.new.self d (port_view c.take-2.new.self) m.thieves.items m.thieves.items none.0 none.1 c.in-Some-take.claim c.take-2.ensures.spot
+    m.own_deque c.take.new.self d (port_view c.take-2.new.self) m.thieves.items m.thieves.items none.0 none.1 c.in-Some-take.claim c.take-2.ensures.same_queue
     c.in-Some-take.ensures.taken
 
 pub steal_from_next-requires : goal.steal_from_next-requires
@@ -52,7 +52,7 @@ pub returns-in-Some-take-clause-same : goal.returns-in-Some-take-clause-same
 returns-in-Some-take-clause-same g c = let m = c.args.member.now in let d = port_view c.args.shared_port.now in
     let none = of_none _ _ c.take.result c.in_default.is c.take.ensures.taken in
     took_shared_port_same (IsUntouched g.H.MailboxState.is_of g.H.MailboxState.facts)
-    m.own_deque c.take.new.self d (port_view c.take-2.new.self) m.thieves.items m.thieves.items none.0 none.1 c.in-Some-take.claim c.take-2.ensures.spot
+    m.own_deque c.take.new.self d (port_view c.take-2.new.self) m.thieves.items m.thieves.items none.0 none.1 c.in-Some-take.claim c.take-2.ensures.same_queue
     c.in-Some-take.ensures.taken
 
 pub returns-clause-same : goal.returns-clause-same

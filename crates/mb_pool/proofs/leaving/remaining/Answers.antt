@@ -85,8 +85,8 @@ returns-clause-left g c =
     c.empty_shared_port.new.left.items p c.empty_shared_port.ensures in
     left.0
 
-pub returns-clause-fit : goal.returns-clause-fit
-returns-clause-fit g c =
+pub returns-clause-untouched : goal.returns-clause-untouched
+returns-clause-untouched g c =
     let pool = c.args.pool in let v = c.args.ends in let feeds = c.args.feeds.items in let new = c.gather.new.ends in
     let whole = subst (λ p. IsWhole p) c.pool.view_is c.pool.invariant in
     let count : length new ≡ v.len = omega (arith, c.gather.auto.ends, c.as_mut_slice.ensures.len) in

@@ -1,7 +1,7 @@
 use Rattle.std.proofs.Common.{◌∙◌, [], refl, sym, subst, ◌<◌}
 use Rattle.crossbeam_deque.specs.Handles.{stealer_deque, view}
 use Rattle.mb_gate.specs.Untouched.{IsUntouched}
-use Rattle.mb_pool.specs.Rule.{Moment, TakesFirst}
+use Rattle.mb_pool.specs.Rule.{QueueMoment, TakesFirst}
 use Rattle.mb_pool.proofs.Steps.{deque_take, deque_few, same_deque, took}
 use Rattle.mb_pool.proofs.thief.steal_first.Goals as goal
 
@@ -32,7 +32,7 @@ pub returns-in-Empty-clause-taken : goal.returns-in-Empty-clause-taken
 returns-in-Empty-clause-taken g c =
     let found = c.in-Empty.ensures.rule in (
       found.0 ∙ c.loop.invariant.1,
-      subst (λ l. Moment (IsUntouched g.H.MailboxState.is_of g.H.MailboxState.facts) l []) c.loop.invariant.1 found.1,
+      subst (λ l. QueueMoment (IsUntouched g.H.MailboxState.is_of g.H.MailboxState.facts) l []) c.loop.invariant.1 found.1,
     )
 
 pub loop-preserved : goal.loop-preserved

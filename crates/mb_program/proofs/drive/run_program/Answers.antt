@@ -23,8 +23,8 @@ returns-clause-failed g c = λ other.
     c.requires.writer c.answer_to-report.ensures.report c.answer_to-report.ensures.failure c.write_report.ensures.report
     c.write_report.ensures.unwritten c.write_report.ensures.refused other
 
-pub returns-clause-silent : goal.returns-clause-silent
-returns-clause-silent g c =
+pub returns-clause-unwritten_without_scenario : goal.returns-clause-unwritten_without_scenario
+returns-clause-unwritten_without_scenario g c =
     ended-silent g.W.Write.contents g.E.Write.contents c.args.arguments (g.R.Read.remaining c.args.reader.now.stream) _ 0 _ _ c.args.errors.now c.args.errors.now c.answer_to-report.result
     c.answer_to-report.ensures.report c.write_report.ensures.unwritten
 

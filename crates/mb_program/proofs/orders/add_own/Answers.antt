@@ -1,5 +1,5 @@
 use Rattle.std.proofs.Common.{◌∙◌, ◌++◌, ap, sym}
-use Rattle.mb_program.proofs.OrderLemmas.{orders-own}
+use Rattle.heddleorange.proofs.InOrder.{orders-own}
 use Rattle.mb_program.proofs.orders.add_own.Goals as goal
 
 pub returns : goal.returns

@@ -1,6 +1,6 @@
 use Rattle.std.proofs.Common.{◌∙◌, ap}
 use Rattle.std.proofs.lemmas.List.{take_all}
-use Rattle.mb_program.specs.Orders.{orders_of}
+use Rattle.heddleorange.specs.Orders.{orders_of}
 use Rattle.mb_program.proofs.OrderLemmas.{orders-step}
 use Rattle.mb_program.proofs.orders.orders_of.Goals as goal
 

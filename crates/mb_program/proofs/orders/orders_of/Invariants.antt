@@ -1,5 +1,5 @@
 use Rattle.std.proofs.Common.{◌≡◌, take}
-use Rattle.mb_program.specs.Orders.{orders_of}
+use Rattle.heddleorange.specs.Orders.{orders_of}
 use Rattle.mb_program.proofs.orders.orders_of.Given as goal
 
 abbrev pub invariant-loop-send : goal.invariant-loop-send

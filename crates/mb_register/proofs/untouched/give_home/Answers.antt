@@ -8,8 +8,8 @@ use Rattle.mb_register.proofs.Views.{looks-back}
 use Rattle.mb_register.proofs.ClaimCounts.{claims-back}
 use Rattle.mb_register.proofs.untouched.give_home.Goals as goal
 
-pub release-requires-clause-longer : goal.release-requires-clause-longer
-release-requires-clause-longer g c =
+pub release-requires-clause-extends : goal.release-requires-clause-extends
+release-requires-clause-extends g c =
     let claim = c.args.claim in
     extends-same (g.H.MailboxState.facts claim.home).journal (taken_with claim) (ap (λ (v : View). (held_in v).journal) c.requires.untouched.known)
 

@@ -24,7 +24,7 @@ pub returns : goal.returns
 returns g c = (
   record {
     counted = c.requires.counted;
-    lefts = c.requires.lefts;
+    lefts = c.requires.empty_with_room;
     homes = (c.in_ok-with_capacity.ensures.items, c.in_ok-with_capacity.ensures.capacity);
     ended = (c.in_ok-with_capacity-2.ensures.items, c.in_ok-with_capacity-2.ensures.capacity);
     takes = (c.in_ok-with_capacity-3.ensures.items, c.in_ok-with_capacity-3.ensures.capacity);

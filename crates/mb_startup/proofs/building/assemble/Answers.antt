@@ -37,7 +37,7 @@ open-requires g c =
     let fed : length feeds ≡ c.args.plan.senders = feeds_are.1 ∙ pool.feeds_are in
     let rows = sym (length-map outside.items (λ row. row.items)) ∙ founded.rows in let senders = right.senders in record {
       same_gates = c.in_ok-gates.ensures.pass.0;
-      blank = let known = c.in_ok-gates.ensures.pass.1 in
+      nothing_done = let known = c.in_ok-gates.ensures.pass.1 in
           (ap (λ (v : View). v.log) known, ap (λ (v : View). v.got) known, ap (λ (v : View). v.obligations) known);
       whole = subst (λ (v : View). IsWhole v.share) (sym c.in_ok-gates.ensures.pass.1) whole_one;
       actors = (omega (arith, actors), omega (arith, actors, few));

@@ -55,8 +55,8 @@ returns-clause-ports g c =
 pub start-requires-clause-same_gates : goal.start-requires-clause-same_gates
 start-requires-clause-same_gates g c = (c.requires.same_gates, c.requires.actors.0)
 
-pub start-requires-clause-blank : goal.start-requires-clause-blank
-start-requires-clause-blank g c = c.requires.blank
+pub start-requires-clause-nothing_done : goal.start-requires-clause-nothing_done
+start-requires-clause-nothing_done g c = c.requires.nothing_done
 
 pub start-requires-clause-whole : goal.start-requires-clause-whole
 start-requires-clause-whole g c = c.requires.whole

@@ -107,7 +107,7 @@ loop-feed-preserved g c =
         nobody = subst (λ w. IsNobody w.owed) (sym parts.0) c.none.ensures;
         settled = λ id. ap (λ w. obligation_to id (pass_view w.pass)) parts.0 ∙ ap (obligation_to id) c.new_pass.ensures.known.1;
         blank = ap (λ w. (pass_view w.pass).log) parts.0 ∙ ap (λ (v : View). v.log) c.new_pass.ensures.known.1;
-        silent = ap (λ w. (pass_view w.pass).sent_system) parts.0 ∙ ap (λ (v : View). v.sent_system) c.new_pass.ensures.known.1;
+        sent_nothing = ap (λ w. (pass_view w.pass).sent_system) parts.0 ∙ ap (λ (v : View). v.sent_system) c.new_pass.ensures.known.1;
         unclaimed = ap (λ w. (pass_view w.pass).got) parts.0 ∙ ap (λ (v : View). v.got) c.new_pass.ensures.known.1;
       });
       ports = ap pool_feeds_of pushed ∙ map_push (λ (s : Sender _ _). s.inner.registrar.run_queue.feed) at.senders.items _

@@ -6,16 +6,16 @@ use Rattle.mb_gate.specs.NamedActors.{NamesBelow}
 use Rattle.mb_startup.proofs.ends_and_senders.start.Goals as goal
 
 pub unreachable-requires : goal.unreachable-requires
-unreachable-requires g c = nobody-got (pass_view c.args.pass.now) c.requires.blank.1 (c.in-Err.ensures.held c.requires.whole)
+unreachable-requires g c = nobody-got (pass_view c.args.pass.now) c.requires.nothing_done.1 (c.in-Err.ensures.held c.requires.whole)
 
 pub returns-clause-created : goal.returns-clause-created
 returns-clause-created g c = (
-  created _ _ (pass_view c.args.pass.now) _ c.in-Ok.ensures.listed c.in_ok-node.ensures c.requires.blank.0,
-  owes-first _ _ (pass_view c.args.pass.now) _ c.in-Ok.ensures.listed c.requires.blank.2,
+  created _ _ (pass_view c.args.pass.now) _ c.in-Ok.ensures.listed c.in_ok-node.ensures c.requires.nothing_done.0,
+  owes-first _ _ (pass_view c.args.pass.now) _ c.in-Ok.ensures.listed c.requires.nothing_done.2,
 )
 
 pub returns-clause-kept : goal.returns-clause-kept
-returns-clause-kept g c = kept-whole _ _ (pass_view c.args.pass.now) _ c.in-Ok.ensures.listed c.requires.blank.1 c.requires.whole
+returns-clause-kept g c = kept-whole _ _ (pass_view c.args.pass.now) _ c.in-Ok.ensures.listed c.requires.nothing_done.1 c.requires.whole
 
 pub sys_enqueue-requires-clause-same_gates : goal.sys_enqueue-requires-clause-same_gates
 sys_enqueue-requires-clause-same_gates g c = c.requires.same_gates.0

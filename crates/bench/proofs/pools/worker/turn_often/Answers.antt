@@ -6,7 +6,7 @@ use Rattle.bench.proofs.pools.worker.turn_often.Goals as goal
 pub push-requires : goal.push-requires
 push-requires g c =
     record {
-      fit = subst (λ o. IsUntouched g.H.MailboxState.is_of g.H.MailboxState.facts o c.loop.claim) (sym c.loop.invariant.1) c.loop.invariant.2;
+      untouched = subst (λ o. IsUntouched g.H.MailboxState.is_of g.H.MailboxState.facts o c.loop.claim) (sym c.loop.invariant.1) c.loop.invariant.2;
     }
 
 pub loop-preserved : goal.loop-preserved
@@ -14,5 +14,5 @@ loop-preserved g c =
     let pushed = same_gates c.loop.end c.push.new.self c.push.ensures.same ∙ c.loop.invariant.1 in (
       c.loop.invariant.0,
       same_gates c.push.new.self c.take.new.self c.take.ensures.same ∙ pushed,
-      subst (λ o. IsUntouched g.H.MailboxState.is_of g.H.MailboxState.facts o c.in-Some-take.next) pushed c.in-Some-take.ensures.fit,
+      subst (λ o. IsUntouched g.H.MailboxState.is_of g.H.MailboxState.facts o c.in-Some-take.next) pushed c.in-Some-take.ensures.untouched,
     )

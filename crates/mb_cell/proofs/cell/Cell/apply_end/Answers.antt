@@ -22,7 +22,7 @@ row g c =
     (ap (λ (s : CellView). s.acts) c.self.view_is ∙ c.requires.may_take.carried_out)
     (subst (λ (s : CellView). phase_is (phase s.who s.journal) Ending ≡ false) (sym c.self.view_is) c.requires.not_ending)
     (subst (λ (s : CellView). is_empty (children s.who s.journal) ≡ true) (sym c.self.view_is) c.requires.no_children)
-    (subst (λ (s : CellView). (not (is_guardian s.who) && phase_is (phase s.who s.journal) Live) ≡ false) (sym c.self.view_is) c.requires.silent)
+    (subst (λ (s : CellView). (not (is_guardian s.who) && phase_is (phase s.who s.journal) Live) ≡ false) (sym c.self.view_is) c.requires.is_not_live)
     c.end_at_once.new.self c.end_at_once.ensures
 
 pub invariant_of-self : goal.invariant_of-self

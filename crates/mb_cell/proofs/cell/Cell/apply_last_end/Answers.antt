@@ -24,7 +24,7 @@ row g c =
     c.args.id
     (subst (λ (s : CellView). (phase_is (phase s.who s.journal) Ending && is_alone (children s.who s.journal) c.args.id) ≡ true)
     (sym c.self.view_is) c.requires.last)
-    (subst (λ (s : CellView). (not (is_guardian s.who) && was_live s.who s.journal) ≡ false) (sym c.self.view_is) c.requires.silent)
+    (subst (λ (s : CellView). (not (is_guardian s.who) && was_live s.who s.journal) ≡ false) (sym c.self.view_is) c.requires.is_not_live)
     c.died_last.new.self c.died_last.ensures
 
 pub invariant_of-self : goal.invariant_of-self

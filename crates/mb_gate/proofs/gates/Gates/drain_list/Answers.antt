@@ -22,7 +22,7 @@ store-requires g c =
       search rules,
       drains_allowed (g.H.MailboxState.is_of (first_home c.args.self.now)) g.H.MailboxState.facts _ _ _ _ c.args.id.0 _ (let k =
           c.args.self.now.keyed in let t = c.requires.present in omega arith) _ l _ c.word_index-gate.ensures
-          (let k = c.args.self.now.keyed in let d = c.args.self.now.deep in omega arith)
+          (let k = c.args.self.now.keyed in let d = c.args.self.now.slot_count in omega arith)
           (ap (λ m. m.0.claim) laid ∙ c.requires.holder.has) c.requires.holder.of (ap (λ m. m.0.list) laid ∙ lent.has) refl (laid_back
           c.args.id.0 _ _ c.args.seat.now.me _ laid c.drain-chain.ensures.list)
           (c.with_drained-new.ensures ∙ (ap (with_drained c.args.word.bits) (empty_is c.is_empty.result c.drain-chain.result c.is_empty.ensures ∙
@@ -57,4 +57,4 @@ returns-clause-named g c =
     ∙ c.requires.holder.has) in
     let actors = actors_of c.args.self.now in
     subst (EachNamesBelow actors) (sym c.drain-chain.ensures.chain) (all_with_numbers (NamesBelow actors) c.args.list.given c.args.list.messages
-    (told.2 actors c.args.self.now.deep))
+    (told.2 actors c.args.self.now.slot_count))

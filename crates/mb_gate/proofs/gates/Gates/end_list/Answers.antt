@@ -19,7 +19,7 @@ store-requires g c =
       search rules,
       ends_allowed (g.H.MailboxState.is_of (first_home c.args.self.now)) g.H.MailboxState.facts _ _ _ _ c.args.id.0 _ (let k =
           c.args.self.now.keyed in let t = c.requires.present in omega arith) (held_in c.args.seat.now.me.0) l _ c.word_index-gate.ensures
-          (let k = c.args.self.now.keyed in let d = c.args.self.now.deep in omega arith)
+          (let k = c.args.self.now.keyed in let d = c.args.self.now.slot_count in omega arith)
           (ap (λ m. m.0.claim) laid ∙ c.requires.holder.has) c.requires.holder.of (ap (λ m. m.0.list) laid ∙ lent.has) refl (laid_back
           c.args.id.0 _ _ c.args.seat.now.me _ laid c.close-chain.ensures.list)
           (c.with_ended-new.ensures ∙ word_ended c.args.word.bits c.args.list lent.gave lent.found) c.requires.closed,
@@ -52,4 +52,4 @@ returns-clause-named g c =
     ∙ c.requires.holder.has) in
     let actors = actors_of c.args.self.now in
     subst (EachNamesBelow actors) (sym c.close-chain.ensures.chain) (all_with_numbers (NamesBelow actors) c.args.list.given c.args.list.messages
-    (told.2 actors c.args.self.now.deep))
+    (told.2 actors c.args.self.now.slot_count))

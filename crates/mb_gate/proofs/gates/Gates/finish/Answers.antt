@@ -22,7 +22,7 @@ pub take_out-left-requires-clause-words : goal.take_out-left-requires-clause-wor
 take_out-left-requires-clause-words g c =
     let same = ap slots_len c.loop-actor.invariant.0 in
     let count = c.close_with-closed.ensures.counts.0 in
-    let wide = c.args.self.wide in
+    let word_count = c.args.self.word_count in
     let here = c.loop-actor-test.true in (
       (omega arith),
       subst IsFull (sym c.loop-actor.invariant.0) c.close_with-closed.ensures.values.0,
@@ -32,21 +32,21 @@ pub take_out-left-requires-clause-slots : goal.take_out-left-requires-clause-slo
 take_out-left-requires-clause-slots g c =
     let same = c.loop-actor.invariant.2 in
     let count = c.close_with-closed.ensures.counts.1 in
-    let deep = c.args.self.deep in
+    let slot_count = c.args.self.slot_count in
     let here = c.loop-actor-test.true in (omega arith)
 
 pub take_out-left-requires-clause-cell : goal.take_out-left-requires-clause-cell
 take_out-left-requires-clause-cell g c =
     let same = c.loop-actor.invariant.2 in
     let count = c.close_with-closed.ensures.counts.1 in
-    let deep = c.args.self.deep in
+    let slot_count = c.args.self.slot_count in
     let here = c.loop-actor-test.true in c.loop-actor.invariant.3 (slot_at c.loop-actor.actor 0) (omega arith) (omega arith)
 
 pub take_out-left-requires-clause-list : goal.take_out-left-requires-clause-list
 take_out-left-requires-clause-list g c =
     let same = c.loop-actor.invariant.2 in
     let count = c.close_with-closed.ensures.counts.1 in
-    let deep = c.args.self.deep in
+    let slot_count = c.args.self.slot_count in
     let here = c.loop-actor-test.true in c.loop-actor.invariant.3 (slot_at c.loop-actor.actor 1) (omega arith) (omega arith)
 
 pub push_reserved-requires : goal.push_reserved-requires
@@ -62,7 +62,7 @@ loop-actor-preserved g c =
     let out = c.take_out-left.ensures in
     let same = inv.2 in
     let count = c.close_with-closed.ensures.counts.1 in
-    let deep = c.args.self.deep in
+    let slot_count = c.args.self.slot_count in
     let here = c.loop-actor-test.true in
     let filled = slots_filled c.loop-actor.closed.slots in
     let fits : 2 * c.loop-actor.actor + 2 ≤ length filled = (let n = (slots_counts c.loop-actor.closed.slots).1 in omega arith) in
@@ -87,7 +87,7 @@ pub free-requires : goal.free-requires
 free-requires g c = λ k l. c.loop-actor.invariant.4 k (
     let same = c.loop-actor.invariant.2 in
     let count = c.close_with-closed.ensures.counts.1 in
-    let deep = c.args.self.deep in
+    let slot_count = c.args.self.slot_count in
     let here = c.loop-actor-test.false in
     omega arith)
 

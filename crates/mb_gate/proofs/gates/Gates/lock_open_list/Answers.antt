@@ -41,8 +41,8 @@ try_lock_list-requires-clause-same_gates g c = c.loop.invariant.0 ∙ c.requires
 pub try_lock_list-requires-clause-no_list : goal.try_lock_list-requires-clause-no_list
 try_lock_list-requires-clause-no_list g c = ap (λ m. m.0.list) c.loop.invariant.1 ∙ c.requires.no_list
 
-pub try_lock_list-requires-clause-may : goal.try_lock_list-requires-clause-may
-try_lock_list-requires-clause-may g c = ap (λ m. may_lock_list c.args.id.0 m.0) c.loop.invariant.1
+pub try_lock_list-requires-clause-may_lock : goal.try_lock_list-requires-clause-may_lock
+try_lock_list-requires-clause-may_lock g c = ap (λ m. may_lock_list c.args.id.0 m.0) c.loop.invariant.1
     ∙ sharer_may c.args.id.0 c.args.seat.now.me.0 c.requires.share
 
 pub returns-in-Some-try_lock_list-clause-same_gates : goal.returns-in-Some-try_lock_list-clause-same_gates

@@ -21,8 +21,8 @@ invariant_of-result g c =
     let same = some_same c.first_home-first.result.value c.first_home.result.value (sym c.first_home-first.ensures ∙ c.first_home.ensures) in
     let known = (λ i. record { marker = c.first_home.result.marker; value = same i }) ∙ ap (λ k. k.first) (sym made.5) in
     record {
-      wide = made.0 ∙ (words ∙ (omega arith));
-      deep = made.1 ∙ (slots ∙ (omega arith));
+      word_count = made.0 ∙ (words ∙ (omega arith));
+      slot_count = made.1 ∙ (slots ∙ (omega arith));
       keyed = ap
           (λ k. k.actors) made.5;
       known = known;

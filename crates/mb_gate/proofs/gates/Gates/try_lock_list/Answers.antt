@@ -13,7 +13,7 @@ compare_exchange-found-requires g c = (
   grips_allowed (g.H.MailboxState.is_of (first_home c.args.self.now)) g.H.MailboxState.facts _ _ _ _ c.args.id.0 _
       (let k = c.args.self.now.keyed in let t = c.requires.present
       in omega arith) _ _
-      c.word_index-gate.ensures (is_even _ c.requires.in_slot) c.locked.ensures c.requires.no_list c.requires.may,
+      c.word_index-gate.ensures (is_even _ c.requires.in_slot) c.locked.ensures c.requires.no_list c.requires.may_lock,
 )
 
 pub returns-then-found-word-clause-answer : goal.returns-then-found-word-clause-answer

@@ -4,7 +4,7 @@ use Rattle.mb_pool.proofs.deque.Deque.push.Goals as goal
 
 pub push_as-requires-clause-pushes : goal.push_as-requires-clause-pushes
 push_as-requires-clause-pushes g c =
-    deque_push (IsUntouched g.H.MailboxState.is_of g.H.MailboxState.facts) _ _ _ c.requires.share c.requires.fit
+    deque_push (IsUntouched g.H.MailboxState.is_of g.H.MailboxState.facts) _ _ _ c.requires.share c.requires.untouched
 
 pub returns-in-Ok-clause-pushed : goal.returns-in-Ok-clause-pushed
 returns-in-Ok-clause-pushed g c =

@@ -7,9 +7,9 @@ use Rattle.mb_pool.specs.Endpoints.{endpoint_of}
 use Rattle.mb_pool.proofs.Ports.{still_open}
 use Rattle.mb_pool.proofs.end.PoolEnd.push.Goals as goal
 
-pub push_first-requires-clause-fit : goal.push_first-requires-clause-fit
-push_first-requires-clause-fit g c =
-    subst (λ w. IsUntouched g.H.MailboxState.is_of g.H.MailboxState.facts (gates_of w) c.args.claim) (sym c.self.view_is) c.requires.fit
+pub push_first-requires-clause-untouched : goal.push_first-requires-clause-untouched
+push_first-requires-clause-untouched g c =
+    subst (λ w. IsUntouched g.H.MailboxState.is_of g.H.MailboxState.facts (gates_of w) c.args.claim) (sym c.self.view_is) c.requires.untouched
 
 pub invariant_of-self : goal.invariant_of-self
 invariant_of-self g c = still_open (endpoint_of (port_view c.self.inside.shared_port) c.self.inside.member)

@@ -19,8 +19,8 @@ returns-clause-taken g c =
     (IsUntouched g.H.MailboxState.is_of g.H.MailboxState.facts))
     (ports_of w)) (λ x. Takes (IsUntouched g.H.MailboxState.is_of g.H.MailboxState.facts) w x new)) c.self.view_is c.take_first.ensures.taken
 
-pub returns-clause-fit : goal.returns-clause-fit
-returns-clause-fit g c =
+pub returns-clause-untouched : goal.returns-clause-untouched
+returns-clause-untouched g c =
     let old = endpoint_of (port_view c.self.inside.shared_port) c.self.inside.member in
     subst (λ w. IfSome c.take_first.result
     (λ x. IsUntouched g.H.MailboxState.is_of g.H.MailboxState.facts

@@ -11,9 +11,9 @@ use Rattle.mb_pool.proofs.feed_queue_port.FeedQueuePort.push.Goals as goal
 pub push-requires-clause-queue : goal.push-requires-clause-queue
 push-requires-clause-queue g c = subst (λ (q : FeedQueue _). IsInjectorPassOf q.queue c.self.inside.pass) (sym c.deref.ensures) c.self.invariant
 
-pub push-requires-clause-fit : goal.push-requires-clause-fit
-push-requires-clause-fit g c =
-    subst (λ (l : PoolPort _). IsUntouched g.H.MailboxState.is_of g.H.MailboxState.facts l.ledger.gates c.args.claim) (sym c.self.view_is) c.requires.fit
+pub push-requires-clause-untouched : goal.push-requires-clause-untouched
+push-requires-clause-untouched g c =
+    subst (λ (l : PoolPort _). IsUntouched g.H.MailboxState.is_of g.H.MailboxState.facts l.ledger.gates c.args.claim) (sym c.self.view_is) c.requires.untouched
 
 pub returns-in-Ok-clause-pushed : goal.returns-in-Ok-clause-pushed
 returns-in-Ok-clause-pushed g c =
@@ -25,6 +25,6 @@ pub returns-in-Err-clause-pushed : goal.returns-in-Err-clause-pushed
 returns-in-Err-clause-pushed g c =
     let old = c.self.inside.pass in let new = c.push.new.pass in let h = c.in-Err.ensures.pushed in
     let here = subst (λ (r : FeedQueue _). IsInjectorPassOf r.queue old) (sym c.deref.ensures) c.self.invariant in
-    subst (λ (l : PoolPort _). (c.in-Err.back ≡ c.args.claim) × (feed_queue_view new ≡ l) × (l.spot.capacity ≡ None))
+    subst (λ (l : PoolPort _). (c.in-Err.back ≡ c.args.claim) × (feed_queue_view new ≡ l) × (l.queue.capacity ≡ None))
     c.self.view_is
     (h.0, same_feed_queue old new (c.push.ensures.queue.0.0 ∙ sym here.0.0) h.1, refl)

@@ -1,7 +1,7 @@
 use Rattle.std.proofs.Common.{◌≡◌, ◌+◌, ap, arith, length, map, replicate, subst, sym, ◌∙◌}
 use Rattle.std.specs.Prelude.{All}
 use Rattle.mb_pool.specs.Begins.{new_shared_port}
-use Rattle.mb_pool.specs.Made.{IsBegun}
+use Rattle.mb_pool.specs.Made.{IsNewPool}
 use Rattle.mb_gate.specs.Untouched.{origin_of}
 use Rattle.mb_pool.specs.Parts.{port_view}
 use Rattle.mb_pool.specs.Places.{PoolView}
@@ -12,7 +12,7 @@ use Rattle.mb_pool.proofs.pool.Pool.new.Goals as goal
 
 pub pool_of-pool-requires : goal.pool_of-pool-requires
 pool_of-pool-requires g c =
-    made_whole (origin_of c.args.gates.now) c.args.kind c.args.workers c.args.feeds c.in_ok-deques.deques.items (port_view c.open.new.self).spot
+    made_whole (origin_of c.args.gates.now) c.args.kind c.args.workers c.args.feeds c.in_ok-deques.deques.items (port_view c.open.new.self).queue
     c.in_ok-deques.ensures c.requires
 
 pub end_deques_of-requires : goal.end_deques_of-requires
@@ -52,7 +52,7 @@ pub returns : goal.returns
 returns g c =
     let ms = c.in_ok-members.members.items in let ends = c.in_ok-ends.ends.items in let feeds = c.in_ok-feeds.feeds.items in
     let is = c.pool_of-pool.ensures in
-    subst (λ (p : PoolView _). IsBegun (origin_of c.args.gates.now) c.args.kind c.args.workers c.args.feeds p ends feeds) (sym is)
+    subst (λ (p : PoolView _). IsNewPool (origin_of c.args.gates.now) c.args.kind c.args.workers c.args.feeds p ends feeds) (sym is)
     (is_begun (origin_of c.args.gates.now) c.args.kind c.args.workers c.args.feeds c.in-Some.ports c.in_ok-deques.deques.items
     (port_view c.in_ok-shared_port.shared_port) (port_view c.open.new.self) c.requires c.in_ok-deques.ensures c.in_ok-shared_port.ensures.0 c.open.ensures
     c.in-Some.ensures.1 ms c.in_ok-members.ensures.none c.in_ok-members.ensures.owners c.in_ok-members.ensures.next ends feeds

@@ -6,7 +6,7 @@ use Rattle.mb_pool.proofs.Steps.{queue_push, learns, was_full}
 use Rattle.mb_pool.proofs.slots.Slots.push.Goals as goal
 
 pub push_as-requires-clause-rule : goal.push_as-requires-clause-rule
-push_as-requires-clause-rule g c = (queue_push _ _ _ _ _ c.requires.share c.requires.fit, learns _ _ _ c.requires.share)
+push_as-requires-clause-rule g c = (queue_push _ _ _ _ _ c.requires.share c.requires.untouched, learns _ _ _ c.requires.share)
 
 pub returns-in-Err-clause-pushed : goal.returns-in-Err-clause-pushed
 returns-in-Err-clause-pushed g c =

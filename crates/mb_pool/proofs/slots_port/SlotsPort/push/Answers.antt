@@ -12,9 +12,9 @@ use Rattle.mb_pool.proofs.slots_port.SlotsPort.push.Goals as goal
 pub push-requires-clause-queue : goal.push-requires-clause-queue
 push-requires-clause-queue g c = subst (λ (q : Slots _). IsPassOf q.queue c.self.inside.pass) (sym c.deref.ensures) c.self.invariant
 
-pub push-requires-clause-fit : goal.push-requires-clause-fit
-push-requires-clause-fit g c =
-    subst (λ (l : PoolPort _). IsUntouched g.H.MailboxState.is_of g.H.MailboxState.facts l.ledger.gates c.args.claim) (sym c.self.view_is) c.requires.fit
+pub push-requires-clause-untouched : goal.push-requires-clause-untouched
+push-requires-clause-untouched g c =
+    subst (λ (l : PoolPort _). IsUntouched g.H.MailboxState.is_of g.H.MailboxState.facts l.ledger.gates c.args.claim) (sym c.self.view_is) c.requires.untouched
 
 pub returns-in-Ok-clause-pushed : goal.returns-in-Ok-clause-pushed
 returns-in-Ok-clause-pushed g c =
@@ -26,7 +26,7 @@ pub returns-in-Err-clause-pushed : goal.returns-in-Err-clause-pushed
 returns-in-Err-clause-pushed g c =
     let q = c.self.inside.slots.value in let old = c.self.inside.pass in let new = c.push.new.pass in let h = c.in-Err.ensures.pushed in
     subst (λ (l : PoolPort _). (c.in-Err.back ≡ c.args.claim) × (slots_view q new ≡ l)
-    × ((most : ℕ) × (l.spot.capacity ≡ Some most)
+    × ((most : ℕ) × (l.queue.capacity ≡ Some most)
     × WasFull (IsUntouched g.H.MailboxState.is_of g.H.MailboxState.facts) most l.ledger))
     c.self.view_is (
       h.0,

@@ -2,7 +2,7 @@ use Rattle.std.proofs.Common.{◌≡◌, [], MatchOption, Some, ap, ◌∙◌, s
 use Rattle.crossbeam_queue.specs.Passes.{IsPassOf, ruled_capacity, view}
 use Rattle.mb_pool.specs.declared.slots.Slots.{Slots}
 use Rattle.mb_pool.specs.Places.{PoolPort, slots_at}
-use Rattle.mb_pool.specs.Rule.{Moment, TakesFirst}
+use Rattle.mb_pool.specs.Rule.{QueueMoment, TakesFirst}
 use Rattle.mb_pool.specs.Shared.{slots_view}
 use Rattle.mb_gate.specs.Untouched.{IsUntouched}
 use Rattle.mb_pool.proofs.PortViews.{of_option, same_slots}
@@ -14,18 +14,18 @@ take-requires-clause-queue g c = subst (λ (q : Slots _). IsPassOf q.queue c.sel
 pub invariant_of-self : goal.invariant_of-self
 invariant_of-self g c = subst (λ (q : Slots _). IsPassOf q.queue c.take.new.pass) c.deref.ensures c.take.ensures.queue.0
 
-pub returns-clause-spot : goal.returns-clause-spot
-returns-clause-spot g c = (λ i. record {
+pub returns-clause-same_queue : goal.returns-clause-same_queue
+returns-clause-same_queue g c = (λ i. record {
   place = slots_at (c.take.ensures.queue.1 i);
   capacity = Some (ruled_capacity c.self.inside.slots.value.queue);
-}) ∙ ap (λ (l : PoolPort _). l.spot) c.self.view_is
+}) ∙ ap (λ (l : PoolPort _). l.queue) c.self.view_is
 
 pub returns-clause-taken : goal.returns-clause-taken
 returns-clause-taken g c =
     let q = c.self.inside.slots.value in
     let new = c.take.new.pass in
     subst (λ pool_port. MatchOption c.take.result ((slots_view q new ≡ pool_port)
-    × Moment (IsUntouched g.H.MailboxState.is_of g.H.MailboxState.facts) pool_port.ledger []) (λ x. TakesFirst
+    × QueueMoment (IsUntouched g.H.MailboxState.is_of g.H.MailboxState.facts) pool_port.ledger []) (λ x. TakesFirst
     (IsUntouched g.H.MailboxState.is_of g.H.MailboxState.facts) pool_port.ledger x (view new)))
     c.self.view_is
     (of_option _ _ _ _ c.take.result (λ h. (same_slots q c.self.inside.pass new c.take.ensures.queue.1 h.0, h.1)) (λ _ h. h) c.take.ensures.taken)

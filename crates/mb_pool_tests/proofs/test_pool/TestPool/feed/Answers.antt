@@ -11,5 +11,5 @@ feed_at_last-requires g c =
     let its : gates_of feed ≡ Some (origin_of s.gates) = ap (λ (w : PoolEndpoint _). gates_of w) c.index_mut.ensures.value
     ∙ feed_gates s.pool s.feeds.items 0 feed s.are_feeds lt ∙ ap (λ o. Some o) s.same_origin in
     record {
-      fit = subst (λ o. IsUntouched g.H.MailboxState.is_of g.H.MailboxState.facts o c.in-Some.claim) (sym its) c.in-Some.ensures.fit;
+      untouched = subst (λ o. IsUntouched g.H.MailboxState.is_of g.H.MailboxState.facts o c.in-Some.claim) (sym its) c.in-Some.ensures.untouched;
     }

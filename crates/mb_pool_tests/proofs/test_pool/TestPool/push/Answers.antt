@@ -11,7 +11,7 @@ push_at_last-requires g c =
     let its : gates_of end ≡ Some (origin_of s.gates) = ap (λ (w : PoolEndpoint _). gates_of w) c.index_mut.ensures.value
     ∙ end_gates s.pool s.ends.items c.args.end end s.are_ends lt ∙ ap (λ o. Some o) s.same_origin in
     record {
-      fit = subst (λ o. IsUntouched g.H.MailboxState.is_of g.H.MailboxState.facts o c.in-Some.claim) (sym its) c.in-Some.ensures.fit;
+      untouched = subst (λ o. IsUntouched g.H.MailboxState.is_of g.H.MailboxState.facts o c.in-Some.claim) (sym its) c.in-Some.ensures.untouched;
     }
 
 pub invariant_of-self : goal.invariant_of-self

@@ -4,13 +4,13 @@ use Rattle.mb_pool.specs.Places.{PoolEndpoint, gates_of, parts_of}
 use Rattle.mb_pool.proofs.Alike.{end_gates, still_ends}
 use Rattle.mb_pool_tests.proofs.test_pool.TestPool.take.Goals as goal
 
-pub give-requires-clause-fit : goal.give-requires-clause-fit
-give-requires-clause-fit g c =
+pub give-requires-clause-untouched : goal.give-requires-clause-untouched
+give-requires-clause-untouched g c =
     let s = c.args.self.now in let end = c.index_mut.result.now in
     let lt : c.args.end < length s.ends.items = omega (arith, c.if-end-len.false, c.len.ensures, s.ends.ok.0) in
     let its : gates_of end ≡ Some (origin_of s.gates) = ap (λ (w : PoolEndpoint _). gates_of w) c.index_mut.ensures.value
     ∙ end_gates s.pool s.ends.items c.args.end end s.are_ends lt ∙ ap (λ o. Some o) s.same_origin in
-    subst (λ o. IsUntouched g.H.MailboxState.is_of g.H.MailboxState.facts o c.in_ok-claim.claim) its c.in_ok-claim.ensures.fit
+    subst (λ o. IsUntouched g.H.MailboxState.is_of g.H.MailboxState.facts o c.in_ok-claim.claim) its c.in_ok-claim.ensures.untouched
 
 pub invariant_of-self-2 : goal.invariant_of-self-2
 invariant_of-self-2 g c =

@@ -7,8 +7,8 @@ returns-clause-none g c =
     none-tells _ _ _ c.take.result (λ same. ap (λ run_queue. record c.args.self.now { registrar = record c.args.self.now.registrar { run_queue = run_queue } }) same)
     c.take.ensures.none
 
-pub returns-clause-fit : goal.returns-clause-fit
-returns-clause-fit g c = c.take.ensures.fit
+pub returns-clause-untouched : goal.returns-clause-untouched
+returns-clause-untouched g c = c.take.ensures.untouched
 
 pub returns-clause-same : goal.returns-clause-same
 returns-clause-same g c = (refl, refl, c.take.ensures.same.0, refl)

@@ -1,0 +1,6 @@
+use Rattle.bank.specs.Conserved.{added_by, holdings}
+use Rattle.bank.proofs.open.run.Goals as goal
+
+pub returns : goal.returns
+returns g c = let three = c.in_ok-add-3.ensures.actors in let two = c.in_ok-add-2.ensures.actors in let one = c.in_ok-add.ensures.actors in
+    let none = c.new-bank.ensures.actors in record { conserved = c.run.ensures.conserved added_by (holdings c.args.opening) (λ x. (cc)) (simp (three, two, one, none) (c.requires.teller, (c.requires.alice, (c.requires.bob, tt)))) }

@@ -1,0 +1,62 @@
+use Rattle.std.proofs.Common.{◌≤◌, ◌<◌, arith, length, sym, subst}
+use Rattle.std.specs.Prelude.{All}
+use Rattle.mb_msg.specs.Limits.{most_actors}
+use Rattle.mb_startup.proofs.There.{senders-there, some-end}
+use Rattle.heddleorange.specs.Orders.{lists_of, senders_for}
+use Rattle.heddleorange.specs.Sent.{BreaksOff, HaveSent}
+use Rattle.heddleorange.proofs.Breaking.{may-break}
+use Rattle.heddleorange.proofs.HasRunLemmas.{complete, has-run}
+use Rattle.heddleorange.proofs.InOrder.{from-many, length-lists}
+use Rattle.heddleorange.proofs.InTurn.{new-owe-nobody}
+use Rattle.heddleorange.proofs.in_order.run_planned_in_order.Goals as goal
+
+pub send_in_order_and_run-requires-clause-not_empty : goal.send_in_order_and_run-requires-clause-not_empty
+send_in_order_and_run-requires-clause-not_empty g c = some-end g.K.Behaviours.gives c.args.plan c.in_ok-built.built c.in_ok-built.ensures.begun
+
+pub send_in_order_and_run-requires-clause-owes_nobody : goal.send_in_order_and_run-requires-clause-owes_nobody
+send_in_order_and_run-requires-clause-owes_nobody g c =
+    let built = c.in_ok-built.built in let begun = c.in_ok-built.ensures.begun in
+    new-owe-nobody built.system.gates most_actors begun.outside built.senders.items begun.senders
+
+pub send_in_order_and_run-requires-clause-from : goal.send_in_order_and_run-requires-clause-from
+send_in_order_and_run-requires-clause-from g c =
+    let plan = c.args.plan in let sends = c.args.sends.now in let begun = c.in_ok-built.ensures in
+    let many = length-lists plan.senders sends in let right = begun.right.1 in
+    let most : senders_for plan.senders sends ≤ plan.senders = omega (arith, many, right) in
+    subst (λ n. All (λ s. s.from < n) sends) (sym (senders-there g.K.Behaviours.gives plan c.in_ok-built.built begun.begun).0)
+    (from-many plan.senders sends most)
+
+pub finish_run-requires-clause-complete : goal.finish_run-requires-clause-complete
+finish_run-requires-clause-complete g c =
+    let begun = c.in_ok-built.ensures in let went = c.in-Ok.ensures in let gives = g.K.Behaviours.gives in
+    let plan = c.args.plan in let sends = c.args.sends.now in let first = c.in_ok-built.built in let now = c.send_in_order_and_run.new.built in
+    let many = (senders-there gives plan first begun.begun).0 in
+    let sent = subst (λ n. HaveSent first.system.gates (lists_of n sends) first.senders.items now.senders.items) many went.sent in
+    complete gives plan (lists_of plan.senders sends) first now begun.begun went.system went.ends sent went.log_kept begun.right.1
+
+pub returns-in-Ok-finish_run-clause-story : goal.returns-in-Ok-finish_run-clause-story
+returns-in-Ok-finish_run-clause-story g c =
+    let begun = c.in_ok-built.ensures in let went = c.in-Ok.ensures in let gives = g.K.Behaviours.gives in
+    let plan = c.args.plan in let sends = c.args.sends.now in let first = c.in_ok-built.built in let now = c.send_in_order_and_run.new.built in
+    let orders = lists_of plan.senders sends in
+    let sent = subst (λ n. HaveSent first.system.gates (lists_of n sends) first.senders.items now.senders.items)
+    (senders-there gives plan first begun.begun).0 went.sent in
+    c.in-Ok-finish_run.ensures.story plan orders begun.right.1
+    (has-run gives plan orders first now begun.begun went.system went.ends sent went.log_kept)
+
+pub returns-in-Err-finish_run-clause-refused : goal.returns-in-Err-finish_run-clause-refused
+returns-in-Err-finish_run-clause-refused g c =
+    let begun = c.in_ok-built.ensures in let went = c.in-Ok.ensures in let gives = g.K.Behaviours.gives in
+    let plan = c.args.plan in let sends = c.args.sends.now in let first = c.in_ok-built.built in let now = c.send_in_order_and_run.new.built in
+    let orders = lists_of plan.senders sends in
+    let sent = subst (λ n. HaveSent first.system.gates (lists_of n sends) first.senders.items now.senders.items)
+    (senders-there gives plan first begun.begun).0 went.sent in
+    c.in-Err-finish_run.ensures.refused plan (length c.args.actors.items) orders begun.right
+    (has-run gives plan orders first now begun.begun went.system went.ends sent went.log_kept)
+
+pub returns-in-Err-clause-refused : goal.returns-in-Err-clause-refused
+returns-in-Err-clause-refused g c =
+    let begun = c.in_ok-built.ensures in let gives = g.K.Behaviours.gives in let plan = c.args.plan in let sends = c.args.sends.now in
+    let first = c.in_ok-built.built in
+    may-break gives plan first begun.begun (length c.args.actors.items) (lists_of plan.senders sends) begun.right c.in-Err.error
+    (subst (λ n. BreaksOff gives first.system (lists_of n sends) c.in-Err.error) (senders-there gives plan first begun.begun).0 c.in-Err.ensures.fault)

@@ -1,0 +1,29 @@
+use Rattle.heddleorange.proofs.Conserved.{conserved-of}
+use Rattle.heddleorange.proofs.Sent.{orders_of}
+use Rattle.heddleorange.proofs.planned_system.PlannedSystem.run.Goals as goal
+
+pub returns-then-workers-eq1 : goal.returns-then-workers-eq1
+returns-then-workers-eq1 g c = record {
+  story = c.run_here.ensures.story;
+  right = c.run_here.ensures.right;
+  refused = c.run_here.ensures.refused;
+  states = c.run_here.ensures.states;
+  lines = c.run_here.ensures.lines;
+  ledger = c.run_here.ensures.ledger;
+  conserved = λ worth holdings notice conserve.
+      conserved-of g.A.Actor.after g.A.Actor.gives worth holdings c.args.self.actors.items c.args.self.plan (orders_of c.args.sends.now) c.run_here.result
+      notice conserve c.run_here.ensures.story c.run_here.ensures.right;
+}
+
+pub returns-else-workers-eq1 : goal.returns-else-workers-eq1
+returns-else-workers-eq1 g c = record {
+  story = c.run_on_threads.ensures.story;
+  right = c.run_on_threads.ensures.right;
+  refused = c.run_on_threads.ensures.refused;
+  states = c.run_on_threads.ensures.states;
+  lines = c.run_on_threads.ensures.lines;
+  ledger = c.run_on_threads.ensures.ledger;
+  conserved = λ worth holdings notice conserve.
+      conserved-of g.A.Actor.after g.A.Actor.gives worth holdings c.args.self.actors.items c.args.self.plan (orders_of c.args.sends.now) c.run_on_threads.result
+      notice conserve c.run_on_threads.ensures.story c.run_on_threads.ensures.right;
+}

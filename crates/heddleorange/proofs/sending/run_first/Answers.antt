@@ -1,0 +1,31 @@
+use Rattle.std.proofs.lemmas.List.Elements.{All-set}
+use Rattle.mb_dispatch.specs.Faults.{BreaksWork}
+use Rattle.mb_system.specs.Members.{IsEndOf}
+use Rattle.heddleorange.proofs.Sent.{err-weaker, first-number, found-nothing, on-all, see-on}
+use Rattle.heddleorange.proofs.sending.run_first.Goals as goal
+
+pub returns-clause-found_nothing : goal.returns-clause-found_nothing
+returns-clause-found_nothing g c =
+    let ran = c.run_quietly.ensures in let built = c.args.built.now in
+    on-all c.run_quietly.result ran.discharged ran.settled ran.empty
+    (found-nothing g.K.Behaviours.gives built.system.gates built.ends.items c.run_quietly.new.end c.requires.not_empty)
+
+pub returns-clause-same_gates : goal.returns-clause-same_gates
+returns-clause-same_gates g c =
+    All-set (λ e. IsEndOf c.args.built.now.system.gates e.registrar) c.args.built.now.ends.items 0 c.run_quietly.new.end c.run_quietly.ensures.same_gates
+    c.requires.same_gates
+
+pub returns-clause-ends : goal.returns-clause-ends
+returns-clause-ends g c =
+    first-number c.index_mut.result.now c.run_quietly.new.end c.args.built.now.ends.items c.requires.not_empty c.index_mut.ensures.value
+    c.run_quietly.ensures.number
+
+pub returns-clause-log_kept : goal.returns-clause-log_kept
+returns-clause-log_kept g c =
+    see-on c.index_mut.result.now c.run_quietly.new.end c.args.built.now.ends.items c.requires.not_empty c.index_mut.ensures.value
+    c.run_quietly.ensures.log_kept
+
+pub returns-clause-fault : goal.returns-clause-fault
+returns-clause-fault g c =
+    err-weaker (BreaksWork g.K.Behaviours.gives c.args.built.now.system c.run_quietly.new.end) _ c.run_quietly.result
+    (λ e broken. (c.run_quietly.new.end, broken)) c.run_quietly.ensures.fault

@@ -1,0 +1,77 @@
+//! A whole run on one thread, where the orders of all senders stand in one row.
+ghost use Rattle.std.specs.Prelude.{◌≡◌, ◌+◌, [], All, IfErr, IfOk, OnOk, length};
+ghost use Rattle.mb_build.specs.BehavesAsPlanned.{BehaveAsPlanned};
+ghost use Rattle.heddleorange.specs.Ledger.{AddsUp};
+ghost use Rattle.heddleorange.specs.NoReport.{IsErrorOfRun, IsRight};
+ghost use Rattle.heddleorange.specs.Orders.{lists_of};
+ghost use Rattle.heddleorange.specs.States.{ShowsStates};
+ghost use Rattle.heddleorange.specs.WholeRun.{IsReportOfRun, after_at, gives_at};
+
+use crate::begin::begin_in_order;
+use crate::error::Error;
+use crate::finish::finish_run;
+use crate::sending::send_in_order_and_run;
+use mb_actor::{Actor, Behaviours};
+use mb_dispatch::Turn;
+use mb_msg::{Plan, SenderOrder};
+use mb_report::Report;
+use std::alloc::Global;
+use std::marker::Brand;
+use std::sync::Wait;
+
+/// What a run on one thread came to.
+#[derive(Drop)]
+pub struct QuietRun {
+    /// What became of everything.
+    pub report: Report,
+    /// What each run of a mailbox did, in order.
+    pub turns: Vec<Turn>,
+}
+
+/// `run_here`, where the orders of all senders stand in one row: they are sent in that order, each by its sender, before anything
+/// runs. What each run of a mailbox did is answered too.
+///
+/// The first sender has number 0. It answers `Sends` where an order is from a sender that the plan does not have; nothing was done
+/// then. (This project's own profile: in Akka whoever has a reference sends.)
+pub fn run_in_order<A: Actor, R: Wait>(
+    rt: &R,
+    alloc: Global,
+    plan: Plan,
+    actors: Vec<A>,
+    sends: &[SenderOrder],
+) -> Result<QuietRun, Error>
+    requires unused { All (λ actor. A.content actor ≡ A.after actor []) actors.items }
+    ensures story { IfOk result (λ run. IsReportOfRun (after_at actors.items A.after) (gives_at actors.items A.gives) plan
+        (lists_of plan.senders sends.now) run.report) }
+    ensures right { OnOk result (IsRight plan (length actors.items) (lists_of plan.senders sends.now)) }
+    ensures refused { IfErr result (IsErrorOfRun (gives_at actors.items A.gives) plan (length actors.items) (lists_of plan.senders sends.now)) }
+    ensures states { IfOk result (λ run. ShowsStates A.after actors.items plan run.report) }
+    ensures lines { IfOk result (λ run. length run.report.actors.items ≡ length actors.items + 1) }
+    ensures ledger { IfOk result (λ run. AddsUp plan (lists_of plan.senders sends.now) run.report) }
+{
+    run_planned_in_order::<A, Brand, R>(rt, alloc, plan, actors, sends)
+}
+
+// `run_in_order`, where it is known what the actor of each number does.
+fn run_planned_in_order<A: Actor, K: Behaviours, R: Wait>(
+    rt: &R,
+    alloc: Global,
+    plan: Plan,
+    actors: Vec<A>,
+    sends: &[SenderOrder],
+) -> Result<QuietRun, Error>
+    requires behaved { BehaveAsPlanned A.content A.after A.gives K.after K.gives 1 actors.items }
+    ensures story { IfOk result (λ run. IsReportOfRun K.after K.gives plan (lists_of plan.senders sends.now) run.report) }
+    ensures right { OnOk result (IsRight plan (length actors.items) (lists_of plan.senders sends.now)) }
+    ensures refused { IfErr result (IsErrorOfRun K.gives plan (length actors.items) (lists_of plan.senders sends.now)) }
+{
+    let mut built = begin_in_order::<A, K, R>(rt, alloc, plan, actors, sends)?;
+    let turns = match send_in_order_and_run(rt, &mut built, sends) {
+        Ok(turns) => turns,
+        Err(error) => return Err(Error::Run(error)),
+    };
+    match finish_run(rt, built) {
+        Ok(report) => Ok(QuietRun { report, turns }),
+        Err(error) => Err(error),
+    }
+}

@@ -1,0 +1,57 @@
+//! Names of actors beside their numbers.
+ghost use Rattle.std.specs.Prelude.{◌≡◌, ◌≤◌, [], IfOk, length, option_map};
+ghost use Rattle.heddleorange.specs.Names.{number_of, texts_of};
+
+use mb_msg::ActorId;
+use std::alloc::{AllocError, Global};
+
+/// The name of the guardian, as a report's text has it.
+const GUARDIAN: &str = "guardian";
+
+/// The names of the actors of a planned system.
+#[derive(Drop)]
+pub struct Names {
+    /// The names in the order of the actors' numbers, from 1 on, as `report_text` takes them.
+    pub texts: Vec<String>,
+    /// There are no more than the most actors beside the guardian.
+    pub ghost within_limit: { length texts.items ≤ 63 },
+}
+
+impl Names {
+    /// No names. This takes no memory.
+    pub(crate) fn new(alloc: Global) -> Self
+        ensures { result.texts.items ≡ [] }
+    {
+        Names {
+            texts: Vec::new(alloc),
+        }
+    }
+
+    /// The number of the first actor of this name; `None` if no actor has it. The guardian has number 0 and the name `guardian`.
+    /// (This project's own profile. In Akka a path leads to an actor, by `ActorSystem.actorSelection`.)
+    pub fn id_of(&self, name: &str) -> Option<ActorId>
+        ensures { option_map (λ id. id.0) result ≡ number_of self.now.texts.items name.now }
+    {
+        if name == GUARDIAN {
+            return Some(ActorId(0));
+        }
+        for (place, text) in self.texts.iter().enumerate() {
+            if name == text.as_str() {
+                return Some(ActorId(place as u32 + 1));
+            }
+        }
+        None
+    }
+
+    /// The same names again, to be kept while the system runs, which takes its own. The only error: memory was refused.
+    pub fn try_clone(&self, alloc: Global) -> Result<Names, AllocError>
+        ensures texts { IfOk result (λ names. texts_of names.texts.items ≡ texts_of self.now.texts.items) }
+        ensures count { IfOk result (λ names. length names.texts.items ≡ length self.now.texts.items) }
+    {
+        let mut texts = Vec::with_capacity(alloc, self.texts.len())?;
+        for text in &self.texts {
+            texts.push(String::from_str(alloc, text.as_str())?)?;
+        }
+        Ok(Names { texts })
+    }
+}

@@ -1,6 +1,0 @@
-use Rattle.mb_dispatch_tests.proofs.Kept.{without-senders}
-use Rattle.mb_dispatch_tests.proofs.test_system.TestSystem.lose_senders.Goals as goal
-
-pub invariant_of-self : goal.invariant_of-self
-invariant_of-self c =
-    without-senders c.self.inside.system c.self.inside.ends c.self.inside.senders _ c.clear.ensures.items c.self.invariant

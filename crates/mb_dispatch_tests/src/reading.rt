@@ -1,0 +1,81 @@
+//! Whether the calls that read a report answer what stands in it.
+use heddleorange::{EntryRef, Journal, Received, dead_letters, handled, journal, state};
+use mb_msg::{ActorId, DeadLetter};
+use mb_report::{ActorReport, Report};
+
+/// Whether they do, of each actor and of each sender; and nothing of one that is not there.
+pub fn is_read_right(report: &Report) -> bool {
+    are_actors_read_right(report) && are_letters_read_right(report)
+}
+
+fn are_actors_read_right(report: &Report) -> bool {
+    let mut id = ActorId(0);
+    for actor in &report.actors {
+        if !is_actor_read_right(report, id, actor) {
+            return false;
+        }
+        id = ActorId(id.0.wrapping_add(1));
+    }
+    state(report, id).is_none() && handled(report, id).is_none() && journal(report, id).is_none()
+}
+
+fn is_actor_read_right(report: &Report, id: ActorId, actor: &ActorReport) -> bool {
+    let Some(read) = journal(report, id) else {
+        return false;
+    };
+    state(report, id) == actor.state
+        && handled(report, id) == Some(envelopes_in(read))
+        && is_same_journal(read, &actor.journal)
+}
+
+/// How many envelopes a journal tells of.
+fn envelopes_in(journal: &Journal) -> usize {
+    let mut count: usize = 0;
+    for place in 0..journal.len() {
+        if is_of_envelope(journal.get(place).arrival) {
+            count = count.wrapping_add(1);
+        }
+    }
+    count
+}
+
+fn is_of_envelope(arrival: Received) -> bool {
+    matches!(
+        arrival,
+        Received::Handled { .. } | Received::Dropped { .. },
+    )
+}
+
+fn is_same_journal(one: &Journal, other: &Journal) -> bool {
+    if one.len() != other.len() {
+        return false;
+    }
+    for place in 0..one.len() {
+        if !is_same_entry(&one.get(place), &other.get(place)) {
+            return false;
+        }
+    }
+    true
+}
+
+fn is_same_entry(one: &EntryRef<'_>, other: &EntryRef<'_>) -> bool {
+    one.arrival == other.arrival && one.effects == other.effects
+}
+
+fn are_letters_read_right(report: &Report) -> bool {
+    let mut id = ActorId(0);
+    for sender in &report.senders {
+        if !is_letters(dead_letters(report, id), &sender.dead) {
+            return false;
+        }
+        id = ActorId(id.0.wrapping_add(1));
+    }
+    dead_letters(report, id).is_none()
+}
+
+fn is_letters(read: Option<&[DeadLetter]>, letters: &[DeadLetter]) -> bool {
+    match read {
+        Some(read) => read == letters,
+        None => false,
+    }
+}

@@ -1,0 +1,194 @@
+//! Runs that are refused, or broken off: each error in which a whole run with ample memory was seen to end, on one thread and on
+//! threads.
+use heddleorange::{Error, PlanError, RunError, run_here, run_on_threads};
+use mb_msg::ActorId;
+use mb_report::Report;
+use mb_testkit::{
+    ADD, COUNTER, Order, PLAIN, TestActorPlan, TestCase, TestMailbox, plan_of, sends_of, stop,
+    tell, test_actors_of,
+};
+use std::alloc::{AllocError, Global};
+use std::sync::Wait;
+use std::thread::Threads;
+
+/// A plan, the actors that are handed in for it, what each sender is to send, and why there is no report.
+#[derive(Clone, Copy)]
+struct Refusal {
+    plan: TestCase<'static>,
+    actors: &'static [TestActorPlan],
+    sends: &'static [&'static [Order]],
+    why: Error,
+}
+
+/// A right plan of one actor and of one sender.
+const ONE: TestCase<'static> = TestCase {
+    parts: &[COUNTER],
+    ..PLAIN
+};
+
+/// It would run if there were not one list of orders too few.
+const WITHOUT_ORDERS: Refusal = Refusal {
+    plan: ONE,
+    actors: &[COUNTER],
+    sends: &[],
+    why: Error::Sends,
+};
+
+/// Its own child.
+const OWN_CHILD: TestActorPlan = TestActorPlan {
+    parent: 1,
+    ..COUNTER
+};
+
+const TOO_LARGE: TestActorPlan = TestActorPlan {
+    mailbox: TestMailbox::Bounded(65_537),
+    ..COUNTER
+};
+
+/// Each is refused for the first of its reasons.
+const BAD_PLANS: &[Refusal] = &[
+    Refusal {
+        plan: TestCase {
+            parts: &[OWN_CHILD; 64],
+            ..PLAIN
+        },
+        why: Error::BadPlan(PlanError::Actors),
+        ..WITHOUT_ORDERS
+    },
+    Refusal {
+        plan: TestCase {
+            parts: &[OWN_CHILD],
+            ..PLAIN
+        },
+        actors: &[COUNTER, COUNTER],
+        why: Error::BadPlan(PlanError::Boxes),
+        ..WITHOUT_ORDERS
+    },
+    Refusal {
+        plan: TestCase {
+            parts: &[TestActorPlan {
+                mailbox: TestMailbox::Bounded(0),
+                ..OWN_CHILD
+            }],
+            ..PLAIN
+        },
+        why: Error::BadPlan(PlanError::Parent(ActorId(1))),
+        ..WITHOUT_ORDERS
+    },
+    Refusal {
+        plan: TestCase {
+            senders: 17,
+            parts: &[TOO_LARGE],
+            ..PLAIN
+        },
+        why: Error::BadPlan(PlanError::Capacity(ActorId(1))),
+        ..WITHOUT_ORDERS
+    },
+    Refusal {
+        plan: TestCase {
+            senders: 17,
+            workers: 0,
+            ..ONE
+        },
+        why: Error::BadPlan(PlanError::Senders),
+        ..WITHOUT_ORDERS
+    },
+    Refusal {
+        plan: TestCase {
+            workers: 0,
+            journal_limit: 0,
+            ..ONE
+        },
+        why: Error::BadPlan(PlanError::Workers),
+        ..WITHOUT_ORDERS
+    },
+    Refusal {
+        plan: TestCase { workers: 17, ..ONE },
+        why: Error::BadPlan(PlanError::Workers),
+        ..WITHOUT_ORDERS
+    },
+    Refusal {
+        plan: TestCase {
+            journal_limit: 0,
+            ..ONE
+        },
+        why: Error::BadPlan(PlanError::JournalLimit),
+        ..WITHOUT_ORDERS
+    },
+];
+
+/// There are not as many lists as senders, or an order goes to nobody; or the journal has room for the start and one message.
+const BAD_ORDERS: &[Refusal] = &[
+    WITHOUT_ORDERS,
+    Refusal {
+        sends: &[&[tell!(2, ADD, 1)], &[]],
+        ..WITHOUT_ORDERS
+    },
+    Refusal {
+        sends: &[&[tell!(1, ADD, 1), tell!(2, ADD, 1)]],
+        why: Error::Run(RunError::NoSuchActor),
+        ..WITHOUT_ORDERS
+    },
+    Refusal {
+        sends: &[&[tell!(0, ADD, 1)]],
+        why: Error::Run(RunError::NoSuchActor),
+        ..WITHOUT_ORDERS
+    },
+    Refusal {
+        sends: &[&[stop!(2)]],
+        why: Error::Run(RunError::NoSuchActor),
+        ..WITHOUT_ORDERS
+    },
+    Refusal {
+        plan: TestCase {
+            journal_limit: 2,
+            ..ONE
+        },
+        sends: &[&[tell!(1, ADD, 1), tell!(1, ADD, 2)]],
+        why: Error::Run(RunError::JournalFull),
+        ..WITHOUT_ORDERS
+    },
+];
+
+/// What each sender is to send.
+fn lists_of(alloc: Global, sends: &[&[Order]]) -> Result<Vec<Vec<Order>>, AllocError> {
+    let mut lists = Vec::new(alloc);
+    for own in sends {
+        lists.push(sends_of(alloc, *own)?)?;
+    }
+    Ok(lists)
+}
+
+fn run_alone<R: Wait>(rt: &R, alloc: Global, refusal: &Refusal) -> Result<Report, Error> {
+    let plan = plan_of(alloc, &refusal.plan)?;
+    let actors = test_actors_of(alloc, refusal.actors)?;
+    let sends = lists_of(alloc, refusal.sends)?;
+    run_here(rt, alloc, plan, actors, &sends)
+}
+
+fn run_together<R: Threads + Wait + Sync>(
+    rt: &R,
+    alloc: Global,
+    refusal: &Refusal,
+) -> Result<Report, Error> {
+    let plan = plan_of(alloc, &refusal.plan)?;
+    let actors = test_actors_of(alloc, refusal.actors)?;
+    let sends = lists_of(alloc, refusal.sends)?;
+    run_on_threads(rt, alloc, plan, actors, &sends)
+}
+
+#[test]
+fn a_run_on_one_thread_is_refused_for_its_first_reason(rt: HostRuntime) {
+    for refusal in BAD_PLANS.iter().chain(BAD_ORDERS) {
+        let refused = run_alone(&rt, rt.alloc(), refusal).err();
+        assert_eq!(rt; refused, Some(refusal.why));
+    }
+}
+
+#[test]
+fn a_run_on_threads_is_refused_for_its_first_reason(rt: HostRuntime) {
+    for refusal in BAD_PLANS.iter().chain(BAD_ORDERS) {
+        let refused = run_together(&rt, rt.alloc(), refusal).err();
+        assert_eq!(rt; refused, Some(refusal.why));
+    }
+}

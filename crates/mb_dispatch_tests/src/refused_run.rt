@@ -1,0 +1,67 @@
+//! A whole run by one call, which is made again where memory was refused: `tools/refuse_each_allocation run` runs this with each
+//! allocation refused in turn.
+use crate::refused::{BY_SHARED, SENDS, WITH_ALL, is_text_due};
+use heddleorange::{Error, RunError, dead_letters, run_here};
+use mb_msg::{ActorId, DeadLetter, Order, OrderKind, Why};
+use mb_report::Report;
+use mb_testkit::{TestCase, plan_of, test_actors_of};
+use std::alloc::{AllocError, Global};
+use std::sync::Wait;
+
+/// The place of the sender outside: it comes behind the guardian and two actors.
+const SENDER: ActorId = ActorId(3);
+
+/// What the sender is to send.
+fn orders(alloc: Global) -> Result<Vec<Vec<Order>>, AllocError> {
+    let mut own = Vec::new(alloc);
+    for (body, _) in SENDS {
+        own.push(Order {
+            to: ActorId(2),
+            what: OrderKind::Tell(*body),
+            times: 1,
+        })?;
+    }
+    Ok(vec![in alloc; own]?)
+}
+
+fn run_once<R: Wait>(rt: &R, alloc: Global, story: &TestCase<'_>) -> Result<Report, Error> {
+    let plan = plan_of(alloc, story)?;
+    let actors = test_actors_of(alloc, story.parts)?;
+    let sends = orders(alloc)?;
+    run_here(rt, alloc, plan, actors, &sends)
+}
+
+/// The report of the run, which is made again where memory was refused.
+fn run_at_last<R: Wait>(rt: &R, alloc: Global, story: &TestCase<'_>) -> Result<Report, Error> {
+    match run_once(rt, alloc, story) {
+        Err(Error::NoMemory | Error::Run(RunError::NoMemory)) => run_once(rt, alloc, story),
+        outcome => outcome,
+    }
+}
+
+/// The report that is due, where these are the sender's dead letters.
+fn due_with(letters: &[DeadLetter]) -> &'static str {
+    for letter in letters {
+        if letter.why == Why::NoMemory {
+            return match SENDS.get(letter.envelope.number as usize) {
+                Some((_, without)) => *without,
+                None => "",
+            };
+        }
+    }
+    WITH_ALL
+}
+
+fn is_as_due(alloc: Global, report: &Report) -> Option<bool> {
+    let letters = dead_letters(report, SENDER)?;
+    is_text_due(alloc, report, due_with(letters))
+}
+
+#[test]
+fn a_refused_whole_run_can_be_made_again(rt: HostRuntime) {
+    let Ok(report) = run_at_last(&rt, rt.alloc(), &BY_SHARED) else {
+        assert!(rt; false, "no report");
+        return;
+    };
+    assert_eq!(rt; is_as_due(rt.alloc(), &report), Some(true));
+}

@@ -1,0 +1,334 @@
+"""What a sequence diagram of a run shows, read from its SVG alone, and whether that is what journals say. It shares nothing with the
+program: what it asks of a row follows from docs/TRACE.md and docs/SEMANTICS.md."""
+
+import collections
+import json
+import re
+import typing
+import xml.etree.ElementTree
+
+GUARDIAN = "guardian"
+STRAIGHT, LOOP = re.compile(r"M(\d+),(\d+) H(\d+)"), re.compile(r"M(\d+),(\d+) h26 v12 H(\d+)")
+
+
+class Shown(typing.NamedTuple):
+    """An entry of the journal of its owner in the words of a diagram: who sent what came (None of a system message) and under which
+    number, the message, what came of it ("" where it was handled, or applied with no call), whether the actor was called, and the words
+    of each effect."""
+
+    owner: str
+    sender: str | None
+    number: int
+    message: str
+    outcome: str
+    is_called: bool | None
+    effects: tuple
+
+    def is_like(self, other):
+        """Whether the two differ in their numbers alone."""
+        return self._replace(number=0) == other._replace(number=0)
+
+
+class Row(typing.NamedTuple):
+    """A row of a diagram: what kinds it is of, who receives and who sends it, how many it stands for, its words, its marks with the middle
+    of each and its texts with the beginning of each, and from where to where its arrow goes at which height."""
+
+    kinds: set
+    owner: str
+    sender: str | None
+    times: int
+    message: str
+    outcome: str
+    marks: dict
+    start: int
+    end: int
+    height: int
+
+    def __str__(self):
+        return f"the row {self.message} of {self.owner} at {self.height}"
+
+
+class Diagram(typing.NamedTuple):
+    """The lanes by their names, the height at which each lane ends and whether a mark stands there, the actors of the row of those that
+    were created, the other rows, the dead letters, and all words with their places."""
+
+    lanes: dict
+    ends: dict
+    created: list
+    rows: list
+    letters: list
+    words: collections.Counter
+
+
+# Reading.
+
+
+def spans_of(part):
+    """From where to where the arrow of a row goes, and at which height."""
+    for path in part.findall(".//{*}path"):
+        if "arrow" in path.get("class").split():
+            if found := STRAIGHT.fullmatch(path.get("d")):
+                return int(found[1]), int(found[3]), int(found[2])
+            if found := LOOP.fullmatch(path.get("d")):
+                return int(found[1]), int(found[3]), int(found[2]) + 12
+    raise ValueError("a row has no arrow")
+
+
+def row_of(part):
+    """A row, as its group has it."""
+    words = {text.get("class"): "".join(text.itertext()) for text in part.findall(".//{*}text")}
+    message, _, _ = words.get("label", "").partition(" × ")
+    times = int(part.get("data-entries") or part.get("data-letters"))
+    if words.get("label") != message + (f" × {times:,}" if times > 1 else ""):
+        raise ValueError(f"the row {words.get('label')} stands for {times}")
+    outcome = words.get("bad") or words.get("note") or ""
+    return Row(set(part.get("class").split()[1:]), part.get("data-actor"), part.get("data-by"), times, message, outcome, marks_of(part), *spans_of(part))
+
+
+def marks_of(part):
+    """The places of the marks and texts of a row, by their kinds."""
+    places = collections.defaultdict(list)
+    for mark in part.iter():
+        kind, numbers = mark.get("class"), [int(mark.get(key, 0)) for key in ("x", "y", "cx", "cy", "width", "height")]
+        if kind in ("bar", "dot", "label", "bad", "note"):
+            places[kind].append((numbers[0] + numbers[2] + numbers[4] // 2, numbers[1] + numbers[3] + numbers[5] // 2))
+        elif kind == "cross":
+            left, top = map(int, re.fullmatch(r"M(\d+),(\d+) l10,10 m-10,0 l10,-10", mark.get("d")).groups())
+            places[kind].append((left + 5, top + 5))
+    return places
+
+
+def created_in(part, names):
+    """Whom the row of those that were created shows: the guardian, by its dot, and each at whose lane the tip of an arrow is."""
+    tips = [int(re.match(r"M(\d+)", tip.get("d"))[1]) + 8 for tip in part.findall(".//{*}path") if tip.get("class") == "system-tip"]
+    return [names.get(tip, f"no lane at {tip}") for tip in tips]
+
+
+def diagram_of(picture):
+    """The diagram, or a ValueError where it has no such form."""
+    root = xml.etree.ElementTree.fromstring(picture)
+    groups = [part for part in root.findall(".//{*}g") if part.get("class")]
+    lanes = {one.get("data-actor"): int(one.find("{*}text").get("x")) for one in groups if one.get("class") == "name"}
+    names = {place: name for name, place in lanes.items()}
+    lines = [re.fullmatch(r"M(\d+),\d+ V(\d+)", path.get("d")) for path in root.findall(".//{*}path") if path.get("class") == "lane"]
+    marked = [re.fullmatch(r"M(\d+),(\d+) h24", path.get("d")) for path in root.findall(".//{*}path") if path.get("class") == "end"]
+    stops = {(int(mark[1]) + 12, int(mark[2])) for mark in marked}
+    ends = {names[int(line[1])]: (int(line[2]), (int(line[1]), int(line[2])) in stops) for line in lines}
+    created, rows, letters = [], [], []
+    for part in (one for one in groups if one.get("class").startswith("row")):
+        if part.find("{*}path").get("class") == "system-tip" or part.find("{*}path").get("marker-end") is None and not part.get("data-letters"):
+            created.append((int(part.get("data-entries")), created_in(part, names)))
+        else:
+            (letters if part.get("data-letters") else rows).append(row_of(part))
+    words = collections.Counter((int(text.get("x")), "".join(text.itertext())) for text in root.findall(".//{*}text") if text.get("text-anchor") == "middle")
+    return Diagram(lanes, ends, created, rows, letters, words)
+
+
+# The words of entries.
+
+
+def cause_words(message):
+    return f"error {message['error']}" if message["cause"] == "error" else message["cause"]
+
+
+def message_words(message):
+    """A message of a line of JSON, in the words of a diagram."""
+    what = message["what"]
+    if what in ("user", "control"):
+        return f"{'control ' if what == 'control' else ''}kind {message['kind']} value {message['value']}"
+    if what in ("watch", "unwatch"):
+        return f"{what} by {message['actor']}"
+    if what == "resume":
+        return "resume after its failure" if message["of_failure"] else "resume"
+    words = [what, *([message["actor"]] if "actor" in message else []), *(["after", cause_words(message)] if "cause" in message else [])]
+    return " ".join(words)
+
+
+def outcome_words(line):
+    """What a diagram says of what came of the message of a line of JSON."""
+    what, outcome = line["message"]["what"], line["outcome"]
+    if outcome in ("set aside", "dropped"):
+        return outcome
+    if what == "kill":
+        return "killed"
+    if what == "terminated" and outcome == "unhandled":
+        return "death pact"
+    return f"failed {line['error']}" if outcome == "failed" else "unhandled" if outcome == "unhandled" else ""
+
+
+def effect_words(effect):
+    return " ".join([effect["do"], effect["to"], *(f"{key} {effect[key]}" for key in ("kind", "value") if key in effect)])
+
+
+def entries_of(lines):
+    """The entries of lines of JSON, in order, and the dead letters: to whom, from whom, what, and why."""
+    found = [json.loads(line) for line in lines.splitlines()]
+    entries = [
+        Shown(line["actor"], line["sender"], line["number"], message_words(line["message"]), outcome_words(line),
+              line["outcome"] not in ("applied", "set aside", "dropped"), tuple(map(effect_words, line["effects"])))
+        for line in found if line["line"] == "entry"
+    ]  # fmt: skip
+    letters = [(line["actor"], line["sender"], message_words(line["message"]), line["why"]) for line in found if line["line"] == "dead letter"]
+    return entries, letters
+
+
+# Holding a diagram to entries.
+
+
+def sender_of(entry, parents):
+    """Who sends what came, and None where no journal says it."""
+    words = entry.message.split()
+    if entry.sender is not None:
+        return entry.sender
+    if words[0] in ("watch", "unwatch", "failed", "died"):
+        return words[2 if words[1] == "by" else 1]
+    return None if words[0] == "terminate" else parents.get(entry.owner)
+
+
+def is_created(entry, parents):
+    """Whether it stands in the row of those that the guardian created: it started, or is the guardian's own."""
+    return entry.sender is None and entry.message == "create" and parents.get(entry.owner, GUARDIAN) == GUARDIAN and not entry.outcome.startswith("failed")
+
+
+def row_faults(row, entry, lanes, parents):
+    """Whether a row shows the entry."""
+    sender, is_system = sender_of(entry, parents), entry.sender is None
+    is_failed = entry.outcome.startswith("failed") or entry.outcome in ("killed", "death pact")
+    kinds = {"system" if is_system else "user", *(["failure"] if is_failed or is_system and entry.message.split()[0] in ("failed", "restart") else [])}
+    is_restart = is_system and entry.message.split()[0] in ("restart", "resume") and entry.is_called is not False
+    sought = {
+        "owner": (row.owner, entry.owner),
+        "message": (row.message, entry.message),
+        "outcome": (row.outcome, entry.outcome),
+        "kinds": (row.kinds, kinds),
+        "the arrow's end": (row.end, lanes.get(entry.owner)),
+        "the arrow's start": (row.start, lanes.get(row.sender) if row.sender else row.end - 40),
+        "the cross": (row.marks["cross"], [(row.end, row.height)] * is_failed),
+        "the dot": (row.marks["dot"], [(row.start, row.height)] * (row.sender is None)),
+        "the bar": (len(row.marks["bar"]), int(is_restart)),
+    }
+    if entry.message != "terminate":
+        sought["sender"] = (row.sender, sender)
+    if entry.is_called is None:
+        sought.pop("the bar")
+    return [f"{row}: {what} is {found}, wanted {wanted}" for what, (found, wanted) in sought.items() if found != wanted] + [*stray_faults(row)]
+
+
+def stray_faults(row):
+    """Whether the texts and the bar of a row stand beside its arrow: the message above it, and the rest at its end."""
+    left = min(row.start, row.end)
+    for kind, (least, most, above, below) in {"label": (left, left + 40, 20, 0), **dict.fromkeys(("bad", "note", "bar"), (row.end - 40, row.end + 40, 0, 12))}.items():
+        for x, y in row.marks[kind]:
+            if not (least <= x <= most and row.height - above <= y <= row.height + below):
+                yield f"{row}: its {kind} stands at {x}, {y}"
+
+
+def taken(diagram, journals, parents):
+    """The entries in the order of the rows, each row with as many as it stands for from the journal of its actor; and what is wrong."""
+    left = {name: collections.deque(entries) for name, entries in journals.items()}
+    order, faults = [], []
+    for count, names in diagram.created:
+        names = ([GUARDIAN] if len(names) < count else []) + names
+        for name in names:
+            entry = next((entry for entry in left.get(name, ()) if is_created(entry, parents)), None)
+            if entry is None:
+                return order, [f"{name} stands in the row of those that were created, but its journal has no such entry"]
+            left[name].remove(entry)
+            order.append(entry)
+        if len(names) != count:
+            faults.append(f"the row of those that were created stands for {count}, but shows {names}")
+    for row in diagram.rows:
+        for number in range(row.times):
+            entry = left[row.owner].popleft() if left.get(row.owner) else None
+            if entry is None:
+                return order, faults + [f"{row}: the journal of {row.owner} has no more entries"]
+            if number > 0 and not entry.is_like(order[-1]):
+                return order, faults + [f"{row}: {entry} differs from {order[-1]}"]
+            faults += row_faults(row, entry, diagram.lanes, parents) if number == 0 else []
+            order.append(entry)
+    return order, faults + [f"{name}: no row shows {entries[0]}" for name, entries in left.items() if entries]
+
+
+def form_faults(diagram, parents, order):
+    """Whether the rows stand one below another, one for those that were created, and none is like the one above it."""
+    heights = [row.height for row in diagram.rows + diagram.letters]
+    if any(below <= above for above, below in zip(heights, heights[1:])):
+        yield "the rows do not stand one below another"
+    place = sum(count for count, _ in diagram.created)
+    first = {entry.owner: entry for entry in reversed(order)}
+    if len(diagram.created) > 1 or any(is_created(entry, parents) and first[entry.owner] is entry for entry in order[place:]):
+        yield "some that the guardian created stand in no common row"
+    for above, row in zip(diagram.rows, diagram.rows[1:]):
+        place += above.times
+        if above.sender == row.sender and order[place].is_like(order[place - 1]):
+            yield f"{row} is like the one above it"
+
+
+def letter_faults(diagram, letters):
+    """Whether the dead letters are these, in order, and each arrow stops short of the receiver."""
+    shown = [(row.owner, row.sender, row.message, row.outcome) for row in diagram.letters for _ in range(row.times)]
+    if letters is not None and shown != letters:
+        yield f"dead letters {shown}, wanted {letters}"
+    for row in diagram.letters:
+        start, end = diagram.lanes.get(row.sender, -1), diagram.lanes.get(row.owner, -1)
+        stops = start < row.end if start == end else min(start, end) < row.end < max(start, end)
+        yield from stray_faults(row)
+        if row.start != start or not stops or row.marks["cross"] != [(row.end, row.height)]:
+            yield f"{row} goes from {row.start} to {row.end}, from the lane at {start} short of that at {end}"
+    if any(one == other for one, other in zip(shown, shown[1:])) and len(diagram.letters) == len(shown):
+        yield "dead letters that are alike have rows of their own"
+
+
+def foot_faults(diagram, report):
+    """Whether each lane's foot says what the report says of its actor, and it ends with its last row where its actor has ended."""
+    last = {}
+    for row in diagram.rows:
+        last[row.owner] = row.height
+    for line in report.splitlines()[:-1]:
+        name, phase, *words = line.split(" ")
+        found = dict(zip(words[::2], words[1::2]))
+        if name not in diagram.lanes:
+            continue
+        sought = [phase, *([f"state {found['state']}"] if found["state"] != "-" else []), *([f"left {found['left']}"] if found["left"] != "0" else [])]
+        yield from (f"the foot of {name} has no {words}" for words in sought if not diagram.words[diagram.lanes[name], words])
+        height, is_marked = diagram.ends[name]
+        is_ended = phase == "ended" and name in last
+        if is_marked != is_ended or is_ended and not last[name] < height < last[name] + 28:
+            yield f"the lane of {name} ends at {height}, {'with' if is_marked else 'without'} a mark"
+
+
+def diagram_faults(picture, journals, letters, report, parents):
+    """The entries of these journals in the order of a picture's rows, and what is wrong with it. Where the dead letters are None, any
+    may be."""
+    try:
+        diagram = diagram_of(picture)
+    except (ValueError, TypeError, KeyError, AttributeError, xml.etree.ElementTree.ParseError) as error:
+        return [], [f"no diagram: {error!r}"]
+    order, faults = taken(diagram, journals, parents)
+    faults += [] if faults else form_faults(diagram, parents, order)
+    return order, faults + [*letter_faults(diagram, letters), *foot_faults(diagram, report)]
+
+
+def journals_of(entries):
+    """The entries by their owners, each journal in its order."""
+    journals = collections.defaultdict(list)
+    for entry in entries:
+        journals[entry.owner].append(entry)
+    return journals
+
+
+def parents_of(top):
+    """The parent of each actor of a scenario. The guardian has none."""
+    return {table["name"]: table.get("parent", GUARDIAN) for table in top.get("actor", [])}
+
+
+def picture_faults(picture, lines, report, top):
+    """Whether a picture shows these lines of JSON, entry by entry, in their order."""
+    entries, letters = entries_of(lines)
+    parents = parents_of(top)
+    order, faults = diagram_faults(picture, journals_of(entries), letters, report, parents)
+    if faults:
+        return faults
+    place = sum(count for count, _ in diagram_of(picture).created)
+    wanted = [entry for entry in entries if entry not in order[:place]]
+    return [] if order[place:] == wanted else ["the rows stand in another order than the entries"]
