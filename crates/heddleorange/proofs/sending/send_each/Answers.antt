@@ -1,6 +1,6 @@
 use Rattle.std.proofs.Common.{◌≡◌, ◌<◌, Some, length, get_or, arith, subst}
 use Rattle.std.specs.Prelude.{slice_get}
-use Rattle.std.proofs.lemmas.List.Elements.{All-set}
+use Rattle.std.proofs.lemmas.List.Elements.{All-get_or, All-set}
 use Rattle.std.proofs.lemmas.Option.{slice_get-get_or}
 use Rattle.mb_system.specs.Members.{IsSenderOf}
 use Rattle.heddleorange.specs.Sent.{BreaksOne, HasSentAndRetried}
@@ -40,3 +40,19 @@ returns-in_err-send_and_retry-clause-fault g c =
       orders-here c.args.sends.now place orders c.deref.result.now within c.index-sends-place.is c.deref.ensures.value,
       c.in_err-send_and_retry.ensures.fault,
     )
+
+pub returns-clause-same_gates : goal.returns-clause-same_gates
+returns-clause-same_gates g c = c.loop-place.invariant.0
+
+pub send_and_retry-requires : goal.send_and_retry-requires
+send_and_retry-requires g c =
+    let at = c.loop-place in let test = c.loop-place-test.true in let many = at.invariant.1.same_count in record {
+      same_gates =
+          All-get_or (λ s. IsSenderOf c.args.system.now.gates s.inner) at.senders at.place c.index-senders-place.result (omega (arith, test, many))
+          at.invariant.0;
+    }
+
+pub returns-in_err-send_and_retry-clause-same_gates : goal.returns-in_err-send_and_retry-clause-same_gates
+returns-in_err-send_and_retry-clause-same_gates g c =
+    All-set (λ s. IsSenderOf c.args.system.now.gates s.inner) c.loop-place.senders c.loop-place.place c.send_and_retry.new.sender
+    c.in_err-send_and_retry.ensures.same_gates c.loop-place.invariant.0

@@ -37,3 +37,28 @@ returns-in_err-send_and_retry-clause-fault g c =
     err-of (BreaksOne gates (lists_of senders sends)) c.from_residual.result c.in_err-send_and_retry.field-0.0 c.from_residual.ensures.1
     (breaks-one gates senders sends at.send-index no-sending c.in_err-send_and_retry.field-0.0 c.loop-send-test.true from c.requires.from
     c.in_err-send_and_retry.ensures.fault)
+
+pub returns-clause-same_gates : goal.returns-clause-same_gates
+returns-clause-same_gates g c = c.loop-send.invariant.0
+
+pub send_and_retry-requires : goal.send_and_retry-requires
+send_and_retry-requires g c =
+    let at = c.loop-send in let sends = c.args.sends.now in let send = get_or sends at.send-index no-sending in
+    let from = All-get_or (λ s. s.from < length c.args.senders.now) sends at.send-index no-sending c.loop-send-test.true c.requires.from in
+    let many = at.invariant.1.same_count in record {
+      same_gates =
+          All-get_or (λ s. IsSenderOf c.args.system.now.gates s.inner) at.senders send.from c.index-senders-send.result (omega (arith, from, many))
+          at.invariant.0;
+    }
+
+pub returns-in_err-send_and_retry-clause-same_gates : goal.returns-in_err-send_and_retry-clause-same_gates
+returns-in_err-send_and_retry-clause-same_gates g c =
+    let at = c.loop-send in let send = get_or c.args.sends.now at.send-index no-sending in
+    All-set (λ s. IsSenderOf c.args.system.now.gates s.inner) at.senders send.from c.send_and_retry.new.sender c.in_err-send_and_retry.ensures.same_gates
+    at.invariant.0
+
+pub bounds-senders-send : goal.bounds-senders-send
+bounds-senders-send g c =
+    let at = c.loop-send in let sends = c.args.sends.now in
+    let from = All-get_or (λ s. s.from < length c.args.senders.now) sends at.send-index no-sending c.loop-send-test.true c.requires.from in
+    let many = at.invariant.1.same_count in omega (arith, from, many)
