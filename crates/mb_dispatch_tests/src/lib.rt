@@ -56,3 +56,5 @@ mod thousand;
 mod throughput;
 #[cfg(test)]
 mod together;
+#[cfg(test)]
+mod unbuilt;

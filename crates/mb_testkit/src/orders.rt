@@ -85,11 +85,3 @@ pub fn sends_of(alloc: Global, sends: &[Order]) -> Result<Vec<Order>, AllocError
     own.extend_from_slice(sends)?;
     Ok(own)
 }
-
-/// What the sender at this place is to send. Nothing where there are not so many.
-pub fn sends_at(sends: &[Vec<Order>], place: usize) -> &[Order] {
-    match sends.get(place) {
-        Some(own) => own.as_slice(),
-        None => &[],
-    }
-}

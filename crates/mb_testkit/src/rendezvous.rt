@@ -1,7 +1,7 @@
 //! Actors that wait for each other during a call, to show that two workers run at the same time.
 ghost use Rattle.std.specs.Prelude.{◌≡◌};
 
-use mb_actor::{Actor, Answer, Behaviours, Message, Outbox};
+use mb_actor::{Actor, Answer, Message, Outbox};
 use mb_msg::Cause;
 use std::alloc::{AllocError, Global};
 use std::sync::Arc;
@@ -23,18 +23,6 @@ pub struct Rendezvous {
 pub struct MeetingActor {
     hall: Arc<Rendezvous>,
     is_first: bool,
-}
-
-/// Actors that show nothing.
-#[derive(Drop)]
-pub struct Silent {}
-
-impl Behaviours for Silent {
-    ghost use Rattle.std.specs.Prelude.{pos};
-
-    ghost after = { λ _ _. pos 0 };
-
-    ghost gives = { λ _ _ _. Unit {0} };
 }
 
 impl Rendezvous {
