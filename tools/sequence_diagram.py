@@ -230,11 +230,9 @@ def taken(diagram, journals, parents):
     for count, names in diagram.created:
         names = ([GUARDIAN] if len(names) < count else []) + names
         for name in names:
-            entry = next((entry for entry in left.get(name, ()) if is_created(entry, parents)), None)
-            if entry is None:
-                return order, [f"{name} stands in the row of those that were created, but its journal has no such entry"]
-            left[name].remove(entry)
-            order.append(entry)
+            if not left.get(name) or not is_created(left[name][0], parents):
+                return order, [f"{name} stands in the row of those that were created, but its journal does not begin with such an entry"]
+            order.append(left[name].popleft())
         if len(names) != count:
             faults.append(f"the row of those that were created stands for {count}, but shows {names}")
     for row in diagram.rows:

@@ -6,7 +6,7 @@ use Rattle.std.specs.List.{AllZip}
 use Rattle.std.specs.Global.{Box, Global}
 use Rattle.std.proofs.lemmas.List.{map-append, take_more}
 use Rattle.std.proofs.lemmas.List.Elements.{All-map}
-use Rattle.std.proofs.lemmas.Option.{none-some, same_Some, slice_get-get_or}
+use Rattle.std.proofs.lemmas.Option.{none-some, same_Some}
 use Rattle.mb_actor.specs.Behaviour.{Moment, Reply}
 use Rattle.mb_gate.specs.declared.gates.Gates.{Gates}
 use Rattle.mb_home.specs.Contents.{Contents}
@@ -14,11 +14,11 @@ use Rattle.mb_msg.specs.declared.order.Order.{Order}
 use Rattle.mb_system.specs.Members.{IsSenderOf}
 use Rattle.mb_system.specs.declared.end.WorkerEnd.{WorkerEnd}
 use Rattle.mb_system.specs.declared.failure.RunError.{RunError}
-use Rattle.mb_system.specs.declared.failure.RunError.TheVariants as Fault
 use Rattle.mb_system.specs.declared.sender.Sender.{Sender}
 use Rattle.mb_system.specs.declared.system.System.{System}
 use Rattle.mb_dispatch.specs.Faults.{BreaksRun}
 use Rattle.mb_dispatch.specs.Jobs.{AreDone, AreJobsOf, IsDone}
+use Rattle.mb_dispatch.specs.Parallel.{First, FirstZip}
 use Rattle.mb_dispatch.specs.declared.job.Job.{Job}
 use Rattle.mb_dispatch.proofs.Alike.{from-looks}
 use Rattle.mb_shutdown.proofs.Lists.{from-mapped, length-mapped, mapped}
@@ -51,6 +51,21 @@ module _ {X Y : Type 0} (R : X → Y → Type 0) where
   zip-length [] (b ∷ ys) all = absurd all
   zip-length (a ∷ xs) [] all = absurd all
   zip-length (a ∷ xs) (b ∷ ys) all = ap suc (zip-length xs ys all.1)
+
+module _ {X : Type 0} where
+  -- the first of which something holds
+  first-of : (Done Fails : X → Type 0) (xs : List X) → First Done Fails xs → (x : X) × Fails x
+  first-of Done Fails [] failed = absurd failed
+  first-of Done Fails (x ∷ xs) (inl here) = (x, here)
+  first-of Done Fails (x ∷ xs) (inr there) = first-of Done Fails xs there.1
+
+  -- and its place
+  first-zip-of : (Done Fails : X → X → Type 0) (xs ys : List X) → FirstZip Done Fails xs ys
+      → (place : ℕ) × (x : X) × (slice_get xs place ≡ Some x) × (y : X) × Fails x y
+  first-zip-of Done Fails [] ys failed = absurd failed
+  first-zip-of Done Fails (x ∷ xs) [] failed = absurd failed
+  first-zip-of Done Fails (x ∷ xs) (y ∷ ys) (inl here) = (0, x, refl, y, here)
+  first-zip-of Done Fails (x ∷ xs) (y ∷ ys) (inr there) = let one = first-zip-of Done Fails xs ys there.1 in (suc one.0, one.1, one.2, one.3, one.4)
 
 abbrev pub items_of : Vec Order Global → List Order
 items_of v = v.items
@@ -119,14 +134,10 @@ module _ {A K : Type 0} where
 
   -- why a run of these jobs is broken off, in the words of the orders
   module _ (gives : ℕ → Moment → Reply → Type 0) (system : System A K) (ends : List (WorkerEnd A K)) (jobs : List (Job A K)) (orders : List (List Order))
-      (sends : map sends_in jobs ≡ orders) (some : WorkerEnd A K) where
-    pub broke-off : (error : RunError) → BreaksRun gives system ends jobs error → BreaksOff gives system orders error
-    broke-off Fault.NoMemory broken = inr (some, tt)
-    broke-off Fault.JournalFull broken = inr (broken.0, broken.2)
-    broke-off Fault.NoSuchActor broken =
-        let job = broken.0 in let among = broken.1 in
-        let at : slice_get jobs among.0 ≡ Some job = slice_get-get_or jobs among.0 job among.1 ∙ ap Some among.2 in
-        inl (among.0, sends_in job, ap (λ l. slice_get l among.0) (sym sends) ∙ mapped sends_in jobs among.0 job at, broken.2)
-
-    pub no-memory : BreaksOff gives system orders Fault.NoMemory
-    no-memory = inr (some, tt)
+      (sends : map sends_in jobs ≡ orders) where
+    pub broke-off : (after : List (Job A K)) (error : RunError) → BreaksRun gives system ends jobs after error → BreaksOff gives system orders error
+    broke-off after error (inl by_end) = inr (first-of _ _ ends by_end)
+    broke-off after error (inr by_job) =
+        let one = first-zip-of _ _ jobs after by_job.1 in
+        let sent = ap (λ l. slice_get l one.0) (sym sends) ∙ mapped sends_in jobs one.0 one.1 one.2 in
+        inl (one.0, sends_in one.1, sent, one.4)

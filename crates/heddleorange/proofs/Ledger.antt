@@ -171,7 +171,7 @@ module _ (after : ℕ → List Message → ℤ) (gives : ℕ → Moment → Repl
             (subst (λ n. All (λ (t : AddressedBody). (0 < t.0.0) × (t.0.0 < n)) (tells_of_journal who a.journal.entries)) count goes)),
       )
 
-  outside-as : (k : ℕ) (of : List Order) → slice_get orders k ≡ Some of → rows + k < senders
+  pub outside-as : (k : ℕ) (of : List Order) → slice_get orders k ≡ Some of → rows + k < senders
       → (accepted (answers (rows + k)) ≡ numbered_from (64 + k) 0 (ordered_bodies of)) × All (Goes (actors + 1)) (accepted (answers (rows + k)))
   outside-as k of is lt =
       let many = right.1 in let listed_of = within orders k of is in
@@ -190,7 +190,7 @@ module _ (after : ℕ → List Message → ℤ) (gives : ℕ → Moment → Repl
             (numbered-goes (actors + 1) (64 + k) 0 (ordered_bodies of) (orders-there actors of (of-place actors orders k of right.2 is))),
       )
 
-  goes : (place : ℕ) → place < senders → All (Goes (actors + 1)) (accepted (answers place))
+  pub goes : (place : ℕ) → place < senders → All (Goes (actors + 1)) (accepted (answers place))
   goes place lt = by_test (nat_lt place rows) refl
     where
       by_test : (b : Bool) → nat_lt place rows ≡ b → All (Goes (actors + 1)) (accepted (answers place))

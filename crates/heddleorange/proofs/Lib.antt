@@ -10,6 +10,7 @@ pub mod FromStory
 pub mod Sums
 pub mod Recipients
 pub mod Ledger
+pub mod RunHeadline
 pub mod Told
 pub mod Lives
 pub mod Weighed

@@ -7,4 +7,5 @@ pub mod States
 pub mod Ledger
 pub mod Conservation
 pub mod Names
+pub mod RunHeadline
 pub mod Orders

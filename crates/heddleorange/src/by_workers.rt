@@ -7,6 +7,7 @@ ghost use Rattle.mb_quantity.specs.Quantity.{AllConserve, Holding};
 ghost use Rattle.heddleorange.specs.Conservation.{IsConserved};
 ghost use Rattle.heddleorange.specs.Ledger.{AddsUp};
 ghost use Rattle.heddleorange.specs.NoReport.{IsErrorOfRun, IsRight};
+ghost use Rattle.heddleorange.specs.RunHeadline.{RunHeadline};
 ghost use Rattle.heddleorange.specs.States.{ShowsStates};
 ghost use Rattle.heddleorange.specs.WholeRun.{IsReportOfRun, after_at, gives_at};
 
@@ -36,6 +37,7 @@ impl<A: Actor + Send> PlannedSystem<A> {
             (map (λ orders. orders.items) sends.now)) }
         ensures states { IfOk result (ShowsStates A.after self.actors.items self.plan) }
         ensures lines { IfOk result (λ report. length report.actors.items ≡ length self.actors.items + 1) }
+        ensures headline { IfOk result (RunHeadline self.plan (map (λ orders. orders.items) sends.now)) }
         ensures ledger { IfOk result (AddsUp self.plan (map (λ orders. orders.items) sends.now)) }
         ensures conserved { (worth : Message → ℤ) (holdings : List (Option Holding)) → ((ended : Id) → worth (Terminated ended) ≡ pos 0)
             → AllConserve A.after A.gives worth holdings self.actors.items → IfOk result (IsConserved worth holdings (map (λ orders. orders.items) sends.now)) }

@@ -4,6 +4,7 @@ ghost use Rattle.mb_build.specs.BehavesAsPlanned.{BehaveAsPlanned};
 ghost use Rattle.heddleorange.specs.Ledger.{AddsUp};
 ghost use Rattle.heddleorange.specs.NoReport.{IsErrorOfRun, IsRight};
 ghost use Rattle.heddleorange.specs.Orders.{lists_of};
+ghost use Rattle.heddleorange.specs.RunHeadline.{RunHeadline};
 ghost use Rattle.heddleorange.specs.States.{ShowsStates};
 ghost use Rattle.heddleorange.specs.WholeRun.{IsReportOfRun, after_at, gives_at};
 
@@ -47,6 +48,7 @@ pub fn run_in_order<A: Actor, R: Wait>(
     ensures refused { IfErr result (IsErrorOfRun (gives_at actors.items A.gives) plan (length actors.items) (lists_of plan.senders sends.now)) }
     ensures states { IfOk result (λ run. ShowsStates A.after actors.items plan run.report) }
     ensures lines { IfOk result (λ run. length run.report.actors.items ≡ length actors.items + 1) }
+    ensures headline { IfOk result (λ run. RunHeadline plan (lists_of plan.senders sends.now) run.report) }
     ensures ledger { IfOk result (λ run. AddsUp plan (lists_of plan.senders sends.now) run.report) }
 {
     run_planned_in_order::<A, Brand, R>(rt, alloc, plan, actors, sends)

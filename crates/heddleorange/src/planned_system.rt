@@ -7,6 +7,7 @@ ghost use Rattle.heddleorange.specs.declared.error.Error.TheVariants.{BadPlan, N
 ghost use Rattle.heddleorange.specs.Ledger.{AddsUp};
 ghost use Rattle.heddleorange.specs.Names.{name_by_default, number_of, texts_of};
 ghost use Rattle.heddleorange.specs.NoReport.{IsErrorOfRun, IsRight};
+ghost use Rattle.heddleorange.specs.RunHeadline.{RunHeadline};
 ghost use Rattle.heddleorange.specs.States.{ShowsStates};
 ghost use Rattle.heddleorange.specs.WholeRun.{IsReportOfRun, after_at, gives_at};
 
@@ -209,6 +210,7 @@ impl<A: Actor> PlannedSystem<A> {
             (map (λ orders. orders.items) sends.now)) }
         ensures states { IfOk result (ShowsStates A.after self.actors.items self.plan) }
         ensures lines { IfOk result (λ report. length report.actors.items ≡ length self.actors.items + 1) }
+        ensures headline { IfOk result (RunHeadline self.plan (map (λ orders. orders.items) sends.now)) }
         ensures ledger { IfOk result (AddsUp self.plan (map (λ orders. orders.items) sends.now)) }
     {
         let PlannedSystem {
@@ -236,6 +238,7 @@ impl<A: Actor + Send> PlannedSystem<A> {
             (map (λ orders. orders.items) sends.now)) }
         ensures states { IfOk result (ShowsStates A.after self.actors.items self.plan) }
         ensures lines { IfOk result (λ report. length report.actors.items ≡ length self.actors.items + 1) }
+        ensures headline { IfOk result (RunHeadline self.plan (map (λ orders. orders.items) sends.now)) }
         ensures ledger { IfOk result (AddsUp self.plan (map (λ orders. orders.items) sends.now)) }
     {
         let PlannedSystem {

@@ -3,6 +3,7 @@ ghost use Rattle.std.specs.Prelude.{◌≡◌, ◌+◌, [], All, IfErr, IfOk, On
 ghost use Rattle.mb_build.specs.BehavesAsPlanned.{BehaveAsPlanned};
 ghost use Rattle.heddleorange.specs.Ledger.{AddsUp};
 ghost use Rattle.heddleorange.specs.NoReport.{IsErrorOfRun, IsRight};
+ghost use Rattle.heddleorange.specs.RunHeadline.{RunHeadline};
 ghost use Rattle.heddleorange.specs.States.{ShowsStates};
 ghost use Rattle.heddleorange.specs.WholeRun.{IsReportOfRun, after_at, gives_at};
 
@@ -40,6 +41,7 @@ pub fn run_here<A: Actor, R: Wait>(
     ensures refused { IfErr result (IsErrorOfRun (gives_at actors.items A.gives) plan (length actors.items) (map (λ orders. orders.items) sends.now)) }
     ensures states { IfOk result (ShowsStates A.after actors.items plan) }
     ensures lines { IfOk result (λ report. length report.actors.items ≡ length actors.items + 1) }
+    ensures headline { IfOk result (RunHeadline plan (map (λ orders. orders.items) sends.now)) }
     ensures ledger { IfOk result (AddsUp plan (map (λ orders. orders.items) sends.now)) }
 {
     run_planned::<A, Brand, R>(rt, alloc, plan, actors, sends)
@@ -61,6 +63,7 @@ pub fn run_on_threads<A: Actor + Send, R: Threads + Wait + Sync>(
     ensures refused { IfErr result (IsErrorOfRun (gives_at actors.items A.gives) plan (length actors.items) (map (λ orders. orders.items) sends.now)) }
     ensures states { IfOk result (ShowsStates A.after actors.items plan) }
     ensures lines { IfOk result (λ report. length report.actors.items ≡ length actors.items + 1) }
+    ensures headline { IfOk result (RunHeadline plan (map (λ orders. orders.items) sends.now)) }
     ensures ledger { IfOk result (AddsUp plan (map (λ orders. orders.items) sends.now)) }
 {
     run_planned_on_threads::<A, Brand, R>(rt, alloc, plan, actors, sends)

@@ -1,3 +1,6 @@
-pub mod Watched
-pub mod Followed
 pub mod Order
+pub mod NoCell
+pub mod Counting
+pub mod Planned
+pub mod Accounted
+pub mod Told

@@ -1,3 +1,6 @@
+pub mod Places
 pub mod Sent
+pub mod SystemMessages
 pub mod Merged
-pub mod Progress
+pub mod Replayed
+pub mod ReplayOf

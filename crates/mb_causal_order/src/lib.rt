@@ -1,14 +1,13 @@
 //! One order of the entries of all journals of a run that agrees with what caused what.
 #![tactic(auto)]
 
-mod actor_list;
-mod entry;
-mod life;
-mod mail;
+mod journal_actor;
 mod merge;
+mod outstanding;
 mod place;
-mod progress;
-mod system_messages;
+mod planned_cells;
+mod replay;
+mod replayed_cell;
 
 pub use merge::merged_order;
 pub use place::Place;

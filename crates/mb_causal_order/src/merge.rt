@@ -1,15 +1,19 @@
 //! Making the order.
-ghost use Rattle.std.specs.Prelude.{ℕ, ◌≡◌, ◌<◌, ◌≤◌, [], IfOk, IfSome, IsTrue, List, OnOk, length, reverse, slice_index_or};
+ghost use Rattle.std.specs.Prelude.{ℕ, ◌≡◌, ◌<◌, ◌≤◌, [], IfOk, IfSome, IsTrue, List, get_or, length, reverse};
+ghost use Rattle.mb_msg.specs.declared.order.SenderOrder.{SenderOrder as Sending};
 ghost use Rattle.mb_actor.specs.declared.effect.Effect.{Effect};
+ghost use Rattle.mb_journal.specs.Identity.{Identity};
 ghost use Rattle.mb_journal.specs.JournalView.{entry_with};
-ghost use Rattle.mb_causal_order.specs.Merged.{IsCaused, IsEndedBefore, IsMerged, IsSentBefore, journal_of, standing};
-ghost use Rattle.mb_causal_order.specs.Progress.{AgreeWith, IsReady};
+ghost use Rattle.mb_cell.specs.CellView.{CellView};
+ghost use Rattle.mb_build.specs.Planned.{actors_in};
+ghost use Rattle.mb_causal_order.specs.Merged.{IsCaused, IsEndedBefore, IsMerged, IsSentBefore};
+ghost use Rattle.mb_causal_order.specs.Places.{journal_of, standing};
+ghost use Rattle.mb_causal_order.specs.Replayed.{IsReady};
+ghost use Rattle.mb_causal_order.specs.ReplayOf.{IsReplayOf};
 ghost use Rattle.mb_causal_order.specs.declared.place.Place.{Place};
-ghost use Rattle.mb_causal_order.specs.declared.progress.Progress.{Progress};
 
 use crate::place::Place;
-use crate::progress::Progress;
-use crate::system_messages::SystemMessages;
+use crate::replay::Replay;
 use mb_journal::Received;
 use mb_msg::{Envelope, Plan, SenderOrder, SysMsg};
 use mb_report::ActorReport;
@@ -27,34 +31,26 @@ pub fn merged_order(
     actors: &[ActorReport],
 ) -> Result<Option<Vec<Place>>, AllocError>
     requires few { length actors.now ≤ 64 }
-    ensures { IfOk result (λ found. IfSome found (λ order. IsMerged actors.now (reverse order.items))) }
+    ensures { IfOk result (λ found. IfSome found (λ order. IsMerged (actors_in plan.now) sends.now actors.now (reverse order.items))) }
 {
-    let mut progress = begin(alloc, actors)?;
-    let mut messages = SystemMessages::new(alloc, plan, sends)?;
+    if plan.actors.len() >= 64 || actors.len() != plan.actors.len() + 1 {
+        return Ok(None);
+    }
+    let mut replay = Replay::new(alloc, plan, sends, actors)?;
     let mut order = Vec::new(alloc);
     for _taken in 0..entries_of(actors) {
-        let Some(number) = next_actor(actors, &progress, &messages) else {
+        let Some(number) = next_actor(actors, &replay) else {
             return Ok(None);
         };
-        take(actors, number, &mut progress, &mut messages, &mut order)?;
+        if !take(actors, number, &mut replay, &mut order)? {
+            return Ok(None);
+        }
     }
-    if has_all(actors, &progress) {
+    if has_all(actors, &replay) {
         Ok(Some(order))
     } else {
         Ok(None)
     }
-}
-
-/// What is known of the actors before their first entries.
-fn begin(alloc: Global, actors: &[ActorReport]) -> Result<Vec<Progress>, AllocError>
-    requires few { length actors.now ≤ 64 }
-    ensures { IfOk result (λ progress. AgreeWith actors.now [] progress.items) }
-{
-    let mut progress = Vec::new(alloc);
-    for number in 0..actors.len() {
-        progress.push(Progress::new(alloc, number as u32))?;
-    }
-    Ok(progress)
 }
 
 /// How many entries all journals have together, or fewer past `u64::MAX`.
@@ -67,16 +63,14 @@ fn entries_of(actors: &[ActorReport]) -> u64 {
 }
 
 /// The actor of the lowest number whose next entry may come next; `None` where there is none.
-fn next_actor(
-    actors: &[ActorReport],
-    progress: &[Progress],
-    messages: &SystemMessages<'_>,
-) -> Option<usize>
-    requires as_many { length progress.now ≡ length actors.now }
-    ensures { (order : List Place) → AgreeWith actors.now order progress.now → IfSome result (λ a. IsReady actors.now order a) }
+fn next_actor(actors: &[ActorReport], replay: &Replay<'_>) -> Option<usize>
+    requires all_cells { length replay.now.cells.items ≡ length actors.now }
+    requires few { length actors.now ≤ 64 }
+    ensures { (who : List Identity) (sends : List Sending) (order : List Place) → IsReplayOf who sends actors.now order replay.now
+        → IfSome result (λ a. IsReady who sends actors.now order a) }
 {
     for number in 0..actors.len() {
-        if is_ready(actors, number, progress, messages) {
+        if is_ready(actors, number, replay) {
             return Some(number);
         }
     }
@@ -84,62 +78,47 @@ fn next_actor(
 }
 
 /// Whether the actor of this number has an entry that may come next.
-fn is_ready(
-    actors: &[ActorReport],
-    number: usize,
-    progress: &[Progress],
-    messages: &SystemMessages<'_>,
-) -> bool
+fn is_ready(actors: &[ActorReport], number: usize, replay: &Replay<'_>) -> bool
     requires an_actor { number < length actors.now }
-    requires as_many { length progress.now ≡ length actors.now }
-    ensures { (order : List Place) → AgreeWith actors.now order progress.now → IsTrue result → IsReady actors.now order number }
+    requires all_cells { length replay.now.cells.items ≡ length actors.now }
+    requires few { length actors.now ≤ 64 }
+    ensures { (who : List Identity) (sends : List Sending) (order : List Place) → IsReplayOf who sends actors.now order replay.now
+        → IsTrue result → IsReady who sends actors.now order number }
 {
     let journal = &actors[number].journal;
-    let index = progress[number].next();
+    let index = replay.entries(number);
     if index >= journal.len() {
         return false;
     }
     let entry = journal.get(index);
-    if !is_sent(messages, number, entry.arrival) {
+    if !replay.is_sent(number, entry.arrival) {
         return false;
     }
-    is_caused(actors, progress, entry.arrival)
-}
-
-/// Whether the system message that came to the actor of this number was sent; true of an envelope.
-fn is_sent(messages: &SystemMessages<'_>, to: usize, arrival: Received) -> bool {
-    match arrival {
-        Received::System {
-            number,
-            message,
-            ..
-        }
-        | Received::SetAside { number, message } => messages.is_sent(to, number, message),
-        Received::Handled { .. } | Received::Dropped { .. } => true,
-    }
+    is_caused(actors, replay, entry.arrival)
 }
 
 /// Whether the envelope that came was sent, or the actor of whose end the message tells has ended; true of other messages.
-fn is_caused(actors: &[ActorReport], progress: &[Progress], arrival: Received) -> bool
-    requires as_many { length progress.now ≡ length actors.now }
-    ensures { (order : List Place) → AgreeWith actors.now order progress.now → IsTrue result
-        → (effects : List Effect) → IsCaused actors.now order (entry_with arrival effects) }
+fn is_caused(actors: &[ActorReport], replay: &Replay<'_>, arrival: Received) -> bool
+    requires all_cells { length replay.now.cells.items ≡ length actors.now }
+    ensures { (who : List Identity) (sends : List Sending) (order : List Place) → IsReplayOf who sends actors.now order replay.now → IsTrue result
+        → (effects : List Effect) → IsCaused who actors.now order (entry_with arrival effects) }
 {
     match arrival {
-        Received::Handled { envelope, .. } => has_sent(actors, progress, envelope),
-        Received::System { message, .. } => has_ended(actors, progress, message),
-        Received::SetAside { message, .. } => has_ended(actors, progress, message),
-        Received::Dropped { envelope } => has_sent(actors, progress, envelope),
+        Received::Handled { envelope, .. } => has_sent(actors, replay, envelope),
+        Received::System { message, .. } => has_ended(actors, replay, message),
+        Received::SetAside { message, .. } => has_ended(actors, replay, message),
+        Received::Dropped { envelope } => has_sent(actors, replay, envelope),
     }
 }
 
 /// Whether the actor of whose end the message tells has ended; true of other messages.
-fn has_ended(actors: &[ActorReport], progress: &[Progress], message: SysMsg) -> bool
-    requires as_many { length progress.now ≡ length actors.now }
-    ensures { (order : List Place) → AgreeWith actors.now order progress.now → IsTrue result → IsEndedBefore actors.now order message }
+fn has_ended(actors: &[ActorReport], replay: &Replay<'_>, message: SysMsg) -> bool
+    requires all_cells { length replay.now.cells.items ≡ length actors.now }
+    ensures { (who : List Identity) (sends : List Sending) (order : List Place) → IsReplayOf who sends actors.now order replay.now → IsTrue result
+        → IsEndedBefore actors.now order message }
 {
     match message {
-        SysMsg::Died(id) => is_past(actors, progress, id.0 as usize),
+        SysMsg::Died(id) => is_past(actors, replay, id.0 as usize),
         SysMsg::Create
         | SysMsg::Recreate(_)
         | SysMsg::Suspend
@@ -152,63 +131,70 @@ fn has_ended(actors: &[ActorReport], progress: &[Progress], message: SysMsg) -> 
 }
 
 /// Whether all entries of the actor of this number were taken; true of a number that no actor has.
-fn is_past(actors: &[ActorReport], progress: &[Progress], number: usize) -> bool
-    requires as_many { length progress.now ≡ length actors.now }
-    ensures { (order : List Place) → AgreeWith actors.now order progress.now → IsTrue result → number < length actors.now
-        → standing number order ≡ length (journal_of actors.now number) }
+fn is_past(actors: &[ActorReport], replay: &Replay<'_>, number: usize) -> bool
+    requires all_cells { length replay.now.cells.items ≡ length actors.now }
+    ensures { (who : List Identity) (sends : List Sending) (order : List Place) → IsReplayOf who sends actors.now order replay.now → IsTrue result
+        → number < length actors.now → standing number order ≡ length (journal_of actors.now number) }
 {
     if number >= actors.len() {
         return true;
     }
     let entries = actors[number].journal.len();
-    progress[number].next() == entries
+    replay.entries(number) == entries
 }
 
 /// Whether the sender of the envelope, if it is an actor, has sent it.
-fn has_sent(actors: &[ActorReport], progress: &[Progress], envelope: Envelope) -> bool
-    requires as_many { length progress.now ≡ length actors.now }
-    ensures { (order : List Place) → AgreeWith actors.now order progress.now → IsTrue result → IsSentBefore actors.now order envelope }
+fn has_sent(actors: &[ActorReport], replay: &Replay<'_>, envelope: Envelope) -> bool
+    requires all_cells { length replay.now.cells.items ≡ length actors.now }
+    ensures { (who : List Identity) (sends : List Sending) (order : List Place) → IsReplayOf who sends actors.now order replay.now → IsTrue result
+        → IsSentBefore who actors.now order envelope }
 {
     let by = envelope.by.0 as usize;
     if by >= actors.len() {
         return true;
     }
-    envelope.number < progress[by].sent()
+    envelope.number < replay.told(by)
 }
 
-/// Takes the next entry of the actor of this number. The only error: memory was refused.
+/// Takes the next entry of the actor of this number. It answers `false` where no cell makes this entry. The only error: memory was refused.
 fn take(
     actors: &[ActorReport],
     number: usize,
-    progress: &mut [Progress],
-    messages: &mut SystemMessages<'_>,
+    replay: &mut Replay<'_>,
     order: &mut Vec<Place>,
-) -> Result<(), AllocError>
-    requires agree { AgreeWith actors.now (reverse order.old.items) progress.old }
-    requires ready { IsReady actors.now (reverse order.old.items) number }
-    ensures { OnOk result (AgreeWith actors.now (reverse order.new.items) progress.new) }
+) -> Result<bool, AllocError>
+    requires an_actor { number < length actors.now }
+    requires few { length actors.now ≤ 64 }
+    requires all_cells { length replay.old.cells.items ≡ length actors.now }
+    requires carried_out { (d : CellView) → (get_or replay.old.cells.items number d).acts ≡ [] }
+    ensures { IfOk result (λ is_taken. IsTrue is_taken → (who : List Identity) (sends : List Sending)
+        → IsReplayOf who sends actors.now (reverse order.old.items) replay.old → IsReady who sends actors.now (reverse order.old.items) number
+        → IsReplayOf who sends actors.now (reverse order.new.items) replay.new) }
 {
     let journal = &actors[number].journal;
-    let index = progress[number].next();
-    prove!(index < journal.len());
+    let index = replay.entries(number);
+    if index >= journal.len() {
+        return Ok(false);
+    }
     let entry = journal.get(index);
-    messages.apply(number, &entry)?;
-    progress[number].pass(&entry)?;
+    if !replay.apply(number, &entry)? {
+        return Ok(false);
+    }
     order.push(Place {
         actor: number,
         index,
     })?;
-    Ok(())
+    Ok(true)
 }
 
 /// Whether all entries of all journals were taken.
-fn has_all(actors: &[ActorReport], progress: &[Progress]) -> bool
-    requires as_many { length progress.now ≡ length actors.now }
-    ensures { IsTrue result → (a : ℕ) (p : Progress) → a < length actors.now
-        → (slice_index_or progress.now a p).next ≡ length (journal_of actors.now a) }
+fn has_all(actors: &[ActorReport], replay: &Replay<'_>) -> bool
+    requires all_cells { length replay.now.cells.items ≡ length actors.now }
+    ensures { IsTrue result → (a : ℕ) (d : CellView) → a < length actors.now
+        → length (get_or replay.now.cells.items a d).journal ≡ length (journal_of actors.now a) }
 {
     for number in 0..actors.len() {
-        if progress[number].next() != actors[number].journal.len() {
+        if replay.entries(number) != actors[number].journal.len() {
             return false;
         }
     }

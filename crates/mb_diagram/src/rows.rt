@@ -146,14 +146,15 @@ fn tells_of_failure(came: Received) -> bool {
     }
 }
 
-/// Whether this is an actor's first message from the guardian, or the guardian's own, and it did not fail.
+/// Whether this is the first entry of its journal, a Create from the guardian or the guardian's own, and it did not fail. A Create behind
+/// another message has a row of its own, so that each journal is drawn in its order.
 fn is_plain_create(shown: &ShownEntry<'_>, source: Option<u32>) -> bool {
     match shown.entry.arrival {
         Received::System {
             answer,
             message: SysMsg::Create,
             ..
-        } => (source == None || source == Some(0)) && !has_failed(answer),
+        } => shown.index == 0 && (source == None || source == Some(0)) && !has_failed(answer),
         _ => false,
     }
 }

@@ -1,7 +1,8 @@
 -- For which reasons sending, work and a whole run are broken off.
 use Rattle.std.proofs.Common.{◌≡◌, ◌≤◌, ℕ, List, [], ◌∷◌, ◌<◌, length, refl, subst, sym, ◌∙◌, arith, inl, inr}
-use Rattle.std.specs.Prelude.{◌≢◌, ◌⊎◌, ⊤, Contains, Err, IsErrOf, MatchResult, Ok, OnErr, Result, Some}
+use Rattle.std.specs.Prelude.{◌≢◌, ◌⊎◌, ⊤, Contains, Err, IfErr, IsErrOf, MatchResult, Ok, OnErr, OnOk, Result, Some}
 use Rattle.std.specs.Global.{Box}
+use Rattle.std.specs.List.{AllZip}
 use Rattle.std.proofs.lemmas.List.Elements.{All-cons, All-contains, All-nil}
 use Rattle.mb_actor.specs.Behaviour.{Moment, Reply}
 use Rattle.mb_msg.specs.declared.id.ActorId.{ActorId}
@@ -23,16 +24,17 @@ use Rattle.mb_send.specs.declared.send_error.SendError.TheVariants as Refusal
 use Rattle.mb_home.specs.Fresh.{IsFreshClaim}
 use Rattle.mb_mailbox.specs.Ran.{HadRoom, LeavesRun}
 use Rattle.mb_mailbox.specs.declared.turn.Turn.{Turn}
-use Rattle.mb_dispatch.specs.Parallel.{AnyZip}
-use Rattle.mb_dispatch.specs.Faults.{BreaksRun, BreaksWork, CameToLimit, BreaksSending, IsToNobody}
+use Rattle.mb_dispatch.specs.Faults.{BreaksRun, BreaksWork, CameToLimit, BreaksSending, HasWorked, IsToNobody}
+use Rattle.mb_dispatch.specs.Jobs.{IsDone}
 use Rattle.mb_dispatch.specs.Orders.{order_for}
+use Rattle.mb_dispatch.specs.Parallel.{FirstZip}
 use Rattle.mb_system.specs.RunErrors.{of_ready, of_send}
 use Rattle.mb_system.specs.declared.end.WorkerEnd.{WorkerEnd}
 use Rattle.mb_system.specs.declared.failure.RunError.{RunError}
 use Rattle.mb_system.specs.declared.failure.RunError.TheVariants.{JournalFull, NoMemory, NoSuchActor}
 use Rattle.mb_dispatch.specs.declared.job.Job.{Job}
 use Rattle.mb_system.specs.declared.system.System.{System}
-use Rattle.mb_dispatch.proofs.Sides.{one_after, one_before}
+use Rattle.mb_dispatch.proofs.Sides.{all_after, first_after}
 
 module _ (gates : Gates (Box Contents)) where
   -- it was refused for its receiver
@@ -129,18 +131,19 @@ module _ {A K : Type 0} (gives : ℕ → Moment → Reply → Type 0) (system : 
   breaks-work end JournalFull full known = full refl
   breaks-work end NoSuchActor full known = known refl
 
-  -- one of the ends was broken off, or one of the jobs
-  pub breaks-by-end : (before ends : List (WorkerEnd A K)) (jobs : List (Job A K)) (fault : RunError)
-      → AnyZip (λ old new. BreaksWork gives system new fault) before ends → BreaksRun gives system ends jobs fault
-  breaks-by-end before ends jobs NoMemory any = tt
-  breaks-by-end before ends jobs JournalFull any =
-      one_after (λ old new. CameToLimit gives system new) (λ new. CameToLimit gives system new) (λ old new is. is) before ends any
-  breaks-by-end before ends jobs NoSuchActor any = absurd (one_after (λ old new. ⊥) (λ new. ⊥) (λ old new is. is) before ends any).2
-
-  pub breaks-by-job : (ends : List (WorkerEnd A K)) (jobs after : List (Job A K)) (fault : RunError)
-      → AnyZip (λ old new. BreaksSending system.gates old.sends.items fault) jobs after → BreaksRun gives system ends jobs fault
-  breaks-by-job ends jobs after NoMemory any = tt
-  breaks-by-job ends jobs after JournalFull any = absurd (one_before (λ old new. ⊥) (λ old. ⊥) (λ old new is. is) jobs after any).2
-  breaks-by-job ends jobs after NoSuchActor any =
-      let P : Job A K → Type 0 = λ job. BreaksSending system.gates job.sends.items NoSuchActor in
-      one_before (λ old new. P old) P (λ old new is. is) jobs after any
+  -- a run is broken off by the first of its ends that was, or else by the first of its jobs
+  pub breaks-run : (started ends : List (WorkerEnd A K)) (before after : List (Job A K)) (of_ends of_jobs r : Result (Unit {0}) RunError)
+      → MatchResult of_ends (λ _. r ≡ of_jobs) (λ _. r ≡ of_ends)
+      → OnOk of_ends (AllZip (λ old new. HasWorked gives system new) started ends)
+      → IfErr of_ends (λ error. FirstZip (λ old new. HasWorked gives system new) (λ old new. BreaksWork gives system new error) started ends)
+      → IfErr of_jobs (λ error. FirstZip (IsDone system.gates) (λ old new. BreaksSending system.gates old.sends.items error) before after)
+      → IfErr r (BreaksRun gives system ends before after)
+  breaks-run started ends before after (Ok x) (Ok y) r is worked by_end by_job =
+      subst (λ (q : Result (Unit {0}) RunError). IfErr q (BreaksRun gives system ends before after)) (sym is) tt
+  breaks-run started ends before after (Ok x) (Err error) r is worked by_end by_job =
+      subst (λ (q : Result (Unit {0}) RunError). IfErr q (BreaksRun gives system ends before after)) (sym is)
+      (inr (all_after (λ old new. HasWorked gives system new) (HasWorked gives system) (λ old new w. w) started ends worked, by_job))
+  breaks-run started ends before after (Err error) b r is worked by_end by_job =
+      subst (λ (q : Result (Unit {0}) RunError). IfErr q (BreaksRun gives system ends before after)) (sym is)
+      (inl (first_after (λ old new. HasWorked gives system new) (λ old new. BreaksWork gives system new error) (HasWorked gives system)
+      (λ end. BreaksWork gives system end error) (λ old new w. w) (λ old new f. f) started ends by_end))

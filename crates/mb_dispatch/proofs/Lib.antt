@@ -7,3 +7,4 @@ pub mod Alike
 pub mod Together
 pub mod There
 pub mod FullJournal
+pub mod Runs

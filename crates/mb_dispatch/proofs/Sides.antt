@@ -1,6 +1,6 @@
 -- What holds of each task, or of one of them, holds of all tasks that are done in parallel, or of one; and the first of two errors.
-use Rattle.std.proofs.Common.{◌≡◌, suc, List, [], ◌∷◌, length, get_or, map, set, refl, sym, ap, ◌∙◌, subst, arith, inl, inr}
-use Rattle.std.specs.Prelude.{All, Contains, Err, IfErr, MatchResult, Ok, OnOk, Result}
+use Rattle.std.proofs.Common.{◌≡◌, suc, List, [], ◌∷◌, length, get_or, map, set, refl, sym, ap, ◌∙◌, subst, inl, inr}
+use Rattle.std.specs.Prelude.{All, Err, MatchResult, Ok, OnOk, Result}
 use Rattle.std.specs.Global.{Box}
 use Rattle.std.specs.List.{AllZip}
 use Rattle.std.proofs.lemmas.List.Elements.{All-cons, All-nil, All-set}
@@ -8,7 +8,7 @@ use Rattle.mb_gate.specs.declared.gates.Gates.{Gates}
 use Rattle.mb_home.specs.Contents.{Contents}
 use Rattle.mb_system.specs.Members.{AreEndsOf, IsEndOf, ends_numbers}
 use Rattle.mb_system.specs.declared.end.WorkerEnd.{WorkerEnd}
-use Rattle.mb_dispatch.specs.Parallel.{AnyZip}
+use Rattle.mb_dispatch.specs.Parallel.{First, FirstZip}
 
 module _ {T : Type 0} where
   pub all_after : (R : T → T → Type 0) (Q : T → Type 0) → ((x y : T) → R x y → Q y) → (xs ys : List T) → AllZip R xs ys → All Q ys
@@ -55,27 +55,13 @@ module _ {T : Type 0} where
   same_first of [] old new there same = refl
   same_first of (x ∷ xs) old new there same = λ i. (same ∙ ap of there) i ∷ map of xs
 
-  contains_more : (x y : T) (xs : List T) → Contains xs x → Contains (y ∷ xs) x
-  contains_more x y xs in_rest = (suc in_rest.0, omega (arith, in_rest.1), in_rest.2)
-
-  contains_first : (x : T) (xs : List T) → Contains (x ∷ xs) x
-  contains_first x xs = (0, omega arith, refl)
-
-  pub one_before : (R : T → T → Type 0) (Q : T → Type 0) → ((x y : T) → R x y → Q x) → (xs ys : List T) → AnyZip R xs ys
-      → (x : T) × Contains xs x × Q x
-  one_before R Q f [] ys any = absurd any
-  one_before R Q f (x ∷ xs) [] any = absurd any
-  one_before R Q f (x ∷ xs) (y ∷ ys) (inl here) = (x, contains_first x xs, f x y here)
-  one_before R Q f (x ∷ xs) (y ∷ ys) (inr there) =
-      let one = one_before R Q f xs ys there in (one.0, contains_more one.0 x xs one.1, one.2)
-
-  pub one_after : (R : T → T → Type 0) (Q : T → Type 0) → ((x y : T) → R x y → Q y) → (xs ys : List T) → AnyZip R xs ys
-      → (y : T) × Contains ys y × Q y
-  one_after R Q f [] ys any = absurd any
-  one_after R Q f (x ∷ xs) [] any = absurd any
-  one_after R Q f (x ∷ xs) (y ∷ ys) (inl here) = (y, contains_first y ys, f x y here)
-  one_after R Q f (x ∷ xs) (y ∷ ys) (inr there) =
-      let one = one_after R Q f xs ys there in (one.0, contains_more one.0 y ys one.1, one.2)
+  -- the first that failed, by what is said of each alone
+  pub first_after : (D F : T → T → Type 0) (Done Fails : T → Type 0) → ((x y : T) → D x y → Done y) → ((x y : T) → F x y → Fails y)
+      → (xs ys : List T) → FirstZip D F xs ys → First Done Fails ys
+  first_after D F Done Fails d f [] ys failed = absurd failed
+  first_after D F Done Fails d f (x ∷ xs) [] failed = absurd failed
+  first_after D F Done Fails d f (x ∷ xs) (y ∷ ys) (inl here) = inl (f x y here)
+  first_after D F Done Fails d f (x ∷ xs) (y ∷ ys) (inr there) = inr (d x y there.0, first_after D F Done Fails d f xs ys there.1)
 
 -- another end stands first, with the same number
 module _ {A K : Type 0} (gates : Gates (Box Contents)) where
@@ -103,7 +89,3 @@ module _ {E : Type 0} where
   pub ok_rest : (P : Type 0) (a b r : Result (Unit {0}) E) → MatchResult a (λ _. r ≡ b) (λ _. r ≡ a) → OnOk b P → OnOk r P
   ok_rest P (Ok x) b r is p = subst (λ (q : Result (Unit {0}) E). OnOk q P) (sym is) p
   ok_rest P (Err e) b r is p = subst (λ (q : Result (Unit {0}) E). OnOk q P) (sym is) tt
-
-  pub err_of : (Q : E → Type 0) (a b r : Result (Unit {0}) E) → MatchResult a (λ _. r ≡ b) (λ _. r ≡ a) → IfErr a Q → IfErr b Q → IfErr r Q
-  err_of Q (Ok x) b r is qa qb = subst (λ (q : Result (Unit {0}) E). IfErr q Q) (sym is) qb
-  err_of Q (Err e) b r is qa qb = subst (λ (q : Result (Unit {0}) E). IfErr q Q) (sym is) qa

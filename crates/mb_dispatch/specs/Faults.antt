@@ -1,5 +1,5 @@
 -- Why a run is broken off.
-use Rattle.std.specs.Prelude.{◌≡◌, ◌⊎◌, ℕ, ◌<◌, ◌≤◌, List, Contains, Some, length}
+use Rattle.std.specs.Prelude.{◌≡◌, ◌⊎◌, ℕ, ◌<◌, ◌≤◌, false, List, All, Contains, Some, length}
 use Rattle.std.specs.Global.{Box}
 use Rattle.mb_actor.specs.Behaviour.{Moment, Reply}
 use Rattle.mb_msg.specs.declared.id.ActorId.{ActorId}
@@ -15,11 +15,15 @@ use Rattle.mb_home.specs.Fresh.{IsFreshClaim}
 use Rattle.mb_msg.specs.declared.order.Order.{Order}
 use Rattle.mb_msg.specs.declared.order.OrderKind.{OrderKind}
 use Rattle.mb_msg.specs.declared.order.OrderKind.TheVariants.{Stop, Tell}
+use Rattle.mb_register.specs.Owed.{is_owed}
 use Rattle.mb_mailbox.specs.Ran.{LeavesRun}
 use Rattle.mb_mailbox.specs.declared.turn.Turn.{Turn}
 use Rattle.mb_system.specs.declared.end.WorkerEnd.{WorkerEnd}
 use Rattle.mb_system.specs.declared.failure.RunError.{RunError}
 use Rattle.mb_system.specs.declared.failure.RunError.TheVariants.{JournalFull, NoMemory, NoSuchActor}
+use Rattle.mb_dispatch.specs.Found.{FoundPoolEmpty}
+use Rattle.mb_dispatch.specs.Jobs.{IsDone}
+use Rattle.mb_dispatch.specs.Parallel.{First, FirstZip}
 use Rattle.mb_dispatch.specs.declared.job.Job.{Job}
 use Rattle.mb_system.specs.declared.system.System.{System}
 
@@ -51,8 +55,12 @@ module _ {A K : Type 0} (gives : ℕ → Moment → Reply → Type 0) (system : 
   BreaksWork end JournalFull = CameToLimit end
   BreaksWork end NoSuchActor = ⊥
 
-  -- A run by these ends with these jobs is broken off for this reason.
-  abbrev pub BreaksRun : List (WorkerEnd A K) → List (Job A K) → RunError → Type 0
-  BreaksRun ends jobs NoMemory = Unit {0}
-  BreaksRun ends jobs JournalFull = (end : WorkerEnd A K) × Contains ends end × CameToLimit end
-  BreaksRun ends jobs NoSuchActor = (job : Job A K) × Contains jobs job × BreaksSending system.gates job.sends.items NoSuchActor
+  -- The end has worked to its end: it owes nobody a look, and found the pool empty last.
+  abbrev pub HasWorked : WorkerEnd A K → Type 0
+  HasWorked end = ((id : ℕ) → id < actors_of system.gates → is_owed end.registrar.owed id ≡ false) × FoundPoolEmpty gives end
+
+  -- A run by these ends with these jobs, given before and after it, is broken off for this reason: that of the first end that was broken off,
+  -- or, if all have worked to their end, that of the first job that was.
+  abbrev pub BreaksRun : List (WorkerEnd A K) → List (Job A K) → List (Job A K) → RunError → Type 0
+  BreaksRun ends before after error = First HasWorked (λ end. BreaksWork end error) ends
+      ⊎ (All HasWorked ends × FirstZip (IsDone system.gates) (λ job _. BreaksSending system.gates job.sends.items error) before after)

@@ -3,4 +3,5 @@ pub mod Parallel
 pub mod Found
 pub mod Jobs
 pub mod Faults
+pub mod Runs
 pub mod FullJournal

@@ -1,7 +1,12 @@
 -- What became of things that were done in parallel.
-use Rattle.std.specs.Prelude.{List, ◌∷◌, ◌⊎◌}
+use Rattle.std.specs.Prelude.{◌⊎◌, List, [], ◌∷◌}
 
--- The relation holds of the items of two lists at some place.
-abbrev pub AnyZip : {T : Type 0} → (T → T → Type 0) → List T → List T → Type 0
-AnyZip R (x ∷ xs) (y ∷ ys) = R x y ⊎ AnyZip R xs ys
-AnyZip R _ _ = ⊥
+-- `Fails` holds of an item of the list, and `Done` of each before it.
+abbrev pub First : {T : Type 0} → (T → Type 0) → (T → Type 0) → List T → Type 0
+First Done Fails [] = ⊥
+First Done Fails (x ∷ xs) = Fails x ⊎ (Done x × First Done Fails xs)
+
+-- `Fails` holds of the items of two lists at a place, and `Done` of those at each place before it.
+abbrev pub FirstZip : {T : Type 0} → (T → T → Type 0) → (T → T → Type 0) → List T → List T → Type 0
+FirstZip Done Fails (x ∷ xs) (y ∷ ys) = Fails x y ⊎ (Done x y × FirstZip Done Fails xs ys)
+FirstZip Done Fails _ _ = ⊥

@@ -3,7 +3,7 @@ ghost use Rattle.std.specs.Prelude.{◌≡◌, All, IfErr, MatchResult, OnOk};
 ghost use Rattle.std.specs.List.{AllZip};
 ghost use Rattle.std.specs.Thread.{IsSend, IsSync};
 ghost use Rattle.mb_system.specs.declared.failure.RunError.{RunError as Fault};
-ghost use Rattle.mb_dispatch.specs.Parallel.{AnyZip};
+ghost use Rattle.mb_dispatch.specs.Parallel.{FirstZip};
 
 use mb_system::RunError;
 use std::sync::Wait;
@@ -39,7 +39,7 @@ pub fn each_in_parallel<R: Threads + Wait + Sync, S: Sync, T: Task<S> + Send>(
     requires { All (T.ready shared.now) tasks.old }
     ensures keeps { AllZip (T.keeps shared.now) tasks.old tasks.new }
     ensures done { OnOk result (AllZip (T.done shared.now) tasks.old tasks.new) }
-    ensures fails { IfErr result (λ fault. AnyZip (λ old new. T.fails shared.now old new fault) tasks.old tasks.new) }
+    ensures fails { IfErr result (λ fault. FirstZip (T.done shared.now) (λ old new. T.fails shared.now old new fault) tasks.old tasks.new) }
 {
     let Some((task, others)) = tasks.split_first_mut() else {
         return Ok(());
@@ -50,7 +50,7 @@ pub fn each_in_parallel<R: Threads + Wait + Sync, S: Sync, T: Task<S> + Send>(
             requires { IsSync R.row × IsSync S.row × IsSend T.row × All (T.ready shared.now) others.now }
             ensures { AllZip (T.keeps shared.entry.now) others.entry.now others.exit.now
                 × OnOk result (AllZip (T.done shared.entry.now) others.entry.now others.exit.now)
-                × IfErr result (λ fault. AnyZip (λ old new. T.fails shared.entry.now old new fault) others.entry.now others.exit.now) }
+                × IfErr result (λ fault. FirstZip (T.done shared.entry.now) (λ old new. T.fails shared.entry.now old new fault) others.entry.now others.exit.now) }
         { each_in_parallel(rt, shared, others) },
         &mut || -> Result<(), RunError>
             requires { T.ready shared.now task.now }
@@ -75,8 +75,8 @@ pub fn both_in_parallel<R: Threads + Wait + Sync, S: Sync, T: Task<S> + Send, U:
     ensures keeps { AllZip (T.keeps shared.now) these.old these.new × AllZip (U.keeps shared.now) those.old those.new }
     ensures done { OnOk result.0 (AllZip (T.done shared.now) these.old these.new)
         × OnOk result.1 (AllZip (U.done shared.now) those.old those.new) }
-    ensures fails { IfErr result.0 (λ fault. AnyZip (λ old new. T.fails shared.now old new fault) these.old these.new)
-        × IfErr result.1 (λ fault. AnyZip (λ old new. U.fails shared.now old new fault) those.old those.new) }
+    ensures fails { IfErr result.0 (λ fault. FirstZip (T.done shared.now) (λ old new. T.fails shared.now old new fault) these.old these.new)
+        × IfErr result.1 (λ fault. FirstZip (U.done shared.now) (λ old new. U.fails shared.now old new fault) those.old those.new) }
 {
     if these.is_empty() {
         return (Ok(()), each_in_parallel(rt, shared, those));
@@ -87,13 +87,13 @@ pub fn both_in_parallel<R: Threads + Wait + Sync, S: Sync, T: Task<S> + Send, U:
             requires { All (U.ready shared.now) those.now }
             ensures { AllZip (U.keeps shared.entry.now) those.entry.now those.exit.now
                 × OnOk result (AllZip (U.done shared.entry.now) those.entry.now those.exit.now)
-                × IfErr result (λ fault. AnyZip (λ old new. U.fails shared.entry.now old new fault) those.entry.now those.exit.now) }
+                × IfErr result (λ fault. FirstZip (U.done shared.entry.now) (λ old new. U.fails shared.entry.now old new fault) those.entry.now those.exit.now) }
         { each_in_parallel(rt, shared, those) },
         &mut || -> Result<(), RunError>
             requires { All (T.ready shared.now) these.now }
             ensures { AllZip (T.keeps shared.entry.now) these.entry.now these.exit.now
                 × OnOk result (AllZip (T.done shared.entry.now) these.entry.now these.exit.now)
-                × IfErr result (λ fault. AnyZip (λ old new. T.fails shared.entry.now old new fault) these.entry.now these.exit.now) }
+                × IfErr result (λ fault. FirstZip (T.done shared.entry.now) (λ old new. T.fails shared.entry.now old new fault) these.entry.now these.exit.now) }
         { each_in_parallel(rt, shared, these) },
     );
     (of_these, of_those)

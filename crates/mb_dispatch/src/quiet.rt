@@ -1,5 +1,5 @@
 //! Running actors on the calling thread alone.
-ghost use Rattle.std.specs.Prelude.{◌≡◌, IfErr, OnOk};
+ghost use Rattle.std.specs.Prelude.{◌≡◌, IfErr, IfOk, OnOk};
 ghost use Rattle.mb_gate.specs.Accessors.{actors_of, pass_view};
 ghost use Rattle.mb_gate.specs.Rule.{IsPart};
 ghost use Rattle.mb_register.specs.Owed.{IsNobody};
@@ -7,6 +7,7 @@ ghost use Rattle.mb_system.specs.Obligations.{AreDischargedOrOwed, HasNoObligati
 ghost use Rattle.mb_system.specs.Members.{end_caller, IsEndOf};
 ghost use Rattle.mb_dispatch.specs.Faults.{BreaksWork};
 ghost use Rattle.mb_dispatch.specs.Found.{FoundPoolEmpty};
+ghost use Rattle.mb_dispatch.specs.Runs.{MadeRuns};
 
 use crate::working::run_one;
 use mb_actor::{Actor, Behaviours};
@@ -31,6 +32,8 @@ pub fn run_quietly<A: Actor, K: Behaviours, R: Wait>(
     ensures discharged { OnOk result (IsNobody end.new.registrar.owed) }
     ensures obligations { AreDischargedOrOwed (actors_of system.now.gates) (end_caller end.new.registrar) }
     ensures settled { OnOk result (HasNoObligationTo (actors_of system.now.gates) (end_caller end.new.registrar)) }
+    ensures runs { IfOk result (λ turns. MadeRuns K.gives system.now (pass_view end.old.registrar.pass) turns.items
+        (pass_view end.new.registrar.pass)) }
     ensures empty { OnOk result (FoundPoolEmpty K.gives end.new) }
     ensures number { end.new.number ≡ end.old.number }
     ensures log_kept { IsPart (pass_view end.old.registrar.pass).log (pass_view end.new.registrar.pass).log }

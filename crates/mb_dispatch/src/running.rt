@@ -36,7 +36,7 @@ pub fn run<A: Actor + Send, K: Behaviours + Send, R: Threads + Wait + Sync>(
     ensures settled { OnOk result (FirstHasNoObligation system.now.gates ends.new) }
     ensures empty { OnOk result (AllFoundPoolEmpty K.gives ends.new) }
     ensures done { OnOk result (AreDone system.now.gates jobs.old jobs.new) }
-    ensures fault { IfErr result (BreaksRun K.gives system.now ends.new jobs.old) }
+    ensures fault { IfErr result (BreaksRun K.gives system.now ends.new jobs.old jobs.new) }
 {
     register_by_first(rt, system, ends);
     system.going.open_jobs(jobs.len());

@@ -1,5 +1,5 @@
 //! A worker beside others.
-ghost use Rattle.std.specs.Prelude.{◌≡◌, ◌<◌, ℕ, false, true, IfErr, Ok, OnOk, Some};
+ghost use Rattle.std.specs.Prelude.{◌≡◌, ◌<◌, ℕ, false, true, IfErr, IfOk, Ok, OnOk, Some};
 ghost use Rattle.mb_gate.specs.Accessors.{actors_of, pass_view};
 ghost use Rattle.mb_gate.specs.Rule.{IsPart};
 ghost use Rattle.mb_gate.specs.Untouched.{origin_of};
@@ -10,6 +10,7 @@ ghost use Rattle.mb_system.specs.Obligations.{KeepsObligations};
 ghost use Rattle.mb_system.specs.Members.{IsEndOf, end_caller};
 ghost use Rattle.mb_dispatch.specs.Faults.{BreaksWork};
 ghost use Rattle.mb_dispatch.specs.Found.{FoundPoolEmpty};
+ghost use Rattle.mb_dispatch.specs.Runs.{RanMailbox};
 
 use crate::mailbox::run_mailbox;
 use crate::parallel::Task;
@@ -103,6 +104,7 @@ pub(crate) fn run_one<A: Actor, K: Behaviours, R: Wait>(
     requires untouched { IsFreshClaim K.gives (Some (origin_of system.now.gates)) claim }
     ensures same_gates { IsEndOf system.now.gates end.new.registrar }
     ensures leaves { LeavesCaller (end_caller end.old.registrar) (end_caller end.new.registrar) }
+    ensures ran { IfOk result (RanMailbox K.gives system.now (pass_view end.old.registrar.pass) (pass_view end.new.registrar.pass)) }
     ensures number { end.new.number ≡ end.old.number }
     ensures fault { IfErr result (BreaksWork K.gives system.now end.new) }
 {

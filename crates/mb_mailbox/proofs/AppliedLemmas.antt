@@ -13,11 +13,13 @@ use Rattle.mb_gate.specs.View.{Observation}
 use Rattle.mb_home.specs.Contents.{Contents}
 use Rattle.mb_home.specs.AgreesWithJournal.{AgreesWithJournal}
 use Rattle.mb_mailbox.specs.declared.turn.Turn.{Turn}
+use Rattle.mb_mailbox.specs.RunSends.{SendsForEntries}
 use Rattle.mb_mailbox.specs.RunState.{RunState}
 use Rattle.mb_mailbox.specs.Ran.{CountsRun}
 use Rattle.mb_mailbox.specs.Running.{IsRunning, BacklogAgrees, KeepsJournal, SameRun, counted_by}
 use Rattle.mb_mailbox.proofs.BacklogLemmas.{backlog-home, same-run-then}
 use Rattle.mb_mailbox.proofs.EmptiedLemmas.{err-then, takes-same}
+use Rattle.mb_mailbox.proofs.RunSendsLemmas.{due-none, entries-none, entries-then}
 use Rattle.mb_mailbox.proofs.RunningSteps.{running-same}
 use Rattle.mb_mailbox.proofs.RunCountLemmas.{systems-few, blocks-few}
 
@@ -89,6 +91,15 @@ module _ (h : RunState) (new : Contents) (ready : Bool) (room : ℕ)
     };
     journal = journal;
   }
+
+  pub entries-ready : SendsForEntries h (record h { home = new })
+  entries-ready =
+      entries-none h (record h { home = new }) journal
+      (due-none h (record h { home = new }) refl refl (ap (λ (x : Contents). x.rest) same) (λ shut. shut))
+
+  -- and then it sent what was due
+  pub ready-then : (last : RunState) → SendsForEntries (record h { home = new }) last → SendsForEntries h last
+  ready-then last s = entries-then h (record h { home = new }) last refl who entries-ready s
 
   pub backlog-ready : BacklogAgrees h → BacklogAgrees (record h { home = new })
   backlog-ready s = backlog-home h s new who journal (ap (λ (x : Contents). x.rest) same) (ap (λ (x : Contents). x.dropped) same)

@@ -1,5 +1,5 @@
 -- How a drain changes a run.
-use Rattle.std.proofs.Common.{◌≡◌, ℕ, false, List, [], ◌∷◌, length, refl, sym, ap, ◌∙◌, subst}
+use Rattle.std.proofs.Common.{◌≡◌, ℕ, false, List, [], ◌∷◌, ◌++◌, length, refl, sym, ap, ◌∙◌, subst}
 use Rattle.std.specs.Prelude.{MatchBool}
 use Rattle.std.specs.Global.{Box}
 use Rattle.mb_msg.specs.declared.system.SysMsg.{SysMsg}
@@ -20,12 +20,14 @@ use Rattle.mb_home.specs.Contents.{Contents}
 use Rattle.mb_home.specs.AgreesWithJournal.{AgreesWithJournal}
 use Rattle.mb_home.specs.Steps.{HasNoBacklog}
 use Rattle.mb_home.proofs.GivenLemmas.{given-kept}
+use Rattle.mb_mailbox.specs.RunSends.{SendsDue}
 use Rattle.mb_mailbox.specs.RunState.{RunState, run_state}
 use Rattle.mb_mailbox.specs.Ran.{IsDrained}
 use Rattle.mb_mailbox.specs.Running.{IsRunning, BacklogAgrees, KeepsJournal}
 use Rattle.mb_mailbox.proofs.CountLemmas.{counted-still}
 use Rattle.mb_mailbox.proofs.EmptiedLemmas.{takes-same}
 use Rattle.mb_mailbox.proofs.RunStateLemmas.{hold-drained}
+use Rattle.mb_mailbox.proofs.RunSendsLemmas.{sends-none, takes-in-open}
 use Rattle.mb_mailbox.proofs.RunningSteps.{running-drained, running-kept}
 use Rattle.mb_mailbox.proofs.TellingLemmas.{settled-here}
 
@@ -70,6 +72,17 @@ module _ (c mid : Claim (Box Contents)) (ours : (claim_id mid ≡ claim_id c) ×
           counted = counted-still _ _ (total (counted_off (held_actor c)) (claim_view c).log) (ap (λ (x : Contents). length x.take.taken) kept_here);
         };
         journal = ap (λ (x : CellView). x.journal) cell;
+      })
+
+  -- what was drained is left beside the cell
+  pub due-drained : c.home.value.rest ≡ [] → (status_of c).closed ≡ false → SendsDue [] [] (run_state c) (record (run_state mid) { home = new })
+  due-drained none open_yet =
+      subst (λ (x : RunState). SendsDue [] [] (run_state c) (record x { home = new })) (sym hold-drain)
+      (record {
+        dropped = [];
+        sends = sends-none (run_state c) (record drained_hold { home = new }) refl;
+        takes = takes-in-open (run_state c) (record drained_hold { home = new }) [] (Drained (held_actor c) result ∷ []) refl
+            (ap (λ l. l ++ result) none ∙ sym (ap (λ (x : Contents). x.rest) kept_here)) open_yet;
       })
 
   -- what was drained goes on from what the home knows

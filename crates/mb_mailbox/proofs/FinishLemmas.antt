@@ -1,7 +1,7 @@
 -- What the last step of a run needs, and what it leaves.
 use Rattle.std.proofs.Common.{◌≡◌, ◌≢◌, ◌⊎◌, inl, inr, ℕ, ◌+◌, ◌≤◌, ◌==◌, Bool, true, false, ◌||◌, List, [], ◌∷◌, ◌++◌}
 use Rattle.std.proofs.Common.{refl, sym, ap, ◌∙◌, subst, append_assoc, append-nil, length, arith}
-use Rattle.std.specs.Prelude.{MatchBool, if◌then◌else◌}
+use Rattle.std.specs.Prelude.{MatchBool, if◌then◌else◌, reverse}
 use Rattle.std.specs.Global.{Box}
 use Rattle.mb_status.specs.Mailbox.{Mailbox, word_of, idle}
 use Rattle.mb_msg.specs.declared.envelope.Envelope.{Envelope}
@@ -36,7 +36,9 @@ use Rattle.mb_register.specs.Caller.{Caller, CallerAdvances, TakesNothing, IsDis
 use Rattle.mb_mailbox.specs.OnlyDrained.{TakesOnlyDrained}
 use Rattle.mb_mailbox.specs.Emptied.{FindsNoMore, IsCleared}
 use Rattle.mb_mailbox.specs.RunState.{RunState, run_state}
+use Rattle.mb_mailbox.specs.RunSends.{IsSentByRun, given_by}
 use Rattle.mb_mailbox.specs.Ran.{LastTakeFoundNone, LastTakeHadRoom, EndsDrained, EndsEmpty, HadRoom, CountsRun, LeavesRun, systems_in, taken_of}
+use Rattle.mb_mailbox.specs.Recorded.{GrowAlike}
 use Rattle.mb_mailbox.specs.Running.{IsRunning, BacklogAgrees, SameRun}
 use Rattle.mb_register.proofs.CallerLemmas.{account-then}
 use Rattle.mb_mailbox.proofs.CleanLemmas.{ended-closed}
@@ -44,6 +46,8 @@ use Rattle.mb_mailbox.proofs.CountLemmas.{begun-since, begun-blocks, counted-all
 use Rattle.mb_register.proofs.MoveLemmas.{looks-take-none}
 use Rattle.mb_mailbox.proofs.RestLemmas.{closed-front}
 use Rattle.mb_register.proofs.SendingLemmas.{looks-send-none, sends-append}
+use Rattle.mb_mailbox.proofs.RecordedLemmas.{looks-give-none}
+use Rattle.mb_mailbox.proofs.RunSendsLemmas.{given-append}
 use Rattle.mb_mailbox.proofs.RunningMoves.{status-at}
 use Rattle.mb_mailbox.proofs.SentDueLemmas.{told-all}
 
@@ -110,6 +114,13 @@ module _ (actor : ℕ) (journal : List Entry) (v w mid : View) (obligations : v.
         subst (IsAmong (Saw actor journal)) (sym log-after)
         (among_right (Saw actor journal) (looks.looks ++ []) (Saw actor journal ∷ (w.log ++ v.log)) (among_first (Saw actor journal)
         (w.log ++ v.log)))
+
+    -- what lists gave to the pass, and to the claim
+    pub given-after : given_by new.log ≡ given_by v.log ++ given_by w.log
+    given-after =
+        ap given_by log-after ∙ given-append (looks.looks ++ []) (Saw actor journal ∷ (w.log ++ v.log))
+        ∙ ap (λ l. given_by (w.log ++ v.log) ++ l) (given-append looks.looks [] ∙ looks-give-none actor looks.looks looks.only)
+        ∙ append-nil (given_by (w.log ++ v.log)) ∙ given-append w.log v.log
 
     -- the claim's own steps, besides what it knew before and did itself
     pub steps-taken : {H : Type 0} (a b : Caller H) → b.view ≡ w → CallerAdvances a b → TakesOver a.view new v.log
@@ -188,13 +199,17 @@ pub leaves-run : (throughput : ℕ) (first last : Claim (Box Contents)) (old pas
     IsReason last.home.value.cell.who throughput turn.envelopes last.home.value.cell.journal stopped →
     EndsDrained (held_actor last) (claim_view last).log stopped → LastTakeHadRoom last.home.value.cell.who last.home.value.cell.journal stopped →
     TakesOnlyDrained (held_actor last) (claim_view last).log → IsAmong (Saw (held_actor last) last.home.value.cell.journal) pass.log →
-    TakesOver old pass (claim_view last).log → (claim_view first).log ≡ [] →
+    TakesOver old pass (claim_view last).log → (w : View) → GrowAlike (recorded_by first) old (recorded_by last) w →
+    pass.sent_system ≡ w.sent_system → given_by pass.log ≡ given_by (claim_view last).log ++ given_by w.log →
+    recorded_by first ≡ [] →
+    IsSentByRun first.home.value.cell.who (held_actor first) last.home.value.cell.journal first.home.value.cell.journal first.home.value.rest
+    (claim_view last).log (recorded_by last) → (claim_view first).log ≡ [] →
     first.home.value.take.taken ≡ begun first.home.value.cell.journal →
     last.home.value.take.taken ≡ begun last.home.value.cell.journal ++ last.home.value.cleaned →
     (closed last.home.value.cell.who last.home.value.cell.journal ≡ false → last.home.value.cleaned ≡ []) →
     (EndsEmpty stopped (closed first.home.value.cell.who last.home.value.cell.journal) → FindsNoMore first.home.value.take last.home.value.take) →
     LeavesRun throughput first old pass last.home.value.cell.journal turn stopped
-leaves-run throughput first last old pass turn stopped taken same t few reason ends room only_drained saw part fresh at_first at_last keeps empty =
+leaves-run throughput first last old pass turn stopped taken same t few reason ends room only_drained saw part w sends kept given unsent told fresh at_first at_last keeps empty =
     let before : (run_state last).before ≡ first.home.value.cell.journal = same.before ∙ taken in
     let journal = last.home.value.cell.journal in
     let blocks : AreBlocks first.home.value.cell.who first.home.value.cell.journal turn.envelopes journal =
@@ -220,6 +235,10 @@ leaves-run throughput first last old pass turn stopped taken same t few reason e
       seen = subst (λ n. IsAmong (Saw n journal) pass.log) same.actor saw;
       steps = (claim_view last).log;
       taken_over = part;
+      told = recorded_by last;
+      told_is = told;
+      given = given ∙ ap (λ l. given_by (claim_view last).log ++ l) sends.got_nothing;
+      sent_system = kept ∙ sends.sent ∙ ap (λ l. reverse l ++ old.sent_system) (sym (sends.recorded ∙ ap (λ l. l ++ sends.more) unsent));
       only_drained = subst (λ n. TakesOnlyDrained n (claim_view last).log) same.actor only_drained;
       last = subst (λ n. EndsDrained n (claim_view last).log stopped) same.actor ends;
       room = subst (λ (w : Identity). LastTakeHadRoom w journal stopped) same.who room;

@@ -11,10 +11,14 @@ use Rattle.mb_register.proofs.CallerLemmas.{further-then}
 use Rattle.mb_mailbox.specs.Emptied.{IsCleared}
 use Rattle.mb_mailbox.specs.RunState.{run_state}
 use Rattle.mb_mailbox.specs.InRun.{Advances, StopsRun}
+use Rattle.mb_mailbox.specs.Recorded.{SendsAsRecorded}
+use Rattle.mb_mailbox.specs.RunSends.{SendsForEntries}
 use Rattle.mb_mailbox.specs.Running.{SameRun}
 use Rattle.mb_mailbox.proofs.AppliedLemmas.{passed-fault}
 use Rattle.mb_mailbox.proofs.BacklogLemmas.{same-run-then}
 use Rattle.mb_mailbox.proofs.EmptiedLemmas.{cleared-then, ok-so}
+use Rattle.mb_mailbox.proofs.RecordedLemmas.{alike-then}
+use Rattle.mb_mailbox.proofs.RunSendsLemmas.{entries-then}
 
 -- a fault that is passed on says nothing of a good result
 pub ok-passed : {T E : Type 0} (P : Type 0) (r : Result T E) (e : E) → IsErrAnd r (λ y. y ≡ e) → OnOk r P
@@ -37,20 +41,24 @@ module _ {W : Type 0} {pushed refused : W → List (Claim (Box Contents))} {T E 
   -- a step advances the run from where another left it
   pub advances-then : (r : Result T E) (a b c : Registrar (Box Contents) W) (x y z : Claim (Box Contents)) → SameRun (run_state x) (run_state y) →
       IsCleared (run_state x) (run_state y) → CallerAdvances (caller_of pushed refused a) (caller_of pushed refused b) →
-      Advances pushed refused r b c y z → Advances pushed refused r a c x z
-  advances-then r a b c x y z same cleared caller_advances next = record {
+      SendsAsRecorded a b x y → SendsForEntries (run_state x) (run_state y) → Advances pushed refused r b c y z → Advances pushed refused r a c x z
+  advances-then r a b c x y z same cleared caller_advances sends entries next = record {
     same = same-run-then (run_state x) (run_state y) (run_state z) same next.same;
     cleared = ok-so r (cleared-then (run_state x) (run_state y) (run_state z) same.takes cleared) next.cleared;
     caller_advances = further-then (caller_of pushed refused a) (caller_of pushed refused b) (caller_of pushed refused c) caller_advances next.caller_advances;
+    sends = alike-then _ _ _ _ _ _ sends next.sends;
+    entries = entries-then (run_state x) (run_state y) (run_state z) same.actor same.who entries next.entries;
   }
 
   -- and one does that passes on the fault of another
   pub advances-passed : {U : Type 0} (first : Result U E) (r : Result T E) (fault : E) (a b c : Registrar (Box Contents) W)
       (x y z : Claim (Box Contents)) → IsErrAnd r (λ passed. passed ≡ fault) → SameRun (run_state x) (run_state y) →
-      CallerAdvances (caller_of pushed refused a) (caller_of pushed refused b) →
-      Advances pushed refused first b c y z → Advances pushed refused r a c x z
-  advances-passed first r fault a b c x y z passed same caller_advances next = record {
+      CallerAdvances (caller_of pushed refused a) (caller_of pushed refused b) → SendsAsRecorded a b x y →
+      SendsForEntries (run_state x) (run_state y) → Advances pushed refused first b c y z → Advances pushed refused r a c x z
+  advances-passed first r fault a b c x y z passed same caller_advances sends entries next = record {
     same = same-run-then (run_state x) (run_state y) (run_state z) same next.same;
     cleared = ok-passed (IsCleared (run_state x) (run_state z)) r fault passed;
     caller_advances = further-then (caller_of pushed refused a) (caller_of pushed refused b) (caller_of pushed refused c) caller_advances next.caller_advances;
+    sends = alike-then _ _ _ _ _ _ sends next.sends;
+    entries = entries-then (run_state x) (run_state y) (run_state z) same.actor same.who entries next.entries;
   }

@@ -11,7 +11,10 @@ pub mod EmptiedLemmas
 pub mod RunningMoves
 pub mod AnswerLemmas
 pub mod NamedLemmas
+pub mod RunSendsLemmas
+pub mod RecordedLemmas
 pub mod SendSystemLemmas
+pub mod StepSendsLemmas
 pub mod TellingLemmas
 pub mod StatusLemmas
 pub mod CleanLemmas

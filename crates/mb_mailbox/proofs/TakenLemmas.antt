@@ -7,6 +7,7 @@ use Rattle.mb_journal.specs.Suspension.{count}
 use Rattle.mb_cell.specs.CellView.{CellView}
 use Rattle.mb_ghost.specs.Summed.{total}
 use Rattle.mb_gate.specs.declared.claim.Claim.{Claim}
+use Rattle.mb_gate.specs.SentSystem.{messages_of}
 use Rattle.mb_gate.specs.Untouched.{Origin}
 use Rattle.mb_gate.specs.View.{Observation, Took}
 use Rattle.mb_gate.specs.Waiting.{counted_off}
@@ -15,6 +16,7 @@ use Rattle.mb_home.specs.Contents.{Contents}
 use Rattle.mb_home.specs.AgreesWithJournal.{AgreesWithJournal}
 use Rattle.mb_home.specs.Steps.{Begins}
 use Rattle.mb_mailbox.specs.OnlyDrained.{DrainedLast}
+use Rattle.mb_mailbox.specs.RunSends.{SendsDue, SendsForEntries}
 use Rattle.mb_mailbox.specs.RunState.{RunState, run_state}
 use Rattle.mb_mailbox.specs.Ran.{CountsRun}
 use Rattle.mb_mailbox.specs.Running.{IsRunning, BacklogAgrees, SameRun}
@@ -25,6 +27,7 @@ use Rattle.mb_mailbox.proofs.EmptiedLemmas.{take-begun, takes-one}
 use Rattle.mb_mailbox.proofs.RunningMoves.{running-begun, backlog-begun}
 use Rattle.mb_mailbox.proofs.RunningSteps.{running-taken}
 use Rattle.mb_mailbox.proofs.RunCountLemmas.{run_counts-begun}
+use Rattle.mb_mailbox.proofs.StepSendsLemmas.{entries-begun}
 
 -- the claim's log goes on by the count alone, and its home is another one in between
 module _ (h : RunState) (after : Contents) (counted : Claim (Box Contents))
@@ -44,6 +47,15 @@ module _ (h : RunState) (after : Contents) (counted : Claim (Box Contents))
         counted = counted-more _ _ (total (counted_off h.actor) h.log) _ (one-more new.take.taken h.home.take.taken b.envelope b.took)
             (counts-one h.actor);
       })
+
+  -- what its acts have to send was sent
+  pub entries-counted-begun : (last : RunState) → h.status.closed ≡ false →
+      SendsDue (messages_of new.cell.acts) [] (record (run_state counted) { home = new }) last → last.home.cell.journal ≡ new.cell.journal →
+      SendsForEntries h last
+  entries-counted-begun last open_yet carried journal =
+      entries-begun h (record (run_state counted) { home = new }) last (ap (λ (x : RunState). x.actor) one) open_yet
+      (ap (λ (x : RunState). x.recorded) one) b.taken.entry b.taken.adds carried journal b.envelope reading b.taken.of_it
+      (ap (λ (x : Contents). x.rest) b.same) (Took h.actor 1 ∷ []) refl (ap (λ (x : RunState). x.log) one)
 
   pub run_counts-counted : (turn : Turn) → CountsRun h turn → next_front h.home.cell.who h.home.cell.journal ≡ None →
       CountsRun (record (run_state counted) { home = new }) (record turn { envelopes = turn.envelopes + 1 })

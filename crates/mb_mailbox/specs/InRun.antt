@@ -14,6 +14,8 @@ use Rattle.mb_register.specs.Caller.{IsRegistrarOf, caller_of, CallerAdvances}
 use Rattle.mb_register.specs.declared.registrar.Registrar.{Registrar}
 use Rattle.mb_mailbox.specs.Emptied.{IsCleared}
 use Rattle.mb_mailbox.specs.RunState.{run_state}
+use Rattle.mb_mailbox.specs.Recorded.{SendsAsRecorded}
+use Rattle.mb_mailbox.specs.RunSends.{SendsForEntries}
 use Rattle.mb_mailbox.specs.Ran.{CountsRun, IsShortOfMemory}
 use Rattle.mb_mailbox.specs.Running.{IsRunning, BacklogAgrees, SameRun}
 use Rattle.mb_mailbox.specs.declared.turn.Turn.{Turn}
@@ -29,13 +31,16 @@ module _ {W : Type 0} where
     pub carried_out : claim.home.value.cell.acts ≡ []
     pub run_counts : CountsRun (run_state claim) turn
 
-  -- A step of a run, whatever it answers: the run is the same still, and its registrar advances as a caller. Where the step answers well and the
-  -- mailbox was closed in it, the mailbox's queue was emptied.
+  -- A step of a run, whatever it answers: the run is the same still, and its registrar advances as a caller. What its pass sent stands in the claim's
+  -- record, and is what the new entries have to send and the answers to what was dropped. Where the step answers well and the mailbox was closed in
+  -- it, the mailbox's queue was emptied.
   pub record Advances {T E : Type 0} (pushed refused : W → List (Claim (Box Contents))) (result : Result T E)
       (old_registrar new_registrar : Registrar (Box Contents) W) (old_claim new_claim : Claim (Box Contents)) : Type 0 where
     pub same : SameRun (run_state old_claim) (run_state new_claim)
     pub cleared : OnOk result (IsCleared (run_state old_claim) (run_state new_claim))
     pub caller_advances : CallerAdvances (caller_of pushed refused old_registrar) (caller_of pushed refused new_registrar)
+    pub sends : SendsAsRecorded old_registrar new_registrar old_claim new_claim
+    pub entries : SendsForEntries (run_state old_claim) (run_state new_claim)
 
 -- A step that answers a fault stops the run: the journal is full, or memory can have been refused.
 pub record StopsRun {T : Type 0} (result : Result T ReadyError) (claim : Claim (Box Contents)) : Type 0 where

@@ -4,6 +4,8 @@ pub mod OnlyDrained
 pub mod Emptied
 pub mod Running
 pub mod Sending
-pub mod Ran
 pub mod Notice
+pub mod RunSends
+pub mod Recorded
+pub mod Ran
 pub mod InRun

@@ -1,6 +1,6 @@
 -- What a run of a mailbox comes to.
 use Rattle.std.specs.Prelude.{◌≡◌, ◌<◌, ◌⊎◌, ℕ, ◌+◌, ◌==◌, if◌then◌else◌, Bool, true, false, List, [], ◌∷◌, ◌++◌, None}
-use Rattle.std.specs.Prelude.{length}
+use Rattle.std.specs.Prelude.{length, reverse}
 use Rattle.std.specs.Global.{Box}
 use Rattle.mb_msg.specs.declared.envelope.Envelope.{Envelope}
 use Rattle.mb_journal.specs.Aside.{next_front}
@@ -17,7 +17,7 @@ use Rattle.mb_ghost.specs.Summed.{total}
 use Rattle.mb_gate.specs.declared.claim.Claim.{Claim}
 use Rattle.mb_gate.specs.Accessors.{held_actor}
 use Rattle.mb_gate.specs.Rule.{IsAmong}
-use Rattle.mb_gate.specs.View.{View, Observation, Saw, Took}
+use Rattle.mb_gate.specs.View.{View, Observation, SentSystem, Saw, Took}
 use Rattle.mb_gate.specs.Waiting.{counted_off}
 use Rattle.mb_home.specs.Contents.{Contents}
 use Rattle.mb_mailbox.specs.declared.turn.Turn.{Turn}
@@ -25,6 +25,7 @@ use Rattle.mb_register.specs.Caller.{TakesOver}
 use Rattle.mb_mailbox.specs.OnlyDrained.{DrainedLast, TakesOnlyDrained}
 use Rattle.mb_mailbox.specs.Emptied.{FindsNoMore, IsEmptied}
 use Rattle.mb_mailbox.specs.RunState.{RunState}
+use Rattle.mb_mailbox.specs.RunSends.{IsSentByRun, given_by}
 
 -- How many envelopes of this actor an observation took.
 abbrev pub taken_of : ℕ → Observation → ℕ
@@ -122,7 +123,9 @@ EndsEmpty NoRoom ended = ⊥
 -- the entries of either kind. The pass took over the steps of the claim's seat. Among them each that took an envelope came when no system message was
 -- left to be drained; and they count as many envelopes as taken as were begun and cleaned up. None is cleaned up unless the actor ended. If the run
 -- stopped since no envelope was there, or the actor ended and there was room for all, these are all envelopes that the takes gave, and the last take
--- found none; in the first case the journal has room for one more.
+-- found none; in the first case the journal has room for one more. The system messages that the pass sent are those that the new entries have to send,
+-- each that found its list ended answered at once, and, if the actor ended, the answers to what was dropped then; and no others. What the pass knows
+-- that lists gave went on by what the actor's list gave in these steps.
 pub record LeavesRun (throughput : ℕ) (claim : Claim (Box Contents)) (old pass : View) (journal : List Entry) (turn : Turn) (stopped : Stopped)
     : Type 0 where
   pub run : IsRun claim.home.value.cell.who throughput claim.home.value.cell.journal journal stopped
@@ -132,6 +135,10 @@ pub record LeavesRun (throughput : ℕ) (claim : Claim (Box Contents)) (old pass
   pub seen : IsAmong (Saw (held_actor claim) journal) pass.log
   pub steps : List Observation
   pub taken_over : TakesOver old pass steps
+  pub told : List SentSystem
+  pub told_is : IsSentByRun claim.home.value.cell.who (held_actor claim) journal claim.home.value.cell.journal claim.home.value.rest steps told
+  pub sent_system : pass.sent_system ≡ reverse told ++ old.sent_system
+  pub given : given_by pass.log ≡ given_by steps ++ given_by old.log
   pub only_drained : TakesOnlyDrained (held_actor claim) steps
   pub last : EndsDrained (held_actor claim) steps stopped
   pub room : LastTakeHadRoom claim.home.value.cell.who journal stopped

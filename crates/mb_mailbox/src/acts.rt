@@ -4,10 +4,13 @@ ghost use Rattle.mb_supervision.specs.ActQueue.{act_of};
 ghost use Rattle.mb_journal.specs.Acts.Act.{CloseSelf};
 ghost use Rattle.mb_journal.specs.Life.{closed};
 ghost use Rattle.mb_gate.specs.Accessors.{pass_view};
+ghost use Rattle.mb_gate.specs.SentSystem.{messages_of};
 ghost use Rattle.mb_gate.specs.Untouched.{origin_of};
 ghost use Rattle.mb_register.specs.Caller.{IsRegistrarOf, caller_of, CallerAdvances};
 ghost use Rattle.mb_mailbox.specs.Emptied.{FindsNoMore, IsCleared};
+ghost use Rattle.mb_mailbox.specs.RunSends.{SendsDue};
 ghost use Rattle.mb_mailbox.specs.RunState.{run_state};
+ghost use Rattle.mb_mailbox.specs.Recorded.{SendsAsRecorded};
 ghost use Rattle.mb_mailbox.specs.Running.{IsRunning, BacklogAgrees, KeepsJournal};
 
 use crate::clean_up::clean_up;
@@ -41,8 +44,10 @@ pub(crate) fn carry_out<A: Actor, K: Behaviours, W: RunQueue<BoxedHome<A, K>>, R
     ensures same { KeepsJournal (run_state claim.old) (run_state claim.new) }
     ensures cleared { OnOk result (IsCleared (run_state claim.old) (run_state claim.new)) }
     ensures caller_advances { CallerAdvances (caller_of W.pushed W.refused registrar.old) (caller_of W.pushed W.refused registrar.new) }
+    ensures sends { SendsAsRecorded registrar.old registrar.new claim.old claim.new }
     ensures refused { OnErr result (IsErrOf result ReadyError.NoMemory) }
     ensures ended { OnErr result (closed claim.new.home.value.cell.who claim.new.home.value.cell.journal ≡ true) }
+    ensures due { SendsDue (messages_of claim.old.home.value.cell.acts) [] (run_state claim.old) (run_state claim.new) }
 {
     let mut is_clean = true;
     while let Some(act) = claim.home.next_act() {
@@ -82,6 +87,8 @@ fn carry<A: Actor, K: Behaviours, W: RunQueue<BoxedHome<A, K>>, R: Wait>(
     ensures cleared { OnOk result (IsCleared (run_state claim.old) (run_state claim.new)) }
     ensures ended { OnErr result (closed claim.new.home.value.cell.who claim.new.home.value.cell.journal ≡ true) }
     ensures caller_advances { CallerAdvances (caller_of W.pushed W.refused registrar.old) (caller_of W.pushed W.refused registrar.new) }
+    ensures sends { SendsAsRecorded registrar.old registrar.new claim.old claim.new }
+    ensures due { SendsDue (messages_of (act_of act ∷ [])) [] (run_state claim.old) (run_state claim.new) }
 {
     match act {
         Act::Tell(to, body) => {
@@ -123,6 +130,8 @@ fn close<A: Actor, K: Behaviours, W: RunQueue<BoxedHome<A, K>>, R: Wait>(
     ensures emptied { OnOk result (FindsNoMore claim.old.home.value.take claim.new.home.value.take) }
     ensures ended { closed claim.new.home.value.cell.who claim.new.home.value.cell.journal ≡ true }
     ensures caller_advances { CallerAdvances (caller_of W.pushed W.refused registrar.old) (caller_of W.pushed W.refused registrar.new) }
+    ensures sends { SendsAsRecorded registrar.old registrar.new claim.old claim.new }
+    ensures due { SendsDue [] [] (run_state claim.old) (run_state claim.new) }
 {
     gates.close_mailbox(claim);
     clean_up(rt, gates, registrar, claim)

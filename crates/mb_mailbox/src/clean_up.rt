@@ -1,13 +1,15 @@
 //! What becomes of messages that are left when an actor ends (`Mailbox.cleanUp`).
 ghost use Rattle.std.specs.Prelude.{◌≡◌, [], true, List, OnOk};
-ghost use Rattle.mb_gate.specs.Accessors.{pass_view, claim_view, held_actor, status_of, given_to};
+ghost use Rattle.mb_gate.specs.Accessors.{pass_view, claim_view, held_actor, status_of, given_to, recorded_by};
 ghost use Rattle.mb_gate.specs.View.{Observation};
 ghost use Rattle.mb_home.specs.AtHome.{given_of};
 ghost use Rattle.mb_gate.specs.Untouched.{origin_of};
 ghost use Rattle.mb_register.specs.Caller.{IsRegistrarOf, caller_of, CallerAdvances};
 ghost use Rattle.mb_mailbox.specs.OnlyDrained.{WasEnded};
 ghost use Rattle.mb_mailbox.specs.Emptied.{FindsNoMore};
+ghost use Rattle.mb_mailbox.specs.RunSends.{SendsAndAnswers, SendsDue, TakesSystemsIn};
 ghost use Rattle.mb_mailbox.specs.RunState.{run_state};
+ghost use Rattle.mb_mailbox.specs.Recorded.{SendsAsRecorded};
 ghost use Rattle.mb_mailbox.specs.Running.{IsRunning, BacklogAgrees, KeepsJournal};
 
 use crate::sending_system::answer;
@@ -38,6 +40,8 @@ pub(crate) fn clean_up<A: Actor, K: Behaviours, W: RunQueue<BoxedHome<A, K>>, R:
     ensures same { KeepsJournal (run_state claim.old) (run_state claim.new) }
     ensures emptied { OnOk result (FindsNoMore claim.old.home.value.take claim.new.home.value.take) }
     ensures caller_advances { CallerAdvances (caller_of W.pushed W.refused registrar.old) (caller_of W.pushed W.refused registrar.new) }
+    ensures sends { SendsAsRecorded registrar.old registrar.new claim.old claim.new }
+    ensures due { SendsDue [] [] (run_state claim.old) (run_state claim.new) }
 {
     let listed = gates.sys_close(rt, claim);
     drop_systems(rt, gates, registrar, claim);
@@ -65,6 +69,8 @@ fn drop_systems<A: Actor, K: Behaviours, W: RunQueue<BoxedHome<A, K>>, R: Wait>(
     ensures log { (claim_view claim.new).log ≡ (claim_view claim.old).log }
     ensures same { KeepsJournal (run_state claim.old) (run_state claim.new) }
     ensures caller_advances { CallerAdvances (caller_of W.pushed W.refused registrar.old) (caller_of W.pushed W.refused registrar.new) }
+    ensures sends { SendsAsRecorded registrar.old registrar.new claim.old claim.new }
+    ensures answers { SendsAndAnswers [] claim.old.home.value.rest (run_state claim.old) (run_state claim.new) }
 {
     let actor = claim.actor();
     let parent = claim.home.parent();
@@ -91,6 +97,8 @@ fn clean_envelopes<A: Actor, K: Behaviours, R: Wait>(
     ensures left { claim.new.home.value.cell ≡ claim.old.home.value.cell }
     ensures same { KeepsJournal (run_state claim.old) (run_state claim.new) }
     ensures emptied { OnOk result (FindsNoMore claim.old.home.value.take claim.new.home.value.take) }
+    ensures recorded { recorded_by claim.new ≡ recorded_by claim.old }
+    ensures takes { TakesSystemsIn [] [] (run_state claim.old) (run_state claim.new) }
 {
     for _ in rt.forever() {
         if !claim.home.clean_next(rt)? {

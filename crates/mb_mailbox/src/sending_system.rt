@@ -1,12 +1,14 @@
 //! Sending system messages in a run.
-ghost use Rattle.std.specs.Prelude.{◌≡◌, ◌<◌, ◌∷◌, IfSome};
+ghost use Rattle.std.specs.Prelude.{◌≡◌, ◌<◌, [], ◌∷◌, IfSome};
 ghost use Rattle.mb_journal.specs.Acts.Act.{Sys};
 ghost use Rattle.mb_gate.specs.Accessors.{actors_of, pass_view};
 ghost use Rattle.mb_gate.specs.NamedActors.{NamesBelow};
 ghost use Rattle.mb_gate.specs.Untouched.{origin_of};
 ghost use Rattle.mb_register.specs.Caller.{IsRegistrarOf, caller_of, CallerAdvances};
 ghost use Rattle.mb_mailbox.specs.Emptied.{IsCleared};
+ghost use Rattle.mb_mailbox.specs.RunSends.{SendsDue};
 ghost use Rattle.mb_mailbox.specs.RunState.{run_state};
+ghost use Rattle.mb_mailbox.specs.Recorded.{SendsAsRecorded};
 ghost use Rattle.mb_mailbox.specs.Notice.{IsAnswered, IsNotified, asker};
 ghost use Rattle.mb_mailbox.specs.Running.{IsRunning, BacklogAgrees, KeepsJournal};
 
@@ -40,6 +42,8 @@ pub(crate) fn send_system<A: Actor, K: Behaviours, W: RunQueue<BoxedHome<A, K>>,
     ensures same { KeepsJournal (run_state claim.old) (run_state claim.new) }
     ensures cleared { IsCleared (run_state claim.old) (run_state claim.new) }
     ensures caller_advances { CallerAdvances (caller_of W.pushed W.refused registrar.old) (caller_of W.pushed W.refused registrar.new) }
+    ensures sends { SendsAsRecorded registrar.old registrar.new claim.old claim.new }
+    ensures due { SendsDue ((to.0, node) ∷ []) [] (run_state claim.old) (run_state claim.new) }
 {
     match gates.sys_enqueue_in_run(rt, &mut registrar.pass, claim, to, node) {
         Ok(_) => {
@@ -70,6 +74,7 @@ pub(crate) fn answer<A: Actor, K: Behaviours, W: RunQueue<BoxedHome<A, K>>, R: W
     ensures same_gates { IsRegistrarOf W.origin gates.now registrar.new }
     ensures answered { IsAnswered (asker parent node) ended.0 claim.old claim.new }
     ensures caller_advances { CallerAdvances (caller_of W.pushed W.refused registrar.old) (caller_of W.pushed W.refused registrar.new) }
+    ensures sends { SendsAsRecorded registrar.old registrar.new claim.old claim.new }
 {
     match asker_of(parent, node.msg()) {
         Some(whom) => notify(rt, gates, registrar, claim, whom, ended, node),
@@ -110,6 +115,7 @@ fn notify<A: Actor, K: Behaviours, W: RunQueue<BoxedHome<A, K>>, R: Wait>(
     ensures same_gates { IsRegistrarOf W.origin gates.now registrar.new }
     ensures told { IsNotified whom.0 ended.0 claim.old claim.new }
     ensures caller_advances { CallerAdvances (caller_of W.pushed W.refused registrar.old) (caller_of W.pushed W.refused registrar.new) }
+    ensures sends { SendsAsRecorded registrar.old registrar.new claim.old claim.new }
 {
     node.set(SysMsg::Died(ended));
     let Ok(_) = gates.sys_enqueue_in_run(rt, &mut registrar.pass, claim, whom, node) else {

@@ -1,10 +1,11 @@
 //! Applying system messages, until none is left.
 ghost use Rattle.std.specs.Prelude.{◌≡◌, ◌≢◌, [], true, false, List, OnOk};
 ghost use Rattle.mb_gate.specs.View.{Observation};
-ghost use Rattle.mb_gate.specs.Accessors.{status_of};
+ghost use Rattle.mb_gate.specs.Accessors.{status_of, recorded_by};
 ghost use Rattle.mb_home.specs.Steps.{HasNext, HasNoBacklog};
 ghost use Rattle.mb_gate.specs.Untouched.{origin_of};
 ghost use Rattle.mb_mailbox.specs.Emptied.{IsCleared};
+ghost use Rattle.mb_mailbox.specs.RunSends.{SendsDue};
 ghost use Rattle.mb_mailbox.specs.RunState.{run_state};
 ghost use Rattle.mb_mailbox.specs.InRun.{InRun, Advances, StopsRun};
 ghost use Rattle.mb_mailbox.specs.Ran.{EndsBlock, IsDrained};
@@ -60,6 +61,8 @@ fn has_no_system_work<A: Actor, K: Behaviours>(
     ensures same { KeepsJournal (run_state claim.old) (run_state claim.new) }
     ensures cleared { IsCleared (run_state claim.old) (run_state claim.new) }
     ensures drained { result ≡ true → IsDrained (run_state claim.new) }
+    ensures recorded { recorded_by claim.new ≡ recorded_by claim.old }
+    ensures due { SendsDue [] [] (run_state claim.old) (run_state claim.new) }
 {
     if claim.status().closed() || claim.home.has_next() {
         return false;
@@ -140,7 +143,9 @@ fn drain<A: Actor, K: Behaviours, R: Wait>(
     ensures same { KeepsJournal (run_state claim.old) (run_state claim.new) }
     ensures cleared { IsCleared (run_state claim.old) (run_state claim.new) }
     ensures drained { result ≡ false → IsDrained (run_state claim.new) }
+    ensures recorded { recorded_by claim.new ≡ recorded_by claim.old }
     ensures not_empty { result ≡ true → claim.new.home.value.rest ≢ [] }
+    ensures due { SendsDue [] [] (run_state claim.old) (run_state claim.new) }
 {
     let drained = gates.sys_drain(rt, claim);
     if drained.is_empty() {

@@ -1,5 +1,5 @@
 //! Sending the envelopes that an actor tells.
-ghost use Rattle.std.specs.Prelude.{◌≡◌, ◌<◌, ◌∷◌, IfNone, MatchOption};
+ghost use Rattle.std.specs.Prelude.{◌≡◌, ◌<◌, [], ◌∷◌, IfNone, MatchOption};
 ghost use Rattle.mb_journal.specs.Acts.Act.{Tell};
 ghost use Rattle.mb_gate.specs.Accessors.{actors_of, gates_id, pass_view, pass_id};
 ghost use Rattle.mb_gate.specs.Untouched.{origin_of};
@@ -7,7 +7,9 @@ ghost use Rattle.mb_gate.specs.View.{reading};
 ghost use Rattle.mb_home.specs.AgreesWithJournal.{AgreesWithJournal};
 ghost use Rattle.mb_register.specs.Caller.{IsRegistrarOf, caller_of, CallerAdvances};
 ghost use Rattle.mb_mailbox.specs.Emptied.{IsCleared};
+ghost use Rattle.mb_mailbox.specs.RunSends.{SendsDue};
 ghost use Rattle.mb_mailbox.specs.RunState.{run_state};
+ghost use Rattle.mb_mailbox.specs.Recorded.{SendsAsRecorded};
 ghost use Rattle.mb_mailbox.specs.Running.{IsRunning, BacklogAgrees, KeepsJournal};
 ghost use Rattle.mb_mailbox.specs.Sending.{HintTells, IsSentOrDead, TellsClosed};
 
@@ -39,7 +41,9 @@ pub(crate) fn tell<A: Actor, K: Behaviours, W: RunQueue<BoxedHome<A, K>>, R: Wai
     ensures same { KeepsJournal (run_state claim.old) (run_state claim.new) }
     ensures cleared { IsCleared (run_state claim.old) (run_state claim.new) }
     ensures caller_advances { CallerAdvances (caller_of W.pushed W.refused registrar.old) (caller_of W.pushed W.refused registrar.new) }
+    ensures sends { SendsAsRecorded registrar.old registrar.new claim.old claim.new }
     ensures told { IsSentOrDead to body (pass_view registrar.old.pass) (pass_view registrar.new.pass) claim.old.home.value claim.new.home.value }
+    ensures due { SendsDue [] [] (run_state claim.old) (run_state claim.new) }
 {
     match send(rt, gates, &mut registrar.pass, &mut claim.home, to, body) {
         None => {}

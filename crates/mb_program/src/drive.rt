@@ -39,7 +39,8 @@ pub fn run_program<T: Threads + Wait + Sync, R: Read, W: Write, E: Write>(
     // No more is read than a text may have and a byte beyond.
     ensures taken { TakesAtMost most_read (R.remaining reader.old.stream) (R.remaining reader.new.stream) }
 
-    // With the status 0 the whole report was written of what was read, no call failed, and the stream for errors was not called.
+    // With the status 0 the whole report was written of what was read, and the headline holds of that report (`IsOfScenario`). No
+    // call failed, and the stream for errors was not called.
     ensures reported { result ≡ 0 →
         HasReported (R.remaining reader.old.stream) (W.contents writer.old.stream) (W.contents writer.new.stream) }
     ensures no_failure { result ≡ 0 → (reader.new.failed || writer.new.failed) ≡ false }

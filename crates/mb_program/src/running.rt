@@ -2,6 +2,7 @@
 ghost use Rattle.std.specs.Prelude.{◌≡◌, ◌+◌, [], All, IfErr, IfOk, is_some, length};
 ghost use Rattle.heddleorange.specs.NoReport.{IsErrorOfRun, IsRight};
 ghost use Rattle.heddleorange.specs.Orders.{lists_of};
+ghost use Rattle.heddleorange.specs.RunHeadline.{RunHeadline};
 ghost use Rattle.heddleorange.specs.WholeRun.{IsReportOfRun, after_at, gives_at};
 
 use crate::orders::lists_of;
@@ -38,6 +39,7 @@ pub fn run<A: Actor + Send, R: Threads + Wait + Sync>(
     requires right { IsRight plan (length actors.items) (lists_of plan.senders sends.now) }
     ensures ran { IfOk result (λ run. IsReportOfRun (after_at actors.items A.after) (gives_at actors.items A.gives) plan
         (lists_of plan.senders sends.now) run.report) }
+    ensures headline { IfOk result (λ run. RunHeadline plan (lists_of plan.senders sends.now) run.report) }
     ensures lines { IfOk result (λ run. length run.report.actors.items ≡ length actors.items + 1) }
     ensures turns { IfOk result (λ run. is_some run.turns ≡ is_quiet) }
     ensures fault { IfErr result (IsErrorOfRun (gives_at actors.items A.gives) plan (length actors.items) (lists_of plan.senders sends.now)) }

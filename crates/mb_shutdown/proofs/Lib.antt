@@ -8,6 +8,7 @@ pub mod EndLaw
 pub mod FinishedSenders
 pub mod Gathered
 pub mod Gathering
+pub mod HeadlineLaw
 pub mod IdleLemmas
 pub mod JoinAndDrainLemmas
 pub mod JoinLemmas

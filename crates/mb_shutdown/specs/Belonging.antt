@@ -2,16 +2,25 @@
 use Rattle.std.specs.Prelude.{◌≡◌, ℕ, ◌-◌, ◌<◌, ◌∷◌, List, All, Contains, length, slice_get, Some}
 use Rattle.mb_msg.specs.Limits.{most_actors}
 use Rattle.mb_journal.specs.declared.sent_envelope.SentEnvelope.{SentEnvelope}
-use Rattle.mb_gate.specs.Accessors.{actors_of, pass_view, pass_id}
+use Rattle.mb_gate.specs.Accessors.{actors_of, first_home, pass_view, pass_id}
 use Rattle.mb_gate.specs.Rule.{IsPart}
 use Rattle.mb_gate.specs.View.{Observation, View}
-use Rattle.mb_queue.specs.Passes.{SendPassView}
+use Rattle.mb_home.specs.Directory.{DirectoryEntry}
+use Rattle.mb_queue.specs.Passes.{SendPassView, first_in_first_out}
 use Rattle.mb_send.specs.declared.send_log.SendLog.{SendLog}
 use Rattle.mb_shutdown.specs.Idle.{WereReadIdle}
 use Rattle.mb_shutdown.specs.declared.finished_sender.FinishedSender.{FinishedSender}
 use Rattle.mb_system.specs.declared.built.Built.{Built}
 use Rattle.mb_system.specs.declared.end.WorkerEnd.{WorkerEnd}
 use Rattle.mb_system.specs.declared.sender.Sender.{Sender}
+
+-- The directory of a system's actors.
+abbrev pub directory_of : {A K : Type 0} → Built A K → List DirectoryEntry
+directory_of built = (first_home built.system.gates).value.directory
+
+-- The mailbox of this actor in the directory is first in, first out.
+abbrev pub IsFifoIn : List DirectoryEntry → ℕ → Type 0
+IsFifoIn directory id = (e : DirectoryEntry) × (slice_get directory id ≡ Some e) × (e.discipline ≡ first_in_first_out)
 
 -- All numbers below this one stand in the list.
 abbrev pub AreThere : ℕ → List ℕ → Type 0

@@ -1,5 +1,5 @@
 -- What a report says of a whole system: each accepted envelope has one fate, and each actor is what its journal says.
-use Rattle.std.specs.Prelude.{◌≡◌, ◌≢◌, ◌⊎◌, ℕ, ◌+◌, ◌-◌, ◌<◌, ◌%◌, ◌^◌, ℤ, false, if◌then◌else◌, List, [], All, length, slice_get, Some, None, nat_lt}
+use Rattle.std.specs.Prelude.{◌≡◌, ◌≢◌, ◌⊎◌, ℕ, ◌+◌, ◌-◌, ◌<◌, ◌%◌, ◌^◌, ℤ, false, if◌then◌else◌, List, [], ◌∷◌, All, length, slice_get, Some, None, nat_lt}
 use Rattle.mb_msg.specs.Limits.{most_actors}
 use Rattle.mb_msg.specs.declared.dead_letter.DeadLetter.{DeadLetter}
 use Rattle.mb_msg.specs.declared.dead_letter.Why.TheVariants as why
@@ -34,6 +34,12 @@ use Rattle.mb_report.specs.declared.report.SenderReport.{SenderReport}
 -- The envelopes that came to an actor: begun, cleaned up when it ended, and left.
 abbrev pub fates_in : ActorReport → List Envelope
 fates_in actor = fates actor.journal.entries actor.cleaned.items actor.left.items
+
+-- What each of these actors sent, as its journal tells.
+abbrev pub told_by_each : List Identity → List ActorReport → List (List Envelope)
+told_by_each [] reports = []
+told_by_each (who ∷ actors) [] = []
+told_by_each (who ∷ actors) (a ∷ reports) = told who a.journal.entries ∷ told_by_each actors reports
 
 -- The number of the sender at this place of a report on so many actors. These come first, each with its own number; the senders outside are numbered
 -- from the greatest number of actors on.

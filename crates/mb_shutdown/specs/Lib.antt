@@ -2,6 +2,8 @@ pub mod AllArrived
 pub mod Apart
 pub mod Belonging
 pub mod CompleteReport
+pub mod GateStates
+pub mod Headline
 pub mod Homes
 pub mod Idle
 pub mod Joined

@@ -4,6 +4,7 @@ ghost use Rattle.mb_journal.specs.declared.sent_envelope.SentEnvelope.{SentEnvel
 ghost use Rattle.mb_gate.specs.Accessors.{actors_of, first_home, pass_view};
 ghost use Rattle.mb_gate.specs.View.{Observation};
 ghost use Rattle.mb_shutdown.specs.Rooms.{AreCounted, HasOnlyCounted, IsRoom, counted_in};
+ghost use Rattle.mb_shutdown.specs.Headline.{Headline};
 ghost use Rattle.mb_shutdown.specs.Idle.{WereReadIdle};
 ghost use Rattle.mb_shutdown.specs.Seen.{ReportExtendsAll};
 ghost use Rattle.mb_shutdown.specs.CompleteReport.{IsCompleteReport};
@@ -54,6 +55,7 @@ pub fn finish<A: Actor, K: Behaviours, R: Wait>(
     ensures whole { IfOk result (λ report. (log : List Observation) × HasAllSeen built log
         × ((answers : List (List SentEnvelope)) × AreAnswers built.system.senders built.senders.items answers
         × IsCompleteReport K.after K.gives (first_home built.system.gates).value.directory log answers report)) }
+    ensures headline { IfOk result (Headline K.after K.gives built) }
     ensures all_idle { IfOk result (λ _. IsComplete built × AllFoundIdle built) }
     ensures seen { IfOk result (λ report. All (λ e. ReportExtendsAll report (pass_view e.registrar.pass)) built.ends.items
         × All (λ s. ReportExtendsAll report (pass_view s.inner.registrar.pass)) built.senders.items) }

@@ -1,13 +1,16 @@
 -- What registering actors changes of a worker's end.
-use Rattle.std.proofs.Common.{◌≡◌, ◌⊎◌, inl, inr, ◌++◌, [], Bool, ℕ, ap, refl, sym, ◌∙◌, Option, Some, None}
+use Rattle.std.proofs.Common.{◌≡◌, ◌⊎◌, inl, inr, ◌++◌, [], Bool, true, false, ℕ, ap, refl, sym, ◌∙◌, Option, Some, None, append_assoc}
 use Rattle.std.specs.Prelude.{IfNone}
 use Rattle.std.proofs.lemmas.List.{append-nil}
 use Rattle.mb_register.specs.Caller.{Caller, IsDischargedOrOwed, LeavesCaller}
 use Rattle.mb_register.proofs.CallerLemmas.{account-none, account-then, account-registered}
 use Rattle.mb_register.proofs.MoveLemmas.{further-moves, moves-does}
-use Rattle.mb_gate.specs.View.{obligation_to}
-use Rattle.mb_register.specs.Views.{LooksAfter}
+use Rattle.mb_ghost.proofs.SeenLemmas.{each_append, each_weaker}
+use Rattle.mb_gate.specs.View.{Observation, View, obligation_to}
+use Rattle.mb_register.specs.Views.{IsLook, LooksAfter, LooksAmong}
 use Rattle.mb_register.specs.Registering.{IsRegistered}
+use Rattle.mb_register.proofs.Retries.{among-none, among-on}
+use Rattle.mb_system.specs.OnlyLooks.{OnlyLooks}
 use Rattle.mb_system.proofs.Saw.{saw-same, saw-then}
 
 -- the actor was looked at, and registered or not
@@ -46,3 +49,31 @@ leaves-then a b c p q = record {
 pub none-tells : {X : Type 0} (A B C : Type 0) (r : Option X) → (A → B) → IfNone r (A × C) → IfNone r (B × C)
 none-tells A B C None f h = (f h.0, h.1)
 none-tells A B C (Some x) f h = tt
+
+-- it was looked at nobody, at one actor more, at some of a set, or at one after another
+pub only-none : (v : View) → OnlyLooks v v
+only-none = among-none (λ id. true)
+
+pub only-after : (id : ℕ) (u v w : View) → OnlyLooks u v → LooksAfter id v w → OnlyLooks u w
+only-after id u v w a looks = among-on (λ i. true) id u v w a (λ out. let e : true ≡ false = out in absurd (cc)) looks
+
+pub only-among : (among : ℕ → Bool) (u v : View) → LooksAmong among u v → OnlyLooks u v
+only-among among u v a = record {
+  looks = a.looks;
+  only = each_weaker (λ (s : Observation). (id : ℕ) × (among id ≡ true) × IsLook id s) (λ (s : Observation). (id : ℕ) × (true ≡ true) × IsLook id s)
+      a.looks (λ s is. (is.0, refl, is.2)) a.only;
+  log = a.log;
+  sent_system = a.sent_system;
+  others = λ other out. let e : true ≡ false = out in absurd (cc);
+  share = a.share;
+}
+
+pub only-then : (u v w : View) → OnlyLooks u v → OnlyLooks v w → OnlyLooks u w
+only-then u v w a b = record {
+  looks = b.looks ++ a.looks;
+  only = each_append (λ (s : Observation). (id : ℕ) × (true ≡ true) × IsLook id s) b.looks a.looks b.only a.only;
+  log = b.log ∙ ap (λ l. b.looks ++ l) a.log ∙ sym (append_assoc b.looks a.looks u.log);
+  sent_system = b.sent_system ∙ a.sent_system;
+  others = λ other out. b.others other out ∙ a.others other out;
+  share = b.share ∙ a.share;
+}

@@ -1,5 +1,6 @@
 pub mod KnownSenders
 pub mod Members
 pub mod Obligations
+pub mod OnlyLooks
 pub mod Belonging
 pub mod RunErrors

@@ -13,6 +13,7 @@ ghost use Rattle.mb_register.specs.Views.{LooksAfter};
 ghost use Rattle.mb_register.specs.Registering.{IsRegistered, StopsAt};
 ghost use Rattle.mb_system.specs.Obligations.{AreDischargedOrOwed, KeepsObligations};
 ghost use Rattle.mb_system.specs.Members.{end_caller, IsEndOf};
+ghost use Rattle.mb_system.specs.OnlyLooks.{OnlyLooks};
 
 use crate::failure::RunError;
 use crate::parting::pass_of;
@@ -85,6 +86,7 @@ impl<A: Actor, K: Behaviours> WorkerEnd<A, K> {
         requires same_gates { IsEndOf system.now.gates self.old.registrar }
         ensures same_gates { IsEndOf system.now.gates self.new.registrar }
         ensures leaves { LeavesCaller (end_caller self.old.registrar) (end_caller self.new.registrar) }
+        ensures looks { OnlyLooks (pass_view self.old.registrar.pass) (pass_view self.new.registrar.pass) }
         ensures discharged { AreDischargedOrOwed (actors_of system.now.gates) (end_caller self.new.registrar) }
         ensures number { self.new.number ≡ self.old.number }
         ensures log_kept { IsPart (pass_view self.old.registrar.pass).log (pass_view self.new.registrar.pass).log }
@@ -123,6 +125,7 @@ impl<A: Actor, K: Behaviours> WorkerEnd<A, K> {
             (λ _. (end_caller self.new.registrar).account.refused ≡ (end_caller self.old.registrar).account.refused)
             (λ _. StopsAt (end_caller self.old.registrar).account (end_caller self.new.registrar).account) }
         ensures refused { OnErr result (IsErrOf result RunError.NoMemory) }
+        ensures looks { OnlyLooks (pass_view self.old.registrar.pass) (pass_view self.new.registrar.pass) }
         ensures number { self.new.number ≡ self.old.number }
         ensures log_kept { IsPart (pass_view self.old.registrar.pass).log (pass_view self.new.registrar.pass).log }
     {

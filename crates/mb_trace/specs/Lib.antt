@@ -3,3 +3,12 @@ pub mod Standing
 pub mod Entries
 pub mod Ends
 pub mod Filter
+pub mod Actors
+pub mod Steps
+pub mod Kinds
+pub mod Lives
+pub mod Cursors
+pub mod Output
+pub mod Text
+pub mod Rest
+pub mod Whole

@@ -1,9 +1,11 @@
 //! The lines of an entry: what came, from whom, what became of it, how the actor stands after it, and the effects.
 ghost use Rattle.std.specs.Prelude.{Some, map, string_bytes};
 ghost use Rattle.std.specs.Fmt.{WritesOnOk};
+ghost use Rattle.mb_journal.specs.JournalView.{entry_of};
 ghost use Rattle.mb_trace.specs.Entries.{arrival_text, entry_text, outcome_text};
 
 use crate::effect_lines::EffectLines;
+use crate::entry_kind::effects_of;
 use crate::standing::{Standing, write_change};
 use crate::words::{EnvelopeWords, SystemWords};
 use mb_actor::Answer;
@@ -20,15 +22,15 @@ pub(crate) struct EntryLines<'a> {
 }
 
 impl fmt::Display for EntryLines<'_> {
-    ghost output = { λ e. Some (entry_text (map string_bytes e.names.now) e.before e.after e.entry) };
+    ghost output = { λ e. Some (entry_text (map string_bytes e.names.now) e.before e.after (entry_of e.entry)) };
 
     fn fmt<W: fmt::Write>(&self, f: &mut fmt::Formatter<W>) -> fmt::Result {
         f.write_str("  ")?;
-        write_arrival(f, self.names, self.entry.arrival)?;
+        write_arrival(f, self.names, &self.entry)?;
         write_change(f, self.before, self.after)?;
         let effects = EffectLines {
             names: self.names,
-            effects: self.entry.effects,
+            effects: effects_of(&self.entry),
         };
         write!(f, "\n{effects}")
     }
@@ -39,11 +41,11 @@ impl fmt::Display for EntryLines<'_> {
 fn write_arrival<W: fmt::Write>(
     f: &mut fmt::Formatter<W>,
     names: &[String],
-    arrival: Received,
+    entry: &EntryRef<'_>,
 ) -> fmt::Result
-    ensures { WritesOnOk W.write_str_gives f.old result (arrival_text (map string_bytes names.now) arrival) f.new }
+    ensures { WritesOnOk W.write_str_gives f.old result (arrival_text (map string_bytes names.now) (entry_of entry.now)) f.new }
 {
-    match arrival {
+    match entry.arrival {
         Received::Handled {
             answer,
             envelope,

@@ -4,7 +4,7 @@ ghost use Rattle.mb_journal.specs.Entry.{answered_failed, is_failed};
 ghost use Rattle.mb_journal.specs.JournalView.{entry_of};
 ghost use Rattle.mb_trace.specs.Filter.{brings_failure, is_about_failure, is_of_envelope, is_of_kind, shows, shows_actor};
 
-use crate::steps::TraceStep;
+use crate::step::TraceStep;
 use mb_actor::Answer;
 use mb_journal::{EntryRef, Received};
 use mb_msg::SysMsg;
@@ -71,7 +71,7 @@ fn is_envelope(entry: &EntryRef<'_>) -> bool
 }
 
 /// Whether the actor's call failed.
-fn has_failed(entry: &EntryRef<'_>) -> bool
+pub(crate) fn has_failed(entry: &EntryRef<'_>) -> bool
     ensures { result ≡ answered_failed (entry_of entry.now) }
 {
     match entry.arrival {

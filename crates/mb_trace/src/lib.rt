@@ -4,16 +4,25 @@
 //! run on threads they are shown in one order that agrees with what caused what, or actor by actor where none is found.
 #![tactic(auto)]
 
+mod actor_list;
+mod cursor;
 mod effect_lines;
 mod end_lines;
+mod entry_kind;
 mod entry_line;
 mod error;
 mod filter;
 mod life;
+mod on_threads;
+mod output;
+mod parts;
 mod rest;
+mod rules;
 mod standing;
 mod state;
+mod step;
 mod steps;
+mod suspensions;
 mod text;
 mod trace;
 mod words;
@@ -21,7 +30,8 @@ mod words;
 pub use error::TraceError;
 pub use filter::{EntryKinds, Filter};
 pub use standing::Standing;
-pub use steps::{TraceStep, TraceSteps};
+pub use step::TraceStep;
+pub use steps::TraceSteps;
 pub use text::write_text;
 pub use trace::{Trace, TurnLength};
 pub use words::{BodyWords, EffectWords, EnvelopeWords, SystemWords, name_of};

@@ -14,7 +14,7 @@ pub struct Standing {
     /// The phase of its life.
     pub phase: Phase,
     /// How often its mailbox is suspended.
-    pub suspended: u64,
+    pub suspended: u128,
     /// Its state; the guardian has none.
     pub state: Option<i64>,
 }
@@ -44,7 +44,11 @@ fn write_phase<W: fmt::Write>(f: &mut fmt::Formatter<W>, before: Phase, after: P
 }
 
 #[tactic(auto, unfolding(crate::specs::Standing::suspension_change_text))]
-fn write_suspended<W: fmt::Write>(f: &mut fmt::Formatter<W>, before: u64, after: u64) -> fmt::Result
+fn write_suspended<W: fmt::Write>(
+    f: &mut fmt::Formatter<W>,
+    before: u128,
+    after: u128,
+) -> fmt::Result
     ensures { WritesOnOk W.write_str_gives f.old result (suspension_change_text before after) f.new }
 {
     if before == after {
@@ -64,7 +68,7 @@ fn write_state<W: fmt::Write>(f: &mut fmt::Formatter<W>, state: Option<i64>) -> 
 }
 
 /// Whether the two phases are the same.
-fn is_same(one: Phase, other: Phase) -> bool
+pub(crate) fn is_same(one: Phase, other: Phase) -> bool
     ensures { result ≡ phase_is one other }
 {
     match (one, other) {

@@ -34,7 +34,7 @@ fn write_part<W: Write>(
     out: &mut W,
 ) -> Result<(), TraceError> {
     for _ in 0..part.entries {
-        if let Some(step) = shown.pass(part.actor) {
+        if let Some(step) = shown.pass(part.actor)? {
             let line = entry_line(alloc, names, step.actor, step.index, &step.entry)?;
             out.write_all(line.as_bytes())?;
         }

@@ -86,7 +86,7 @@ fn add_part<'a>(
     part: &TurnLength,
 ) -> Result<(), AllocError> {
     for _ in 0..part.entries {
-        if let Some(step) = shown.pass(part.actor) {
+        if let Some(step) = shown.pass(part.actor)? {
             entries.push(mb_diagram::ShownEntry {
                 actor: step.actor,
                 index: step.index,

@@ -26,13 +26,15 @@ impl<'a> Shown<'a> {
         })
     }
 
-    /// Passes the next entry of this actor's journal; the answer is that entry if it is shown.
-    pub(crate) fn pass(&mut self, actor: ActorId) -> Option<TraceStep<'a>> {
-        let step = self.steps.next_of(actor)?;
+    /// Passes the next entry of this actor's journal; the answer is that entry if it is shown. The only error: memory was refused.
+    pub(crate) fn pass(&mut self, actor: ActorId) -> Result<Option<TraceStep<'a>>, AllocError> {
+        let Some(step) = self.steps.next_of(actor)? else {
+            return Ok(None);
+        };
         if self.left == 0 || !self.filter.passes(&step) {
-            return None;
+            return Ok(None);
         }
         self.left -= 1;
-        Some(step)
+        Ok(Some(step))
     }
 }

@@ -13,7 +13,10 @@ use std::test::Fail;
 /// What came to an actor, and what it asked for.
 #[derive(Clone, Copy)]
 enum Came<'a> {
-    System(SysMsg, &'a [Effect]),
+    /// The Create of an actor, which answers that it has started.
+    Start(&'a [Effect]),
+    /// A system message that its cell handles alone.
+    System(SysMsg),
     Envelope(Envelope, &'a [Effect]),
 }
 
@@ -24,11 +27,15 @@ fn actor(alloc: Global, came: &[Came<'_>]) -> Option<ActorReport> {
     for one in came {
         journal.ready().ok()?;
         match *one {
-            Came::System(message, effects) => {
+            Came::Start(effects) => {
                 if effects.len() > 16 {
                     return None;
                 }
-                journal.push_system(number, message, None, effects);
+                journal.push_system(number, SysMsg::Create, Some(Answer::Handled), effects);
+                number = u64::checked_add(number, 1)?;
+            }
+            Came::System(message) => {
+                journal.push_system(number, message, None, &[]);
                 number = u64::checked_add(number, 1)?;
             }
             Came::Envelope(envelope, effects) => {
@@ -139,16 +146,15 @@ fn is_order(found: &Option<Vec<Place>>, wanted: &[(usize, usize)]) -> bool {
 /// The actor 1 is told something from outside and tells 2, which answers.
 #[test]
 fn an_answer_comes_after_what_it_answers(rt: HostRuntime) -> Result<(), Fail> {
-    let create = Came::System(SysMsg::Create, &[]);
     let found = order_of(
         rt.alloc(),
-        &[create],
+        &[Came::System(SysMsg::Create)],
         &[
-            create,
+            Came::Start(&[]),
             Came::Envelope(user(64, 0, 1), &[tell(2)]),
             Came::Envelope(user(2, 0, 1), &[]),
         ],
-        &[create, Came::Envelope(user(1, 0, 2), &[tell(1)])],
+        &[Came::Start(&[]), Came::Envelope(user(1, 0, 2), &[tell(1)])],
     )?;
     let wanted = [(0, 0), (1, 0), (1, 1), (2, 0), (2, 1), (1, 2)];
     assert!(rt; is_order(&found, &wanted));
@@ -159,21 +165,20 @@ fn an_answer_comes_after_what_it_answers(rt: HostRuntime) -> Result<(), Fail> {
 /// Terminated that 1 sends itself after that.
 #[test]
 fn an_end_comes_after_all_that_came_before_it(rt: HostRuntime) -> Result<(), Fail> {
-    let create = Came::System(SysMsg::Create, &[]);
-    let died = Came::System(SysMsg::Died(ActorId(2)), &[]);
+    let died = Came::System(SysMsg::Died(ActorId(2)));
     let terminated = envelope(1, 0, 1, Body::Terminated(ActorId(2)));
     let found = order_of(
         rt.alloc(),
-        &[create, died],
+        &[Came::System(SysMsg::Create), died],
         &[
-            Came::System(SysMsg::Create, &[Effect::Watch(ActorId(2))]),
+            Came::Start(&[Effect::Watch(ActorId(2))]),
             died,
             Came::Envelope(terminated, &[]),
         ],
         &[
-            create,
-            Came::System(SysMsg::Watch(ActorId(1)), &[]),
-            Came::System(SysMsg::Terminate, &[]),
+            Came::Start(&[]),
+            Came::System(SysMsg::Watch(ActorId(1))),
+            Came::System(SysMsg::Terminate),
         ],
     )?;
     let wanted = [
@@ -193,12 +198,57 @@ fn an_end_comes_after_all_that_came_before_it(rt: HostRuntime) -> Result<(), Fai
 /// Each of two actors tells the other something only once it was told something: no run has these journals.
 #[test]
 fn journals_of_no_run_have_no_order(rt: HostRuntime) -> Result<(), Fail> {
-    let create = Came::System(SysMsg::Create, &[]);
     let found = order_of(
         rt.alloc(),
-        &[create],
-        &[create, Came::Envelope(user(2, 0, 1), &[tell(2)])],
-        &[create, Came::Envelope(user(1, 0, 2), &[tell(1)])],
+        &[Came::System(SysMsg::Create)],
+        &[Came::Start(&[]), Came::Envelope(user(2, 0, 1), &[tell(2)])],
+        &[Came::Start(&[]), Came::Envelope(user(1, 0, 2), &[tell(1)])],
+    )?;
+    assert!(rt; found.is_none());
+    Ok(())
+}
+
+/// The actor 2 stops 1, which is stopped by nobody else, and whose end comes to the guardian.
+#[test]
+fn a_terminate_comes_after_the_stop(rt: HostRuntime) -> Result<(), Fail> {
+    let found = order_of(
+        rt.alloc(),
+        &[
+            Came::System(SysMsg::Create),
+            Came::System(SysMsg::Died(ActorId(1))),
+        ],
+        &[Came::Start(&[]), Came::System(SysMsg::Terminate)],
+        &[
+            Came::Start(&[]),
+            Came::Envelope(user(64, 0, 2), &[Effect::Stop(ActorId(1))]),
+        ],
+    )?;
+    let wanted = [(0, 0), (1, 0), (2, 0), (2, 1), (1, 1), (0, 1)];
+    assert!(rt; is_order(&found, &wanted));
+    Ok(())
+}
+
+/// The actor 1 is suspended, although its parent sent it no Suspend: no run has these journals.
+#[test]
+fn a_message_that_nobody_sent_has_no_place(rt: HostRuntime) -> Result<(), Fail> {
+    let found = order_of(
+        rt.alloc(),
+        &[Came::System(SysMsg::Create)],
+        &[Came::Start(&[]), Came::System(SysMsg::Suspend)],
+        &[Came::Start(&[])],
+    )?;
+    assert!(rt; found.is_none());
+    Ok(())
+}
+
+/// The guardian, which is no actor that is called, gave an answer by its journal: no cell makes this entry.
+#[test]
+fn an_entry_that_no_cell_makes_has_no_place(rt: HostRuntime) -> Result<(), Fail> {
+    let found = order_of(
+        rt.alloc(),
+        &[Came::Start(&[])],
+        &[Came::Start(&[])],
+        &[Came::Start(&[])],
     )?;
     assert!(rt; found.is_none());
     Ok(())

@@ -2,11 +2,13 @@ use Rattle.std.proofs.Common.{◌≡◌, ◌+◌, length}
 use Rattle.heddleorange.specs.Ledger.{AddsUp}
 use Rattle.heddleorange.specs.NoReport.{IsRight}
 use Rattle.heddleorange.specs.Orders.{lists_of}
+use Rattle.heddleorange.specs.RunHeadline.{RunHeadline}
 use Rattle.heddleorange.specs.States.{ShowsStates}
 use Rattle.heddleorange.specs.WholeRun.{IsReportOfRun, after_at, gives_at}
 use Rattle.heddleorange.proofs.Chosen.{behave}
 use Rattle.heddleorange.proofs.FromStory.{all-lines, all-states}
 use Rattle.heddleorange.proofs.Ledger.{ledger-of}
+use Rattle.heddleorange.proofs.RunHeadline.{headline-of}
 use Rattle.heddleorange.proofs.QuietReport.{from-report, report_of, right-too, to-report}
 use Rattle.heddleorange.proofs.in_order.run_in_order.Goals as goal
 
@@ -38,6 +40,15 @@ returns-clause-ledger g c =
     let result = c.run_planned_in_order.result in let gives = gives_at actors g.A.Actor.gives in let after = after_at actors g.A.Actor.after in
     from-report (AddsUp plan orders) result
     (ledger-of after gives plan (length actors) orders (report_of result)
+    (to-report (IsReportOfRun after gives plan orders) result c.run_planned_in_order.ensures.story)
+    (right-too (IsRight plan (length actors) orders) result c.run_planned_in_order.ensures.right))
+
+pub returns-clause-headline : goal.returns-clause-headline
+returns-clause-headline g c =
+    let actors = c.args.actors.items in let plan = c.args.plan in let orders = lists_of plan.senders c.args.sends.now in
+    let result = c.run_planned_in_order.result in let gives = gives_at actors g.A.Actor.gives in let after = after_at actors g.A.Actor.after in
+    from-report (RunHeadline plan orders) result
+    (headline-of after gives plan (length actors) orders (report_of result)
     (to-report (IsReportOfRun after gives plan orders) result c.run_planned_in_order.ensures.story)
     (right-too (IsRight plan (length actors) orders) result c.run_planned_in_order.ensures.right))
 

@@ -3,6 +3,7 @@ use Rattle.heddleorange.specs.WholeRun.{after_at, gives_at}
 use Rattle.heddleorange.proofs.Chosen.{behave}
 use Rattle.heddleorange.proofs.FromStory.{all-lines, all-states}
 use Rattle.heddleorange.proofs.Ledger.{ledger-of}
+use Rattle.heddleorange.proofs.RunHeadline.{headline-of}
 use Rattle.heddleorange.proofs.Sent.{orders_of}
 use Rattle.heddleorange.proofs.run.run_on_threads.Goals as goal
 
@@ -23,6 +24,11 @@ returns-clause-lines g c =
 pub returns-clause-ledger : goal.returns-clause-ledger
 returns-clause-ledger g c =
     ledger-of (after_at c.args.actors.items g.A.Actor.after) (gives_at c.args.actors.items g.A.Actor.gives) c.args.plan (length c.args.actors.items)
+    (orders_of c.args.sends.now) c.run_planned_on_threads.result c.run_planned_on_threads.ensures.story c.run_planned_on_threads.ensures.right
+
+pub returns-clause-headline : goal.returns-clause-headline
+returns-clause-headline g c =
+    headline-of (after_at c.args.actors.items g.A.Actor.after) (gives_at c.args.actors.items g.A.Actor.gives) c.args.plan (length c.args.actors.items)
     (orders_of c.args.sends.now) c.run_planned_on_threads.result c.run_planned_on_threads.ensures.story c.run_planned_on_threads.ensures.right
 
 pub returns-clause-story : goal.returns-clause-story

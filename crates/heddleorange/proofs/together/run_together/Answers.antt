@@ -22,8 +22,8 @@ returns-in_err-run-clause-fault g c =
     let sends : map sends_in c.deref_mut-2.result.now ≡ orders =
     ap (map sends_in) c.deref_mut-2.ensures.value ∙ c.in-Ok.ensures.sends in
     err-of (BreaksOff gives built.system orders) c.from_residual.result c.in_err-run.field-0.0 c.from_residual.ensures.1
-    (broke-off gives built.system c.run.new.ends c.deref_mut-2.result.now orders sends (some-one built.ends.items c.requires.not_empty)
-    c.in_err-run.field-0.0 c.in_err-run.ensures.fault)
+    (broke-off gives built.system c.run.new.ends c.deref_mut-2.result.now orders sends c.run.new.jobs c.in_err-run.field-0.0
+    c.in_err-run.ensures.fault)
 
 pub returns-in_default-clause-fault : goal.returns-in_default-clause-fault
 returns-in_default-clause-fault g c = inr (some-one c.args.built.now.ends.items c.requires.not_empty, tt)

@@ -1,7 +1,7 @@
-use Rattle.mb_causal_order.proofs.Order.{sent-at}
+use Rattle.mb_causal_order.proofs.Accounted.{sent-at}
 use Rattle.mb_causal_order.proofs.merge.has_sent.Goals as goal
 
 pub returns : goal.returns
-returns c = λ order agree yes.
-    sent-at c.args.actors.now order c.args.progress.now c.args.envelope c.index-progress-by.result c.sent.result agree c.index-progress-by.is
-    c.sent.ensures yes
+returns c = λ who sends order accounted yes.
+    sent-at who sends c.args.actors.now order c.args.replay.now.cells.items c.args.replay.now.outstanding.rows.items c.args.envelope c.told.result
+    accounted c.told.ensures yes

@@ -1,4 +1,5 @@
-use Rattle.std.proofs.Common.{◌∙◌, ap, subst, sym}
+use Rattle.std.proofs.Common.{List, [], ◌∷◌, ◌++◌, ◌∙◌, ap, subst, sym}
+use Rattle.std.proofs.lemmas.Result.{IfOk-from_err}
 use Rattle.mb_gate.specs.Accessors.{actors_of, pass_view, pass_id}
 use Rattle.mb_gate.specs.Rule.{IsPart}
 use Rattle.std.specs.Global.{Box}
@@ -6,19 +7,32 @@ use Rattle.std.specs.Prelude.{Option}
 use Rattle.mb_gate.specs.Untouched.{Origin}
 use Rattle.mb_home.specs.Contents.{Contents}
 use Rattle.mb_home.specs.Fresh.{IsFreshClaim}
+use Rattle.mb_mailbox.specs.declared.turn.Turn.{Turn}
 use Rattle.mb_system.specs.Members.{end_caller}
 use Rattle.mb_system.proofs.Obligations.{obligations-left, obligations-same, owes-nothing, discharged-still}
 use Rattle.mb_system.proofs.Saw.{saw-then}
+use Rattle.mb_system.specs.OnlyLooks.{OnlyLooks}
 use Rattle.mb_dispatch.specs.Found.{FoundPoolEmpty}
+use Rattle.mb_dispatch.specs.Runs.{MadeRuns, RanMailbox}
+use Rattle.mb_dispatch.proofs.Runs.{runs-looks, runs-more}
 use Rattle.mb_dispatch.proofs.quiet.run_quietly.Goals as goal
 
 pub loop-init : goal.loop-init
 loop-init g c =
-    let did = c.register_all.ensures in (did.same_gates, did.number, did.log_kept, did.discharged)
+    let did = c.register_all.ensures in (
+      did.same_gates,
+      did.number,
+      did.log_kept,
+      did.discharged,
+      subst (λ turns. MadeRuns g.K.Behaviours.gives c.args.system.now (pass_view c.args.end.now.registrar.pass) turns
+          (pass_view c.register_all.new.self.registrar.pass))
+          (sym {A = List Turn} c.new-turns.ensures.items) did.looks,
+    )
 
 pub loop-preserved-in-Some-take : goal.loop-preserved-in-Some-take
 loop-preserved-in-Some-take g c =
-    let did = c.run_one.ensures in let same = c.take.ensures.same in let actors = actors_of c.args.system.now.gates in
+    let gives = g.K.Behaviours.gives in let system = c.args.system.now in let first = end_caller c.args.end.now.registrar in
+    let turn = c.in_ok-run_one-in-Some-take.field-0 in let did = c.run_one.ensures in let same = c.take.ensures.same in let actors = actors_of c.args.system.now.gates in
     let old = end_caller c.loop.end.registrar in let between = end_caller c.take.new.self.registrar in let new = end_caller c.run_one.new.end.registrar in (
       did.same_gates,
       did.number ∙ same.3 ∙ c.loop.invariant.1,
@@ -27,10 +41,15 @@ loop-preserved-in-Some-take g c =
       discharged-still actors between new
           (discharged-still actors old between c.loop.invariant.3 (obligations-same actors old between (ap pass_view same.0) same.1))
           (obligations-left actors between new did.leaves),
+      subst (λ turns. MadeRuns gives system first.view turns new.view)
+          (sym {A = List Turn} (c.push_reserved.ensures.items ∙ ap (λ turns. turns ++ turn ∷ []) c.reserve.ensures.items))
+          (runs-more gives system first.view old.view new.view c.loop.turns.items turn c.loop.invariant.4
+          (subst (λ p. RanMailbox gives system (pass_view p) new.view turn) same.0 c.in_ok-run_one-in-Some-take.ensures.ran)),
     )
 
 pub loop-preserved : goal.loop-preserved
 loop-preserved g c =
+    let gives = g.K.Behaviours.gives in let system = c.args.system.now in let first = end_caller c.args.end.now.registrar in
     let did = c.retry_refused.ensures in let same = c.take.ensures.same in let actors = actors_of c.args.system.now.gates in
     let old = end_caller c.loop.end.registrar in let between = end_caller c.take.new.self.registrar in let new = end_caller c.retry_refused.new.self.registrar in (
       did.same_gates,
@@ -39,6 +58,9 @@ loop-preserved g c =
       discharged-still actors between new
           (discharged-still actors old between c.loop.invariant.3 (obligations-same actors old between (ap pass_view same.0) same.1))
           did.obligations,
+      subst (λ turns. MadeRuns gives system first.view turns new.view) (sym {A = List Turn} c.reserve.ensures.items)
+          (runs-looks gives system first.view old.view new.view c.loop.turns.items c.loop.invariant.4
+          (subst (λ p. OnlyLooks (pass_view p) new.view) same.0 did.looks)),
     )
 
 pub returns-in_err-run_one-in-Some-take-clause-log_kept : goal.returns-in_err-run_one-in-Some-take-clause-log_kept
@@ -71,6 +93,22 @@ returns-then-is_empty-clause-obligations g c =
     let same = c.take.ensures.same in let actors = actors_of c.args.system.now.gates in
     let old = end_caller c.loop.end.registrar in let new = end_caller c.take.new.self.registrar in
     discharged-still actors old new c.loop.invariant.3 (obligations-same actors old new (ap pass_view same.0) same.1)
+
+pub returns-then-is_empty-clause-runs : goal.returns-then-is_empty-clause-runs
+returns-then-is_empty-clause-runs g c =
+    let gives = g.K.Behaviours.gives in let system = c.args.system.now in let first = pass_view c.args.end.now.registrar.pass in
+    subst (λ turns. MadeRuns gives system first turns (pass_view c.take.new.self.registrar.pass)) (sym {A = List Turn} c.reserve.ensures.items)
+    (subst (λ p. MadeRuns gives system first c.loop.turns.items (pass_view p)) (sym c.take.ensures.same.0) c.loop.invariant.4)
+
+pub returns-then-is_err-clause-runs : goal.returns-then-is_err-clause-runs
+returns-then-is_err-clause-runs g c = tt
+
+pub returns-in_err-run_one-in-Some-take-clause-runs : goal.returns-in_err-run_one-in-Some-take-clause-runs
+returns-in_err-run_one-in-Some-take-clause-runs g c = IfOk-from_err c.from_residual.result _ c.from_residual.ensures.0
+
+pub returns-in_err-retry_refused-in-None-take-clause-runs : goal.returns-in_err-retry_refused-in-None-take-clause-runs
+returns-in_err-retry_refused-in-None-take-clause-runs g c =
+    let left = c.from_residual-in_err-retry_refused-in-None-take in IfOk-from_err left.result _ left.ensures.0
 
 pub returns-then-is_empty-clause-empty : goal.returns-then-is_empty-clause-empty
 returns-then-is_empty-clause-empty g c =

@@ -1,13 +1,13 @@
 use Rattle.std.proofs.Common.{◌∙◌}
-use Rattle.std.proofs.lemmas.Result.{IfErr-weaker, on_ok_weaker}
+use Rattle.std.proofs.lemmas.Result.{on_ok_weaker}
 use Rattle.mb_gate.specs.Accessors.{actors_of}
 use Rattle.mb_system.specs.Members.{end_caller}
 use Rattle.mb_system.proofs.Crossing.{end_send, passed_send, passed_sync, system_sync}
 use Rattle.mb_system.proofs.Obligations.{obligations-then}
 use Rattle.mb_system.proofs.Saw.{saw-then}
-use Rattle.mb_dispatch.proofs.Breaking.{breaks-by-end, breaks-by-job}
+use Rattle.mb_dispatch.proofs.Breaking.{breaks-run}
 use Rattle.mb_dispatch.proofs.Crossing.{job_send}
-use Rattle.mb_dispatch.proofs.Sides.{all_after, as_many_after, err_of, ok_first, ok_rest, same_after, zip_then}
+use Rattle.mb_dispatch.proofs.Sides.{all_after, as_many_after, ok_first, ok_rest, same_after, zip_then}
 use Rattle.mb_dispatch.proofs.Firsts.{first-settled}
 use Rattle.mb_dispatch.proofs.running.run.Goals as goal
 
@@ -50,10 +50,8 @@ returns-clause-done g c =
 
 pub returns-clause-fault : goal.returns-clause-fault
 returns-clause-fault g c =
-    let of = c.both_in_parallel-of_jobs.result in
-    let fails = c.both_in_parallel-of_jobs.ensures.fails in
-    err_of _ of.1 of.0 c.first_error.result c.first_error.ensures (IfErr-weaker _ _ _ (λ fault. breaks-by-end _ _ _ _ _ fault) fails.1)
-    (IfErr-weaker _ _ _ (λ fault. breaks-by-job _ _ _ _ _ fault) fails.0)
+    let of = c.both_in_parallel-of_jobs.result in let did = c.both_in_parallel-of_jobs.ensures in
+    breaks-run g.K.Behaviours.gives c.args.system.now _ _ _ _ of.1 of.0 c.first_error.result c.first_error.ensures did.done.1 did.fails.1 did.fails.0
 
 pub returns-clause-log_kept : goal.returns-clause-log_kept
 returns-clause-log_kept g c =

@@ -1,4 +1,5 @@
 use Rattle.std.proofs.Common.{◌∙◌, Err, ap}
+use Rattle.std.proofs.lemmas.Result.{IfOk-from_err}
 use Rattle.mb_system.specs.RunErrors.{of_ready}
 use Rattle.mb_dispatch.specs.Faults.{BreaksWork}
 use Rattle.mb_dispatch.proofs.Breaking.{breaks-work, came-to-limit, full-of-ready, ready-is-known}
@@ -25,6 +26,14 @@ returns-clause-same_gates g c = c.run_mailbox.ensures.same_gates
 
 pub returns-clause-leaves : goal.returns-clause-leaves
 returns-clause-leaves g c = c.run_mailbox.ensures.leaves
+
+pub returns-clause-ran : goal.returns-clause-ran
+returns-clause-ran g c =
+    let ran = c.in_ok-turn.ensures.ran in
+    record { claim = c.args.claim; fresh = c.requires.untouched; journal = ran.0; stopped = ran.1.0; room = ran.1.1; left = ran.1.2 }
+
+pub returns-in_err-turn-clause-ran : goal.returns-in_err-turn-clause-ran
+returns-in_err-turn-clause-ran g c = IfOk-from_err c.from_residual.result _ c.from_residual.ensures.0
 
 pub returns-clause-number : goal.returns-clause-number
 returns-clause-number g c = c.run_mailbox.ensures.number

@@ -1,11 +1,13 @@
-use Rattle.std.proofs.Common.{◌∷◌, refl, ap, ◌∙◌, subst}
+use Rattle.std.proofs.Common.{[], ◌∷◌, refl, sym, ap, ◌∙◌, subst}
 use Rattle.std.specs.Global.{Box}
 use Rattle.mb_status.specs.Mailbox.{Mailbox, word_of}
 use Rattle.mb_supervision.specs.declared.act.Act.{Act as Handed}
 use Rattle.mb_supervision.specs.ActQueue.{act_of}
 use Rattle.mb_cell.specs.CellView.{CellView}
 use Rattle.mb_gate.specs.Accessors.{pass_view, status_of}
+use Rattle.mb_gate.specs.SentSystem.{messages_of}
 use Rattle.mb_gate.specs.Untouched.{origin_of}
+use Rattle.mb_gate.specs.View.{View}
 use Rattle.mb_home.specs.Contents.{Contents}
 use Rattle.mb_mailbox.specs.RunState.{run_state}
 use Rattle.mb_mailbox.specs.Running.{IsRunning}
@@ -13,6 +15,9 @@ use Rattle.mb_register.proofs.CallerLemmas.{further-none}
 use Rattle.mb_mailbox.proofs.EmptiedLemmas.{cleared-found, cleared-same, err-always, ok-so}
 use Rattle.mb_mailbox.proofs.RunningSteps.{running-suspend, suspend-closed}
 use Rattle.mb_mailbox.proofs.StatusLemmas.{keeps-written, backlog-written, running-suspended, running-resumed}
+use Rattle.mb_mailbox.proofs.RecordedLemmas.{alike-still}
+use Rattle.mb_mailbox.proofs.RunSendsLemmas.{due-none}
+use Rattle.mb_mailbox.specs.RunSends.{SendsDue}
 use Rattle.mb_mailbox.proofs.acts.carry.Goals as goal
 
 -- ---- a tell, and a system message
@@ -220,3 +225,53 @@ returns-in-CloseSelf-clause-cleared g c =
 
 pub returns-in-CloseSelf-clause-ended : goal.returns-in-CloseSelf-clause-ended
 returns-in-CloseSelf-clause-ended g c = err-always c.close.result c.close.ensures.ended
+
+-- ---- what was sent stands in the record
+
+pub returns-in-Tell-clause-sends : goal.returns-in-Tell-clause-sends
+returns-in-Tell-clause-sends g c = c.tell.ensures.sends
+
+pub returns-in-Sys-clause-sends : goal.returns-in-Sys-clause-sends
+returns-in-Sys-clause-sends g c = c.send_system.ensures.sends
+
+pub returns-in-SuspendSelf-clause-sends : goal.returns-in-SuspendSelf-clause-sends
+returns-in-SuspendSelf-clause-sends g c = alike-still _ _ _ _ c.suspend.ensures.taken.recorded refl
+
+pub returns-in-ResumeSelf-clause-sends : goal.returns-in-ResumeSelf-clause-sends
+returns-in-ResumeSelf-clause-sends g c = alike-still _ _ _ _ c.resume.ensures.taken.recorded refl
+
+pub returns-in-CloseSelf-clause-sends : goal.returns-in-CloseSelf-clause-sends
+returns-in-CloseSelf-clause-sends g c = c.close.ensures.sends
+
+-- ---- what was due was sent
+
+pub returns-in-Tell-clause-due : goal.returns-in-Tell-clause-due
+returns-in-Tell-clause-due g c =
+    let old = run_state c.args.claim.now in
+    subst (λ (a : Handed). SendsDue (messages_of (act_of a ∷ [])) [] old (run_state c.tell.new.claim)) (sym c.in-Tell.is) c.tell.ensures.due
+
+pub returns-in-Sys-clause-due : goal.returns-in-Sys-clause-due
+returns-in-Sys-clause-due g c =
+    let old = run_state c.args.claim.now in
+    subst (λ (a : Handed). SendsDue (messages_of (act_of a ∷ [])) [] old (run_state c.send_system.new.claim)) (sym c.in-Sys.is) c.send_system.ensures.due
+
+pub returns-in-SuspendSelf-clause-due : goal.returns-in-SuspendSelf-clause-due
+returns-in-SuspendSelf-clause-due g c =
+    let old = run_state c.args.claim.now in
+    let new = run_state c.suspend.new.claim in let did = c.suspend.ensures in
+    subst (λ (a : Handed). SendsDue (messages_of (act_of a ∷ [])) [] old new) (sym c.in-SuspendSelf.is)
+    (due-none old new did.taken.recorded (ap (λ (v : View). v.log) did.known) (ap (λ (b : Box Contents). b.value.rest) did.home)
+    (λ shut. ap (λ (m : Mailbox). m.closed) did.status ∙ suspend-closed (status_of c.args.claim.now) ∙ shut))
+
+pub returns-in-ResumeSelf-clause-due : goal.returns-in-ResumeSelf-clause-due
+returns-in-ResumeSelf-clause-due g c =
+    let old = run_state c.args.claim.now in
+    let new = run_state c.resume.new.claim in let did = c.resume.ensures in
+    subst (λ (a : Handed). SendsDue (messages_of (act_of a ∷ [])) [] old new) (sym c.in-ResumeSelf.is)
+    (due-none old new did.taken.recorded (ap (λ (v : View). v.log) did.known) (ap (λ (b : Box Contents). b.value.rest) did.home)
+    (λ shut. ap (λ (m : Mailbox). m.closed) did.status ∙ shut))
+
+pub returns-in-CloseSelf-clause-due : goal.returns-in-CloseSelf-clause-due
+returns-in-CloseSelf-clause-due g c =
+    let old = run_state c.args.claim.now in
+    subst (λ (a : Handed). SendsDue (messages_of (act_of a ∷ [])) [] old (run_state c.close.new.claim)) (sym c.in-CloseSelf.is) c.close.ensures.due

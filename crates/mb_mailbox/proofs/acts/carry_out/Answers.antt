@@ -1,8 +1,9 @@
-use Rattle.std.proofs.Common.{◌≡◌, ◌∷◌, [], List, length, refl, sym, ap, ◌∙◌, subst, arith}
+use Rattle.std.proofs.Common.{◌≡◌, ◌∷◌, [], ◌++◌, append_assoc, append-nil, ℕ, List, length, refl, sym, ap, ◌∙◌, subst, arith}
 use Rattle.std.specs.Prelude.{◌&&◌, is_ok}
 use Rattle.mb_supervision.specs.ActQueue.{act_of}
 use Rattle.mb_journal.specs.Acts.{Act}
 use Rattle.mb_gate.specs.Accessors.{pass_view}
+use Rattle.mb_gate.specs.SentSystem.{messages_of}
 use Rattle.mb_gate.specs.Untouched.{origin_of}
 use Rattle.mb_home.specs.Contents.{Contents}
 use Rattle.mb_home.specs.AgreesWithJournal.{AgreesWithJournal}
@@ -13,6 +14,10 @@ use Rattle.mb_mailbox.proofs.BacklogLemmas.{keeps-same, keeps-then}
 use Rattle.mb_register.proofs.CallerLemmas.{further-none, further-then}
 use Rattle.mb_mailbox.proofs.EmptiedLemmas.{and-both, and-one, cleared-same, cleared-then, err-so, ok-so, ok-then}
 use Rattle.mb_mailbox.proofs.TellingLemmas.{running-own, running-next, backlog-next, keeps-next}
+use Rattle.mb_mailbox.proofs.RecordedLemmas.{alike-still, alike-then}
+use Rattle.mb_mailbox.proofs.RunSendsLemmas.{due-none, due-then, one-first}
+use Rattle.mb_msg.specs.declared.system.SysMsg.{SysMsg}
+use Rattle.mb_mailbox.specs.RunSends.{SendsDue}
 use Rattle.mb_mailbox.proofs.acts.carry_out.Goals as goal
 
 pub loop-act-init : goal.loop-act-init
@@ -24,6 +29,8 @@ loop-act-init g c = (
   further-none _,
   λ clean. cleared-same (run_state c.args.claim.now) (run_state c.args.claim.now) refl refl,
   λ not_clean. absurd (cc not_clean),
+  alike-still _ _ _ _ refl refl,
+  record { due = []; left = refl; sends = due-none (run_state c.args.claim.now) (run_state c.args.claim.now) refl refl refl (λ shut. shut) },
 )
 
 pub next_act-requires : goal.next_act-requires
@@ -73,6 +80,24 @@ loop-act-preserved g c =
           ended-either before (run_state c.carry.new.claim) c.carry.result keeps c.loop-act.invariant.6 c.carry.ensures.ended
           (and-one c.loop-act.is_clean (is_ok c.carry.result)
           (ap (λ b. c.loop-act.is_clean && b) (sym c.is_ok-is_clean.ensures.value) ∙ not_clean)),
+      alike-then _ _ _ _ _ _ c.loop-act.invariant.7 c.carry.ensures.sends,
+      let inv = c.loop-act.invariant in
+          let before = run_state c.loop-act.claim in
+          let next : RunState = record before { home = new } in
+          let last = run_state c.carry.new.claim in
+          let sent = messages_of (act_of c.in-Some.act ∷ []) in
+          let taken = sym (ap (λ (x : Contents). x.cell.acts) c.deref_mut.ensures.value) ∙ c.in-Some.ensures.taken in
+          let rest = ap (λ (x : Contents). x.rest) same in
+          let keeps = (keeps-next before new same).same in
+          let step = due-then before next last keeps.actor keeps.who [] [] sent [] (due-none before next refl refl rest (λ shut. shut)) c.carry.ensures.due in
+          record {
+            due = inv.8.due ++ sent;
+            left =
+                inv.8.left ∙ ap (λ l. inv.8.due ++ messages_of l) taken ∙ ap (λ l. inv.8.due ++ l) (one-first (act_of c.in-Some.act) new.cell.acts)
+                ∙ sym (append_assoc inv.8.due sent (messages_of new.cell.acts))
+                ∙ ap (λ l. (inv.8.due ++ sent) ++ messages_of l) (sym c.carry.ensures.left);
+            sends = due-then (run_state c.args.claim.now) before last inv.3.same.actor inv.3.same.who inv.8.due [] sent [] inv.8.sends step;
+          },
     )
 
 pub loop-act-smaller : goal.loop-act-smaller
@@ -133,3 +158,20 @@ returns-clause-ended g c =
     err-so c.answer_of.result
     (λ not_clean. ended-keeps before (record before { home = new }) (keeps-next before new same) (c.loop-act.invariant.6 not_clean))
     c.answer_of.ensures.not_clean
+
+pub returns-clause-sends : goal.returns-clause-sends
+returns-clause-sends g c = c.loop-act.invariant.7
+
+pub returns-clause-due : goal.returns-clause-due
+returns-clause-due g c =
+    let inv = c.loop-act.invariant in
+    let new : Contents = c.next_act.new.self in
+    let same = subst (λ (x : Contents). new ≡ record x { cell = record x.cell { acts = new.cell.acts } }) c.deref_mut.ensures.value
+    c.next_act.ensures.same in
+    let before = run_state c.loop-act.claim in
+    let next : RunState = record before { home = new } in
+    let none = sym (ap (λ (x : Contents). x.cell.acts) c.deref_mut.ensures.value) ∙ c.in_default.ensures.none in
+    let all = inv.8.left ∙ ap (λ l. inv.8.due ++ messages_of l) none ∙ append-nil inv.8.due in
+    let last = due-none before next refl refl (ap (λ (x : Contents). x.rest) same) (λ shut. shut) in
+    subst (λ (x : List (ℕ × SysMsg)). SendsDue x [] (run_state c.args.claim.now) next) (append-nil inv.8.due ∙ sym all)
+    (due-then (run_state c.args.claim.now) before next inv.3.same.actor inv.3.same.who inv.8.due [] [] [] inv.8.sends last)

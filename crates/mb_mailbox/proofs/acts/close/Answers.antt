@@ -1,10 +1,11 @@
-use Rattle.std.proofs.Common.{refl, ap, ◌∙◌, subst}
+use Rattle.std.proofs.Common.{[], refl, ap, ◌∙◌, subst}
 use Rattle.std.specs.Prelude.{OnOk}
 use Rattle.std.specs.Global.{Box}
 use Rattle.mb_status.specs.Mailbox.{Mailbox, word_of}
 use Rattle.mb_journal.specs.Life.{closed}
 use Rattle.mb_gate.specs.Accessors.{pass_view, status_of}
 use Rattle.mb_gate.specs.Untouched.{origin_of}
+use Rattle.mb_gate.specs.View.{View}
 use Rattle.mb_cell.specs.CellView.{CellView}
 use Rattle.mb_queue.specs.Passes.{TakePassView}
 use Rattle.mb_home.specs.Contents.{Contents}
@@ -13,6 +14,8 @@ use Rattle.mb_mailbox.specs.RunState.{run_state}
 use Rattle.mb_mailbox.proofs.BacklogLemmas.{keeps-then}
 use Rattle.mb_mailbox.proofs.CleanLemmas.{ended-closed}
 use Rattle.mb_mailbox.proofs.StatusLemmas.{keeps-written, count-written, running-closed}
+use Rattle.mb_mailbox.proofs.RecordedLemmas.{alike-still, alike-then}
+use Rattle.mb_mailbox.proofs.RunSendsLemmas.{due-none, due-then}
 use Rattle.mb_mailbox.proofs.acts.close.Goals as goal
 
 pub close_mailbox-requires-clause-same_gates : goal.close_mailbox-requires-clause-same_gates
@@ -60,3 +63,15 @@ pub returns-clause-emptied : goal.returns-clause-emptied
 returns-clause-emptied g c =
     subst (λ (k : TakePassView). OnOk c.clean_up.result (FindsNoMore k c.clean_up.new.claim.home.value.take))
     (ap (λ (b : Box Contents). b.value.take) c.close_mailbox.ensures.home) c.clean_up.ensures.emptied
+
+pub returns-clause-sends : goal.returns-clause-sends
+returns-clause-sends g c =
+    alike-then _ _ _ _ _ _ (alike-still _ _ _ _ c.close_mailbox.ensures.taken.recorded refl) c.clean_up.ensures.sends
+
+pub returns-clause-due : goal.returns-clause-due
+returns-clause-due g c =
+    let old = c.args.claim.now in let new = c.close_mailbox.new.claim in let did = c.close_mailbox.ensures in
+    let same = (keeps-written old new (status_of new) (word_of (status_of new)) did.same_gates did.home did.known did.taken refl).same in
+    due-then (run_state old) (run_state new) (run_state c.clean_up.new.claim) same.actor same.who [] [] [] []
+    (due-none (run_state old) (run_state new) did.taken.recorded (ap (λ (v : View). v.log) did.known)
+    (ap (λ (b : Box Contents). b.value.rest) did.home) (λ _. ap (λ (m : Mailbox). m.closed) did.status)) c.clean_up.ensures.due

@@ -1,10 +1,11 @@
-use Rattle.std.proofs.Common.{◌≡◌, inr, true, refl, sym, ap, ◌∙◌, subst}
+use Rattle.std.proofs.Common.{◌≡◌, [], ◌∷◌, inr, true, refl, sym, ap, ◌∙◌, subst}
 use Rattle.std.specs.Global.{Box}
 use Rattle.std.specs.Prelude.{MatchBool}
 use Rattle.mb_journal.specs.Life.{closed}
 use Rattle.mb_status.specs.Mailbox.{Mailbox}
 use Rattle.mb_gate.specs.Accessors.{claim_id, held_actor}
 use Rattle.mb_gate.specs.Untouched.{origin_of}
+use Rattle.mb_gate.specs.View.{View, Took}
 use Rattle.mb_home.specs.AtHome.{given_of}
 use Rattle.mb_home.specs.Contents.{Contents}
 use Rattle.mb_home.specs.AgreesWithJournal.{AgreesWithJournal}
@@ -17,6 +18,7 @@ use Rattle.mb_mailbox.proofs.CountLemmas.{one-more}
 use Rattle.mb_mailbox.proofs.CleanLemmas.{running-within, ended-closed, running-counted, ended-taken, keeps-taken}
 use Rattle.mb_mailbox.proofs.EmptiedLemmas.{finds-one, finds-then, take-cleaned, take-none, takes-one}
 use Rattle.mb_mailbox.proofs.TellingLemmas.{running-own, keeps-home, keeps-asked}
+use Rattle.mb_mailbox.proofs.RunSendsLemmas.{takes-in-closed, takes-in-none, takes-in-then}
 use Rattle.mb_mailbox.proofs.clean_up.clean_envelopes.Goals as goal
 
 pub loop-init : goal.loop-init
@@ -31,6 +33,8 @@ loop-init g c = (
   refl,
   refl,
   keeps-same _,
+  refl,
+  takes-in-none (run_state c.args.claim.now) (run_state c.args.claim.now) refl refl (λ shut. shut),
 )
 
 pub clean_next-requires-clause-ended : goal.clean_next-requires-clause-ended
@@ -167,4 +171,36 @@ loop-preserved g c =
           (keeps-taken _ new ours did.same.1 did.same.0 did.known did.taken l.home.value (ap (λ (x : CellView). x.who) cell)
           (one-more mid.take.taken l.home.value.take.taken found.envelope found.took)
           (takes-one _ _ _ (take-cleaned _ _ found)) (ap (λ (x : CellView). x.journal) cell)),
+      did.taken.recorded ∙ inv.10,
+      takes-in-then (run_state c.args.claim.now) (run_state l) (run_state new) inv.9.same.actor inv.9.same.who [] [] [] [] inv.11
+          (takes-in-closed (run_state l) (run_state new) (Took (held_actor l) 1 ∷ []) refl (ap (λ (v : View). v.log) did.known)
+          (ap (λ (b : Box Contents). b.value.rest) did.same.1 ∙ ap (λ (x : Contents). x.rest) found.same)
+          (ap (λ (m : Mailbox). m.closed) did.same.0 ∙ inv.2)),
     )
+
+pub returns-in_err-clean_next-clause-recorded : goal.returns-in_err-clean_next-clause-recorded
+returns-in_err-clean_next-clause-recorded g c = c.loop.invariant.10
+
+pub returns-then-not-branch-clause-recorded : goal.returns-then-not-branch-clause-recorded
+returns-then-not-branch-clause-recorded g c = c.loop.invariant.10
+
+-- ---- nothing came out of the list
+
+pub returns-in_err-clean_next-clause-takes : goal.returns-in_err-clean_next-clause-takes
+returns-in_err-clean_next-clause-takes g c =
+    let h = run_state c.loop.claim in
+    takes-in-then (run_state c.args.claim.now) h (record h { home = c.clean_next.new.self }) c.loop.invariant.9.same.actor
+    c.loop.invariant.9.same.who [] [] [] [] c.loop.invariant.11
+    (takes-in-none h (record h { home = c.clean_next.new.self }) refl
+    (ap (λ (x : Contents). x.rest) (c.in_err-clean_next.ensures.refused ∙ c.deref_mut.ensures.value)) (λ shut. shut))
+
+pub returns-then-not-branch-clause-takes : goal.returns-then-not-branch-clause-takes
+returns-then-not-branch-clause-takes g c =
+    let at_home = subst (λ (x : Contents). MatchBool c.in_ok-clean_next.field-0 (Cleans x c.clean_next.new.self) (FindsNone x
+    c.clean_next.new.self)) c.deref_mut.ensures.value c.in_ok-clean_next.ensures.cleaned in
+    let found = subst (λ b. MatchBool b (Cleans c.loop.claim.home.value c.clean_next.new.self) (FindsNone c.loop.claim.home.value
+    c.clean_next.new.self)) c.if-not-branch.true at_home in
+    let h = run_state c.loop.claim in
+    takes-in-then (run_state c.args.claim.now) h (record h { home = c.clean_next.new.self }) c.loop.invariant.9.same.actor
+    c.loop.invariant.9.same.who [] [] [] [] c.loop.invariant.11
+    (takes-in-none h (record h { home = c.clean_next.new.self }) refl (ap (λ (x : Contents). x.rest) found.same) (λ shut. shut))

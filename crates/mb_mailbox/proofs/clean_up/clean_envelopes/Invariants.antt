@@ -1,9 +1,10 @@
 use Rattle.std.proofs.Common.{◌≡◌, List, [], true}
-use Rattle.mb_gate.specs.Accessors.{claim_view, held_actor, status_of, given_to}
+use Rattle.mb_gate.specs.Accessors.{claim_view, held_actor, status_of, given_to, recorded_by}
 use Rattle.mb_gate.specs.View.{Observation}
 use Rattle.mb_home.specs.AtHome.{given_of}
 use Rattle.mb_gate.specs.Untouched.{origin_of}
 use Rattle.mb_mailbox.specs.OnlyDrained.{WasEnded}
+use Rattle.mb_mailbox.specs.RunSends.{TakesSystemsIn}
 use Rattle.mb_mailbox.specs.RunState.{run_state}
 use Rattle.mb_mailbox.specs.Running.{IsRunning, KeepsJournal}
 use Rattle.mb_mailbox.proofs.clean_up.clean_envelopes.Given as goal
@@ -18,3 +19,5 @@ invariant-loop g l =
     × (given_of l.claim.home.value ≡ given_of l.initial.claim.home.value) × (given_to l.claim ≡ given_to l.initial.claim)
     × (l.claim.home.value.cell ≡ l.initial.claim.home.value.cell)
     × KeepsJournal (run_state l.initial.claim) (run_state l.claim)
+    × (recorded_by l.claim ≡ recorded_by l.initial.claim)
+    × TakesSystemsIn [] [] (run_state l.initial.claim) (run_state l.claim)

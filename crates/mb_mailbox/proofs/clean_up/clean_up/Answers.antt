@@ -1,10 +1,10 @@
-use Rattle.std.proofs.Common.{◌≡◌, ℕ, List, sym, ap, ◌∙◌, subst}
+use Rattle.std.proofs.Common.{◌≡◌, ℕ, List, [], ◌∷◌, refl, sym, ap, ◌∙◌, subst}
 use Rattle.std.specs.Global.{Box}
 use Rattle.mb_status.specs.Mailbox.{Mailbox}
 use Rattle.mb_gate.specs.Lists.{IsNumberedFrom}
 use Rattle.mb_gate.specs.Accessors.{held_actor, pass_view, given_to}
 use Rattle.mb_gate.specs.Untouched.{origin_of}
-use Rattle.mb_gate.specs.View.{Observation, given_after}
+use Rattle.mb_gate.specs.View.{Observation, View, Ended, given_after}
 use Rattle.mb_cell.specs.CellView.{CellView}
 use Rattle.mb_home.specs.AtHome.{given_of}
 use Rattle.mb_home.specs.Contents.{Contents}
@@ -19,6 +19,10 @@ use Rattle.mb_mailbox.proofs.CleanLemmas.{keeps-ended, running-end, was-ended}
 use Rattle.mb_mailbox.proofs.EmptiedLemmas.{finds-then, ok-so, takes-same, takes-then}
 use Rattle.mb_mailbox.proofs.RunningSteps.{running-kept}
 use Rattle.mb_mailbox.proofs.TellingLemmas.{running-own, keeps-home, settled-here}
+use Rattle.mb_mailbox.proofs.RecordedLemmas.{alike-still, alike-then}
+use Rattle.mb_mailbox.proofs.RunSendsLemmas.{sends-like}
+use Rattle.mb_mailbox.proofs.StepSendsLemmas.{due-cleaned}
+use Rattle.mb_mailbox.specs.RunSends.{SendsAndAnswers}
 use Rattle.mb_mailbox.proofs.clean_up.clean_up.Goals as goal
 
 pub sys_close-listed-requires-clause-same_gates : goal.sys_close-listed-requires-clause-same_gates
@@ -127,3 +131,36 @@ returns-clause-emptied g c =
 
 pub returns-clause-caller_advances : goal.returns-clause-caller_advances
 returns-clause-caller_advances g c = further-then _ _ _ c.drop_systems.ensures.caller_advances c.drop_systems-2.ensures.caller_advances
+
+pub returns-clause-sends : goal.returns-clause-sends
+returns-clause-sends g c =
+    alike-then _ _ _ _ _ _ (alike-still _ _ _ _ c.sys_close-listed.ensures.recorded refl)
+    (alike-then _ _ _ _ _ _ c.drop_systems.ensures.sends
+    (alike-then _ _ _ _ _ _ c.drop_systems-2.ensures.sends (alike-still _ _ _ _ c.clean_envelopes.ensures.recorded refl)))
+
+-- ---- all that was left of a drain and in the list was dropped, and who waits was told
+
+pub returns-clause-due : goal.returns-clause-due
+returns-clause-due g c =
+    let did = c.sys_close-listed.ensures in
+    let listed = c.sys_close-listed.result in
+    let a = run_state c.args.claim.now in
+    let first = run_state c.sys_close-listed.new.claim in
+    let middle = run_state c.drop_systems.new.claim in
+    let backlog = subst (λ (x : Contents). c.keep.new.self ≡ record x { rest = listed }) c.deref_mut.ensures.value c.keep.ensures.kept in
+    let kept = record middle { home = c.keep.new.self } in
+    let dropped = run_state c.drop_systems-2.new.claim in
+    let last = run_state c.clean_envelopes.new.claim in
+    let same = ap (λ (b : Box Contents). b.value) did.same.1 in
+    let before = subst (λ l. SendsAndAnswers [] l a middle) (ap (λ (x : Contents). x.rest) same)
+    (sends-like first middle a middle [] first.home.rest (sym did.recorded) (sym did.same_gates.1)
+    (sym (ap (λ (x : Contents). x.cell.who) same)) refl refl c.drop_systems.ensures.answers) in
+    let next = subst (λ l. SendsAndAnswers [] l middle last) (ap (λ (x : Contents). x.rest) backlog)
+    (sends-like kept dropped middle last [] kept.home.rest refl refl (sym (ap (λ (x : Contents). x.cell.who) backlog))
+    c.clean_envelopes.ensures.recorded (c.clean_envelopes.ensures.closed ∙ sym c.drop_systems-2.ensures.closed) c.drop_systems-2.ensures.answers) in
+    due-cleaned a middle dropped last listed
+    (c.drop_systems.ensures.same.same.actor ∙ did.same_gates.1)
+    (c.drop_systems.ensures.same.same.who ∙ ap (λ (x : Contents). x.cell.who) same)
+    before next (λ _. c.clean_envelopes.ensures.closed) c.clean_envelopes.ensures.closed
+    (c.drop_systems-2.ensures.log ∙ c.drop_systems.ensures.log ∙ ap (λ (v : View). v.log) did.known)
+    c.drop_systems-2.ensures.none c.clean_envelopes.ensures.takes

@@ -1,10 +1,11 @@
-use Rattle.std.proofs.Common.{◌≡◌, ◌<◌, ◌+◌, ◌%◌, ◌^◌, ℕ, List, true, length, refl, sym, ap, ◌∙◌, subst, arith}
+use Rattle.std.proofs.Common.{◌≡◌, ◌<◌, ◌+◌, ◌%◌, ◌^◌, ℕ, List, [], ◌∷◌, ◌++◌, append_assoc, append-nil, true, length, refl, sym, ap, ◌∙◌, subst, arith}
 use Rattle.std.specs.Global.{Box}
 use Rattle.std.specs.Prelude.{IfSome, Option}
 use Rattle.mb_msg.specs.declared.id.ActorId.{ActorId}
 use Rattle.mb_msg.specs.declared.system.SysMsg.{SysMsg}
 use Rattle.mb_journal.specs.Life.{closed}
 use Rattle.mb_status.specs.Mailbox.{Mailbox}
+use Rattle.mb_cell.specs.CellView.{CellView}
 use Rattle.mb_gate.specs.Claims.{held_in}
 use Rattle.mb_gate.specs.NamedActors.{NamesBelow, EachNamesBelow}
 use Rattle.mb_gate.specs.Accessors.{actors_of, pass_view}
@@ -22,6 +23,10 @@ use Rattle.mb_mailbox.proofs.CleanLemmas.{status-answered, known-answered}
 use Rattle.mb_mailbox.proofs.NamedLemmas.{named-first}
 use Rattle.mb_mailbox.proofs.SendSystemLemmas.{running-caller_advances, keeps-answered, home-answered}
 use Rattle.mb_mailbox.proofs.TellingLemmas.{running-own, keeps-home}
+use Rattle.mb_mailbox.proofs.RecordedLemmas.{alike-still, alike-then}
+use Rattle.mb_mailbox.proofs.RunSendsLemmas.{sends-like, sends-none, sends-then}
+use Rattle.mb_mailbox.proofs.StepSendsLemmas.{sends-departed}
+use Rattle.mb_mailbox.specs.RunSends.{SendsAndAnswers}
 use Rattle.mb_mailbox.proofs.clean_up.drop_systems.Goals as goal
 
 pub loop-node-init : goal.loop-node-init
@@ -35,6 +40,8 @@ loop-node-init g c = (
   refl,
   keeps-same _,
   further-none _,
+  alike-still _ _ _ _ refl refl,
+  record { dropped = []; left = refl; sends = sends-none (run_state c.args.claim.now) (run_state c.args.claim.now) refl },
 )
 
 pub drop_next-requires-clause-ended : goal.drop_next-requires-clause-ended
@@ -87,6 +94,10 @@ loop-node-preserved g c =
     let seen = (pass_view c.loop-node.registrar.pass).log in
     let less = running-less gives origin seen (run_state l) inv.2 mid cell (ap (λ (x : Contents). x.directory) same) (ap (λ (x : Contents). x.dead) same)
     c.drop_next.ensures.settled _ c.in-Some.node dropped in
+    let of_home = c.parent-parent.ensures ∙ ap (λ (x : Contents). x.cell.who.parent) c.deref.ensures in
+    let parent_asked : asker mid.cell.who.parent c.in-Some.node ≡ asked =
+    ap (λ (o : Option ActorId). asker o c.in-Some.node)
+    (ap (λ (x : CellView). x.who.parent) (cell ∙ inv.5) ∙ sym of_home) in
     let here : c.actor-actor.result.0 ≡ (run_state l).actor = c.actor-actor.ensures ∙ sym inv.7.same.actor in (
       c.answer.ensures.same_gates,
       ap (λ (m : Mailbox). m.closed) status ∙ inv.1,
@@ -100,6 +111,20 @@ loop-node-preserved g c =
           (keeps-then _ _ _ (keeps-home (run_state l) mid cell (ap (λ (x : Contents). x.take) same))
           (keeps-answered c.actor-actor.result.0 _ new asked told)),
       further-then _ _ _ inv.8 c.answer.ensures.caller_advances,
+      alike-then _ _ _ _ _ _ inv.9 c.answer.ensures.sends,
+      record {
+        dropped = inv.10.dropped ++ (c.in-Some.field-0-0, c.in-Some.node) ∷ [];
+        left =
+            inv.10.left
+            ∙ ap (λ r. inv.10.dropped ++ r) (dropped ∙ ap (λ (b : Box Contents). (c.in-Some.field-0-0, c.in-Some.node) ∷ b.value.rest) (sym home))
+            ∙ sym (append_assoc inv.10.dropped ((c.in-Some.field-0-0, c.in-Some.node) ∷ []) new.home.value.rest);
+        sends =
+            sends-then (run_state c.args.claim.now) (run_state l) (run_state new) inv.7.same.actor inv.7.same.who [] inv.10.dropped []
+            ((c.in-Some.field-0-0, c.in-Some.node) ∷ []) (λ shut. ap (λ (m : Mailbox). m.closed) status ∙ shut) inv.10.sends
+            (sends-like (record (run_state l) { home = mid }) (run_state new) (run_state l) (run_state new) []
+            ((c.in-Some.field-0-0, c.in-Some.node) ∷ []) refl refl (sym (ap (λ (x : CellView). x.who) cell)) refl refl
+            (sends-departed _ new c.actor-actor.result.0 c.in-Some.field-0-0 c.in-Some.node here inv.1 asked parent_asked told));
+      },
     )
 
 pub loop-node-smaller : goal.loop-node-smaller
@@ -146,3 +171,17 @@ returns-clause-same g c =
     let cell = ap (λ (x : Contents). x.cell) c.in_default.ensures.same ∙ ap (λ (x : Contents). x.cell) c.deref_mut.ensures.value in
     let take = ap (λ (x : Contents). x.take) c.in_default.ensures.same ∙ ap (λ (x : Contents). x.take) c.deref_mut.ensures.value in
     keeps-then _ _ _ c.loop-node.invariant.7 (keeps-home (run_state c.loop-node.claim) c.drop_next.new.self cell take)
+
+pub returns-clause-sends : goal.returns-clause-sends
+returns-clause-sends g c = c.loop-node.invariant.9
+
+pub returns-clause-answers : goal.returns-clause-answers
+returns-clause-answers g c =
+    let l = c.loop-node.claim in
+    let inv = c.loop-node.invariant in
+    let none = ap (λ (x : Contents). x.rest) (sym c.deref_mut.ensures.value) ∙ c.in_default.ensures.none in
+    let mid : Contents = c.drop_next.new.self in
+    subst (λ x. SendsAndAnswers [] x (run_state c.args.claim.now) (record (run_state l) { home = mid }))
+    (sym (inv.10.left ∙ ap (λ r. inv.10.dropped ++ r) none ∙ append-nil inv.10.dropped))
+    (sends-like (run_state c.args.claim.now) (run_state l) (run_state c.args.claim.now) (record (run_state l) { home = mid }) [] inv.10.dropped
+    refl refl refl refl refl inv.10.sends)

@@ -19,7 +19,7 @@ use Rattle.mb_mailbox.specs.RunState.{RunState, run_state}
 use Rattle.mb_mailbox.specs.Ran.{TakesNoMore}
 use Rattle.mb_mailbox.specs.Running.{IsRunning}
 use Rattle.mb_mailbox.proofs.AppliedLemmas.{same-keeps, same-fault, passed-fault, not-full, room-short, room-well, acts-ready, room-ready, keeps-ready, backlog-ready}
-use Rattle.mb_mailbox.proofs.AppliedLemmas.{full-ready, running-ready, envelopes-fit}
+use Rattle.mb_mailbox.proofs.AppliedLemmas.{full-ready, running-ready, entries-ready, ready-then, envelopes-fit}
 use Rattle.mb_mailbox.proofs.BacklogLemmas.{keeps-same, keeps-then, same-run-then}
 use Rattle.mb_register.proofs.CallerLemmas.{further-none}
 use Rattle.mb_mailbox.proofs.CleanLemmas.{hold-one}
@@ -28,9 +28,11 @@ use Rattle.mb_mailbox.proofs.EnvelopeLemmas.{why-not-open, why-none, is-open, dr
 use Rattle.mb_mailbox.proofs.InRunLemmas.{ok-passed, stops-none}
 use Rattle.mb_mailbox.proofs.ReadingLemmas.{open-reading, count-none}
 use Rattle.mb_mailbox.proofs.RunningMoves.{status-at}
-use Rattle.mb_mailbox.proofs.TakenLemmas.{same-begun, run_counts-counted, running-counted-begun, backlog-counted-begun}
+use Rattle.mb_mailbox.proofs.TakenLemmas.{same-begun, entries-counted-begun, run_counts-counted, running-counted-begun, backlog-counted-begun}
 use Rattle.mb_mailbox.proofs.TellingLemmas.{keeps-asked, backlog-cell}
 use Rattle.mb_mailbox.proofs.RunCountLemmas.{run_counts-keeps}
+use Rattle.mb_mailbox.proofs.RecordedLemmas.{alike-still, alike-then}
+use Rattle.mb_mailbox.proofs.RunSendsLemmas.{due-none, entries-none, entries-same}
 use Rattle.mb_mailbox.proofs.envelopes.apply_envelope.Goals as goal
 
 -- ---- how few were taken
@@ -52,7 +54,13 @@ returns-then-not-should_process-clause-in_run g c = c.requires.in_run
 pub returns-then-not-should_process-clause-advances : goal.returns-then-not-should_process-clause-advances
 returns-then-not-should_process-clause-advances g c =
     let here = run_state c.args.claim.now in
-    record { same = (keeps-same here).same; cleared = cleared-same here here refl refl; caller_advances = further-none _ }
+    record {
+      same = (keeps-same here).same;
+      cleared = cleared-same here here refl refl;
+      caller_advances = further-none _;
+      sends = alike-still _ _ _ _ refl refl;
+      entries = entries-same here;
+    }
 
 pub returns-then-not-should_process-clause-stops : goal.returns-then-not-should_process-clause-stops
 returns-then-not-should_process-clause-stops g c = stops-none false c.args.claim.now
@@ -93,6 +101,8 @@ returns-in_err-ready-clause-advances g c =
       same = (keeps-ready (run_state c.args.claim.now) c.ready.new.self _ _ same).same;
       cleared = ok-passed _ c.from_residual.result c.in_err-ready.field-0.0 c.from_residual.ensures.1;
       caller_advances = further-none _;
+      sends = alike-still _ _ _ _ refl refl;
+      entries = entries-ready (run_state c.args.claim.now) c.ready.new.self _ _ same;
     }
 
 pub returns-in_err-ready-clause-stops : goal.returns-in_err-ready-clause-stops
@@ -182,6 +192,11 @@ returns-in_default-clause-advances g c =
       cleared = cleared-open old (record old { home = new })
           (is-open g.K.Behaviours.gives (origin_of c.args.gates.now) (pass_view c.args.registrar.now.pass).log old c.requires.in_run.running t);
       caller_advances = further-none _;
+      sends = alike-still _ _ _ _ refl refl;
+      entries =
+          entries-none old (record old { home = new }) keeps.journal
+          (due-none old (record old { home = new }) refl refl (ap (λ (x : Contents). x.rest) found.same ∙ ap (λ (x : Contents). x.rest) same)
+          (λ shut. shut));
     }
 
 pub returns-in_default-clause-stops : goal.returns-in_default-clause-stops
@@ -402,6 +417,10 @@ returns-in-Ok-clause-advances g c =
           (cleared-open old begun_hold (ap (λ (m : Mailbox). m.closed) c.note_taken.ensures.same.0 ∙ open_yet))
           c.in-Ok.ensures.cleared;
       caller_advances = c.carry_out.ensures.caller_advances;
+      sends = alike-then _ _ _ _ _ _ (alike-still _ _ _ _ c.note_taken.ensures.taken.recorded refl) c.carry_out.ensures.sends;
+      entries = ready-then old mid _ _ same (run_state c.carry_out.new.claim)
+          (entries-counted-begun h c.take_next.new.self c.note_taken.new.claim counted new (word_of c.status-status.result) begun
+          (run_state c.carry_out.new.claim) open_yet c.carry_out.ensures.due c.carry_out.ensures.same.journal);
     }
 
 pub returns-in-Ok-clause-stops : goal.returns-in-Ok-clause-stops
@@ -459,10 +478,16 @@ returns-in-Err-clause-advances g c =
     c.begin.ensures.begun mid (subst (λ (x : Contents). TakesOut mid x c.in-Some.envelope) (sym here) out) in
     let before = keeps-ready old mid _ _ same in
     let took = same-begun h c.take_next.new.self c.note_taken.new.claim counted new (word_of c.status-status.result) begun in
+    let t = sym (c.should_process.ensures ∙ ap should_process c.status-status.ensures) ∙ c.if-not-should_process.false in
+    let open_yet = is-open g.K.Behaviours.gives (origin_of c.args.gates.now) (pass_view c.args.registrar.now.pass).log old c.requires.in_run.running t in
     record {
       same = same-keeps _ _ _ (same-run-then _ _ _ before.same took) c.carry_out.ensures.same;
       cleared = tt;
       caller_advances = c.carry_out.ensures.caller_advances;
+      sends = alike-then _ _ _ _ _ _ (alike-still _ _ _ _ c.note_taken.ensures.taken.recorded refl) c.carry_out.ensures.sends;
+      entries = ready-then old mid _ _ same (run_state c.carry_out.new.claim)
+          (entries-counted-begun h c.take_next.new.self c.note_taken.new.claim counted new (word_of c.status-status.result) begun
+          (run_state c.carry_out.new.claim) open_yet c.carry_out.ensures.due c.carry_out.ensures.same.journal);
     }
 
 pub returns-in-Err-clause-stops : goal.returns-in-Err-clause-stops

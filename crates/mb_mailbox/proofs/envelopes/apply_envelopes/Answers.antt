@@ -11,6 +11,8 @@ use Rattle.mb_register.proofs.CallerLemmas.{further-none, further-then}
 use Rattle.mb_mailbox.proofs.EmptiedLemmas.{cleared-same, cleared-then}
 use Rattle.mb_mailbox.proofs.EnvelopeLemmas.{reason-why, reason-used}
 use Rattle.mb_mailbox.proofs.InRunLemmas.{advances-passed, stops-none, stops-passed}
+use Rattle.mb_mailbox.proofs.RecordedLemmas.{alike-still, alike-then}
+use Rattle.mb_mailbox.proofs.RunSendsLemmas.{entries-same, entries-then}
 use Rattle.mb_mailbox.proofs.envelopes.apply_envelopes.Goals as goal
 
 pub loop-handled-init : goal.loop-handled-init
@@ -21,6 +23,8 @@ loop-handled-init g c = (
   c.requires.whole,
   further-none _,
   cleared-same (run_state c.args.claim.now) (run_state c.args.claim.now) refl refl,
+  alike-still _ _ _ _ refl refl,
+  entries-same (run_state c.args.claim.now),
 )
 
 -- ---- the steps, one after another
@@ -51,6 +55,12 @@ loop-handled-preserved g c =
           c.loop-handled.invariant.5
           (cleared-then (run_state c.loop-handled.claim) h (run_state c.apply_systems.new.claim) c.apply_envelope.ensures.advances.same.takes
           c.in_ok-took.ensures.advances.cleared c.in_ok-apply_systems.ensures.advances.cleared),
+      alike-then _ _ _ _ _ _ c.loop-handled.invariant.6
+          (alike-then _ _ _ _ _ _ c.apply_envelope.ensures.advances.sends c.apply_systems.ensures.advances.sends),
+      entries-then (run_state c.args.claim.now) (run_state c.loop-handled.claim) (run_state c.apply_systems.new.claim)
+          c.loop-handled.invariant.1.actor c.loop-handled.invariant.1.who c.loop-handled.invariant.7
+          (entries-then (run_state c.loop-handled.claim) h (run_state c.apply_systems.new.claim) c.apply_envelope.ensures.advances.same.actor
+          c.apply_envelope.ensures.advances.same.who c.apply_envelope.ensures.advances.entries c.apply_systems.ensures.advances.entries),
     )
 
 -- ---- an envelope stopped the run
@@ -62,7 +72,8 @@ pub returns-in_err-took-clause-advances : goal.returns-in_err-took-clause-advanc
 returns-in_err-took-clause-advances g c =
     advances-passed c.apply_envelope.result c.from_residual.result c.in_err-took.field-0.0 c.args.registrar.now c.loop-handled.registrar
     c.apply_envelope.new.registrar c.args.claim.now c.loop-handled.claim c.apply_envelope.new.claim c.from_residual.ensures.1
-    c.loop-handled.invariant.1 c.loop-handled.invariant.4 c.apply_envelope.ensures.advances
+    c.loop-handled.invariant.1 c.loop-handled.invariant.4 c.loop-handled.invariant.6
+    c.loop-handled.invariant.7 c.apply_envelope.ensures.advances
 
 pub returns-in_err-took-clause-stops : goal.returns-in_err-took-clause-stops
 returns-in_err-took-clause-stops g c =
@@ -82,6 +93,10 @@ returns-then-not-took-clause-advances g c =
           cleared-then (run_state c.args.claim.now) (run_state c.loop-handled.claim) (run_state c.apply_envelope.new.claim)
           c.loop-handled.invariant.1.takes c.loop-handled.invariant.5 next.cleared;
       caller_advances = further-then _ _ _ c.loop-handled.invariant.4 next.caller_advances;
+      sends = alike-then _ _ _ _ _ _ c.loop-handled.invariant.6 next.sends;
+      entries =
+          entries-then (run_state c.args.claim.now) (run_state c.loop-handled.claim) (run_state c.apply_envelope.new.claim)
+          c.loop-handled.invariant.1.actor c.loop-handled.invariant.1.who c.loop-handled.invariant.7 next.entries;
     }
 
 pub returns-then-not-took-clause-stops : goal.returns-then-not-took-clause-stops
@@ -109,7 +124,11 @@ returns-in_err-apply_systems-clause-advances g c =
     advances-passed c.apply_systems.result c.from_residual-in_err-apply_systems.result c.in_err-apply_systems.field-0.0 c.args.registrar.now
     c.apply_envelope.new.registrar c.apply_systems.new.registrar c.args.claim.now c.apply_envelope.new.claim c.apply_systems.new.claim
     c.from_residual-in_err-apply_systems.ensures.1 (same-run-then _ _ _ c.loop-handled.invariant.1 c.apply_envelope.ensures.advances.same)
-    (further-then _ _ _ c.loop-handled.invariant.4 c.apply_envelope.ensures.advances.caller_advances) c.apply_systems.ensures.advances
+    (further-then _ _ _ c.loop-handled.invariant.4 c.apply_envelope.ensures.advances.caller_advances)
+    (alike-then _ _ _ _ _ _ c.loop-handled.invariant.6 c.apply_envelope.ensures.advances.sends)
+    (entries-then (run_state c.args.claim.now) (run_state c.loop-handled.claim) (run_state c.apply_envelope.new.claim)
+    c.loop-handled.invariant.1.actor c.loop-handled.invariant.1.who c.loop-handled.invariant.7 c.apply_envelope.ensures.advances.entries)
+    c.apply_systems.ensures.advances
 
 pub returns-in_err-apply_systems-clause-stops : goal.returns-in_err-apply_systems-clause-stops
 returns-in_err-apply_systems-clause-stops g c =
@@ -123,7 +142,13 @@ returns-clause-in_run g c = c.loop-handled.invariant.0
 
 pub returns-clause-advances : goal.returns-clause-advances
 returns-clause-advances g c =
-    record { same = c.loop-handled.invariant.1; cleared = c.loop-handled.invariant.5; caller_advances = c.loop-handled.invariant.4 }
+    record {
+      same = c.loop-handled.invariant.1;
+      cleared = c.loop-handled.invariant.5;
+      caller_advances = c.loop-handled.invariant.4;
+      sends = c.loop-handled.invariant.6;
+      entries = c.loop-handled.invariant.7;
+    }
 
 pub returns-clause-stops : goal.returns-clause-stops
 returns-clause-stops g c = stops-none tt c.loop-handled.claim

@@ -1,9 +1,11 @@
-use Rattle.std.proofs.Common.{◌∙◌, arith}
+use Rattle.std.proofs.Common.{refl, ◌∙◌, arith}
 use Rattle.mb_mailbox.specs.RunState.{run_state}
 use Rattle.mb_register.proofs.CallerLemmas.{further-none}
 use Rattle.mb_mailbox.proofs.BacklogLemmas.{keeps-same}
 use Rattle.mb_mailbox.proofs.EnvelopeLemmas.{stopped-from}
 use Rattle.mb_mailbox.proofs.InRunLemmas.{advances-passed, advances-then, stops-passed}
+use Rattle.mb_mailbox.proofs.RecordedLemmas.{alike-still}
+use Rattle.mb_mailbox.proofs.RunSendsLemmas.{entries-same}
 use Rattle.mb_mailbox.proofs.run.run_claim.Goals as goal
 
 pub apply_systems-requires : goal.apply_systems-requires
@@ -18,7 +20,8 @@ pub returns-in_err-apply_systems-clause-advances : goal.returns-in_err-apply_sys
 returns-in_err-apply_systems-clause-advances g c =
     advances-passed c.apply_systems.result c.from_residual.result c.in_err-apply_systems.field-0.0 c.args.registrar.now c.args.registrar.now
     c.apply_systems.new.registrar c.args.claim.now c.args.claim.now c.apply_systems.new.claim c.from_residual.ensures.1
-    (keeps-same (run_state c.args.claim.now)).same (further-none _) c.apply_systems.ensures.advances
+    (keeps-same (run_state c.args.claim.now)).same (further-none _) (alike-still _ _ _ _ refl refl)
+    (entries-same (run_state c.args.claim.now)) c.apply_systems.ensures.advances
 
 pub returns-in_err-apply_systems-clause-stops : goal.returns-in_err-apply_systems-clause-stops
 returns-in_err-apply_systems-clause-stops g c =
@@ -46,7 +49,8 @@ pub returns-clause-advances : goal.returns-clause-advances
 returns-clause-advances g c =
     let first = c.in_ok-apply_systems.ensures.advances in
     advances-then c.apply_envelopes.result c.args.registrar.now c.apply_systems.new.registrar c.apply_envelopes.new.registrar c.args.claim.now
-    c.apply_systems.new.claim c.apply_envelopes.new.claim first.same first.cleared first.caller_advances c.apply_envelopes.ensures.advances
+    c.apply_systems.new.claim c.apply_envelopes.new.claim first.same first.cleared first.caller_advances first.sends first.entries
+    c.apply_envelopes.ensures.advances
 
 pub returns-clause-stops : goal.returns-clause-stops
 returns-clause-stops g c = c.apply_envelopes.ensures.stops

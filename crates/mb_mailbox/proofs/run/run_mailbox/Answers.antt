@@ -6,6 +6,7 @@ use Rattle.mb_journal.specs.Life.{closed}
 use Rattle.mb_journal.specs.Run.{IsReason}
 use Rattle.mb_journal.specs.Run.Stopped.{NoRoom}
 use Rattle.mb_gate.specs.Accessors.{pass_view, claim_view, held_actor, actors_of}
+use Rattle.mb_gate.specs.View.{View}
 use Rattle.mb_gate.specs.Untouched.{origin_of}
 use Rattle.mb_register.specs.Views.{LooksAfter}
 use Rattle.mb_register.specs.Caller.{IsDischargedOrOwed, caller_of}
@@ -14,9 +15,10 @@ use Rattle.mb_mailbox.specs.RunState.{run_state}
 use Rattle.mb_mailbox.specs.Ran.{HasStopped, IsShortOfMemory}
 use Rattle.mb_mailbox.proofs.AppliedLemmas.{same-fault}
 use Rattle.mb_register.proofs.CallerLemmas.{account-registered}
-use Rattle.mb_mailbox.proofs.FinishLemmas.{home-own, home-longer, home-fold, home-told, home-rest, saw-journal, steps-taken, leaves-caller, leaves-run}
+use Rattle.mb_mailbox.proofs.FinishLemmas.{home-own, home-longer, home-fold, home-told, home-rest, saw-journal, given-after, steps-taken, leaves-caller, leaves-run}
 use Rattle.mb_mailbox.proofs.FinishLemmas.{ends-cleared, ends-empty}
 use Rattle.mb_mailbox.proofs.FreshLemmas.{taken-fresh, log-fresh, taken-begun, running-fresh, backlog-fresh, run_counts-fresh}
+use Rattle.mb_mailbox.proofs.StepSendsLemmas.{sent-by-run}
 use Rattle.mb_mailbox.proofs.run.run_mailbox.Goals as goal
 
 -- ---- the claim as it was taken
@@ -136,8 +138,14 @@ returns-in-Ok-clause-ran g c =
     let part = steps-taken (held_actor last) journal (claim_view last) (pass_view run.new.registrar.pass) (pass_view c.release.new.pass)
     run.ensures.in_run.running.owes_nothing c.release.ensures.known (pass_view c.register.new.self.pass) looks
     (caller_of g.W.RunQueue.pushed g.W.RunQueue.refused c.args.registrar.now) (caller_of g.W.RunQueue.pushed g.W.RunQueue.refused run.new.registrar) refl run.ensures.advances.caller_advances in
+    let kept = c.register.ensures.looks.sent_system ∙ ap (λ (v : View). v.sent_system) c.release.ensures.known in
+    let given = given-after (held_actor last) journal (claim_view last) (pass_view run.new.registrar.pass) (pass_view c.release.new.pass)
+    run.ensures.in_run.running.owes_nothing c.release.ensures.known (pass_view c.register.new.self.pass) looks in
     let taken = taken-fresh g.K.Behaviours.gives (origin_of c.args.gates.now) c.args.claim c.requires.untouched in
     let fresh = log-fresh g.K.Behaviours.gives (origin_of c.args.gates.now) c.args.claim c.requires.untouched in
+    let told = sent-by-run g.K.Behaviours.gives (origin_of c.args.gates.now) (pass_view run.new.registrar.pass).log (run_state c.args.claim)
+    (run_state last) run.ensures.advances.same.who c.requires.untouched.recorded fresh run.ensures.in_run.running run.ensures.in_run.backlog
+    run.ensures.advances.entries in
     let at_first = taken-begun g.K.Behaviours.gives (origin_of c.args.gates.now) c.args.claim c.requires.untouched in
     let origin = origin_of c.args.gates.now in
     let first = run_state c.args.claim in
@@ -156,7 +164,8 @@ returns-in-Ok-clause-ran g c =
         ended.1,
         leaves-run c.args.throughput c.args.claim last (pass_view c.args.registrar.now.pass) (pass_view c.register.new.self.pass) turn ended.0
             taken run.ensures.advances.same
-            run.ensures.in_run.run_counts run.ensures.within_limit ended.4 ended.2 ended.5 run.ensures.in_run.running.only_drained saw part fresh at_first
+            run.ensures.in_run.run_counts run.ensures.within_limit ended.4 ended.2 ended.5 run.ensures.in_run.running.only_drained saw part
+            (pass_view run.new.registrar.pass) run.ensures.advances.sends kept given c.requires.untouched.recorded told fresh at_first
             run.ensures.in_run.running.settled.taken run.ensures.in_run.running.settled.open_keeps empty,
       ),
     )
@@ -175,15 +184,22 @@ returns-in-Err-clause-ran g c =
     let part = steps-taken (held_actor last) journal (claim_view last) (pass_view run.new.registrar.pass) (pass_view c.release.new.pass)
     run.ensures.in_run.running.owes_nothing c.release.ensures.known (pass_view c.register.new.self.pass) looks
     (caller_of g.W.RunQueue.pushed g.W.RunQueue.refused c.args.registrar.now) (caller_of g.W.RunQueue.pushed g.W.RunQueue.refused run.new.registrar) refl run.ensures.advances.caller_advances in
+    let kept = c.register.ensures.looks.sent_system ∙ ap (λ (v : View). v.sent_system) c.release.ensures.known in
+    let given = given-after (held_actor last) journal (claim_view last) (pass_view run.new.registrar.pass) (pass_view c.release.new.pass)
+    run.ensures.in_run.running.owes_nothing c.release.ensures.known (pass_view c.register.new.self.pass) looks in
     let taken = taken-fresh g.K.Behaviours.gives (origin_of c.args.gates.now) c.args.claim c.requires.untouched in
     let fresh = log-fresh g.K.Behaviours.gives (origin_of c.args.gates.now) c.args.claim c.requires.untouched in
+    let told = sent-by-run g.K.Behaviours.gives (origin_of c.args.gates.now) (pass_view run.new.registrar.pass).log (run_state c.args.claim)
+    (run_state last) run.ensures.advances.same.who c.requires.untouched.recorded fresh run.ensures.in_run.running run.ensures.in_run.backlog
+    run.ensures.advances.entries in
     let at_first = taken-begun g.K.Behaviours.gives (origin_of c.args.gates.now) c.args.claim c.requires.untouched in (
       journal,
       (
         turn,
         leaves-run c.args.throughput c.args.claim last (pass_view c.args.registrar.now.pass) (pass_view c.register.new.self.pass) turn NoRoom
             taken run.ensures.advances.same
-            run.ensures.in_run.run_counts run.ensures.within_limit tt tt tt run.ensures.in_run.running.only_drained saw part fresh at_first
+            run.ensures.in_run.run_counts run.ensures.within_limit tt tt tt run.ensures.in_run.running.only_drained saw part
+            (pass_view run.new.registrar.pass) run.ensures.advances.sends kept given c.requires.untouched.recorded told fresh at_first
             run.ensures.in_run.running.settled.taken run.ensures.in_run.running.settled.open_keeps (λ ends. absurd ends),
         λ full. subst (λ (w : Identity). w.limit ≤ length journal) run.ensures.advances.same.who
             (run.ensures.stops.full (c.in-Err.is ∙ ap (λ (f : ReadyError). Err f) (same-fault c.in-Err.fault full))),
@@ -204,14 +220,21 @@ returns-in-Err-clause-out_of_memory g c = λ short.
     let part = steps-taken (held_actor last) journal (claim_view last) (pass_view run.new.registrar.pass) (pass_view c.release.new.pass)
     run.ensures.in_run.running.owes_nothing c.release.ensures.known (pass_view c.register.new.self.pass) looks
     (caller_of g.W.RunQueue.pushed g.W.RunQueue.refused c.args.registrar.now) (caller_of g.W.RunQueue.pushed g.W.RunQueue.refused run.new.registrar) refl run.ensures.advances.caller_advances in
+    let kept = c.register.ensures.looks.sent_system ∙ ap (λ (v : View). v.sent_system) c.release.ensures.known in
+    let given = given-after (held_actor last) journal (claim_view last) (pass_view run.new.registrar.pass) (pass_view c.release.new.pass)
+    run.ensures.in_run.running.owes_nothing c.release.ensures.known (pass_view c.register.new.self.pass) looks in
     let taken = taken-fresh g.K.Behaviours.gives (origin_of c.args.gates.now) c.args.claim c.requires.untouched in
     let fresh = log-fresh g.K.Behaviours.gives (origin_of c.args.gates.now) c.args.claim c.requires.untouched in
+    let told = sent-by-run g.K.Behaviours.gives (origin_of c.args.gates.now) (pass_view run.new.registrar.pass).log (run_state c.args.claim)
+    (run_state last) run.ensures.advances.same.who c.requires.untouched.recorded fresh run.ensures.in_run.running run.ensures.in_run.backlog
+    run.ensures.advances.entries in
     let at_first = taken-begun g.K.Behaviours.gives (origin_of c.args.gates.now) c.args.claim c.requires.untouched in (
       journal,
       turn,
       leaves-run c.args.throughput c.args.claim last (pass_view c.args.registrar.now.pass) (pass_view c.register.new.self.pass) turn NoRoom
           taken run.ensures.advances.same
-          run.ensures.in_run.run_counts run.ensures.within_limit tt tt tt run.ensures.in_run.running.only_drained saw part fresh at_first
+          run.ensures.in_run.run_counts run.ensures.within_limit tt tt tt run.ensures.in_run.running.only_drained saw part
+          (pass_view run.new.registrar.pass) run.ensures.advances.sends kept given c.requires.untouched.recorded told fresh at_first
           run.ensures.in_run.running.settled.taken run.ensures.in_run.running.settled.open_keeps (λ ends. absurd ends),
       subst (λ (w : Identity). IsShortOfMemory w journal) run.ensures.advances.same.who
           (run.ensures.stops.out_of_memory (c.in-Err.is ∙ ap (λ (f : ReadyError). Err f) (same-fault c.in-Err.fault short))),

@@ -5,6 +5,7 @@ use Rattle.mb_gate.specs.Accessors.{actors_of}
 use Rattle.mb_register.proofs.CallerLemmas.{further-none}
 use Rattle.mb_mailbox.proofs.NamedLemmas.{asker-there}
 use Rattle.mb_mailbox.specs.Notice.{asker, IsAnswered}
+use Rattle.mb_mailbox.proofs.RecordedLemmas.{alike-still}
 use Rattle.mb_mailbox.proofs.sending_system.answer.Goals as goal
 
 pub notify-requires-clause-present : goal.notify-requires-clause-present
@@ -28,3 +29,9 @@ returns-in-None-clause-answered g c =
 
 pub returns-in-None-clause-caller_advances : goal.returns-in-None-clause-caller_advances
 returns-in-None-clause-caller_advances g c = further-none _
+
+pub returns-in-Some-clause-sends : goal.returns-in-Some-clause-sends
+returns-in-Some-clause-sends g c = c.notify.ensures.sends
+
+pub returns-in-None-clause-sends : goal.returns-in-None-clause-sends
+returns-in-None-clause-sends g c = alike-still _ _ _ _ refl refl

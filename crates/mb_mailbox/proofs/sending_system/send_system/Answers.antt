@@ -4,6 +4,7 @@ use Rattle.mb_status.specs.Mailbox.{Mailbox}
 use Rattle.mb_gate.specs.NamedActors.{NamesBelow}
 use Rattle.mb_gate.specs.Accessors.{actors_of, pass_view}
 use Rattle.mb_gate.specs.Untouched.{origin_of}
+use Rattle.mb_gate.specs.View.{View}
 use Rattle.mb_home.specs.Contents.{Contents}
 use Rattle.mb_register.proofs.Views.{does-then, does-enlisting}
 use Rattle.mb_mailbox.specs.RunState.{run_state}
@@ -15,6 +16,9 @@ use Rattle.mb_mailbox.proofs.EmptiedLemmas.{cleared-same}
 use Rattle.mb_register.proofs.MoveLemmas.{moves-does, further-moves}
 use Rattle.mb_mailbox.proofs.SendSystemLemmas.{running-caller_advances, running-sent_system, running-refused, keeps-recorded, keeps-answered, backlog-sent_system, backlog-answered}
 use Rattle.mb_mailbox.proofs.SendSystemLemmas.{home-answered}
+use Rattle.mb_mailbox.proofs.RecordedLemmas.{alike-one, alike-then, does-give-none}
+use Rattle.mb_mailbox.specs.RunSends.{given_by}
+use Rattle.mb_mailbox.proofs.StepSendsLemmas.{due-listed, due-refused}
 use Rattle.mb_mailbox.proofs.sending_system.send_system.Goals as goal
 
 -- ---- the registrar stays one of these gates
@@ -137,3 +141,28 @@ returns-in-Err-clause-cleared g c =
     cleared-same (run_state c.args.claim.now) (run_state new)
     (ap (λ (m : Mailbox). m.closed) (status-answered c.args.to.0 mid new asked told ∙ sent_system.status))
     (ap (λ (b : Box Contents). b.value.take) (home-answered c.args.to.0 mid new asked told ∙ sent_system.home))
+
+-- ---- what was sent stands in the record
+
+pub returns-in-Ok-clause-sends : goal.returns-in-Ok-clause-sends
+returns-in-Ok-clause-sends g c =
+    let id = c.args.to.0 in
+    let a = pass_view c.args.registrar.now.pass in let b = pass_view c.sys_enqueue_in_run.new.pass in let d = pass_view c.register.new.self.pass in
+    let did = does-then id _ _ a b d (does-enlisting id c.in-Ok.field-0 c.args.node a b c.in-Ok.ensures.listed) c.register.ensures.looks in
+    alike-one _ _ _ _ _ c.in-Ok.ensures.recorded.record_is did.sent_system (does-give-none id _ _ a d refl did)
+
+pub returns-in-Err-clause-sends : goal.returns-in-Err-clause-sends
+returns-in-Err-clause-sends g c =
+    alike-then _ _ _ _ _ _
+    (alike-one _ _ _ _ _ c.in-Err.ensures.recorded.record_is (ap (λ (v : View). v.sent_system) c.in-Err.ensures.ended.1)
+    (ap (λ (v : View). given_by v.log) c.in-Err.ensures.ended.1)) c.answer.ensures.sends
+
+-- ---- what was due was sent
+
+pub returns-in-Ok-clause-due : goal.returns-in-Ok-clause-due
+returns-in-Ok-clause-due g c = due-listed c.args.claim.now c.sys_enqueue_in_run.new.claim c.args.to.0 c.args.node c.in-Ok.ensures.recorded
+
+pub returns-in-Err-clause-due : goal.returns-in-Err-clause-due
+returns-in-Err-clause-due g c =
+    due-refused c.args.claim.now c.sys_enqueue_in_run.new.claim c.answer.new.claim c.args.to.0 c.args.node c.in-Err.field-0.0 c.actor-parent.result
+    c.in-Err.ensures.ended.0 c.actor-parent.ensures c.in-Err.ensures.recorded c.answer.ensures.answered

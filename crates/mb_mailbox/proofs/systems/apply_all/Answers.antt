@@ -12,6 +12,8 @@ use Rattle.mb_register.proofs.CallerLemmas.{further-none, further-then}
 use Rattle.mb_mailbox.proofs.EmptiedLemmas.{cleared-same, cleared-then}
 use Rattle.mb_mailbox.proofs.InRunLemmas.{advances-passed, stops-none, stops-passed}
 use Rattle.mb_mailbox.proofs.RunCountLemmas.{run_counts-keeps}
+use Rattle.mb_mailbox.proofs.RecordedLemmas.{alike-still, alike-then}
+use Rattle.mb_mailbox.proofs.RunSendsLemmas.{entries-none, entries-same, entries-then}
 use Rattle.mb_mailbox.proofs.systems.apply_all.Goals as goal
 
 pub loop-init : goal.loop-init
@@ -23,6 +25,8 @@ loop-init g c = (
   refl,
   further-none _,
   cleared-same (run_state c.args.claim.now) (run_state c.args.claim.now) refl refl,
+  alike-still _ _ _ _ refl refl,
+  entries-same (run_state c.args.claim.now),
 )
 
 -- ---- the mailbox is closed
@@ -32,7 +36,7 @@ returns-then-closed-clause-in_run g c = c.loop.invariant.2
 
 pub returns-then-closed-clause-advances : goal.returns-then-closed-clause-advances
 returns-then-closed-clause-advances g c =
-    record { same = c.loop.invariant.3; cleared = c.loop.invariant.6; caller_advances = c.loop.invariant.5 }
+    record { same = c.loop.invariant.3; cleared = c.loop.invariant.6; caller_advances = c.loop.invariant.5; sends = c.loop.invariant.7; entries = c.loop.invariant.8 }
 
 pub returns-then-closed-clause-stops : goal.returns-then-closed-clause-stops
 returns-then-closed-clause-stops g c = stops-none tt c.loop.claim
@@ -62,7 +66,8 @@ returns-in_err-apply_one-clause-in_run g c = c.apply_one.ensures.in_run
 pub returns-in_err-apply_one-clause-advances : goal.returns-in_err-apply_one-clause-advances
 returns-in_err-apply_one-clause-advances g c =
     advances-passed c.apply_one.result c.from_residual.result c.in_err-apply_one.field-0.0 c.args.registrar.now c.loop.registrar
-    c.apply_one.new.registrar c.args.claim.now c.loop.claim c.apply_one.new.claim c.from_residual.ensures.1 c.loop.invariant.3 c.loop.invariant.5 c.apply_one.ensures.advances
+    c.apply_one.new.registrar c.args.claim.now c.loop.claim c.apply_one.new.claim c.from_residual.ensures.1 c.loop.invariant.3 c.loop.invariant.5
+    c.loop.invariant.7 c.loop.invariant.8 c.apply_one.ensures.advances
 
 pub returns-in_err-apply_one-clause-stops : goal.returns-in_err-apply_one-clause-stops
 returns-in_err-apply_one-clause-stops g c =
@@ -83,6 +88,9 @@ loop-preserved-then-has_next g c =
       further-then _ _ _ c.loop.invariant.5 next.caller_advances,
       cleared-then (run_state c.args.claim.now) (run_state c.loop.claim) (run_state c.apply_one.new.claim) c.loop.invariant.3.takes
           c.loop.invariant.6 next.cleared,
+      alike-then _ _ _ _ _ _ c.loop.invariant.7 next.sends,
+      entries-then (run_state c.args.claim.now) (run_state c.loop.claim) (run_state c.apply_one.new.claim) c.loop.invariant.3.actor
+          c.loop.invariant.3.who c.loop.invariant.8 next.entries,
     )
 
 -- ---- none is: the list is drained
@@ -121,6 +129,11 @@ returns-then-not-drain-clause-advances g c = record {
       cleared-then (run_state c.args.claim.now) (run_state c.loop.claim) (run_state c.drain.new.claim) c.loop.invariant.3.takes c.loop.invariant.6
       c.drain.ensures.cleared;
   caller_advances = c.loop.invariant.5;
+  sends = alike-then _ _ _ _ _ _ c.loop.invariant.7 (alike-still _ _ _ _ c.drain.ensures.recorded refl);
+  entries =
+      entries-then (run_state c.args.claim.now) (run_state c.loop.claim) (run_state c.drain.new.claim) c.loop.invariant.3.actor
+      c.loop.invariant.3.who c.loop.invariant.8
+      (entries-none (run_state c.loop.claim) (run_state c.drain.new.claim) c.drain.ensures.same.journal c.drain.ensures.due);
 }
 
 pub returns-then-not-drain-clause-stops : goal.returns-then-not-drain-clause-stops
@@ -149,4 +162,8 @@ loop-preserved g c =
       c.loop.invariant.5,
       cleared-then (run_state c.args.claim.now) (run_state c.loop.claim) (run_state c.drain.new.claim) c.loop.invariant.3.takes c.loop.invariant.6
           c.drain.ensures.cleared,
+      alike-then _ _ _ _ _ _ c.loop.invariant.7 (alike-still _ _ _ _ c.drain.ensures.recorded refl),
+      entries-then (run_state c.args.claim.now) (run_state c.loop.claim) (run_state c.drain.new.claim) c.loop.invariant.3.actor
+          c.loop.invariant.3.who c.loop.invariant.8
+          (entries-none (run_state c.loop.claim) (run_state c.drain.new.claim) c.drain.ensures.same.journal c.drain.ensures.due),
     )

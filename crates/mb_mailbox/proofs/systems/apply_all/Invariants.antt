@@ -1,7 +1,9 @@
 use Rattle.std.proofs.Common.{◌≡◌}
 use Rattle.mb_register.specs.Caller.{caller_of, CallerAdvances}
 use Rattle.mb_mailbox.specs.Emptied.{IsCleared}
+use Rattle.mb_mailbox.specs.RunSends.{SendsForEntries}
 use Rattle.mb_mailbox.specs.RunState.{run_state}
+use Rattle.mb_mailbox.specs.Recorded.{SendsAsRecorded}
 use Rattle.mb_mailbox.specs.InRun.{InRun}
 use Rattle.mb_mailbox.specs.Running.{SameRun}
 use Rattle.mb_mailbox.proofs.systems.apply_all.Given as goal
@@ -14,3 +16,5 @@ invariant-loop g l =
     × (l.turn.envelopes ≡ l.initial.turn.envelopes)
     × CallerAdvances (caller_of g.W.RunQueue.pushed g.W.RunQueue.refused l.initial.registrar) (caller_of g.W.RunQueue.pushed g.W.RunQueue.refused l.registrar)
     × IsCleared (run_state l.initial.claim) (run_state l.claim)
+    × SendsAsRecorded l.initial.registrar l.registrar l.initial.claim l.claim
+    × SendsForEntries (run_state l.initial.claim) (run_state l.claim)

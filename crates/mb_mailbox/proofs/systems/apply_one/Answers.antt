@@ -1,4 +1,4 @@
-use Rattle.std.proofs.Common.{◌≡◌, ◌≤◌, inl, inr, List, [], false, length, sym, ap, ◌∙◌, subst, arith}
+use Rattle.std.proofs.Common.{◌≡◌, ◌≤◌, inl, inr, List, [], false, length, refl, sym, ap, ◌∙◌, subst, arith}
 use Rattle.std.specs.Prelude.{◌↔◌, Err, IsErrOf}
 use Rattle.mb_journal.specs.Acts.{Act}
 use Rattle.mb_journal.specs.Life.{closed}
@@ -14,13 +14,15 @@ use Rattle.mb_home.specs.Steps.{HasNext, AppliesNext}
 use Rattle.mb_mailbox.specs.RunState.{RunState, run_state}
 use Rattle.mb_mailbox.specs.Running.{IsRunning}
 use Rattle.mb_mailbox.proofs.AppliedLemmas.{passed-fault, same-keeps, not-full, room-short, acts-ready, room-ready, keeps-ready, backlog-ready, running-ready}
-use Rattle.mb_mailbox.proofs.AppliedLemmas.{full-ready, systems-fit}
+use Rattle.mb_mailbox.proofs.AppliedLemmas.{full-ready, entries-ready, ready-then, systems-fit}
 use Rattle.mb_mailbox.proofs.BacklogLemmas.{same-run-then}
 use Rattle.mb_register.proofs.CallerLemmas.{further-none}
 use Rattle.mb_mailbox.proofs.EmptiedLemmas.{cleared-open, cleared-then, err-at, ok-so, takes-same}
 use Rattle.mb_mailbox.proofs.InRunLemmas.{ok-passed}
 use Rattle.mb_mailbox.proofs.RunningMoves.{journal-open, running-applied, backlog-applied}
 use Rattle.mb_mailbox.proofs.RunCountLemmas.{run_counts-keeps, run_counts-applied, same-applied}
+use Rattle.mb_mailbox.proofs.RecordedLemmas.{alike-still}
+use Rattle.mb_mailbox.proofs.StepSendsLemmas.{entries-applied}
 use Rattle.mb_mailbox.proofs.systems.apply_one.Goals as goal
 
 -- ---- there was no room
@@ -51,6 +53,8 @@ returns-in_err-ready-clause-advances g c =
       same = (keeps-ready (run_state c.args.claim.now) c.ready.new.self _ _ same).same;
       cleared = ok-passed _ c.from_residual.result c.in_err-ready.field-0.0 c.from_residual.ensures.1;
       caller_advances = further-none _;
+      sends = alike-still _ _ _ _ refl refl;
+      entries = entries-ready (run_state c.args.claim.now) c.ready.new.self _ _ same;
     }
 
 pub returns-in_err-ready-clause-stops : goal.returns-in_err-ready-clause-stops
@@ -194,6 +198,10 @@ returns-clause-advances g c =
           (cleared-then old applied_hold (run_state c.carry_out.new.claim) (takes-same _ _ take)
           (cleared-open old applied_hold c.requires.not_closed)) c.carry_out.ensures.cleared;
       caller_advances = c.carry_out.ensures.caller_advances;
+      sends = c.carry_out.ensures.sends;
+      entries = ready-then old c.ready.new.self _ _ same (run_state c.carry_out.new.claim)
+          (entries-applied h applied_hold (run_state c.carry_out.new.claim) refl c.requires.not_closed refl applied c.carry_out.ensures.due
+          c.carry_out.ensures.same.journal refl);
     }
 
 pub returns-clause-stops : goal.returns-clause-stops

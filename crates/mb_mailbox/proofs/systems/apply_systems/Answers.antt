@@ -1,9 +1,12 @@
-use Rattle.std.proofs.Common.{inr, ap, ◌∙◌}
+use Rattle.std.proofs.Common.{inr, refl, ap, ◌∙◌}
 use Rattle.mb_cell.specs.CellView.{CellView}
 use Rattle.mb_gate.specs.Accessors.{pass_view}
 use Rattle.mb_register.proofs.CallerLemmas.{further-none}
 use Rattle.mb_mailbox.proofs.InRunLemmas.{advances-then, stops-none}
 use Rattle.mb_mailbox.proofs.RunCountLemmas.{run_counts-keeps}
+use Rattle.mb_mailbox.proofs.RecordedLemmas.{alike-still}
+use Rattle.mb_mailbox.proofs.RunSendsLemmas.{entries-none}
+use Rattle.mb_mailbox.specs.RunState.{run_state}
 use Rattle.mb_mailbox.proofs.systems.apply_systems.Goals as goal
 
 pub has_no_system_work-requires-clause-running : goal.has_no_system_work-requires-clause-running
@@ -29,7 +32,14 @@ returns-then-has_no_system_work-clause-in_run g c =
 
 pub returns-then-has_no_system_work-clause-advances : goal.returns-then-has_no_system_work-clause-advances
 returns-then-has_no_system_work-clause-advances g c =
-    let quiet = c.has_no_system_work.ensures in record { same = quiet.same.same; cleared = quiet.cleared; caller_advances = further-none _ }
+    let quiet = c.has_no_system_work.ensures in
+    record {
+      same = quiet.same.same;
+      cleared = quiet.cleared;
+      caller_advances = further-none _;
+      sends = alike-still _ _ _ _ quiet.recorded refl;
+      entries = entries-none (run_state c.args.claim.now) (run_state c.has_no_system_work.new.claim) quiet.same.journal quiet.due;
+    }
 
 pub returns-then-has_no_system_work-clause-stops : goal.returns-then-has_no_system_work-clause-stops
 returns-then-has_no_system_work-clause-stops g c = stops-none tt c.has_no_system_work.new.claim
@@ -57,7 +67,10 @@ returns-clause-in_run g c = c.apply_all.ensures.in_run
 pub returns-clause-advances : goal.returns-clause-advances
 returns-clause-advances g c =
     advances-then c.apply_all.result c.args.registrar.now c.args.registrar.now c.apply_all.new.registrar c.args.claim.now c.has_no_system_work.new.claim
-    c.apply_all.new.claim c.has_no_system_work.ensures.same.same c.has_no_system_work.ensures.cleared (further-none _) c.apply_all.ensures.advances
+    c.apply_all.new.claim c.has_no_system_work.ensures.same.same c.has_no_system_work.ensures.cleared (further-none _)
+    (alike-still _ _ _ _ c.has_no_system_work.ensures.recorded refl)
+    (entries-none (run_state c.args.claim.now) (run_state c.has_no_system_work.new.claim) c.has_no_system_work.ensures.same.journal
+    c.has_no_system_work.ensures.due) c.apply_all.ensures.advances
 
 pub returns-clause-stops : goal.returns-clause-stops
 returns-clause-stops g c = c.apply_all.ensures.stops

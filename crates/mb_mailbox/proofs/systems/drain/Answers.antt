@@ -8,7 +8,7 @@ use Rattle.mb_home.specs.AtHome.{given_of}
 use Rattle.mb_home.specs.Contents.{Contents}
 use Rattle.mb_home.specs.AgreesWithJournal.{AgreesWithJournal}
 use Rattle.mb_mailbox.specs.RunState.{run_state}
-use Rattle.mb_mailbox.proofs.DrainingLemmas.{none-kept, keeps-drained, drained-from, backlog-drained, is-drained, running-drain}
+use Rattle.mb_mailbox.proofs.DrainingLemmas.{none-kept, keeps-drained, due-drained, drained-from, backlog-drained, is-drained, running-drain}
 use Rattle.mb_mailbox.proofs.EmptiedLemmas.{cleared-open}
 use Rattle.mb_mailbox.proofs.TellingLemmas.{running-own}
 use Rattle.mb_mailbox.proofs.systems.drain.Goals as goal
@@ -142,3 +142,32 @@ returns-then-is_empty-clause-cleared g c =
     let did = c.sys_drain-drained.ensures in
     cleared-open (run_state c.args.claim.now) (run_state c.sys_drain-drained.new.claim)
     (ap (λ (m : Mailbox). m.closed) did.same.0 ∙ c.requires.not_closed)
+
+-- ---- nothing was sent
+
+pub returns-clause-recorded : goal.returns-clause-recorded
+returns-clause-recorded g c = c.sys_drain-drained.ensures.recorded
+
+pub returns-then-is_empty-clause-recorded : goal.returns-then-is_empty-clause-recorded
+returns-then-is_empty-clause-recorded g c = c.sys_drain-drained.ensures.recorded
+
+-- ---- what was drained is left beside the cell
+
+pub returns-clause-due : goal.returns-clause-due
+returns-clause-due g c =
+    let did = c.sys_drain-drained.ensures in
+    let kept = subst (λ (x : Contents). c.keep.new.self ≡ record x { rest = c.sys_drain-drained.result }) c.deref_mut.ensures.value
+    c.keep.ensures.kept in
+    due-drained c.args.claim.now c.sys_drain-drained.new.claim did.same_gates did.same did.taken did.recorded c.sys_drain-drained.result did.given
+    did.known did.gave c.keep.new.self kept c.requires.no_backlog.no_rest c.requires.not_closed
+
+pub returns-then-is_empty-clause-due : goal.returns-then-is_empty-clause-due
+returns-then-is_empty-clause-due g c =
+    let did = c.sys_drain-drained.ensures in
+    let old = c.args.claim.now in
+    let mid = c.sys_drain-drained.new.claim in
+    let none = c.is_empty.ensures.0 c.if-is_empty.true in
+    let here = ap (λ (b : Box Contents). b.value) did.same.1 in
+    let kept = none-kept mid.home.value c.sys_drain-drained.result (ap (λ (x : Contents). x.rest) here ∙ c.requires.no_backlog.no_rest) none in
+    due-drained old mid did.same_gates did.same did.taken did.recorded c.sys_drain-drained.result did.given did.known did.gave mid.home.value kept
+    c.requires.no_backlog.no_rest c.requires.not_closed

@@ -8,16 +8,18 @@ use Rattle.mb_journal.specs.Acts.{Act}
 use Rattle.mb_gate.specs.NamedActors.{NamesBelow}
 use Rattle.mb_gate.specs.Accessors.{actors_of}
 use Rattle.mb_gate.specs.Untouched.{origin_of}
+use Rattle.mb_gate.specs.View.{View}
 use Rattle.mb_home.specs.Contents.{Contents}
 use Rattle.mb_home.specs.AgreesWithJournal.{AgreesWithJournal}
 use Rattle.mb_home.specs.Steps.{HasNext, HasNoBacklog}
 use Rattle.mb_mailbox.specs.RunState.{RunState, run_state}
 use Rattle.mb_mailbox.specs.Running.{IsRunning, BacklogAgrees, KeepsJournal}
 use Rattle.mb_mailbox.proofs.BacklogLemmas.{keeps-same}
-use Rattle.mb_mailbox.proofs.DrainingLemmas.{none-kept, keeps-drained, backlog-drained, is-drained, running-drain}
+use Rattle.mb_mailbox.proofs.DrainingLemmas.{none-kept, keeps-drained, due-drained, backlog-drained, is-drained, running-drain}
 use Rattle.mb_mailbox.proofs.EmptiedLemmas.{cleared-open, cleared-same}
 use Rattle.mb_mailbox.proofs.RunStateLemmas.{hold-same}
 use Rattle.mb_mailbox.proofs.TellingLemmas.{running-own}
+use Rattle.mb_mailbox.proofs.RunSendsLemmas.{due-none}
 use Rattle.mb_mailbox.proofs.systems.has_no_system_work.Goals as goal
 
 pub sys_is_drained-requires-clause-same_gates : goal.sys_is_drained-requires-clause-same_gates
@@ -134,3 +136,35 @@ returns-clause-cleared g c =
     let did = c.sys_is_drained.ensures in
     cleared-same (run_state c.args.claim.now) (run_state c.sys_is_drained.new.claim) (ap (λ (m : Mailbox). m.closed) did.same.0)
     (ap (λ (b : Box Contents). b.value.take) did.same.1)
+
+-- ---- nothing was sent
+
+pub returns-then-closed-clause-recorded : goal.returns-then-closed-clause-recorded
+returns-then-closed-clause-recorded g c = refl
+
+pub returns-then-sys_is_drained-clause-recorded : goal.returns-then-sys_is_drained-clause-recorded
+returns-then-sys_is_drained-clause-recorded g c = c.sys_is_drained.ensures.recorded
+
+pub returns-clause-recorded : goal.returns-clause-recorded
+returns-clause-recorded g c = c.sys_is_drained.ensures.recorded
+
+pub returns-then-closed-clause-due : goal.returns-then-closed-clause-due
+returns-then-closed-clause-due g c = due-none (run_state c.args.claim.now) (run_state c.args.claim.now) refl refl refl (λ shut. shut)
+
+pub returns-then-sys_is_drained-clause-due : goal.returns-then-sys_is_drained-clause-due
+returns-then-sys_is_drained-clause-due g c =
+    let did = c.sys_is_drained.ensures in let hit = c.if-sys_is_drained.true in
+    let old = c.args.claim.now in let mid = c.sys_is_drained.new.claim in
+    let at_home = subst (λ (x : Contents). MatchBool c.has_next.result (HasNext x) (HasNoBacklog x)) c.deref.ensures c.has_next.ensures in
+    let no_backlog = subst (λ b. MatchBool b (HasNext old.home.value) (HasNoBacklog old.home.value)) c.if-has_next.false at_home in
+    let here = ap (λ (b : Box Contents). b.value) did.same.1 in
+    let kept = none-kept mid.home.value [] (ap (λ (x : Contents). x.rest) here ∙ no_backlog.no_rest) refl in
+    due-drained old mid did.same_gates did.same did.taken did.recorded [] (did.given hit) (did.known hit) (did.gave hit) mid.home.value kept
+    no_backlog.no_rest (sym (c.closed.ensures ∙ ap (λ (m : Mailbox). m.closed) c.status.ensures) ∙ c.if-closed.false)
+
+pub returns-clause-due : goal.returns-clause-due
+returns-clause-due g c =
+    let did = c.sys_is_drained.ensures in
+    due-none (run_state c.args.claim.now) (run_state c.sys_is_drained.new.claim) did.recorded
+    (ap (λ (v : View). v.log) (did.unchanged c.if-sys_is_drained.false).0) (ap (λ (b : Box Contents). b.value.rest) did.same.1)
+    (λ shut. ap (λ (m : Mailbox). m.closed) did.same.0 ∙ shut)

@@ -1,4 +1,4 @@
-use Rattle.std.proofs.Common.{inl, [], List, refl, sym, ◌∙◌, subst, arith}
+use Rattle.std.proofs.Common.{inl, [], List, refl, sym, ap, ◌∙◌, subst, arith}
 use Rattle.mb_gate.specs.Accessors.{pass_view}
 use Rattle.mb_gate.specs.Untouched.{origin_of}
 use Rattle.mb_gate.specs.View.{Observation}
@@ -11,6 +11,8 @@ use Rattle.mb_mailbox.proofs.EmptiedLemmas.{cleared-same}
 use Rattle.mb_mailbox.proofs.SendSystemLemmas.{running-caller_advances}
 use Rattle.mb_mailbox.proofs.TellingLemmas.{running-own, told-below, log-closed, discharged-closed, cell-told, take-told, keeps-told, backlog-told, running-told_closed}
 use Rattle.mb_mailbox.proofs.TellingLemmas.{running-sent, sent-then, sent-moves, sent-told}
+use Rattle.mb_mailbox.proofs.RecordedLemmas.{alike-quiet, does-give-none, given-tells, sent-tells}
+use Rattle.mb_mailbox.proofs.RunSendsLemmas.{due-none}
 use Rattle.mb_mailbox.proofs.telling.tell.Goals as goal
 
 -- ---- the registrar stays one of these gates
@@ -111,3 +113,24 @@ pub returns-in-Some-clause-cleared : goal.returns-in-Some-clause-cleared
 returns-in-Some-clause-cleared g c =
     let h = run_state c.args.claim.now in
     cleared-same h (record h { home = c.send.new.home.value }) refl (take-told h c.send.new.home.value c.send.ensures.same)
+
+-- ---- no system message was sent
+
+pub returns-in-None-clause-sends : goal.returns-in-None-clause-sends
+returns-in-None-clause-sends g c =
+    alike-quiet _ _ _ _ refl c.in-None.ensures.told.did.sent_system (does-give-none c.args.to.0 _ [] _ _ refl c.in-None.ensures.told.did)
+
+pub returns-in-Some-clause-sends : goal.returns-in-Some-clause-sends
+returns-in-Some-clause-sends g c =
+    let told = sent-then c.args.to c.args.body c.in-Some.hint _ _ _ _ _ c.in-Some.ensures.told c.register.ensures.looks in
+    alike-quiet _ _ _ _ refl (sent-tells c.args.to c.args.body _ _ _ _ c.in-Some.hint told) (given-tells c.args.to c.args.body _ _ _ _ c.in-Some.hint told)
+
+pub returns-in-None-clause-due : goal.returns-in-None-clause-due
+returns-in-None-clause-due g c =
+    let h = run_state c.args.claim.now in
+    due-none h (record h { home = c.send.new.home.value }) refl refl (ap (λ (x : Contents). x.rest) c.send.ensures.same) (λ shut. shut)
+
+pub returns-in-Some-clause-due : goal.returns-in-Some-clause-due
+returns-in-Some-clause-due g c =
+    let h = run_state c.args.claim.now in
+    due-none h (record h { home = c.send.new.home.value }) refl refl (ap (λ (x : Contents). x.rest) c.send.ensures.same) (λ shut. shut)

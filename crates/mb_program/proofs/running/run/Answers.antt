@@ -3,6 +3,7 @@ use Rattle.std.specs.Global.{Global}
 use Rattle.mb_msg.specs.declared.order.Order.{Order}
 use Rattle.heddleorange.specs.NoReport.{IsErrorOfRun}
 use Rattle.heddleorange.specs.Orders.{lists_of}
+use Rattle.heddleorange.specs.RunHeadline.{RunHeadline}
 use Rattle.heddleorange.specs.WholeRun.{IsReportOfRun, after_at, gives_at}
 use Rattle.heddleorange.proofs.Sent.{err-of}
 use Rattle.mb_program.proofs.Runnable.{lists-are}
@@ -15,6 +16,13 @@ returns-clause-ran g c =
     (ap (map (λ (v : Vec Order Global). v.items)) c.deref.ensures.value ∙ c.in_ok-lists.ensures) in
     subst (λ orders. IsReportOfRun (after_at actors g.A.Actor.after) (gives_at actors g.A.Actor.gives) plan orders c.in_ok-report-2.report) same
     c.in_ok-report-2.ensures.story
+
+pub returns-clause-headline : goal.returns-clause-headline
+returns-clause-headline g c =
+    let plan = c.args.plan in
+    let same = lists-are plan.senders c.args.sends.now _ c.requires.right.1
+    (ap (map (λ (v : Vec Order Global). v.items)) c.deref.ensures.value ∙ c.in_ok-lists.ensures) in
+    subst (λ orders. RunHeadline plan orders c.in_ok-report-2.report) same c.in_ok-report-2.ensures.headline
 
 pub returns-in_err-report-2-clause-fault : goal.returns-in_err-report-2-clause-fault
 returns-in_err-report-2-clause-fault g c =

@@ -3,6 +3,7 @@ use Rattle.mb_scenario.specs.View.{scenario_data}
 use Rattle.mb_msg.specs.declared.order.SenderOrder.{SenderOrder}
 use Rattle.heddleorange.specs.NoReport.{IsErrorOfRun, IsRight}
 use Rattle.heddleorange.specs.Orders.{lists_of}
+use Rattle.heddleorange.specs.RunHeadline.{RunHeadline}
 use Rattle.heddleorange.specs.WholeRun.{IsReportOfRun}
 use Rattle.mb_program.specs.Scripts.{after_by_scripts, gives_by_scripts}
 use Rattle.mb_program.proofs.Actors.{all-unused}
@@ -52,11 +53,14 @@ returns-in-Ok-clause-run_of g c =
     let ran : IsReportOfRun (after_by_scripts scenario.scripts) (gives_by_scripts scenario.scripts) read.plan
     (lists_of read.plan.senders scenario.sends) run.report =
     subst (λ (l : List SenderOrder). IsReportOfRun (after_by_scripts scenario.scripts) (gives_by_scripts scenario.scripts) read.plan
-    (lists_of read.plan.senders l) run.report) c.deref.ensures.value c.in-Ok.ensures.ran in record {
+    (lists_of read.plan.senders l) run.report) c.deref.ensures.value c.in-Ok.ensures.ran in
+    let headline : RunHeadline read.plan (lists_of read.plan.senders scenario.sends) run.report =
+    subst (λ (l : List SenderOrder). RunHeadline read.plan (lists_of read.plan.senders l) run.report) c.deref.ensures.value c.in-Ok.ensures.headline in
+    record {
       scenario = scenario;
       read = c.in_ok-plan.ensures.read;
       named = refl;
-      ran = record { plan = read.plan; planned = refl; ran = ran };
+      ran = record { plan = read.plan; planned = refl; ran = ran; headline = headline };
       same_count = omega (arith, many, same);
       quiet = c.in-Ok.ensures.turns;
     }

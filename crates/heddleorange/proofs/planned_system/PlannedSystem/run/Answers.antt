@@ -9,6 +9,7 @@ returns-then-workers-eq1 g c = record {
   refused = c.run_here.ensures.refused;
   states = c.run_here.ensures.states;
   lines = c.run_here.ensures.lines;
+  headline = c.run_here.ensures.headline;
   ledger = c.run_here.ensures.ledger;
   conserved = λ worth holdings notice conserve.
       conserved-of g.A.Actor.after g.A.Actor.gives worth holdings c.args.self.actors.items c.args.self.plan (orders_of c.args.sends.now) c.run_here.result
@@ -22,6 +23,7 @@ returns-else-workers-eq1 g c = record {
   refused = c.run_on_threads.ensures.refused;
   states = c.run_on_threads.ensures.states;
   lines = c.run_on_threads.ensures.lines;
+  headline = c.run_on_threads.ensures.headline;
   ledger = c.run_on_threads.ensures.ledger;
   conserved = λ worth holdings notice conserve.
       conserved-of g.A.Actor.after g.A.Actor.gives worth holdings c.args.self.actors.items c.args.self.plan (orders_of c.args.sends.now) c.run_on_threads.result

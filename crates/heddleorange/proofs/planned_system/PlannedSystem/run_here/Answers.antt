@@ -20,3 +20,6 @@ returns-clause-lines g c = c.run_here.ensures.lines
 
 pub returns-clause-ledger : goal.returns-clause-ledger
 returns-clause-ledger g c = c.run_here.ensures.ledger
+
+pub returns-clause-headline : goal.returns-clause-headline
+returns-clause-headline g c = c.run_here.ensures.headline

@@ -20,3 +20,6 @@ returns-clause-lines g c = c.run_on_threads.ensures.lines
 
 pub returns-clause-ledger : goal.returns-clause-ledger
 returns-clause-ledger g c = c.run_on_threads.ensures.ledger
+
+pub returns-clause-headline : goal.returns-clause-headline
+returns-clause-headline g c = c.run_on_threads.ensures.headline

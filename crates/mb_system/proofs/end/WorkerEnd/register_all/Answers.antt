@@ -1,12 +1,18 @@
 use Rattle.std.proofs.Common.{arith, refl, ◌∙◌}
 use Rattle.mb_system.specs.Members.{end_caller}
 use Rattle.mb_system.proofs.Obligations.{discharged-more}
-use Rattle.mb_system.proofs.Looking.{leaves-none, leaves-then}
+use Rattle.mb_gate.specs.Accessors.{pass_view}
+use Rattle.mb_system.proofs.Looking.{leaves-none, leaves-then, only-after, only-none}
 use Rattle.mb_system.proofs.end.WorkerEnd.register_all.Goals as goal
 
 pub loop-number-init : goal.loop-number-init
-loop-number-init g c =
-    (c.requires.same_gates, refl, leaves-none (end_caller c.args.self.now.registrar), λ id lt. absurd (omega (arith, lt)))
+loop-number-init g c = (
+  c.requires.same_gates,
+  refl,
+  leaves-none (end_caller c.args.self.now.registrar),
+  λ id lt. absurd (omega (arith, lt)),
+  only-none (pass_view c.args.self.now.registrar.pass),
+)
 
 pub loop-number-preserved : goal.loop-number-preserved
 loop-number-preserved g c =
@@ -16,6 +22,7 @@ loop-number-preserved g c =
       did.number ∙ at.invariant.1,
       leaves-then first old new at.invariant.2 did.leaves,
       discharged-more at.number old new at.invariant.3 did.leaves did.discharged,
+      only-after at.number first.view old.view new.view at.invariant.4 did.looks,
     )
 
 pub returns-clause-discharged : goal.returns-clause-discharged
@@ -23,6 +30,9 @@ returns-clause-discharged g c = λ id lt. c.loop-number.invariant.3 id (omega (a
 
 pub returns-clause-leaves : goal.returns-clause-leaves
 returns-clause-leaves g c = c.loop-number.invariant.2
+
+pub returns-clause-looks : goal.returns-clause-looks
+returns-clause-looks g c = c.loop-number.invariant.4
 
 pub returns-clause-log_kept : goal.returns-clause-log_kept
 returns-clause-log_kept g c = c.loop-number.invariant.2.log

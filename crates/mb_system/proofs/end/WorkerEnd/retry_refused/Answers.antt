@@ -1,11 +1,18 @@
 use Rattle.mb_gate.specs.Accessors.{actors_of}
 use Rattle.mb_system.specs.Members.{end_caller}
 use Rattle.mb_system.proofs.Obligations.{obligations-discharged}
+use Rattle.mb_system.proofs.Looking.{only-among}
 use Rattle.mb_system.proofs.Saw.{saw-more}
 use Rattle.std.proofs.Common.{◌∙◌, refl}
 use Rattle.mb_register.proofs.Retries.{on-failure}
 use Rattle.mb_system.proofs.RunErrors.{no-memory}
 use Rattle.mb_system.proofs.end.WorkerEnd.retry_refused.Goals as goal
+
+pub returns-clause-looks : goal.returns-clause-looks
+returns-clause-looks g c = only-among _ _ _ c.retry_refused.ensures.looks
+
+pub returns-in_err-retry_refused-clause-looks : goal.returns-in_err-retry_refused-clause-looks
+returns-in_err-retry_refused-clause-looks g c = only-among _ _ _ c.retry_refused.ensures.looks
 
 pub returns-clause-log_kept : goal.returns-clause-log_kept
 returns-clause-log_kept g c = saw-more c.retry_refused.ensures.looks.looks _ _ c.retry_refused.ensures.looks.log

@@ -1,0 +1,103 @@
+//! The system messages that were sent and have not come.
+ghost use Rattle.std.specs.Prelude.{◌≡◌, ◌+◌, ℕ, ◌<◌, ◌≤◌, ◌⊎◌, Bool, IfSome, IsTrue, OnOk, get_or, if◌then◌else◌, length};
+ghost use Rattle.mb_msg.specs.declared.system.SysMsg.{SysMsg as Message};
+ghost use Rattle.mb_causal_order.specs.Replayed.{outstanding};
+ghost use Rattle.mb_causal_order.specs.declared.outstanding.Row.{Row as Shown};
+
+use mb_msg::SysMsg;
+use std::alloc::{AllocError, Global};
+
+/// So many messages that are the same and go to the same actor.
+#[derive(Clone, Copy)]
+struct Row {
+    to: u32,
+    message: SysMsg,
+    count: u64,
+}
+
+/// The system messages that were sent and have not come, or fewer where one of the counts would be past `u64::MAX`.
+#[derive(Drop)]
+pub(crate) struct Outstanding {
+    rows: Vec<Row>,
+}
+
+impl Outstanding {
+    /// None. This takes no memory.
+    pub(crate) fn new(alloc: Global) -> Self
+        ensures { (test : ℕ → Message → Bool) → outstanding test result.rows.items ≡ 0 }
+    {
+        Outstanding {
+            rows: Vec::new(alloc),
+        }
+    }
+
+    /// Whether such a message to this actor has not come.
+    pub(crate) fn has(&self, to: u32, message: SysMsg) -> bool
+        ensures { IsTrue result → (test : ℕ → Message → Bool) → (if test to message then 1 else 0) ≤ outstanding test self.now.rows.items }
+    {
+        self.place_of(to, message).is_some()
+    }
+
+    /// So many such messages are sent to this actor. The only error: memory was refused.
+    pub(crate) fn send(&mut self, to: u32, message: SysMsg, times: u64) -> Result<(), AllocError>
+        ensures { OnOk result ((test : ℕ → Message → Bool) →
+            outstanding test self.new.rows.items ≤ outstanding test self.old.rows.items + (if test to message then times else 0)) }
+    {
+        match self.place_for(to, message) {
+            Some(place) => {
+                let count = self.rows[place].count.saturating_add(times);
+                self.rows[place] = Row { to, message, count };
+            }
+            None => self.rows.push(Row {
+                to,
+                message,
+                count: times,
+            })?,
+        }
+        Ok(())
+    }
+
+    /// Such a message comes to this actor, if one was sent and has not come.
+    pub(crate) fn take(&mut self, to: u32, message: SysMsg) -> bool
+        ensures { IsTrue result → (test : ℕ → Message → Bool) →
+            outstanding test self.new.rows.items + (if test to message then 1 else 0) ≤ outstanding test self.old.rows.items }
+    {
+        match self.place_of(to, message) {
+            Some(place) => {
+                self.rows[place].count -= 1;
+                true
+            }
+            None => false,
+        }
+    }
+
+    /// The row of such messages that has some.
+    fn place_of(&self, to: u32, message: SysMsg) -> Option<usize>
+        ensures { IfSome result (λ place. (place < length self.now.rows.items)
+            × ((d : Shown) → ((get_or self.now.rows.items place d).to ≡ to) × ((get_or self.now.rows.items place d).message ≡ message)
+            × (0 < (get_or self.now.rows.items place d).count))) }
+    {
+        for place in 0..self.rows.len() {
+            let row = self.rows[place];
+            if row.to == to && row.message == message && row.count > 0 {
+                return Some(place);
+            }
+        }
+        None
+    }
+
+    /// A row to which such a message can be added: one of such messages, or one that has none.
+    fn place_for(&self, to: u32, message: SysMsg) -> Option<usize>
+        ensures { IfSome result (λ place. (place < length self.now.rows.items)
+            × ((d : Shown) → ((get_or self.now.rows.items place d).count ≡ 0)
+            ⊎ (((get_or self.now.rows.items place d).to ≡ to) × ((get_or self.now.rows.items place d).message ≡ message)))) }
+    {
+        for place in 0..self.rows.len() {
+            let row = self.rows[place];
+            if row.count == 0 || (row.to == to && row.message == message) {
+                return Some(place);
+            }
+        }
+        None
+    }
+}

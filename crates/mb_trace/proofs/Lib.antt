@@ -1,0 +1,12 @@
+pub mod Written
+pub mod Shown
+pub mod AsideLines
+pub mod PartLines
+pub mod TurnLines
+pub mod OrderLines
+pub mod Lives
+pub mod Stepped
+pub mod Spawned
+pub mod Passed
+pub mod Left
+pub mod At

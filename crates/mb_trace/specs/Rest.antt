@@ -1,0 +1,66 @@
+-- What stands at the end of a trace: dead letters, what is left, and what is set aside (this project's own profile).
+use Rattle.std.specs.Prelude.{ℕ, ◌+◌, if◌then◌else◌, Bool, true, false, List, [], ◌∷◌, ◌++◌}
+use Rattle.std.specs.List.{flat_map}
+use Rattle.mb_msg.specs.declared.dead_letter.DeadLetter.{DeadLetter}
+use Rattle.mb_msg.specs.declared.dead_letter.Why.TheVariants.{Cleaned}
+use Rattle.mb_msg.specs.declared.envelope.Envelope.{Envelope}
+use Rattle.mb_msg.specs.declared.system.SysMsg.{SysMsg}
+use Rattle.mb_report.specs.declared.report.ActorReport.{ActorReport}
+use Rattle.mb_report.specs.declared.report.Report.{Report}
+use Rattle.mb_report.specs.declared.report.SenderReport.{SenderReport}
+use Rattle.mb_trace.specs.Ends.{aside_text, left_text, letter_text}
+use Rattle.mb_trace.specs.Filter.{shows_actor}
+use Rattle.mb_trace.specs.declared.filter.EntryKinds.{EntryKinds}
+use Rattle.mb_trace.specs.declared.filter.EntryKinds.TheVariants as kinds
+use Rattle.mb_trace.specs.declared.filter.Filter.{Filter}
+
+-- envelopes at the end are shown with entries of envelopes
+abbrev pub shows_envelopes : EntryKinds → Bool
+shows_envelopes kinds.All = true
+shows_envelopes kinds.User = true
+shows_envelopes _ = false
+
+-- system messages at the end are shown with entries of system messages
+abbrev pub shows_system_messages : EntryKinds → Bool
+shows_system_messages kinds.All = true
+shows_system_messages kinds.System = true
+shows_system_messages _ = false
+
+-- these lines, where the filter shows the actor of this number
+abbrev pub where_shown : Filter → ℕ → List ℕ → List ℕ
+where_shown f actor lines = if shows_actor f.actors.now actor then lines else []
+
+-- the envelopes of a sender that were refused
+abbrev pub refused_text : List (List ℕ) → Filter → SenderReport → List ℕ
+refused_text names f sender =
+    flat_map (λ (d : DeadLetter). where_shown f d.envelope.to.0 (letter_text names d.envelope d.why)) sender.dead.items
+
+-- those that were still queued when the actor ended
+abbrev pub cleaned_text : List (List ℕ) → Filter → ActorReport → List ℕ
+cleaned_text names f reported = flat_map (λ (e : Envelope). where_shown f e.to.0 (letter_text names e Cleaned)) reported.cleaned.items
+
+-- those that are left in its queue
+abbrev pub queued_text : List (List ℕ) → Filter → ActorReport → List ℕ
+queued_text names f reported = flat_map (λ (e : Envelope). where_shown f e.to.0 (left_text names e)) reported.left.items
+
+-- the system messages that are set aside at the actor of this number
+abbrev pub set_aside_text : List (List ℕ) → Filter → ℕ → ActorReport → List ℕ
+set_aside_text names f actor reported =
+    where_shown f actor (flat_map (λ (m : ℕ × SysMsg). aside_text names actor m.0 m.1) reported.aside.items)
+
+-- those at these actors, numbered on from this one
+abbrev pub all_aside_text : List (List ℕ) → Filter → ℕ → List ActorReport → List ℕ
+all_aside_text names f actor [] = []
+all_aside_text names f actor (r ∷ reported) = set_aside_text names f actor r ++ all_aside_text names f (actor + 1) reported
+
+-- the dead letters, those of each sender and then those of each actor's end, and what is left
+abbrev pub envelopes_text : List (List ℕ) → Filter → Report → List ℕ
+envelopes_text names f report =
+    flat_map (refused_text names f) report.senders.items ++ flat_map (cleaned_text names f) report.actors.items
+    ++ flat_map (queued_text names f) report.actors.items
+
+-- all of them, as far as the filter shows their kinds
+abbrev pub rest_text : List (List ℕ) → Filter → Report → List ℕ
+rest_text names f report =
+    (if shows_envelopes f.only then envelopes_text names f report else [])
+    ++ (if shows_system_messages f.only then all_aside_text names f 0 report.actors.items else [])

@@ -1,0 +1,117 @@
+//! The entries of a run on threads.
+ghost use Rattle.std.specs.Prelude.{ℕ, ◌≡◌, ◌++◌, [], List, codes, if◌then◌else◌, map, string_bytes};
+ghost use Rattle.mb_trace.specs.Output.{IsWritten};
+ghost use Rattle.mb_trace.specs.Steps.{step_data};
+ghost use Rattle.mb_trace.specs.Text.{is_above, step_text, title_text};
+ghost use Rattle.mb_trace.specs.Whole.{HasEntries, journals_text, order_text};
+
+use crate::error::TraceError;
+use crate::filter::Filter;
+use crate::output::write_whole;
+use crate::parts::{write_entry, write_journals, write_title};
+use crate::step::TraceStep;
+use crate::steps::TraceSteps;
+use crate::trace::Trace;
+use mb_causal_order::{Place, merged_order};
+use mb_msg::ActorId;
+use std::alloc::Global;
+use std::io::Write;
+
+/// The first line of the trace of a run on threads.
+const ON_THREADS: &str =
+    "on threads: one order that agrees with what caused what, not that of the clock\n";
+
+/// The first line where no such order is found.
+const BY_ACTOR: &str =
+    "on threads: no order found that agrees with what caused what; each actor by itself, in the order of its journal\n";
+
+/// Writes the entries of a run on threads: in one order in which each stands after what caused it, or where none is found actor by actor.
+pub(crate) fn write_on_threads<W: Write>(
+    alloc: Global,
+    trace: &Trace<'_>,
+    filter: &Filter<'_>,
+    out: &mut W,
+) -> Result<(), TraceError>
+    ensures { (entries : List ℕ) × HasEntries trace.now filter.now entries × IsWritten (W.contents out.old) (W.contents out.new) result entries }
+{
+    match merged_order(alloc, trace.plan, trace.sends, &trace.report.actors)? {
+        Some(order) => write_in_order(alloc, trace, filter, &order, out),
+        None => write_by_actor(alloc, trace, filter, out),
+    }
+}
+
+/// Writes the journals, actor by actor.
+fn write_by_actor<W: Write>(
+    alloc: Global,
+    trace: &Trace<'_>,
+    filter: &Filter<'_>,
+    out: &mut W,
+) -> Result<(), TraceError>
+    ensures { IsWritten (W.contents out.old) (W.contents out.new) result (journals_text trace.now filter.now) }
+{
+    write_whole(out, BY_ACTOR.as_bytes())?;
+    write_journals(alloc, trace, filter, &trace.report.actors, out)
+}
+
+/// Writes the entries in this order. Those of an actor one after another have its name above them.
+fn write_in_order<W: Write>(
+    alloc: Global,
+    trace: &Trace<'_>,
+    filter: &Filter<'_>,
+    order: &[Place],
+    out: &mut W,
+) -> Result<(), TraceError>
+    ensures { IsWritten (W.contents out.old) (W.contents out.new) result (order_text trace.now filter.now order.now) }
+{
+    write_whole(out, ON_THREADS.as_bytes())?;
+    let mut steps = TraceSteps::new(alloc, *trace)?;
+    let mut left = filter.limit;
+    let mut above = None;
+    for place in order {
+        if place.actor >= trace.report.actors.len() {
+            continue;
+        }
+        let Some(step) = steps.next_of(ActorId(place.actor as u32))? else {
+            continue;
+        };
+        if left == 0 {
+            continue;
+        }
+        if !filter.passes(&step) {
+            continue;
+        }
+        write_next(alloc, trace.names, above, &step, out)?;
+        above = Some(step.actor.0);
+        left -= 1;
+    }
+    Ok(())
+}
+
+/// Writes an entry, below its actor's name unless that stands above.
+fn write_next<W: Write>(
+    alloc: Global,
+    names: &[String],
+    above: Option<u32>,
+    step: &TraceStep<'_>,
+    out: &mut W,
+) -> Result<(), TraceError>
+    ensures { IsWritten (W.contents out.old) (W.contents out.new) result
+        ((if is_above above step.now.actor.0 then [] else title_text (map string_bytes names.now) (codes "actor") step.now.actor.0)
+        ++ step_text (map string_bytes names.now) (step_data step.now)) }
+{
+    if stands_above(above, step.actor.0) {
+        return write_entry(alloc, names, step, out);
+    }
+    write_title(alloc, names, "actor", step.actor, out)?;
+    write_entry(alloc, names, step, out)
+}
+
+/// Whether the name of the actor of this number is the one that stands above.
+fn stands_above(above: Option<u32>, actor: u32) -> bool
+    ensures { result ≡ is_above above actor }
+{
+    match above {
+        Some(number) => number == actor,
+        None => false,
+    }
+}
