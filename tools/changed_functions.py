@@ -11,6 +11,8 @@ IMPL = re.compile(r"^(\s*)(?:unsafe )?impl\b(?:<.*?>)? (.*?)(?: \{)?$")
 IMPORTS = re.compile(r"(?:pub |ghost )?use ")
 # A line that tells of a place: its file, its line, and what is said.
 PLACE = re.compile(r"(?:note: )?(?:\./)?((?:src|specs|proofs)/\S+?):(\d+):\d+: (.*)")
+# How the prover tells that it found no proof of something that the code owes.
+UNPROVED = ("it is not proved", "`search` found no proof")
 # A proof that names what is not there any more, or rests on such a proof: that says little of the contract.
 LOST_NAME = re.compile(r"has no field|is not in scope|has no `|was not admitted")
 
@@ -99,7 +101,7 @@ def refusals(said, function):
         if not place:
             continue
         path, number, text = place[1], int(place[2]), place[3]
-        in_code = function.has_line(path, number) and ("it is not proved" in text or text.startswith("error"))
+        in_code = function.has_line(path, number) and (text.startswith("error") or any(words in text for words in UNPROVED))
         in_proof = function.owns_proof(path) and text.startswith("error") and not LOST_NAME.search(text)
         if in_code or in_proof:
             found.append(f"{path}:{number}: {text}")
