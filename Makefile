@@ -74,10 +74,12 @@ check:
 wrong-bodies:
 	tools/try_wrong_bodies $(CRATE)
 
-# What the parts cost: messages through a cell and its journal, the queues, the gates and the pools.
+# What the parts cost: messages through a cell and its journal, the queues, the gates and the pools; and six workloads of the program.
 bench:
 	@tools/prove bench
+	@tools/prove mailrun
 	@crates/bench/out/bench
+	@tools/time_workloads $(PROGRAM)
 
 # Installs the two programs: make install [PREFIX=path]
 install: proved

@@ -55,8 +55,9 @@ module _ {A K : Type 0} (gives : ℕ → Moment → Reply → Type 0) (plan : Pl
   pub may-break : (error : RunError) → BreaksOff gives built.system orders error → IsErrorOfRun gives plan actors orders (Run error)
   may-break Fault.NoMemory broken = right
   may-break Fault.JournalFull (inl one) = absurd one.3
-  may-break Fault.JournalFull (inr work) =
-      (right, full-journal gives plan built.system (of-plan gives plan built begun) begun.numbers.2 work.0 work.1)
+  may-break Fault.JournalFull (inr (end, inl short)) = absurd (cc short)
+  may-break Fault.JournalFull (inr (end, inr full)) =
+      (right, full-journal gives plan built.system (of-plan gives plan built begun) begun.numbers.2 end full)
   may-break Fault.NoSuchActor (inl one) =
       let order = one.3.0 in let some = one.3.2 in
       let nobody : has_nobody actors order ≡ true =
@@ -64,4 +65,5 @@ module _ {A K : Type 0} (gives : ℕ → Moment → Reply → Type 0) (plan : Pl
       (for-nobody built.system.gates actors order.to order.what so-many one.3.3) in
       let somebody = All-contains (λ o. has_nobody actors o ≡ false) one.1 order (of-place actors orders one.0 one.1 right.2 one.2) one.3.1 in
       absurd (cc (nobody, somebody))
-  may-break Fault.NoSuchActor (inr work) = absurd work.1
+  may-break Fault.NoSuchActor (inr (end, inl short)) = absurd (cc short)
+  may-break Fault.NoSuchActor (inr (end, inr broken)) = absurd broken

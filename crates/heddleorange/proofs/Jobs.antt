@@ -136,7 +136,7 @@ module _ {A K : Type 0} where
   module _ (gives : ℕ → Moment → Reply → Type 0) (system : System A K) (ends : List (WorkerEnd A K)) (jobs : List (Job A K)) (orders : List (List Order))
       (sends : map sends_in jobs ≡ orders) where
     pub broke-off : (after : List (Job A K)) (error : RunError) → BreaksRun gives system ends jobs after error → BreaksOff gives system orders error
-    broke-off after error (inl by_end) = inr (first-of _ _ ends by_end)
+    broke-off after error (inl by_end) = let one = first-of _ _ ends by_end in inr (one.0, inr one.1)
     broke-off after error (inr by_job) =
         let one = first-zip-of _ _ jobs after by_job.1 in
         let sent = ap (λ l. slice_get l one.0) (sym sends) ∙ mapped sends_in jobs one.0 one.1 one.2 in

@@ -21,3 +21,5 @@ pub mod Lookup
 pub mod InOrder
 pub mod InTurn
 pub mod QuietReport
+pub mod Turns
+pub mod Stretches

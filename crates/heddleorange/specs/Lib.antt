@@ -9,3 +9,4 @@ pub mod Conservation
 pub mod Names
 pub mod RunHeadline
 pub mod Orders
+pub mod Turns

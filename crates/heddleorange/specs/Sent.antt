@@ -17,7 +17,7 @@ use Rattle.mb_system.specs.declared.failure.RunError.{RunError}
 use Rattle.mb_msg.specs.declared.order.Order.{Order}
 use Rattle.mb_system.specs.declared.sender.Sender.{Sender}
 use Rattle.mb_system.specs.declared.system.System.{System}
-use Rattle.mb_dispatch.specs.Faults.{BreaksSending, BreaksWork}
+use Rattle.mb_dispatch.specs.Faults.{BreaksSending, BreaksQuietRun}
 
 -- Sending is broken off for this reason at the orders of one place.
 abbrev pub BreaksOne : Gates (Box Contents) → List (List Order) → RunError → Type 0
@@ -47,4 +47,4 @@ module _ {A K : Type 0} where
 
   -- Sending is broken off for this reason, or the run of an end of this system is.
   abbrev pub BreaksOff : (ℕ → Moment → Reply → Type 0) → System A K → List (List Order) → RunError → Type 0
-  BreaksOff gives system orders error = BreaksOne system.gates orders error ⊎ ((end : WorkerEnd A K) × BreaksWork gives system end error)
+  BreaksOff gives system orders error = BreaksOne system.gates orders error ⊎ ((end : WorkerEnd A K) × BreaksQuietRun gives system end error)

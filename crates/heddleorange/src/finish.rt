@@ -1,8 +1,10 @@
 //! Ending the system of a run.
-ghost use Rattle.std.specs.Prelude.{◌≡◌, ℕ, List, IfErr, IfOk, length};
+ghost use Rattle.std.specs.Prelude.{◌≡◌, ℕ, All, List, IfErr, IfOk, length};
+ghost use Rattle.mb_gate.specs.Accessors.{pass_view};
 ghost use Rattle.mb_msg.specs.declared.order.Order.{Order as OrderOf};
 ghost use Rattle.mb_msg.specs.declared.plan.Plan.{Plan as PlanOf};
 ghost use Rattle.mb_shutdown.specs.Refused.{IsComplete, IsOfWhole};
+ghost use Rattle.mb_shutdown.specs.Seen.{ReportExtendsAll};
 ghost use Rattle.mb_system.specs.Belonging.{BelongsTogether};
 ghost use Rattle.heddleorange.specs.HasRun.{HasRun};
 ghost use Rattle.heddleorange.specs.NoReport.{IsErrorFor, IsErrorOfRun, IsRight};
@@ -15,7 +17,7 @@ use mb_shutdown::{FinishError, finish};
 use mb_system::Built;
 use std::sync::Wait;
 
-/// Ends a system that has run: its report, or why there is none. Both clauses hold for every plan and orders that made this system.
+/// Ends a system that has run: its report, or why there is none. The first two clauses hold for every plan and orders that made this system.
 pub(crate) fn finish_run<A: Actor, K: Behaviours, R: Wait>(
     rt: &R,
     built: Built<A, K>,
@@ -26,6 +28,7 @@ pub(crate) fn finish_run<A: Actor, K: Behaviours, R: Wait>(
         → HasRun K.gives plan orders built → IsReportOfRun K.after K.gives plan orders report) }
     ensures refused { IfErr result (λ error. (plan : PlanOf) (actors : ℕ) (orders : List (List OrderOf)) → IsRight plan actors orders
         → HasRun K.gives plan orders built → IsErrorOfRun K.gives plan actors orders error) }
+    ensures seen { IfOk result (λ report. All (λ e. ReportExtendsAll report (pass_view e.registrar.pass)) built.ends.items) }
 {
     match finish(rt, built) {
         Ok(report) => Ok(report),

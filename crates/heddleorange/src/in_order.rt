@@ -6,6 +6,7 @@ ghost use Rattle.heddleorange.specs.NoReport.{IsErrorOfRun, IsRight};
 ghost use Rattle.heddleorange.specs.Orders.{lists_of};
 ghost use Rattle.heddleorange.specs.RunHeadline.{RunHeadline};
 ghost use Rattle.heddleorange.specs.States.{ShowsStates};
+ghost use Rattle.heddleorange.specs.Turns.{AreStretches, AreTurnsOf};
 ghost use Rattle.heddleorange.specs.WholeRun.{IsReportOfRun, after_at, gives_at};
 
 use crate::begin::begin_in_order;
@@ -50,6 +51,8 @@ pub fn run_in_order<A: Actor, R: Wait>(
     ensures lines { IfOk result (λ run. length run.report.actors.items ≡ length actors.items + 1) }
     ensures headline { IfOk result (λ run. RunHeadline plan (lists_of plan.senders sends.now) run.report) }
     ensures ledger { IfOk result (λ run. AddsUp plan (lists_of plan.senders sends.now) run.report) }
+    ensures turns { IfOk result (λ run. AreTurnsOf plan run.turns.items) }
+    ensures stretches { IfOk result (λ run. AreStretches run.report run.turns.items) }
 {
     run_planned_in_order::<A, Brand, R>(rt, alloc, plan, actors, sends)
 }
@@ -66,6 +69,8 @@ fn run_planned_in_order<A: Actor, K: Behaviours, R: Wait>(
     ensures story { IfOk result (λ run. IsReportOfRun K.after K.gives plan (lists_of plan.senders sends.now) run.report) }
     ensures right { OnOk result (IsRight plan (length actors.items) (lists_of plan.senders sends.now)) }
     ensures refused { IfErr result (IsErrorOfRun K.gives plan (length actors.items) (lists_of plan.senders sends.now)) }
+    ensures turns { IfOk result (λ run. AreTurnsOf plan run.turns.items) }
+    ensures stretches { IfOk result (λ run. AreStretches run.report run.turns.items) }
 {
     let mut built = begin_in_order::<A, K, R>(rt, alloc, plan, actors, sends)?;
     let turns = match send_in_order_and_run(rt, &mut built, sends) {

@@ -1,12 +1,16 @@
 //! Sending all that is to be sent, and running what that leaves to run.
-ghost use Rattle.std.specs.Prelude.{◌≡◌, ◌≢◌, ◌<◌, [], All, IfErr, OnOk, length, map};
+ghost use Rattle.std.specs.Prelude.{◌≡◌, ◌≢◌, ◌<◌, [], All, IfErr, IfOk, OnOk, length, map};
+ghost use Rattle.mb_gate.specs.Accessors.{actors_of, pass_view};
+ghost use Rattle.mb_report.specs.declared.report.Report.{Report as ReportOf};
+ghost use Rattle.mb_shutdown.specs.Seen.{ReportExtendsAll};
 ghost use Rattle.mb_system.specs.Belonging.{BelongsTogether};
-ghost use Rattle.mb_dispatch.specs.Faults.{BreaksSending, BreaksWork};
+ghost use Rattle.mb_dispatch.specs.Faults.{BreaksSending, BreaksQuietRun};
 ghost use Rattle.mb_system.specs.Members.{AreEndsOf, IsSenderOf, StillSee, ends_numbers};
 ghost use Rattle.mb_system.specs.Obligations.{OwesNobody};
 ghost use Rattle.mb_system.specs.declared.end.WorkerEnd.{WorkerEnd as EndOf};
 ghost use Rattle.heddleorange.specs.Orders.{lists_of};
 ghost use Rattle.heddleorange.specs.Sent.{BreaksOff, BreaksOne, FoundNothing, HasSentAndRetried, HaveSent};
+ghost use Rattle.heddleorange.specs.Turns.{AreStretches, IsTurnOf};
 
 use mb_actor::{Actor, Behaviours};
 use mb_dispatch::{Turn, run_quietly, send_all};
@@ -57,6 +61,9 @@ pub(crate) fn send_in_order_and_run<A: Actor, K: Behaviours, R: Wait>(
         built.new.senders.items) }
     ensures log_kept { OnOk result (StillSee built.old.ends.items built.new.ends.items) }
     ensures found_nothing { OnOk result (FoundNothing K.gives built.old.system.gates built.new.ends.items) }
+    ensures turns { IfOk result (λ turns. All (IsTurnOf (actors_of built.old.system.gates) built.old.system.throughput) turns.items) }
+    ensures stretches { IfOk result (λ turns. (report : ReportOf) → All (λ e. ReportExtendsAll report (pass_view e.registrar.pass)) built.new.ends.items
+        → AreStretches report turns.items) }
     ensures fault { IfErr result (BreaksOff K.gives built.old.system (lists_of (length built.old.senders.items) sends.now)) }
 {
     send_in_order(rt, &built.system, &mut built.senders, sends)?;
@@ -76,7 +83,10 @@ fn run_first<A: Actor, K: Behaviours, R: Wait>(
     ensures ends { ends_numbers built.new.ends.items ≡ ends_numbers built.old.ends.items }
     ensures log_kept { StillSee built.old.ends.items built.new.ends.items }
     ensures found_nothing { OnOk result (FoundNothing K.gives built.old.system.gates built.new.ends.items) }
-    ensures fault { IfErr result (λ error. (end : EndOf A K) × BreaksWork K.gives built.old.system end error) }
+    ensures turns { IfOk result (λ turns. All (IsTurnOf (actors_of built.old.system.gates) built.old.system.throughput) turns.items) }
+    ensures stretches { IfOk result (λ turns. (report : ReportOf) → All (λ e. ReportExtendsAll report (pass_view e.registrar.pass)) built.new.ends.items
+        → AreStretches report turns.items) }
+    ensures fault { IfErr result (λ error. (end : EndOf A K) × BreaksQuietRun K.gives built.old.system end error) }
 {
     run_quietly(rt, &built.system, &mut built.ends[0])
 }

@@ -11,6 +11,8 @@ pub enum EntryOrder {
     Causes,
     /// Of a run on threads where no such order was found: actor by actor.
     Actors,
+    /// Of a quiet run whose turns do not have each entry once: actor by actor.
+    Uncovered,
 }
 
 impl EntryOrder {
@@ -23,6 +25,9 @@ impl EntryOrder {
             ),
             EntryOrder::Actors => Some(
                 "on threads: no order found that agrees with what caused what; each actor by itself",
+            ),
+            EntryOrder::Uncovered => Some(
+                "quiet run: its turns do not have each entry exactly once; each actor by itself",
             ),
         }
     }

@@ -1,4 +1,10 @@
 //! The rows of a picture.
+ghost use Rattle.std.specs.Prelude.{◌≡◌, IsTrue, List};
+ghost use Rattle.mb_actor.specs.declared.effect.Effect.{Effect as Asked};
+ghost use Rattle.mb_journal.specs.Entry.{is_failed};
+ghost use Rattle.mb_journal.specs.JournalView.{entry_with};
+ghost use Rattle.mb_diagram.specs.Rows as spec;
+
 use crate::picture::{Picture, ShownEntry};
 use crate::sources::Sources;
 use crate::words::Outcome;
@@ -148,18 +154,32 @@ fn tells_of_failure(came: Received) -> bool {
 
 /// Whether this is the first entry of its journal, a Create from the guardian or the guardian's own, and it did not fail. A Create behind
 /// another message has a row of its own, so that each journal is drawn in its order.
-fn is_plain_create(shown: &ShownEntry<'_>, source: Option<u32>) -> bool {
+fn is_plain_create(shown: &ShownEntry<'_>, source: Option<u32>) -> bool
+    ensures { result ≡ spec.is_in_created_row shown.now source }
+{
     match shown.entry.arrival {
         Received::System {
             answer,
             message: SysMsg::Create,
             ..
-        } => shown.index == 0 && (source == None || source == Some(0)) && !has_failed(answer),
+        } => shown.index == 0 && is_from_guardian(source) && !has_failed(answer),
         _ => false,
     }
 }
 
-fn has_failed(answer: Option<Answer>) -> bool {
+/// Whether the guardian sent it, or nobody is known to have.
+fn is_from_guardian(source: Option<u32>) -> bool
+    ensures { result ≡ spec.is_from_guardian source }
+{
+    match source {
+        None => true,
+        Some(id) => id == 0,
+    }
+}
+
+fn has_failed(answer: Option<Answer>) -> bool
+    ensures { result ≡ is_failed answer }
+{
     match answer {
         Some(Answer::Failed(_)) => true,
         _ => false,
@@ -167,7 +187,9 @@ fn has_failed(answer: Option<Answer>) -> bool {
 }
 
 /// Whether an entry is like those of a row but for its numbers.
-fn is_alike(row: &Row<'_>, shown: &ShownEntry<'_>, source: Option<u32>) -> bool {
+fn is_alike(row: &Row<'_>, shown: &ShownEntry<'_>, source: Option<u32>) -> bool
+    ensures { IsTrue result → spec.AreOneRow row.now.shown shown.now row.now.source source }
+{
     row.source == source
         && row.shown.actor == shown.actor
         && is_like_entry(&row.shown.entry, &shown.entry)
@@ -182,7 +204,9 @@ fn is_like_letter(one: &DeadLetter, other: &DeadLetter) -> bool {
 }
 
 /// The same with the number 0.
-fn unnumbered(envelope: Envelope) -> Envelope {
+fn unnumbered(envelope: Envelope) -> Envelope
+    ensures { result ≡ spec.unnumbered envelope }
+{
     Envelope {
         number: 0,
         ..envelope
@@ -190,7 +214,9 @@ fn unnumbered(envelope: Envelope) -> Envelope {
 }
 
 /// The same with the number 0, and read at the status 0.
-fn without_numbers(came: Received) -> Received {
+fn without_numbers(came: Received) -> Received
+    ensures { (effects : List Asked) → entry_with result effects ≡ spec.without_numbers (entry_with came effects) }
+{
     match came {
         Received::Handled {
             answer,

@@ -13,7 +13,7 @@ use Rattle.mb_journal.specs.Run.{Stopped}
 use Rattle.mb_journal.specs.Run.Stopped.{NoRoom}
 use Rattle.mb_journal.specs.declared.error.ReadyError.{ReadyError}
 use Rattle.mb_journal.specs.declared.error.ReadyError.TheVariants as Ready
-use Rattle.mb_gate.specs.Accessors.{pass_view}
+use Rattle.mb_gate.specs.Accessors.{held_actor, pass_view}
 use Rattle.mb_gate.specs.Untouched.{origin_of}
 use Rattle.mb_gate.specs.View.{View}
 use Rattle.mb_gate.specs.declared.claim.Claim.{Claim}
@@ -22,12 +22,14 @@ use Rattle.mb_home.specs.Contents.{Contents}
 use Rattle.mb_send.specs.declared.send_error.SendError.{SendError}
 use Rattle.mb_send.specs.declared.send_error.SendError.TheVariants as Refusal
 use Rattle.mb_home.specs.Fresh.{IsFreshClaim}
-use Rattle.mb_mailbox.specs.Ran.{HadRoom, LeavesRun}
+use Rattle.mb_mailbox.specs.Ran.{HadRoom, IsShortOfMemory, LeavesRun}
 use Rattle.mb_mailbox.specs.declared.turn.Turn.{Turn}
-use Rattle.mb_dispatch.specs.Faults.{BreaksRun, BreaksWork, CameToLimit, BreaksSending, HasWorked, IsToNobody}
+use Rattle.mb_dispatch.specs.Faults.{BreaksRun, BreaksWork, CameShort, CameToLimit, BreaksSending, HasWorked, IsToNobody}
 use Rattle.mb_dispatch.specs.Jobs.{IsDone}
 use Rattle.mb_dispatch.specs.Orders.{order_for}
 use Rattle.mb_dispatch.specs.Parallel.{FirstZip}
+use Rattle.mb_register.specs.Registering.{QueueAccount, StopsAt}
+use Rattle.mb_system.specs.Members.{end_caller}
 use Rattle.mb_system.specs.RunErrors.{of_ready, of_send}
 use Rattle.mb_system.specs.declared.end.WorkerEnd.{WorkerEnd}
 use Rattle.mb_system.specs.declared.failure.RunError.{RunError}
@@ -79,6 +81,10 @@ pub full-of-ready : (error : ReadyError) → of_ready error ≡ JournalFull → 
 full-of-ready Ready.NoMemory is = absurd (subst IsFull (sym is) tt)
 full-of-ready Ready.JournalFull is = refl
 
+pub short-of-ready : (error : ReadyError) → of_ready error ≡ NoMemory → error ≡ Ready.NoMemory
+short-of-ready Ready.NoMemory is = refl
+short-of-ready Ready.JournalFull is = absurd (subst IsFull is tt)
+
 pub ready-is-known : (error : ReadyError) → of_ready error ≢ NoSuchActor
 ready-is-known Ready.NoMemory is = subst IsUnknown (sym is) tt
 ready-is-known Ready.JournalFull is = subst IsUnknown (sym is) tt
@@ -124,12 +130,32 @@ module _ {A K : Type 0} (gives : ℕ → Moment → Reply → Type 0) (system : 
     full = ran.2 e;
   }
 
+  pub came-short : (before : View) (end : WorkerEnd A K) (claim : Claim (Box Contents)) → IsFreshClaim gives (Some (origin_of system.gates)) claim
+      → (journal : List Entry) × (turn : Turn) × LeavesRun system.throughput claim before (pass_view end.registrar.pass) journal turn NoRoom
+      × IsShortOfMemory claim.home.value.cell.who journal → CameShort gives system end
+  came-short before end claim fresh ran = record {
+    claim = claim;
+    fresh = fresh;
+    before = before;
+    journal = ran.0;
+    turn = ran.1;
+    left = ran.2;
+    short = ran.3;
+  }
+
   -- a run of a mailbox was broken off
-  pub breaks-work : (end : WorkerEnd A K) (fault : RunError) → (fault ≡ JournalFull → CameToLimit gives system end) → fault ≢ NoSuchActor
-      → BreaksWork gives system end fault
-  breaks-work end NoMemory full known = tt
-  breaks-work end JournalFull full known = full refl
-  breaks-work end NoSuchActor full known = known refl
+  pub breaks-work : (end : WorkerEnd A K) (fault : RunError) → (fault ≡ JournalFull → CameToLimit gives system end)
+      → (fault ≡ NoMemory → CameShort gives system end) → fault ≢ NoSuchActor → BreaksWork gives system end fault
+  breaks-work end NoMemory full short known = inl (short refl)
+  breaks-work end JournalFull full short known = full refl
+  breaks-work end NoSuchActor full short known = known refl
+
+  -- the pool refused again the claim of an actor to which a look is owed
+  pub breaks-retry : (end : WorkerEnd A K) (old : QueueAccount (Box Contents)) {T : Type 0} (P : T → Type 0) (r : Result T RunError)
+      → MatchResult r P (λ _. StopsAt old (end_caller end.registrar).account) → OnErr r (IsErrOf r NoMemory) → IfErr r (BreaksWork gives system end)
+  breaks-retry end old P (Ok x) stops refused = tt
+  breaks-retry end old {T} P (Err e) stops refused =
+      subst (λ (q : Result T RunError). IfErr q (BreaksWork gives system end)) (sym refused) (inr (held_actor stops.claim, stops.still))
 
   -- a run is broken off by the first of its ends that was, or else by the first of its jobs
   pub breaks-run : (started ends : List (WorkerEnd A K)) (before after : List (Job A K)) (of_ends of_jobs r : Result (Unit {0}) RunError)

@@ -1,5 +1,5 @@
 -- Why a run is broken off.
-use Rattle.std.specs.Prelude.{◌≡◌, ◌⊎◌, ℕ, ◌<◌, ◌≤◌, false, List, All, Contains, Some, length}
+use Rattle.std.specs.Prelude.{◌≡◌, ◌⊎◌, ℕ, ◌<◌, ◌≤◌, false, true, List, All, Contains, Some, length}
 use Rattle.std.specs.Global.{Box}
 use Rattle.mb_actor.specs.Behaviour.{Moment, Reply}
 use Rattle.mb_msg.specs.declared.id.ActorId.{ActorId}
@@ -16,7 +16,7 @@ use Rattle.mb_msg.specs.declared.order.Order.{Order}
 use Rattle.mb_msg.specs.declared.order.OrderKind.{OrderKind}
 use Rattle.mb_msg.specs.declared.order.OrderKind.TheVariants.{Stop, Tell}
 use Rattle.mb_register.specs.Owed.{is_owed}
-use Rattle.mb_mailbox.specs.Ran.{LeavesRun}
+use Rattle.mb_mailbox.specs.Ran.{IsShortOfMemory, LeavesRun}
 use Rattle.mb_mailbox.specs.declared.turn.Turn.{Turn}
 use Rattle.mb_system.specs.declared.end.WorkerEnd.{WorkerEnd}
 use Rattle.mb_system.specs.declared.failure.RunError.{RunError}
@@ -49,11 +49,31 @@ module _ {A K : Type 0} (gives : ℕ → Moment → Reply → Type 0) (system : 
     pub left : LeavesRun system.throughput claim before (pass_view end.registrar.pass) journal turn NoRoom
     pub full : claim.home.value.cell.who.limit ≤ length journal
 
-  -- The end is broken off for this reason: `JournalFull` only if a journal came to its limit.
+  -- A run of a mailbox by this end had no room, though its actor's journal had not come to its limit, or since the actor ended: then memory was
+  -- asked for.
+  pub record CameShort (end : WorkerEnd A K) : Type 0 where
+    pub claim : Claim (Box Contents)
+    pub fresh : IsFreshClaim gives (Some (origin_of system.gates)) claim
+    pub before : View
+    pub journal : List Entry
+    pub turn : Turn
+    pub left : LeavesRun system.throughput claim before (pass_view end.registrar.pass) journal turn NoRoom
+    pub short : IsShortOfMemory claim.home.value.cell.who journal
+
+  -- The end owes an actor a look: the pool refused its claim.
+  abbrev pub OwesLook : WorkerEnd A K → Type 0
+  OwesLook end = (id : ℕ) × (is_owed end.registrar.owed id ≡ true)
+
+  -- The end is broken off for this reason: `JournalFull` only if a journal came to its limit; `NoMemory` only if a run of a mailbox was short of
+  -- memory, or the pool refused the claim of an actor to which a look is owed since.
   abbrev pub BreaksWork : WorkerEnd A K → RunError → Type 0
-  BreaksWork end NoMemory = Unit {0}
+  BreaksWork end NoMemory = CameShort end ⊎ OwesLook end
   BreaksWork end JournalFull = CameToLimit end
   BreaksWork end NoSuchActor = ⊥
+
+  -- A quiet run is broken off for this reason: as any work of an end, or memory was refused for one more answer.
+  abbrev pub BreaksQuietRun : WorkerEnd A K → RunError → Type 0
+  BreaksQuietRun end error = (error ≡ NoMemory) ⊎ BreaksWork end error
 
   -- The end has worked to its end: it owes nobody a look, and found the pool empty last.
   abbrev pub HasWorked : WorkerEnd A K → Type 0

@@ -25,7 +25,8 @@ module _ {A K : Type 0} (gives : ℕ → Moment → Reply → Type 0) (system : 
     pub room : HadRoom stopped
     pub left : LeavesRun system.throughput claim old new journal turn stopped
 
-  -- These are the results of all runs that the end made, in order, each of a run that began with what the end knew then. Between them it only read.
+  -- These are the results of all runs that the end made, in order, each of a run that began with what the end knew then. Between them it only looked
+  -- at actors.
   abbrev pub MadeRuns : View → List Turn → View → Type 0
   MadeRuns old [] new = OnlyLooks old new
   MadeRuns old (turn ∷ turns) new =

@@ -6,7 +6,7 @@ ghost use Rattle.mb_journal.specs.Run.Stopped.{NoRoom};
 ghost use Rattle.mb_gate.specs.Accessors.{held_actor, pass_view};
 ghost use Rattle.mb_gate.specs.Untouched.{origin_of};
 ghost use Rattle.mb_home.specs.Fresh.{IsFreshClaim};
-ghost use Rattle.mb_mailbox.specs.Ran.{HadRoom, LeavesRun};
+ghost use Rattle.mb_mailbox.specs.Ran.{HadRoom, IsShortOfMemory, LeavesRun};
 ghost use Rattle.mb_mailbox.specs.declared.turn.Turn.{Turn as TurnType};
 ghost use Rattle.mb_register.specs.Caller.{IsDischargedOrOwed, LeavesCaller};
 ghost use Rattle.mb_system.specs.Members.{end_caller, IsEndOf};
@@ -42,6 +42,9 @@ pub fn run_mailbox<A: Actor, K: Behaviours, R: Wait>(
         (λ _. (turn : TurnType)
         × LeavesRun system.now.throughput claim (pass_view end.old.registrar.pass) (pass_view end.new.registrar.pass) journal turn NoRoom
         × (IsErrOf result ReadyError.JournalFull → claim.home.value.cell.who.limit ≤ length journal)) }
+    ensures out_of_memory { IsErrOf result ReadyError.NoMemory → (journal : List Entry) × (turn : TurnType)
+        × LeavesRun system.now.throughput claim (pass_view end.old.registrar.pass) (pass_view end.new.registrar.pass) journal turn NoRoom
+        × IsShortOfMemory claim.home.value.cell.who journal }
     ensures number { end.new.number ≡ end.old.number }
 {
     mb_mailbox::run_mailbox(

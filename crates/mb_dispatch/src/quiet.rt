@@ -5,7 +5,7 @@ ghost use Rattle.mb_gate.specs.Rule.{IsPart};
 ghost use Rattle.mb_register.specs.Owed.{IsNobody};
 ghost use Rattle.mb_system.specs.Obligations.{AreDischargedOrOwed, HasNoObligationTo};
 ghost use Rattle.mb_system.specs.Members.{end_caller, IsEndOf};
-ghost use Rattle.mb_dispatch.specs.Faults.{BreaksWork};
+ghost use Rattle.mb_dispatch.specs.Faults.{BreaksQuietRun};
 ghost use Rattle.mb_dispatch.specs.Found.{FoundPoolEmpty};
 ghost use Rattle.mb_dispatch.specs.Runs.{MadeRuns};
 
@@ -37,7 +37,7 @@ pub fn run_quietly<A: Actor, K: Behaviours, R: Wait>(
     ensures empty { OnOk result (FoundPoolEmpty K.gives end.new) }
     ensures number { end.new.number ≡ end.old.number }
     ensures log_kept { IsPart (pass_view end.old.registrar.pass).log (pass_view end.new.registrar.pass).log }
-    ensures fault { IfErr result (BreaksWork K.gives system.now end.new) }
+    ensures fault { IfErr result (BreaksQuietRun K.gives system.now end.new) }
 {
     end.register_all(rt, system);
     let mut turns = Vec::new(system.alloc);

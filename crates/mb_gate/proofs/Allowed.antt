@@ -12,6 +12,7 @@ use Rattle.std.proofs.Common.{
   ◌⊎◌,
   inl,
   inr,
+  ⊎_elim,
   Bool,
   true,
   false,
@@ -42,7 +43,7 @@ use mathlib.Core.Option.{none, some}
 use lib.ListN.{get_elem?}
 use prog.Atomic.{either}
 use Rattle.std.specs.declared.snapshot.Snapshot.{Snapshot}
-use Rattle.mb_status.specs.Mailbox.{word_of, is_valid}
+use Rattle.mb_status.specs.Mailbox.{word_of, mailbox_of, is_valid}
 use Rattle.mb_msg.specs.declared.system.SysMsg.{SysMsg}
 use Rattle.mb_syslist.specs.MessageList.{MessageList, with_last, listed, pushed, drained, ended}
 use Rattle.atomic_table.specs.Table.{State, Me, Step, step, Allows, Splits, Joins}
@@ -120,6 +121,8 @@ use Rattle.mb_gate.specs.TableSteps.{
   ExtendsSeen,
   IsWord,
   StaysClosed,
+  IsHolderChange,
+  IsIdleWord,
   Reads,
   Writes,
   CountsSent,
@@ -375,40 +378,48 @@ module _ {H : Type 0} (is_of : ℕ → H → Type 0) (facts : H → HomeFacts) w
         f at (told_read x vs f at)))
 
     pub writes_allowed : (c : Held) (new : ℕ) → i ≡ word_at actor 8 → me.0.claim ≡ Some c → c.actor ≡ actor → IsTrue (is_valid new) → (new % 4 ≡
-        2) ⊎ (new ≡ 1) → (c.word ≡ 1 → new ≡ 1)
+        2) ⊎ (new ≡ 1) → (c.word ≡ 1 → new ≡ 1) → IsHolderChange (mailbox_of c.word) (mailbox_of new)
         → Allows (Rule n) slots id me i (λ _. new) (λ _. Writes (step slots i new 0 none) me new)
-    writes_allowed c new e has of valid busy closed = subst (λ j. Allows (Rule n) slots id me j (λ _. new) (λ _. Writes (step slots j new 0 none)
+    writes_allowed c new e has of valid busy closed change = subst (λ j. Allows (Rule n) slots id me j (λ _. new) (λ _. Writes (step slots j new 0 none)
         me new)) (sym e)
         (allows word_offset slot_offset words_few slots_few n (F n) slots id me actor Status (λ _. new) (λ _. Writes (step slots (word_at actor 8)
         new 0 none) me new) inside
         (λ x vs f at fits. writes is_of facts n actor id me c new (Writes (step slots
         (word_at actor 8) new 0 none) me new) x vs f
-        at has of valid busy closed refl))
+        at has of valid busy closed (
+          refl,
+          (λ c' has'. subst (λ (h : Held). IsHolderChange (mailbox_of h.word) (mailbox_of new)) (some_same c c' (sym has ∙ has'))
+              change),
+        )))
 
-    told_idle : (home : H) (st : Step (Slot H)) (k : ℕ) → me.1 ≡ (slot_at actor 0, Home home) ∷ [] → Idles facts st me k
+    told_idle : (home : H) (st : Step (Slot H)) (k : ℕ) → me.1 ≡ (slot_at actor 0, Home home) ∷ [] → IsIdleWord st actor k me.0 → Idles facts st me k
         (idling actor (facts home).journal me.0, [])
-    told_idle home st k carried a other other_carried =
+    told_idle home st k carried bit a other other_carried =
         let same : (slot_at actor 0, Home home) ≡ (slot_at a 0, Home other) = first_same _ _ (sym carried ∙ other_carried) in
         let where_is : slot_at actor 0 ≡ slot_at a 0 = ap (λ (z : ℕ × Slot H). z.0) same in
         let what : home ≡ other = home_same home other (ap (λ (z : ℕ × Slot H). z.1) same) in
-        let who : actor ≡ a = omega arith in (λ z. (idling (who z) (facts (what z)).journal me.0, []))
+        let who : actor ≡ a = omega arith in ((λ z. (idling (who z) (facts (what z)).journal me.0, [])), subst (λ b. IsIdleWord st b k me.0) who bit)
 
     pub idles_allowed : (c : Held) (home : H) (new : ℕ) → i ≡ word_at actor 8 → me.0.claim ≡ Some c → c.actor ≡ actor → me.1 ≡ (
       slot_at actor 0,
       Home home,
     ) ∷ [] → is_of actor home → Extends (facts home).journal c.journal → (facts home).given ≡ c.given
         → Each (λ b. IsKnownClosed b c.closed_to me.0) (facts home).closed_to
-        → c.word ≢ 1 → IsTrue (is_valid new) → new % 4 ≡ 0 → new ≡ word_of (facts home).mailbox → (c.gave ≡ false → (facts home).no_backlog)
+        → (c.word % 4 ≡ 2 → c.word ≡ new + 2) → c.word ≢ 1 → IsTrue (is_valid new) → new % 4 ≡ 0 → new ≡ word_of (facts home).mailbox → (c.gave ≡ false → (facts home).no_backlog)
         → is_some_item me.0.share ≡ true
         → Allows (Rule n) slots id me i (λ _. new) (λ _. Idles facts (step slots i new 0 none) me new)
-    idles_allowed c home new e has of carried of_actor longer count known unshut valid free word rest share = subst (λ j. Allows (Rule n) slots id me j
+    idles_allowed c home new e has of carried of_actor longer count known bit unshut valid free word rest share = subst (λ j. Allows (Rule n) slots id me j
         (λ _. new) (λ _.
         Idles facts (step slots j new 0 none) me new)) (sym e)
         (allows word_offset slot_offset words_few slots_few n (F n) slots id me actor Status (λ _. new) (λ _. Idles facts
         (step slots (word_at actor 8) new 0 none) me new) inside
         (λ x vs f at fits. idles is_of facts n actor id me c home new (Idles facts (step slots (word_at
         actor 8) new 0 none) me new) x vs f at has of carried of_actor longer count known unshut valid free word rest share
-        (told_idle home (step slots (word_at actor 8) new 0 none) new carried)))
+        (told_idle home (step slots (word_at actor 8) new 0 none) new carried (λ c' has'. (
+          (λ _. ap (λ (h : Held). h.word) (some_same c' c (sym has' ∙ has)) ∙ bit (let h = (is_held is_of facts n actor id x vs me.0 c f at has of).1 in
+              ⊎_elim (λ two. ap (λ k. k % 4) (sym h.word) ∙ two) (λ one. absurd (unshut (sym h.word ∙ one))) h.busy)),
+          (λ flag. absurd (omega arith)),
+        )))))
 
     pub idles_closed_allowed : (c : Held) (home : H) → i ≡ word_at actor 7 → me.0.claim ≡ Some c → c.actor ≡ actor → me.1 ≡ (
       slot_at actor 0,
@@ -423,7 +434,10 @@ module _ {H : Type 0} (is_of : ℕ → H → Type 0) (facts : H → HomeFacts) w
         slots (word_at actor 7) 1 0 none) me 1) inside
         (λ x vs f at fits. idles_closed is_of facts n actor id me c home (Idles facts (step slots (word_at
         actor 7) 1 0 none) me 1) x vs f at has of carried of_actor longer count known closed word rest share
-        (told_idle home (step slots (word_at actor 7) 1 0 none) 1 carried)))
+        (told_idle home (step slots (word_at actor 7) 1 0 none) 1 carried (λ c' has'. (
+          (λ status. absurd (omega arith)),
+          (λ _. ap (λ (h : Held). h.word) (some_same c' c (sym has' ∙ has)) ∙ closed),
+        )))))
 
     pub sends_allowed : (g : ℕ → ℕ) (k : ℕ) → ((w : ℕ) → g w % 2 ^ 64 ≡ (w + k) % 2 ^ 64) → is_some_item me.0.share ≡ true → i ≡ word_at actor 0
         → Allows (Rule n) slots id me i g (CountsSent (step slots i k 0 none) me)
@@ -512,8 +526,9 @@ module _ {H : Type 0} (is_of : ℕ → H → Type 0) (facts : H → HomeFacts) w
       Listing
           (with_last l.listed m),
     ) ∷ tail_of me.1
+        → k ≡ gate_word false (with_last l.listed m) l.gave → l.listed.closed ≡ false
         → Enlists st me k (enlisting actor (pushed l.listed) m me.0, tail_of me.1)
-    told_enlist l m st k has of carried a l' m' has' carried' =
+    told_enlist l m st k has of carried word unended a l' m' has' carried' =
         let same : (slot_at actor 1, Listing (with_last l.listed m)) ≡ (slot_at a 1, Listing (with_last l'.listed m')) = head_same _ _ _ _ (sym
         carried ∙ carried') in
         let where_is : slot_at actor 1 ≡ slot_at a 1 = ap (λ (z : ℕ × Slot H). z.0) same in
@@ -521,27 +536,31 @@ module _ {H : Type 0} (is_of : ℕ → H → Type 0) (facts : H → HomeFacts) w
         let lent : l ≡ l' = some_same l l' (sym has ∙ has') in
         let lists : with_last l.listed m ≡ with_last l.listed m' = list_same {H = H} (with_last l.listed m) (with_last l.listed m') (ap (λ (z : ℕ
         × Slot H). z.1) same ∙ (λ z. Listing (with_last (sym lent z).listed m'))) in
-        let what : m ≡ m' = snoc_same l.listed.messages m m' (ap (λ (z : MessageList). z.messages) lists) in (λ z. (
-          enlisting (who z) (pushed (lent z).listed) (what z)
-              me.0,
-          tail_of me.1,
-        ))
+        let what : m ≡ m' = snoc_same l.listed.messages m m' (ap (λ (z : MessageList). z.messages) lists) in (
+          (λ z. (
+            enlisting (who z) (pushed (lent z).listed) (what z)
+                me.0,
+            tail_of me.1,
+          )),
+          word ∙ (λ z. gate_word false (with_last (lent z).listed (what z)) (lent z).gave),
+          subst (λ (z : Lent). z.listed.closed ≡ false) lent unended,
+        )
 
     pub enlists_allowed : (l : Lent) (m : SysMsg) (new : ℕ) → i ≡ word_at actor 9 → me.0.list ≡ Some l → l.actor ≡ actor → me.1 ≡ (
       slot_at actor
           1,
       Listing (with_last l.listed m),
     ) ∷ tail_of me.1
-        → new ≡ gate_word false (with_last l.listed m) l.gave → NamesBelow n m → Allows (Rule n) slots id me i (λ _. new) (λ _. Enlists (step slots i
+        → new ≡ gate_word false (with_last l.listed m) l.gave → l.listed.closed ≡ false → NamesBelow n m → Allows (Rule n) slots id me i (λ _. new) (λ _. Enlists (step slots i
         new 0 none) me new)
-    enlists_allowed l m new e has of carried word names =
+    enlists_allowed l m new e has of carried word unended names =
         subst (λ j. Allows (Rule n) slots id me j (λ _. new) (λ _. Enlists (step slots j new 0 none) me new)) (sym e)
         (allows word_offset slot_offset words_few slots_few n (F n) slots id me actor Gate (λ _. new) (λ _. Enlists (step slots (word_at actor 9) new
         0 none) me new) inside
         (λ x vs f at fits. enlists is_of facts n actor id new me l m (Enlists (step slots
         (word_at actor 9) new 0 none) me new) x
         vs f at has of carried word names
-        (told_enlist l m (step slots (word_at actor 9) new 0 none) new has of carried)))
+        (told_enlist l m (step slots (word_at actor 9) new 0 none) new has of carried word unended)))
 
     pub drains_allowed : (c : Held) (l : Lent) (new : ℕ) → i ≡ word_at actor 9 → slots ≡ 2 * n → me.0.claim ≡ Some c → c.actor ≡ actor
         → me.0.list ≡ Some l → l.actor ≡ actor
@@ -564,6 +583,10 @@ module _ {H : Type 0} (is_of : ℕ → H → Type 0) (facts : H → HomeFacts) w
           )),
           same_given n actor id me x vs c l f at has of keeps of_list l' c' has' claim',
           same_named n slots actor id me x vs l slot_count f at keeps of_list l' has',
+          subst (λ (z : Lent). me.1 ≡ (slot_at z.actor 1, Listing (drained z.listed)) ∷ tail_of me.1) (some_same l l' (sym keeps ∙ has')) (subst (λ b. me.1 ≡ (
+            slot_at b 1,
+            Listing (drained l.listed),
+          ) ∷ tail_of me.1) (sym of_list) carried),
         ))))
 
     pub ends_allowed : (c : Held) (l : Lent) (new : ℕ) → i ≡ word_at actor 9 → slots ≡ 2 * n → me.0.claim ≡ Some c → c.actor ≡ actor
@@ -591,6 +614,10 @@ module _ {H : Type 0} (is_of : ℕ → H → Type 0) (facts : H → HomeFacts) w
           )),
           same_given n actor id me x vs c l f at has of keeps of_list l' c' list' claim',
           same_named n slots actor id me x vs l slot_count f at keeps of_list l' list',
+          subst (λ (z : Lent). me.1 ≡ (slot_at z.actor 1, Listing (ended z.listed)) ∷ tail_of me.1) (some_same l l' (sym keeps ∙ list')) (subst (λ b. me.1 ≡ (
+            slot_at b 1,
+            Listing (ended l.listed),
+          ) ∷ tail_of me.1) (sym of_list) carried),
         ))))
 
     pub glances_allowed : i ≡ word_at actor 9 → Allows (Rule n) slots id me i (λ k. k) (ChecksDrained (step slots i 0 0 none) me)

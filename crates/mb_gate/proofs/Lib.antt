@@ -11,7 +11,9 @@ pub mod ListSteps
 pub mod ListBits
 pub mod Whole
 pub mod Allowed
+pub mod HeldStatus
 pub mod Wins
+pub mod HolderChanges
 pub mod Rows
 pub mod Starting
 pub mod ListCalls
@@ -23,3 +25,5 @@ pub mod SentSystemLemmas
 pub mod KnownLemmas
 pub mod NamedActorsLemmas
 pub mod Crossing
+pub mod TwoClaims
+pub mod FreeHome

@@ -131,7 +131,7 @@ either_system a b h = cases a.system b.system h
     cases false false (inl h) = h
     cases false false (inr h) = h
 
-same_balance : (actor n : ℕ) (vs ws : List View) → total (on_by actor) ws ≡ total (on_by actor) vs → total (off_by actor) ws ≡ total (off_by actor)
+pub same_balance : (actor n : ℕ) (vs ws : List View) → total (on_by actor) ws ≡ total (on_by actor) vs → total (off_by actor) ws ≡ total (off_by actor)
     vs → IsBalance actor n vs → IsBalance actor n ws
 same_balance actor n vs ws on off b = ap (λ k. (n + k) % 2 ^ 64) off ∙ (b ∙ sym (ap (λ k. k % 2 ^ 64) on))
 

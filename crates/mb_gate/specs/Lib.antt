@@ -16,3 +16,5 @@ pub mod Shown
 pub mod Returned
 pub mod SentSystem
 pub mod SentSystemLog
+pub mod TwoClaims
+pub mod FreeHome

@@ -1,12 +1,12 @@
 -- What each step at the gates tells the seat that makes it. (The steps are those of `akka.dispatch.Mailbox` and its `SystemMessageQueue`; what a seat
 -- knows is this project's own profile.) A step does not know its actor, so the actor is found by the place of the word.
-use Rattle.std.specs.Prelude.{◌≡◌, ◌≢◌, ℕ, ◌*◌, ◌%◌, Bool, false, IsTrue, List, [], ◌∷◌, Some, None, All}
+use Rattle.std.specs.Prelude.{◌≡◌, ◌≢◌, ◌⊎◌, ℕ, ◌+◌, ◌*◌, ◌%◌, ◌<◌, Bool, false, IsTrue, List, [], ◌∷◌, Some, None, All}
 use mathlib.Core.Option.{some}
 use Rattle.atomic_table.specs.Table.{Me, Step, rest}
 use Rattle.std.specs.declared.snapshot.Snapshot.{Snapshot}
-use Rattle.mb_status.specs.Mailbox.{word_of, is_valid}
+use Rattle.mb_status.specs.Mailbox.{Mailbox, word_of, mailbox_of, is_valid, most_suspensions, suspend, resume, closed_mailbox}
 use Rattle.mb_msg.specs.declared.system.SysMsg.{SysMsg}
-use Rattle.mb_syslist.specs.MessageList.{MessageList, with_last, listed, pushed}
+use Rattle.mb_syslist.specs.MessageList.{MessageList, with_last, listed, pushed, drained, ended}
 use Rattle.mb_journal.specs.Entry.{Entry}
 use Rattle.mb_ghost.specs.Layout.{word_at, slot_at}
 use Rattle.mb_ghost.specs.Seen.{Each}
@@ -29,6 +29,7 @@ use Rattle.mb_gate.specs.View.{
   Held,
   Lent,
   reading,
+  reading_held,
   taking,
   writing,
   idling,
@@ -66,6 +67,15 @@ IsBefore actor journal (Drained a given) = Unit {0}
 abbrev pub ExtendsSeen : ℕ → List Entry → View → Type 0
 ExtendsSeen actor journal v = Each (IsBefore actor journal) v.log
 
+-- The holder makes one mailbox of another: it suspends it once more, undoes one suspension, or closes it.
+abbrev pub IsHolderChange : Mailbox → Mailbox → Type 0
+IsHolderChange before after = ((before.count < most_suspensions) × (after ≡ suspend before)) ⊎ ((after ≡ resume before) ⊎ (after ≡ closed_mailbox))
+
+-- The claim, if any, knew another word before it gave the cell back: two more where that is shown by the status word, and the closed one where
+-- it is shown by the flag.
+abbrev pub IsIdleWord : {S : Type 0} → Step S → ℕ → ℕ → View → Type 0
+IsIdleWord st actor n v = (c : Held) → v.claim ≡ Some c → (st.word ≡ word_at actor 8 → c.word ≡ n + 2) × (st.word ≡ word_at actor 7 → c.word ≡ 1)
+
 -- This observation allows that the actor's status is this word: the word is the closed one if the actor was seen closed or its list was ended.
 abbrev pub IsWord : ℕ → ℕ → Observation → Type 0
 IsWord actor now (Read a word) = a ≡ actor → word ≡ 1 → now ≡ 1
@@ -84,14 +94,22 @@ abbrev pub StaysClosed : ℕ → ℕ → View → Type 0
 StaysClosed actor word v = Each (IsWord actor word) v.log
 
 module _ {H : Type 0} where
+  -- A seat knows that the actor's status word was this one, which is the closed one if it had seen the actor closed.
+  abbrev pub HasRead : ℕ → ℕ → Me (Slot H) View → Me (Slot H) View → Type 0
+  HasRead actor found m m' = (m' ≡ (reading actor found m.0, m.1)) × IsTrue (is_valid found) × StaysClosed actor found m.0
+
   -- What a seat knows after it read a status word.
   abbrev pub Reads : Step (Slot H) → Me (Slot H) View → ℕ → Me (Slot H) View → Type 0
-  Reads st m found m' = (actor : ℕ) → st.word ≡ word_at actor 8 → (m' ≡ (reading actor found m.0, m.1)) × IsTrue (is_valid found) × StaysClosed
-      actor found m.0
+  Reads st m found m' = (actor : ℕ) → st.word ≡ word_at actor 8 → HasRead actor found m m'
+
+  -- What a seat knows after its claim read its actor's status word. The word is the one that the claim knows.
+  abbrev pub ReadsHeld : Step (Slot H) → Me (Slot H) View → ℕ → Me (Slot H) View → Type 0
+  ReadsHeld st m found m' = (actor : ℕ) (c : Held) → st.word ≡ word_at actor 8 → m.0.claim ≡ Some c → c.actor ≡ actor
+      → (m' ≡ (reading_held actor found m.0, m.1)) × (found ≡ c.word)
 
   -- What a seat knows after its claim wrote a status word.
   abbrev pub Writes : Step (Slot H) → Me (Slot H) View → ℕ → Me (Slot H) View → Type 0
-  Writes st m n m' = m' ≡ (writing n m.0, m.1)
+  Writes st m n m' = (m' ≡ (writing n m.0, m.1)) × ((c : Held) → m.0.claim ≡ Some c → IsHolderChange (mailbox_of c.word) (mailbox_of n))
 
   -- What a seat knows after it counted an envelope as waiting.
   abbrev pub CountsSent : Step (Slot H) → Me (Slot H) View → ℕ → Me (Slot H) View → Type 0
@@ -131,7 +149,8 @@ module _ {H : Type 0} where
     Listing (with_last l.listed
         message),
   ) ∷ rest m.1
-      → m' ≡ (enlisting actor (pushed l.listed) message m.0, rest m.1)
+      → (m' ≡ (enlisting actor (pushed l.listed) message m.0, rest m.1)) × (n ≡ gate_word false (with_last l.listed message) l.gave)
+      × (l.listed.closed ≡ false)
 
   -- The list was found ended, so that the actor had been claimed at some time.
   abbrev pub Refuses : Step (Slot H) → Me (Slot H) View → ℕ → Me (Slot H) View → Type 0
@@ -146,12 +165,13 @@ module _ {H : Type 0} where
   abbrev pub Drains : Step (Slot H) → Me (Slot H) View → ℕ → Me (Slot H) View → Type 0
   Drains st m n m' = (l : Lent) (c : Held) → m.0.list ≡ Some l → m.0.claim ≡ Some c
       → (m' ≡ (draining l.actor (listed l.listed) (is_some_item l.listed.messages) m.0, rest m.1)) × (l.listed.given ≡ c.given)
-      × ListNamesActors st l.listed
+      × ListNamesActors st l.listed × (m.1 ≡ (slot_at l.actor 1, Listing (drained l.listed)) ∷ rest m.1)
 
   -- All that was listed was taken out, and the list was ended.
   abbrev pub Ends : Step (Slot H) → Me (Slot H) View → ℕ → Me (Slot H) View → Type 0
   Ends st m n m' = (l : Lent) (c : Held) → m.0.list ≡ Some l → m.0.claim ≡ Some c
       → (m' ≡ (ending l.actor (listed l.listed) c.gave m.0, rest m.1)) × (l.listed.given ≡ c.given) × ListNamesActors st l.listed
+      × (m.1 ≡ (slot_at l.actor 1, Listing (ended l.listed)) ∷ rest m.1)
 
   -- The holder read the gate's word. Where it shows that nothing is listed and that the last drain gave nothing, this counts as a drain that gives
   -- nothing.
@@ -177,8 +197,9 @@ module _ {H : Type 0} (is_of : H → ℕ → H → Type 0) (facts : H → HomeFa
   abbrev pub Schedules : Step (Slot H) → Me (Slot H) View → ℕ → Me (Slot H) View → Type 0
   Schedules st m found m' = (actor : ℕ) (first : Snapshot (Snapshot H)) → st.word ≡ word_at actor 8 → st.said ≡ some (First first)
       → (found ≡ st.first → Won (is_of first.value.value) facts actor found m m')
-      × (found ≢ st.first → (m' ≡ (reading actor found m.0, m.1)) × IsTrue (is_valid found) × StaysClosed actor found m.0)
+      × (found ≢ st.first → HasRead actor found m m')
 
 -- the cell was given home
 abbrev pub Idles : {H : Type 0} → (H → HomeFacts) → Step (Slot H) → Me (Slot H) View → ℕ → Me (Slot H) View → Type 0
-Idles {H} facts st m n m' = (actor : ℕ) (home : H) → m.1 ≡ (slot_at actor 0, Home home) ∷ [] → m' ≡ (idling actor (facts home).journal m.0, [])
+Idles {H} facts st m n m' = (actor : ℕ) (home : H) → m.1 ≡ (slot_at actor 0, Home home) ∷ []
+    → (m' ≡ (idling actor (facts home).journal m.0, [])) × IsIdleWord st actor n m.0

@@ -92,6 +92,10 @@ seeing s v = record v { log = s ∷ v.log }
 abbrev pub reading : ℕ → ℕ → View → View
 reading actor word v = with_obligation actor (after_reading (mailbox_of word) (obligation_to actor v)) (seeing (Read actor word) v)
 
+-- The view after its claim read its actor's status word. Nobody else writes that word, so the reading settles no debt.
+abbrev pub reading_held : ℕ → ℕ → View → View
+reading_held actor word v = seeing (Read actor word) v
+
 -- The view after it scheduled the actor by an exchange that found this word, and took the cell.
 abbrev pub taking : ℕ → List Entry → List ℕ → ℕ → Bool → ℕ → View → View
 taking actor journal shut word gave given v =

@@ -2,7 +2,7 @@
 ghost use Rattle.mb_ghost.specs.Ruled.{Ruled};
 ghost use Rattle.mb_gate.specs.View.{alone, blank, claim_alone, without_claim, copied, halving, split_off, taking_over, taking_in};
 ghost use Rattle.mb_gate.specs.Rule.{word_offset, slot_offset, Fact};
-ghost use Rattle.mb_gate.specs.TableSteps.{Reads, Writes, CountsSent, UncountsSent, CountsTaken, ReadsWaiting, ReadsGate};
+ghost use Rattle.mb_gate.specs.TableSteps.{Reads, ReadsHeld, Writes, CountsSent, UncountsSent, CountsTaken, ReadsWaiting, ReadsGate};
 ghost use Rattle.mb_gate.specs.TableSteps.{LocksList, Enlists, Refuses, Drains, Ends, ChecksDrained, Schedules, Idles};
 
 use crate::gates_key::GatesKey;
@@ -30,6 +30,13 @@ pub struct Read;
 
 impl<H> Play<Slot<H>, SeatView> for Read {
     ghost then = { Reads };
+}
+
+/// The holder's load of its actor's status word. It finds the word that the claim knows.
+pub struct ReadHeld;
+
+impl<H> Play<Slot<H>, SeatView> for ReadHeld {
+    ghost then = { ReadsHeld };
 }
 
 /// The holder's store of its actor's status word: it suspends, resumes or closes the mailbox.

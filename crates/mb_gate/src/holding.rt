@@ -3,6 +3,7 @@ ghost use Rattle.std.specs.Prelude.{◌≡◌, ◌⊎◌, ◌<◌, [], ◌∷◌
 ghost use Rattle.mb_status.specs.Mailbox.{most_suspensions, should_process, suspend, resume, closed_mailbox, idle, word_of};
 ghost use Rattle.mb_ghost.specs.Layout.{slot_at};
 ghost use Rattle.mb_gate.specs.View.{idling, taking_in, writing};
+ghost use Rattle.mb_gate.specs.TableSteps.{IsHolderChange};
 ghost use Rattle.mb_gate.specs.Claims.{is_busy, IsReadyToRelease, Idled, IsKnownClosed};
 ghost use Rattle.mb_gate.specs.Rule.{Extends, is_some_item};
 ghost use Rattle.mb_gate.specs.SentSystem.{HasSentDueSince};
@@ -86,6 +87,7 @@ impl<H: MailboxState> Gates<H> {
         requires present { held_actor claim.old < actors_of self.now }
         requires busy { is_busy (word_of status) ≡ true }
         requires closed { (status_of claim.old).closed ≡ true → word_of status ≡ 1 }
+        requires changes { IsHolderChange (status_of claim.old) status }
         ensures same_gates { (claim_id claim.new ≡ claim_id claim.old) × (held_actor claim.new ≡ held_actor claim.old) }
         ensures status { status_of claim.new ≡ status }
         ensures known { claim_view claim.new ≡ writing (word_of status) (claim_view claim.old) }

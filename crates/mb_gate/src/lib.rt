@@ -14,9 +14,11 @@
 #![tactic(auto)]
 
 mod claim;
+mod exclusive;
 mod gates;
 mod gates_key;
 mod gates_rule;
+mod held_status;
 mod holding;
 mod laws;
 mod layout;

@@ -1,9 +1,12 @@
 //! A try to schedule an actor, which gives its claim.
-ghost use Rattle.std.specs.Prelude.{◌≡◌, ◌<◌, [], ◌∷◌, true};
+ghost use Rattle.std.specs.Prelude.{◌≡◌, ◌≢◌, ◌<◌, [], ◌∷◌, None, true};
 ghost use Rattle.mb_status.specs.Mailbox.{Mailbox, word_of};
 ghost use Rattle.mb_ghost.specs.Layout.{slot_at};
 ghost use Rattle.mb_gate.specs.View.{claim_alone, without_claim};
+ghost use Rattle.mb_gate.specs.Rule.{is_some_item};
 ghost use Rattle.mb_gate.specs.Claims.{is_busy};
+ghost use Rattle.mb_gate.specs.TableSteps.{Won, HasRead};
+ghost use Rattle.mb_gate.specs.FreeHome.{FreeIsFold};
 ghost use Rattle.mb_gate.specs.Tries.{IsFree, IsClaimOf, IsExchanged, IsTried, WonClaim};
 ghost use Rattle.mb_gate.specs.Accessors.{gates_id, pass_id, claim_id, actors_of, first_home, pass_view, claim_view};
 ghost use Rattle.mb_gate.specs.Accessors.{held_actor, status_of, recorded_by};
@@ -47,6 +50,7 @@ impl<H: MailboxState> Gates<H> {
         requires present { id.0 < actors_of self.now }
         ensures same_gates { (pass_id pass.new ≡ pass_id pass.old) × IsClaimOf (gates_id self.now) result }
         ensures answer { (seen : Mailbox) × IsTried (H.is_of (first_home self.now)) H.facts id.0 (pass_view pass.old) (pass_view pass.new) seen result }
+        ensures free_is_fold { FreeIsFold (H.is_of (first_home self.now)) H.facts id.0 result }
     {
         let seen = self.status(pass, id);
         if seen.closed() {
@@ -73,14 +77,7 @@ impl<H: MailboxState> Gates<H> {
         ensures answer { IsExchanged (H.is_of (first_home self.now)) H.facts id.0 (pass_view pass.old) (pass_view pass.new) seen result }
     {
         let old = seen.word();
-        let new = status.word();
-        let found = self.table.shared.compare_exchange_with::<Schedule>(
-            &mut pass.seat,
-            word_index(id, STATUS),
-            old,
-            new,
-            &self.first_note(),
-        );
+        let found = self.exchange_word(&mut pass.seat, id, seen, status);
         if found == old {
             return Tried::Got(self.claim(&mut pass.seat, id, status));
         }
@@ -88,6 +85,33 @@ impl<H: MailboxState> Gates<H> {
             Some(found) => Tried::Lost(found),
             None => unreachable!(),
         }
+    }
+
+    // The exchange of the actor's status word: the word that it found. Where it wins, the seat has the claim and the cell.
+    fn exchange_word(
+        &self,
+        seat: &mut Seat<Slot<H>, SeatView>,
+        id: ActorId,
+        old: Status,
+        new: Status,
+    ) -> u64
+        requires same_gates { seat.old.table_id ≡ gates_id self.now }
+        requires present { id.0 < actors_of self.now }
+        requires free { IsFree old }
+        requires scheduled { new ≡ record old { scheduled = true } }
+        requires no_claim { seat.old.me.0.claim ≡ None }
+        requires share { is_some_item seat.old.me.0.share ≡ true }
+        ensures same_gates { seat.new.table_id ≡ seat.old.table_id }
+        ensures won { result ≡ word_of old → Won (H.is_of (first_home self.now)) H.facts id.0 result seat.old.me seat.new.me }
+        ensures lost { result ≢ word_of old → HasRead id.0 result seat.old.me seat.new.me }
+    {
+        let before = old.word();
+        let after = new.word();
+        let note = self.first_note();
+        let index = word_index(id, STATUS);
+        self.table
+            .shared
+            .compare_exchange_with::<Schedule>(seat, index, before, after, &note)
     }
 
     /// What the step that schedules gets as an argument: a snapshot of the home with which the first actor began.

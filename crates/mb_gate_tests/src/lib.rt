@@ -13,6 +13,8 @@ mod fresh_claim;
 #[cfg(test)]
 mod holding;
 #[cfg(test)]
+mod no_wait;
+#[cfg(test)]
 mod order_check;
 #[cfg(test)]
 mod refused;
@@ -30,3 +32,5 @@ mod test_home;
 mod three;
 #[cfg(test)]
 mod tries;
+#[cfg(test)]
+mod two_claims;

@@ -1,14 +1,35 @@
 //! Tries to schedule, what a holder drains, and how it gives its claim back.
-ghost use Rattle.std.specs.Prelude.{◌≡◌, ◌<◌, [], IfSome};
-ghost use Rattle.mb_gate.specs.Accessors.{gates_id, pass_id, claim_id, actors_of, held_actor, taken_with, given_to, recorded_by};
+ghost use Rattle.std.specs.Prelude.{◌≡◌, ◌<◌, [], true, IfSome};
+ghost use Rattle.mb_gate.specs.Accessors.{gates_id, pass_id, claim_id, actors_of, held_actor, status_of, taken_with, given_to, recorded_by};
 
 use crate::order_check::{OrderCheck, add_all};
 use crate::test_home::{GUARDIAN, TestHome};
 use mb_gate::{Claim, Gates, Pass, Tried};
+use mb_msg::ActorId;
 use std::process::Abort;
 use std::sync::Wait;
 
-/// A claim, if the try wins.
+/// A claim of this actor, if the try wins.
+pub fn claim_of(
+    gates: &Gates<TestHome>,
+    pass: &mut Pass<TestHome>,
+    id: ActorId,
+) -> Option<Claim<TestHome>>
+    requires same_gates { pass_id pass.old ≡ gates_id gates.now }
+    requires present { id.0 < actors_of gates.now }
+    ensures same_gates { pass_id pass.new ≡ pass_id pass.old }
+    ensures got { IfSome result (λ claim. (claim_id claim ≡ gates_id gates.now) × (held_actor claim ≡ id.0)) }
+    ensures of_actor { IfSome result (λ claim. (claim.home.actor ≡ id.0) × (claim.home.given ≡ given_to claim)) }
+    ensures fold { IfSome result (λ claim. status_of claim ≡ record claim.home.status { scheduled = true }) }
+    ensures begun { IfSome result (λ claim. (taken_with claim ≡ []) × (recorded_by claim ≡ [])) }
+{
+    match gates.try_schedule(pass, id) {
+        Tried::Got(claim) => Some(claim),
+        Tried::Already | Tried::Closed | Tried::Lost(_) => None,
+    }
+}
+
+/// A claim of the one actor, if the try wins.
 pub fn attempt(gates: &Gates<TestHome>, pass: &mut Pass<TestHome>) -> Option<Claim<TestHome>>
     requires same_gates { pass_id pass.old ≡ gates_id gates.now }
     requires present { 0 < actors_of gates.now }
@@ -17,10 +38,7 @@ pub fn attempt(gates: &Gates<TestHome>, pass: &mut Pass<TestHome>) -> Option<Cla
     ensures of_actor { IfSome result (λ claim. (claim.home.actor ≡ 0) × (claim.home.given ≡ given_to claim)) }
     ensures begun { IfSome result (λ claim. (taken_with claim ≡ []) × (recorded_by claim ≡ [])) }
 {
-    match gates.try_schedule(pass, GUARDIAN) {
-        Tried::Got(claim) => Some(claim),
-        Tried::Already | Tried::Closed | Tried::Lost(_) => None,
-    }
+    claim_of(gates, pass, GUARDIAN)
 }
 
 /// Gets a claim.

@@ -15,6 +15,7 @@ mod error;
 mod failed_by;
 mod journal;
 mod laws;
+mod query_laws;
 mod row;
 mod sent_envelope;
 
@@ -23,4 +24,9 @@ pub use error::ReadyError;
 pub use failed_by::FailedBy;
 pub use journal::Journal;
 pub use laws::{accepted_match_fates, each_has_one_fate, fates_in_send_order};
+pub use query_laws::{
+    aside_has_to_wait, aside_in_order, aside_is_unapplied, children_each_once, children_in_order,
+    due_by_newest, due_in_order, failed_by_newest, watchers_by_newest, watchers_in_order,
+    watching_by_newest, watching_in_order,
+};
 pub use sent_envelope::SentEnvelope;

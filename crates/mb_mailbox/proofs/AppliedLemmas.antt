@@ -90,6 +90,7 @@ module _ (h : RunState) (new : Contents) (ready : Bool) (room : ℕ)
       counted = ap (λ (x : Contents). length x.take.taken + counted_by h) same;
     };
     journal = journal;
+    loaded = refl;
   }
 
   pub entries-ready : SendsForEntries h (record h { home = new })

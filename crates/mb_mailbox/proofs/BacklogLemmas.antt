@@ -58,6 +58,7 @@ pub keeps-same : (h : RunState) → KeepsJournal h h
 keeps-same h = record {
   same = record { actor = refl; who = refl; before = refl; takes = takes-same _ _ refl; counted = refl };
   journal = refl;
+  loaded = refl;
 }
 
 -- as many were counted as came out, first and then
@@ -74,6 +75,7 @@ keeps-then a b c p q = record {
     counted = counted-then _ _ _ (counted_by a) (counted_by b) (counted_by c) p.same.counted q.same.counted;
   };
   journal = q.journal ∙ p.journal;
+  loaded = q.loaded ∙ p.loaded;
 }
 
 pub same-run-then : (a b c : RunState) → SameRun a b → SameRun b c → SameRun a c

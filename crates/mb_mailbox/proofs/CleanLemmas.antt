@@ -18,15 +18,16 @@ use Rattle.mb_gate.specs.SentSystem.{notice}
 use Rattle.mb_gate.specs.Untouched.{Origin}
 use Rattle.mb_gate.specs.View.{Observation, SentSystem, Took, Ended, counting_off, ending, given_after}
 use Rattle.mb_gate.specs.Waiting.{counted_off}
-use Rattle.mb_gate.proofs.Numbers.{among_first, among_more}
 use Rattle.mb_home.specs.AtHome.{given_of, mailbox_at}
 use Rattle.mb_home.specs.Contents.{Contents}
 use Rattle.mb_home.specs.AgreesWithJournal.{AgreesWithJournal}
-use Rattle.mb_mailbox.specs.OnlyDrained.{DrainedLast, WasEnded}
+use Rattle.mb_mailbox.specs.Loaded.{loaded_words}
+use Rattle.mb_mailbox.specs.OnlyDrained.{LoadedOpenLast, WasEnded}
 use Rattle.mb_mailbox.specs.Emptied.{TakesOn}
 use Rattle.mb_mailbox.specs.RunState.{RunState, run_state}
 use Rattle.mb_mailbox.specs.Notice.{IsAnswered}
 use Rattle.mb_mailbox.specs.Running.{IsRunning, KeepsJournal, SameRun}
+use Rattle.mb_mailbox.proofs.BegunAtLemmas.{cleaned-loaded}
 use Rattle.mb_mailbox.proofs.CountLemmas.{counted-still, counted-more, counts-one}
 use Rattle.mb_mailbox.proofs.EmptiedLemmas.{takes-same}
 use Rattle.mb_mailbox.proofs.RunStateLemmas.{hold-taken, hold-ended, hold-recorded}
@@ -123,19 +124,19 @@ module _ (c new : Claim (Box Contents)) (ours : (claim_id new ≡ claim_id c) ×
           counted = counted-more _ _ (total (counted_off (held_actor c)) (claim_view c).log) _ more (counts-one (held_actor c));
         })
 
-    pub keeps-taken : c.home.value.cell.journal ≡ before.cell.journal → KeepsJournal (record (run_state c) { home = before }) (run_state new)
-    keeps-taken journal = record {
+    pub keeps-taken : WasEnded (held_actor c) (claim_view c).log → c.home.value.cell.journal ≡ before.cell.journal →
+        KeepsJournal (record (run_state c) { home = before }) (run_state new)
+    keeps-taken ended journal = record {
       same = same-taken;
       journal = ap (λ (x : RunState). x.home.cell.journal) hold-one ∙ journal;
+      loaded = ap (λ (x : RunState). loaded_words x.log) hold-one ∙ cleaned-loaded (held_actor c) (held_actor c) 1 (claim_view c).log ended;
     }
 
   pub ended-taken : WasEnded (held_actor c) (claim_view c).log → WasEnded (held_actor new) (claim_view new).log
-  ended-taken w =
-      subst (λ (x : RunState). WasEnded x.actor x.log) (sym hold-one)
-      (record { given = w.given; among = among_more (Ended (held_actor c) w.given) (Took (held_actor c) 1) (claim_view c).log w.among })
+  ended-taken w = subst (λ (x : RunState). WasEnded x.actor x.log) (sym hold-one) w
 
   pub running-counted : (gives : ℕ → Moment → Reply → Type 0) (origin : Origin (Box Contents)) (seen : List Observation) →
-      DrainedLast (held_actor c) (claim_view c).log ⊎ WasEnded (held_actor c) (claim_view c).log →
+      LoadedOpenLast (held_actor c) (claim_view c).log ⊎ WasEnded (held_actor c) (claim_view c).log →
       IsRunning gives origin c.home.value.cell.acts seen (run_state c) → IsRunning gives origin new.home.value.cell.acts seen (run_state new)
   running-counted gives origin seen when r =
       subst (λ (x : RunState). IsRunning gives origin x.home.cell.acts seen x) (sym hold-one)
@@ -162,12 +163,12 @@ module _ (c new : Claim (Box Contents)) (ours : (claim_id new ≡ claim_id c) ×
           counted = counted-still _ _ (total (counted_off (held_actor c)) (claim_view c).log) refl;
         };
         journal = refl;
+        loaded = refl;
       })
 
   pub was-ended : WasEnded (held_actor new) (claim_view new).log
   was-ended =
-      subst (λ (x : RunState). WasEnded x.actor x.log) (sym hold-end)
-      (record { given = result; among = among_first (Ended (held_actor c) result) (claim_view c).log })
+      subst (λ (x : RunState). WasEnded x.actor x.log) (sym hold-end) refl
 
   pub running-end : (gives : ℕ → Moment → Reply → Type 0) (origin : Origin (Box Contents)) (seen : List Observation) →
       IsRunning gives origin c.home.value.cell.acts seen (run_state c) → IsRunning gives origin new.home.value.cell.acts seen (run_state new)

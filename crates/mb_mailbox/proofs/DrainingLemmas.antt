@@ -72,6 +72,7 @@ module _ (c mid : Claim (Box Contents)) (ours : (claim_id mid ≡ claim_id c) ×
           counted = counted-still _ _ (total (counted_off (held_actor c)) (claim_view c).log) (ap (λ (x : Contents). length x.take.taken) kept_here);
         };
         journal = ap (λ (x : CellView). x.journal) cell;
+        loaded = refl;
       })
 
   -- what was drained is left beside the cell

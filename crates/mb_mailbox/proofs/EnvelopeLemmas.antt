@@ -1,5 +1,5 @@
 -- Why a run takes no envelope more, and how one that was taken changes it.
-use Rattle.std.proofs.Common.{◌≡◌, ◌⊎◌, inl, inr, ℕ, ◌*◌, ◌<◌, Bool, true, false, List, [], length, refl, sym, ap, ◌∙◌, subst}
+use Rattle.std.proofs.Common.{◌≡◌, ◌⊎◌, inl, inr, ℕ, ◌<◌, Bool, true, false, List, [], length, refl, sym, ap, ◌∙◌, subst}
 use Rattle.std.specs.Prelude.{not, nat_lt, ◌&&◌, OnOk, Result}
 use Rattle.std.specs.Global.{Box}
 use Rattle.mb_status.specs.Mailbox.{word_of, should_process}
@@ -7,7 +7,6 @@ use Rattle.mb_actor.specs.Behaviour.{Moment, Reply}
 use Rattle.mb_journal.specs.Aside.{next_front}
 use Rattle.mb_journal.specs.Run.{Stopped, IsReason, most_envelopes}
 use Rattle.mb_journal.specs.Run.Stopped.{UsedUp, NotOpen, NoEnvelope, AtClosing, NoRoom}
-use Rattle.mb_journal.specs.Suspension.{count}
 use Rattle.mb_cell.specs.CellView.{CellView}
 use Rattle.mb_gate.specs.Untouched.{Origin}
 use Rattle.mb_gate.specs.View.{Observation}
@@ -17,7 +16,7 @@ use Rattle.mb_home.specs.AgreesWithJournal.{AgreesWithJournal}
 use Rattle.mb_home.specs.Steps.{FindsNone}
 use Rattle.mb_mailbox.specs.Emptied.{TakesOn}
 use Rattle.mb_mailbox.specs.RunState.{RunState}
-use Rattle.mb_mailbox.specs.Ran.{LastTakeFoundNone, LastTakeHadRoom, IsDrained, IsStopReason, EndsDrained, HadRoom, HasStopped, TakesNoMore}
+use Rattle.mb_mailbox.specs.Ran.{LastTakeFoundNone, LastTakeHadRoom, IsDrained, IsLoadedSince, IsStopReason, EndsDrained, HadRoom, HasStopped, TakesNoMore}
 use Rattle.mb_mailbox.specs.Running.{IsRunning}
 use Rattle.mb_mailbox.proofs.CleanLemmas.{running-within, ended-closed}
 use Rattle.mb_mailbox.proofs.EmptiedLemmas.{finds-one, finds-then, ok-so, take-none}
@@ -30,14 +29,14 @@ module _ (gives : ℕ → Moment → Reply → Type 0) (origin : Origin (Box Con
   at-closing shut = (AtClosing, ended-closed gives origin seen h [] shut r, tt, tt, tt)
 
   -- the status was not open
-  pub why-not-open : (h.status.closed ≡ true) ⊎ IsDrained h → should_process h.status ≡ false → TakesNoMore h.home.take h
+  pub why-not-open : (h.status.closed ≡ true) ⊎ IsLoadedSince (word_of h.status) h → should_process h.status ≡ false → TakesNoMore h.home.take h
   why-not-open (inl shut) not_open = at-closing shut
   why-not-open (inr drained) not_open = by_test h.status.closed refl
     where
       by_test : (b : Bool) → h.status.closed ≡ b → TakesNoMore h.home.take h
       by_test true shut = at-closing shut
       by_test false open_yet = (
-        NotOpen (4 * count h.home.cell.who h.home.cell.journal),
+        NotOpen (word_of h.status),
         (
           shut-reading h.status h.home.cell.who h.home.cell.journal (status-at h r.leads) (gives h.actor) r.settled.lawful r.settled.is_own.within_limit open_yet
               not_open,
@@ -48,7 +47,7 @@ module _ (gives : ℕ → Moment → Reply → Type 0) (origin : Origin (Box Con
         tt,
       )
 
-  -- it was, so that the run drained all
+  -- it was, so that the run drained all before it loaded the status
   pub is-open : should_process h.status ≡ true → h.status.closed ≡ false
   is-open t = by_test h.status.closed refl
     where
@@ -56,12 +55,12 @@ module _ (gives : ℕ → Moment → Reply → Type 0) (origin : Origin (Box Con
       by_test true shut = absurd (cc (t, ap (λ c. not c && not (nat_lt 0 h.status.count)) shut))
       by_test false open_yet = open_yet
 
-  pub drained-open : (h.status.closed ≡ true) ⊎ IsDrained h → should_process h.status ≡ true → IsDrained h
+  pub drained-open : (h.status.closed ≡ true) ⊎ IsLoadedSince (word_of h.status) h → should_process h.status ≡ true → IsLoadedSince (word_of h.status) h
   drained-open (inl shut) t = absurd (cc (shut, is-open t))
   drained-open (inr drained) t = drained
 
   -- no envelope was there
-  none-there : IsDrained h → should_process h.status ≡ true → IsStopReason h.home.cell.who h.home.cell.journal (NoEnvelope (word_of h.status))
+  none-there : IsLoadedSince (word_of h.status) h → should_process h.status ≡ true → IsStopReason h.home.cell.who h.home.cell.journal (NoEnvelope (word_of h.status))
   none-there drained t = (open-reading h.status h.home.cell.who h.home.cell.journal (status-at h r.leads) t, drained.none)
 
   -- the home has another pass for its queue
@@ -74,7 +73,7 @@ module _ (gives : ℕ → Moment → Reply → Type 0) (origin : Origin (Box Con
         (ap (λ (x : Contents). x.directory) f.same) (ap (λ (x : Contents). x.dead) f.same) settled (ap (λ (x : Contents). x.rest) f.same))
 
     -- and this is why the run stops
-    pub why-none : IsDrained h → should_process h.status ≡ true → length h.home.cell.journal < h.home.cell.who.limit →
+    pub why-none : IsLoadedSince (word_of h.status) h → should_process h.status ≡ true → length h.home.cell.journal < h.home.cell.who.limit →
         TakesNoMore h.home.take (record h { home = new })
     why-none drained t room =
         let word = word_of h.status in (
@@ -85,10 +84,10 @@ module _ (gives : ℕ → Moment → Reply → Type 0) (origin : Origin (Box Con
           subst (λ (x : Contents). length x.cell.journal < x.cell.who.limit) (sym f.same) room,
         )
 
--- a drain that gave nothing is the last still
-pub drained-home : (h : RunState) (new : Contents) → new.cell.who ≡ h.home.cell.who → new.cell.journal ≡ h.home.cell.journal → IsDrained h →
-    IsDrained (record h { home = new })
-drained-home h new who journal d = record { last = d.last; none = (λ i. next_front (who i) (journal i)) ∙ d.none }
+-- the load of the status word is the last still
+pub drained-home : (h : RunState) (word : ℕ) (new : Contents) → new.cell.who ≡ h.home.cell.who → new.cell.journal ≡ h.home.cell.journal →
+    IsLoadedSince word h → IsLoadedSince word (record h { home = new })
+drained-home h word new who journal d = record { last = d.last; none = (λ i. next_front (who i) (journal i)) ∙ d.none }
 
 -- ---- why a run stopped
 

@@ -33,6 +33,7 @@ use Rattle.mb_register.proofs.Bits.{same_or_other}
 use Rattle.mb_register.proofs.Views.{owes-other}
 use Rattle.mb_mailbox.specs.declared.turn.Turn.{Turn}
 use Rattle.mb_register.specs.Caller.{Caller, CallerAdvances, TakesNothing, IsDischargedOrOwed, LeavesCaller, OwesForRefusals, TakesOver}
+use Rattle.mb_mailbox.specs.Loaded.{loaded_words, BeginsAt}
 use Rattle.mb_mailbox.specs.OnlyDrained.{TakesOnlyDrained}
 use Rattle.mb_mailbox.specs.Emptied.{FindsNoMore, IsCleared}
 use Rattle.mb_mailbox.specs.RunState.{RunState, run_state}
@@ -240,6 +241,7 @@ leaves-run throughput first last old pass turn stopped taken same t few reason e
       given = given ∙ ap (λ l. given_by (claim_view last).log ++ l) sends.got_nothing;
       sent_system = kept ∙ sends.sent ∙ ap (λ l. reverse l ++ old.sent_system) (sym (sends.recorded ∙ ap (λ l. l ++ sends.more) unsent));
       only_drained = subst (λ n. TakesOnlyDrained n (claim_view last).log) same.actor only_drained;
+      begins = subst (λ j. BeginsAt (loaded_words (claim_view last).log) j journal) before t.begins;
       last = subst (λ n. EndsDrained n (claim_view last).log stopped) same.actor ends;
       room = subst (λ (w : Identity). LastTakeHadRoom w journal stopped) same.who room;
       started = since.0;

@@ -126,4 +126,5 @@ module _ (gives : ℕ → Moment → Reply → Type 0) (origin : Origin (Box Con
               (first_block c.home.value.cell.journal no_more);
           system = omega (arith, system);
           actor = actor;
+          begins = record { newer = []; joined = refl; begun_at = refl };
         })

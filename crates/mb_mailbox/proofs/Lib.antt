@@ -7,6 +7,7 @@ pub mod SettledLemmas
 pub mod RunningSteps
 pub mod BacklogLemmas
 pub mod CountLemmas
+pub mod BegunAtLemmas
 pub mod EmptiedLemmas
 pub mod RunningMoves
 pub mod AnswerLemmas
@@ -22,6 +23,7 @@ pub mod ReadingLemmas
 pub mod RunCountLemmas
 pub mod DrainingLemmas
 pub mod AppliedLemmas
+pub mod LoadLemmas
 pub mod EnvelopeLemmas
 pub mod FreshLemmas
 pub mod FinishLemmas

@@ -1,9 +1,9 @@
 -- What a status says of its journal between two messages.
-use Rattle.std.proofs.Common.{◌≡◌, ℕ, ◌*◌, ◌<◌, ◌^◌, Bool, true, false, List, refl, sym, ap, ◌∙◌, subst}
+use Rattle.std.proofs.Common.{◌≡◌, ◌≤◌, ◌==◌, if◌then◌else◌, ℕ, ◌<◌, ◌^◌, Bool, true, false, List, refl, sym, ap, ◌∙◌, subst}
 use Rattle.std.proofs.Common.{arith}
-use Rattle.std.specs.Prelude.{IsTrue, not, nat_lt, ◌&&◌}
+use Rattle.std.specs.Prelude.{IsTrue, not, nat_lt, nat_le, ◌&&◌}
 use Rattle.std.proofs.lemmas.Bool.Decides.{nat_tests}
-use Rattle.mb_status.specs.Mailbox.{Mailbox, word_of, mailbox_of, idle, should_process, is_valid}
+use Rattle.mb_status.specs.Mailbox.{Mailbox, word_of, mailbox_of, idle, should_process, is_valid, is_possible, most_suspensions}
 use Rattle.mb_actor.specs.Behaviour.{Moment, Reply}
 use Rattle.mb_journal.specs.Entry.{Entry}
 use Rattle.mb_journal.specs.Identity.{Identity}
@@ -13,7 +13,9 @@ use Rattle.mb_journal.specs.Reading.{IsOpen}
 use Rattle.mb_journal.specs.Run.{IsShut}
 use Rattle.mb_journal.specs.Suspension.{count}
 use Rattle.mb_home.specs.AtHome.{mailbox_at}
-use Rattle.mb_home.proofs.StatusLemmas.{count_within, word_valid, word_open}
+use Rattle.mb_home.proofs.StatusLemmas.{count_within}
+use Rattle.mb_gate.proofs.Wins.{valid_word}
+use Rattle.mb_gate.proofs.HeldStatus.{mailbox_again}
 
 -- a mailbox that is to be processed is neither closed nor suspended
 open-parts : (shut : Bool) (n : ℕ) → (not shut && not (nat_lt 0 n)) ≡ true → (shut ≡ false) × (n ≡ 0)
@@ -25,6 +27,16 @@ open-at : (scheduled : Bool) → let word = word_of (record { closed = false; sc
     IsTrue (is_valid word && should_process (mailbox_of word)) × ((mailbox_of word).count ≡ 0) × ((mailbox_of word).closed ≡ false)
 open-at true = (refl, refl, refl)
 open-at false = (refl, refl, refl)
+
+-- as it says itself
+pub open-word : (m : Mailbox) → should_process m ≡ true → should_process (mailbox_of (word_of m)) ≡ true
+open-word m t =
+    let parts = open-parts m.closed m.count t in
+    (λ i. should_process (mailbox_of (word_of (record { closed = parts.0 i; scheduled = m.scheduled; count = parts.1 i })))) ∙ by_bit m.scheduled
+  where
+    by_bit : (b : Bool) → should_process (mailbox_of (word_of (record { closed = false; scheduled = b; count = 0 }))) ≡ true
+    by_bit true = refl
+    by_bit false = refl
 
 module _ (m : Mailbox) (who : Identity) (journal : List Entry) (same : idle m ≡ mailbox_at who journal) where
   count-same : m.count ≡ count who journal
@@ -50,15 +62,18 @@ module _ (m : Mailbox) (who : Identity) (journal : List Entry) (same : idle m �
         same_closing = ap (λ w. (mailbox_of w).closed) word ∙ at.2 ∙ sym parts.0 ∙ closing-same;
       }
 
-  -- it was suspended: the word of the journal is not open
+  -- it was suspended, and its word is not open
   pub shut-reading : (gives : Moment → Reply → Type 0) → IsLawful who gives journal → who.limit < 2 ^ 32 → m.closed ≡ false →
-      should_process m ≡ false → IsShut who journal (4 * count who journal)
+      should_process m ≡ false → IsShut who journal (word_of m)
   shut-reading gives lawful small open_yet t =
-      let n = count who journal in
-      let is : mailbox_of (4 * n) ≡ record { closed = false; scheduled = false; count = n } = word_open n in
+      let few : m.count ≤ most_suspensions = let n = count_within who gives journal lawful small in omega (arith, n, count-same) in
+      let within : IsTrue (nat_le m.count most_suspensions) = grind (arith, nat_tests, few) in
+      let possible : IsTrue (is_possible m) =
+      ap (λ b. if b then not m.scheduled && m.count == 0 else nat_le m.count most_suspensions) open_yet ∙ within in
+      let is = mailbox_again m possible in
       record {
-        valid = word_valid n (count_within who gives journal lawful small);
-        not_open = ap should_process is ∙ (λ i. not (sym open_yet i) && not (nat_lt 0 (sym count-same i))) ∙ t;
-        same_count = ap (λ (x : Mailbox). x.count) is;
-        same_closing = ap (λ (x : Mailbox). x.closed) is ∙ sym open_yet ∙ closing-same;
+        valid = valid_word m possible;
+        not_open = ap should_process is ∙ t;
+        same_count = ap (λ (x : Mailbox). x.count) is ∙ count-same;
+        same_closing = ap (λ (x : Mailbox). x.closed) is ∙ closing-same;
       }

@@ -13,10 +13,13 @@ use Rattle.mb_home.specs.Contents.{Contents}
 use Rattle.mb_home.specs.Steps.{AppliesNext, Begins}
 use Rattle.mb_home.proofs.RunForms.{applied-blocks, begun-blocks}
 use Rattle.mb_mailbox.specs.declared.turn.Turn.{Turn}
+use Rattle.mb_gate.specs.View.{Observation}
+use Rattle.mb_mailbox.specs.Loaded.{loaded_words, BeginsAt}
 use Rattle.mb_mailbox.specs.RunState.{RunState}
 use Rattle.mb_mailbox.specs.Ran.{CountsRun, systems_in}
 use Rattle.mb_mailbox.specs.Running.{KeepsJournal, SameRun, counted_by}
 use Rattle.mb_mailbox.proofs.EmptiedLemmas.{takes-same}
+use Rattle.mb_mailbox.proofs.BegunAtLemmas.{begins-system, begins-envelope}
 
 -- no more than there are entries
 pub systems-few : (journal : List Entry) → systems_in journal ≤ length journal
@@ -43,6 +46,8 @@ run_counts-keeps h new turn k t = record {
       (λ i. (sym k.same.who i, sym k.same.before i, sym k.journal i)) t.blocks;
   system = ap (λ j. turn.system + systems_in j) k.same.before ∙ t.system ∙ ap systems_in (sym k.journal);
   actor = t.actor ∙ sym k.same.actor;
+  begins =
+      subst (λ (x : List ℕ × List Entry × List Entry). BeginsAt x.0 x.1 x.2) (λ i. (sym k.loaded i, sym k.same.before i, sym k.journal i)) t.begins;
 }
 
 module _ (h : RunState) (new : Contents) (turn : Turn) (t : CountsRun h turn) where
@@ -59,6 +64,9 @@ module _ (h : RunState) (new : Contents) (turn : Turn) (t : CountsRun h turn) wh
         let more : systems_in new.cell.journal ≡ systems_in h.home.cell.journal + 1 = ap (λ (c : CellView). systems_in c.journal) a.taken.adds in
         omega (arith, t.system, more);
     actor = t.actor;
+    begins =
+        subst (λ (c : CellView). BeginsAt (loaded_words h.log) h.before c.journal) (sym a.taken.adds)
+        (begins-system (loaded_words h.log) h.before h.home.cell.journal a.number a.message a.taken.outcome t.begins);
   }
 
   of-envelope : (e : Entry) (envelope : Envelope) (reading : ℕ) → IsOf envelope reading e →
@@ -67,10 +75,11 @@ module _ (h : RunState) (new : Contents) (turn : Turn) (t : CountsRun h turn) wh
   of-envelope (System n m o) envelope reading of_it = absurd of_it
   of-envelope (Dropped x) envelope reading of_it = refl
 
-  -- an envelope more, where nothing is put in front
-  pub run_counts-begun : (reading : ℕ) → Begins h.home new reading → next_front h.home.cell.who h.home.cell.journal ≡ None →
-      CountsRun (record h { home = new }) (record turn { envelopes = turn.envelopes + 1 })
-  run_counts-begun reading b none = record {
+  -- an envelope more, where nothing is put in front, and the status word was loaded at which it was begun
+  pub run_counts-begun : (reading : ℕ) (log : List Observation) → loaded_words log ≡ reading ∷ loaded_words h.log → Begins h.home new reading →
+      next_front h.home.cell.who h.home.cell.journal ≡ None →
+      CountsRun (record h { home = new; log = log }) (record turn { envelopes = turn.envelopes + 1 })
+  run_counts-begun reading log loaded b none = record {
     blocks =
         with_who (turn.envelopes + 1) (ap (λ (c : CellView). c.who) b.taken.adds)
         (subst (λ n. AreBlocks h.home.cell.who h.before n new.cell.journal) (let one : suc turn.envelopes ≡ turn.envelopes + 1 = omega arith in one)
@@ -78,6 +87,9 @@ module _ (h : RunState) (new : Contents) (turn : Turn) (t : CountsRun h turn) wh
     system =
         t.system ∙ sym (ap (λ (c : CellView). systems_in c.journal) b.taken.adds ∙ of-envelope b.taken.entry b.envelope reading b.taken.of_it);
     actor = t.actor;
+    begins =
+        subst (λ (x : List ℕ × CellView). BeginsAt x.0 h.before x.1.journal) (λ i. (sym loaded i, sym b.taken.adds i))
+        (begins-envelope (loaded_words h.log) h.before h.home.cell.journal b.taken.entry b.envelope reading b.taken.of_it t.begins);
   }
 
   -- and the run is the same

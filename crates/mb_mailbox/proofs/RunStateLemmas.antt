@@ -6,7 +6,7 @@ use Rattle.mb_gate.specs.Claims.{held_in}
 use Rattle.mb_gate.specs.declared.claim.Claim.{Claim}
 use Rattle.mb_gate.specs.Accessors.{claim_id, claim_view, held_actor, status_of, taken_with, closed_with, gave_last, given_to, recorded_by}
 use Rattle.mb_gate.specs.Accessors.{IsRecorded, SameTaken}
-use Rattle.mb_gate.specs.View.{SentSystem, Took, Drained, Ended, writing, counting_off, draining, ending, given_after}
+use Rattle.mb_gate.specs.View.{SentSystem, Read, Took, Drained, Ended, reading_held, writing, counting_off, draining, ending, given_after}
 use Rattle.mb_home.specs.Contents.{Contents}
 use Rattle.mb_mailbox.specs.RunState.{run_state}
 
@@ -33,6 +33,24 @@ module _ (c new : Claim (Box Contents)) (ours : (claim_id new ≡ claim_id c) ×
   pub hold-taken : (actor n : ℕ) → status_of new ≡ status_of c → claim_view new ≡ counting_off actor n (claim_view c) → SameTaken c new →
       run_state new ≡ record (run_state c) { log = Took actor n ∷ (claim_view c).log }
   hold-taken actor n status known same = λ i. record {
+    gates = ours.0 i;
+    actor = ours.1 i;
+    status = status i;
+    home = (home i).value;
+    before = same.journal i;
+    closed_to = same.closed i;
+    gave = same.gave i;
+    given = same.given i;
+    recorded = same.recorded i;
+    log = (known i).log;
+    obligations = (known i).obligations;
+    share = (known i).share;
+  }
+
+  -- the status word was loaded
+  pub hold-read : (actor word : ℕ) → status_of new ≡ status_of c → claim_view new ≡ reading_held actor word (claim_view c) → SameTaken c new →
+      run_state new ≡ record (run_state c) { log = Read actor word ∷ (claim_view c).log }
+  hold-read actor word status known same = λ i. record {
     gates = ours.0 i;
     actor = ours.1 i;
     status = status i;

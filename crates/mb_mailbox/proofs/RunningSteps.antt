@@ -15,7 +15,7 @@ use Rattle.mb_journal.specs.Identity.{Identity}
 use Rattle.mb_ghost.specs.Seen.{Each}
 use Rattle.mb_gate.specs.NamedActors.{EachNamesBelow}
 use Rattle.mb_gate.specs.SentSystem.{answered_to, notice}
-use Rattle.mb_gate.specs.View.{Observation, SentSystem, Took, Drained, Ended}
+use Rattle.mb_gate.specs.View.{Observation, SentSystem, Read, Took, Drained, Ended}
 use Rattle.mb_cell.specs.CellView.{CellView}
 use Rattle.mb_home.specs.AtHome.{closed_receivers, mailbox_at}
 use Rattle.mb_home.specs.Carried.{Leads}
@@ -24,7 +24,7 @@ use Rattle.mb_home.specs.NamedActors.{NamesActors, SendsBelow}
 use Rattle.mb_home.specs.AgreesWithJournal.{AgreesWithJournal}
 use Rattle.mb_home.proofs.CarryLemmas.{leads-tell, leads-sys, leads-suspend, leads-resume, leads-close}
 use Rattle.mb_gate.specs.Untouched.{Origin}
-use Rattle.mb_mailbox.specs.OnlyDrained.{DrainedLast, WasEnded, TakesOnlyDrained}
+use Rattle.mb_mailbox.specs.OnlyDrained.{LoadedOpenLast, WasEnded, TakesOnlyDrained}
 use Rattle.mb_mailbox.specs.RunState.{RunState}
 use Rattle.mb_mailbox.specs.Running.{IsRunning, IsKnownClosedTo}
 use Rattle.mb_mailbox.specs.SentDue.{HasSentDueExcept}
@@ -270,10 +270,14 @@ module _ (gives : ℕ → Moment → Reply → Type 0) (origin : Origin (Box Con
         IsRunning gives origin pending seen (record h { gave = gave; given = given; log = Drained h.actor result ∷ h.log })
     running-drained pending gave given result r = running-log pending gave given (Drained h.actor result) r r.only_drained
 
+    pub running-read : (pending : List Act) (word : ℕ) → IsRunning gives origin pending seen h →
+        IsRunning gives origin pending seen (record h { log = Read h.actor word ∷ h.log })
+    running-read pending word r = running-log pending h.gave h.given (Read h.actor word) r r.only_drained
+
     pub running-ended : (pending : List Act) (given : ℕ) (result : List (ℕ × SysMsg)) → IsRunning gives origin pending seen h →
         IsRunning gives origin pending seen (record h { given = given; log = Ended h.actor result ∷ h.log })
     running-ended pending given result r = running-log pending h.gave given (Ended h.actor result) r r.only_drained
 
-    pub running-taken : (pending : List Act) (n : ℕ) → DrainedLast h.actor h.log ⊎ WasEnded h.actor h.log → IsRunning gives origin pending seen h →
+    pub running-taken : (pending : List Act) (n : ℕ) → LoadedOpenLast h.actor h.log ⊎ WasEnded h.actor h.log → IsRunning gives origin pending seen h →
         IsRunning gives origin pending seen (record h { log = Took h.actor n ∷ h.log })
     running-taken pending n when r = running-log pending h.gave h.given (Took h.actor n) r (when, r.only_drained)

@@ -44,6 +44,7 @@ module _ (c new : Claim (Box Contents)) (sent_system : SentSystem) (r : IsRecord
       (record {
         same = record { actor = refl; who = refl; before = refl; takes = takes-same _ _ refl; counted = refl };
         journal = refl;
+        loaded = refl;
       })
 
   pub backlog-sent_system : BacklogAgrees (run_state c) → BacklogAgrees (run_state new)

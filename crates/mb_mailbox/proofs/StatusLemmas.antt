@@ -28,6 +28,7 @@ module _ (c new : Claim (Box Contents)) (m : Mailbox) (word : ℕ) (ours : (clai
       (record {
         same = record { actor = refl; who = refl; before = refl; takes = takes-same _ _ refl; counted = refl };
         journal = refl;
+        loaded = refl;
       })
 
   pub backlog-written : m.closed ≡ (status_of c).closed → BacklogAgrees (run_state c) → BacklogAgrees (run_state new)

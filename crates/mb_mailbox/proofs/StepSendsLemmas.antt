@@ -1,12 +1,11 @@
 -- What one step of a run sends and drops.
-use Rattle.std.proofs.Common.{◌≡◌, ℕ, Bool, true, false, List, [], ◌∷◌, ◌++◌, Option, Some, None, refl, sym, ap, ◌∙◌, subst, append_assoc, append-nil}
+use Rattle.std.proofs.Common.{◌≡◌, ℕ, true, false, List, [], ◌∷◌, ◌++◌, Option, Some, None, refl, sym, ap, ◌∙◌, subst, append_assoc, append-nil}
 use Rattle.std.specs.Prelude.{if◌then◌else◌, is_some, MatchBool}
 use Rattle.std.specs.List.{flat_map}
 use Rattle.std.specs.Global.{Box}
 use Rattle.mb_msg.specs.declared.envelope.Envelope.{Envelope}
 use Rattle.mb_msg.specs.declared.id.ActorId.{ActorId}
 use Rattle.mb_msg.specs.declared.system.SysMsg.{SysMsg}
-use Rattle.mb_journal.specs.Acts.{acts}
 use Rattle.mb_journal.specs.Aside.{next_front}
 use Rattle.mb_journal.specs.Entry.{Entry}
 use Rattle.mb_journal.specs.Entry.Entry.{Handled, System, Dropped as DroppedEnvelope}
@@ -19,13 +18,13 @@ use Rattle.mb_gate.specs.Untouched.{Origin}
 use Rattle.mb_cell.specs.CellView.{CellView, IsOf, with_entry}
 use Rattle.mb_gate.specs.declared.claim.Claim.{Claim}
 use Rattle.mb_gate.specs.Accessors.{held_actor, status_of, IsRecorded}
-use Rattle.mb_gate.specs.SentSystem.{Listed, Dropped, Answered, Parting, IsRightPart, answered_to, due_since, messages_of, notice, sent_by_part}
+use Rattle.mb_gate.specs.SentSystem.{Listed, Dropped, Answered, Parting, IsRightPart, answered_to, messages_of, notice, sent_by_part}
 use Rattle.mb_gate.specs.View.{Observation, SentSystem, Ended}
 use Rattle.mb_home.specs.Contents.{Contents}
 use Rattle.mb_home.specs.Steps.{AppliesNext, HasNoBacklog, IsDue}
 use Rattle.mb_mailbox.specs.Notice.{IsAnswered, asker}
 use Rattle.mb_mailbox.specs.RunState.{RunState, run_state}
-use Rattle.mb_mailbox.specs.RunSends.{SendsAndAnswers, TakesSystemsIn, SendsDue, SendsForEntries, IsSentByRun, askers_of, came_since, given_by, number_if_some, told_of_end}
+use Rattle.mb_mailbox.specs.RunSends.{SendsAndAnswers, TakesSystemsIn, SendsDue, SendsForEntries, IsSentByRun, came_since, given_by, number_if_some}
 use Rattle.mb_mailbox.specs.Running.{IsRunning, BacklogAgrees}
 use Rattle.mb_mailbox.proofs.AnswerLemmas.{asker-told, number_of}
 use Rattle.mb_mailbox.proofs.RunSendsLemmas.{due-then, given-append, sends-none, sends-part, sends-then, takes-in-none, takes-in-open}

@@ -15,7 +15,7 @@ use Rattle.mb_home.specs.Carried.{LeadsOn}
 use Rattle.mb_home.specs.Contents.{Contents}
 use Rattle.mb_home.specs.AgreesWithJournal.{AgreesWithJournal}
 use Rattle.mb_home.specs.Steps.{Begins}
-use Rattle.mb_mailbox.specs.OnlyDrained.{DrainedLast}
+use Rattle.mb_mailbox.specs.OnlyDrained.{LoadedLast, LoadedOpenLast}
 use Rattle.mb_mailbox.specs.RunSends.{SendsDue, SendsForEntries}
 use Rattle.mb_mailbox.specs.RunState.{RunState, run_state}
 use Rattle.mb_mailbox.specs.Ran.{CountsRun}
@@ -23,6 +23,7 @@ use Rattle.mb_mailbox.specs.Running.{IsRunning, BacklogAgrees, SameRun}
 use Rattle.mb_mailbox.specs.declared.turn.Turn.{Turn}
 use Rattle.mb_mailbox.proofs.BacklogLemmas.{backlog-log}
 use Rattle.mb_mailbox.proofs.CountLemmas.{counted-more, counts-one, one-more}
+use Rattle.mb_mailbox.proofs.BegunAtLemmas.{taken-loaded}
 use Rattle.mb_mailbox.proofs.EmptiedLemmas.{take-begun, takes-one}
 use Rattle.mb_mailbox.proofs.RunningMoves.{running-begun, backlog-begun}
 use Rattle.mb_mailbox.proofs.RunningSteps.{running-taken}
@@ -57,14 +58,14 @@ module _ (h : RunState) (after : Contents) (counted : Claim (Box Contents))
       (ap (λ (x : RunState). x.recorded) one) b.taken.entry b.taken.adds carried journal b.envelope reading b.taken.of_it
       (ap (λ (x : Contents). x.rest) b.same) (Took h.actor 1 ∷ []) refl (ap (λ (x : RunState). x.log) one)
 
-  pub run_counts-counted : (turn : Turn) → CountsRun h turn → next_front h.home.cell.who h.home.cell.journal ≡ None →
+  pub run_counts-counted : (turn : Turn) → CountsRun h turn → LoadedLast h.actor reading h.log → next_front h.home.cell.who h.home.cell.journal ≡ None →
       CountsRun (record (run_state counted) { home = new }) (record turn { envelopes = turn.envelopes + 1 })
-  run_counts-counted turn t none =
+  run_counts-counted turn t last none =
       subst (λ (x : RunState). CountsRun (record x { home = new }) (record turn { envelopes = turn.envelopes + 1 })) (sym one)
-      (run_counts-begun taken_hold new turn (record { blocks = t.blocks; system = t.system; actor = t.actor }) reading b none)
+      (run_counts-begun h new turn t reading (Took h.actor 1 ∷ h.log) (taken-loaded h.actor reading h.log last) b none)
 
   module _ (gives : ℕ → Moment → Reply → Type 0) (origin : Origin (Box Contents)) (seen : List Observation) (r : IsRunning gives origin [] seen h)
-      (last : DrainedLast h.actor h.log) where
+      (last : LoadedOpenLast h.actor h.log) where
     running_taken : IsRunning gives origin [] seen taken_hold
     running_taken = running-taken gives origin seen h [] 1 (inl last) r
 

@@ -84,6 +84,7 @@ module _ (h : RunState) (new : Contents) (cell : new.cell ≡ h.home.cell) where
       counted = ap (λ (l : List Envelope). length l + counted_by h) taken;
     };
     journal = ap (λ (c : CellView). c.journal) cell;
+    loaded = refl;
   }
 
   pub keeps-home : new.take ≡ h.home.take → KeepsJournal h (record h { home = new })
@@ -120,6 +121,7 @@ module _ (h : RunState) (new : Contents) (same : new ≡ record h.home { cell = 
       counted = ap (λ (x : Contents). length x.take.taken + counted_by h) same;
     };
     journal = ap (λ (x : Contents). x.cell.journal) same;
+    loaded = refl;
   }
 
   pub backlog-next : BacklogAgrees h → BacklogAgrees (record h { home = new })

@@ -1,6 +1,7 @@
 pub mod RunState
 pub mod SentDue
 pub mod OnlyDrained
+pub mod Loaded
 pub mod Emptied
 pub mod Running
 pub mod Sending

@@ -22,7 +22,8 @@ use Rattle.mb_gate.specs.Waiting.{counted_off}
 use Rattle.mb_home.specs.Contents.{Contents}
 use Rattle.mb_mailbox.specs.declared.turn.Turn.{Turn}
 use Rattle.mb_register.specs.Caller.{TakesOver}
-use Rattle.mb_mailbox.specs.OnlyDrained.{DrainedLast, TakesOnlyDrained}
+use Rattle.mb_mailbox.specs.Loaded.{loaded_words, BeginsAt}
+use Rattle.mb_mailbox.specs.OnlyDrained.{DrainedLast, LoadedLast, TakesOnlyDrained}
 use Rattle.mb_mailbox.specs.Emptied.{FindsNoMore, IsEmptied}
 use Rattle.mb_mailbox.specs.RunState.{RunState}
 use Rattle.mb_mailbox.specs.RunSends.{IsSentByRun, given_by}
@@ -39,15 +40,22 @@ systems_in (System number m outcome ∷ before) = systems_in before + 1
 systems_in (Handled envelope reading outcome ∷ before) = systems_in before
 systems_in (Dropped envelope ∷ before) = systems_in before
 
--- A run in progress: the journal was extended by blocks of system messages, with an envelope before each but the first, and the run counts both.
+-- A run in progress: the journal was extended by blocks of system messages, with an envelope before each but the first, and the run counts both. The
+-- envelopes were begun at the status words that were loaded right before they were taken.
 pub record CountsRun (hold : RunState) (turn : Turn) : Type 0 where
   pub blocks : AreBlocks hold.home.cell.who hold.before turn.envelopes hold.home.cell.journal
   pub system : turn.system + systems_in hold.before ≡ systems_in hold.home.cell.journal
   pub actor : turn.actor.0 ≡ hold.actor
+  pub begins : BeginsAt (loaded_words hold.log) hold.before hold.home.cell.journal
 
 -- A block is at its end: the last drain gave nothing, and no message that was set aside goes before others.
 pub record IsDrained (hold : RunState) : Type 0 where
   pub last : DrainedLast hold.actor hold.log
+  pub none : next_front hold.home.cell.who hold.home.cell.journal ≡ None
+
+-- A block is at its end, and since then the claim loaded its actor's status word, which was this.
+pub record IsLoadedSince (word : ℕ) (hold : RunState) : Type 0 where
+  pub last : LoadedLast hold.actor word hold.log
   pub none : next_front hold.home.cell.who hold.home.cell.journal ≡ None
 
 -- This was a reason to take no envelope more.
@@ -66,11 +74,12 @@ HadRoom (NoEnvelope word) = Unit {0}
 HadRoom AtClosing = Unit {0}
 HadRoom NoRoom = ⊥
 
--- Unless it was closed or had no room, the run's last step at the actor's list was a drain that gave nothing.
+-- Unless it was closed or had no room, the run's last step at the actor's list was a drain that gave nothing. If it stopped at a status word or since
+-- no envelope was there, it loaded that word right after this drain, and that is its last step at the gates.
 abbrev pub EndsDrained : ℕ → List Observation → Stopped → Type 0
 EndsDrained actor log UsedUp = DrainedLast actor log
-EndsDrained actor log (NotOpen word) = DrainedLast actor log
-EndsDrained actor log (NoEnvelope word) = DrainedLast actor log
+EndsDrained actor log (NotOpen word) = LoadedLast actor word log
+EndsDrained actor log (NoEnvelope word) = LoadedLast actor word log
 EndsDrained actor log AtClosing = Unit {0}
 EndsDrained actor log NoRoom = Unit {0}
 
@@ -93,6 +102,10 @@ LastTakeHadRoom who journal NoRoom = Unit {0}
 -- a block is at its end, or the mailbox is closed
 abbrev pub EndsBlock : RunState → Type 0
 EndsBlock hold = (hold.status.closed ≡ true) ⊎ IsDrained hold
+
+-- since a block was at its end the claim loaded its actor's status word, which was this; or the mailbox is closed
+abbrev pub LoadsAfterBlock : ℕ → RunState → Type 0
+LoadsAfterBlock word hold = (hold.status.closed ≡ true) ⊎ IsLoadedSince word hold
 
 -- The run takes no envelope more for this reason, where its pass of the queue was this one before; and unless it is closed, its last step at the
 -- actor's list was a drain that gave nothing.
@@ -120,12 +133,13 @@ EndsEmpty AtClosing ended = Unit {0}
 EndsEmpty NoRoom ended = ⊥
 
 -- The claim's actor ran from the journal with which the claim was taken to this one, which the pass has seen. The result names the actor and counts
--- the entries of either kind. The pass took over the steps of the claim's seat. Among them each that took an envelope came when no system message was
--- left to be drained; and they count as many envelopes as taken as were begun and cleaned up. None is cleaned up unless the actor ended. If the run
--- stopped since no envelope was there, or the actor ended and there was room for all, these are all envelopes that the takes gave, and the last take
--- found none; in the first case the journal has room for one more. The system messages that the pass sent are those that the new entries have to send,
--- each that found its list ended answered at once, and, if the actor ended, the answers to what was dropped then; and no others. What the pass knows
--- that lists gave went on by what the actor's list gave in these steps.
+-- the entries of either kind. The pass took over the steps of the claim's seat. Among them each that took an envelope, if it was not cleaned up, came
+-- right after a load of a status word that was open and not suspended, when no system message was left to be drained. The envelopes of the new entries
+-- were begun at these words, one at each. The steps count as many envelopes as taken as were begun and cleaned up. None is cleaned up unless the actor
+-- ended. If the run stopped since no envelope was there, or the actor ended and there was room for all, these are all envelopes that the takes gave,
+-- and the last take found none; in the first case the journal has room for one more. The system messages that the pass sent are those that the new
+-- entries have to send, each that found its list ended answered at once, and, if the actor ended, the answers to what was dropped then; and no others.
+-- What the pass knows that lists gave went on by what the actor's list gave in these steps.
 pub record LeavesRun (throughput : ℕ) (claim : Claim (Box Contents)) (old pass : View) (journal : List Entry) (turn : Turn) (stopped : Stopped)
     : Type 0 where
   pub run : IsRun claim.home.value.cell.who throughput claim.home.value.cell.journal journal stopped
@@ -140,6 +154,7 @@ pub record LeavesRun (throughput : ℕ) (claim : Claim (Box Contents)) (old pass
   pub sent_system : pass.sent_system ≡ reverse told ++ old.sent_system
   pub given : given_by pass.log ≡ given_by steps ++ given_by old.log
   pub only_drained : TakesOnlyDrained (held_actor claim) steps
+  pub begins : BeginsAt (loaded_words steps) claim.home.value.cell.journal journal
   pub last : EndsDrained (held_actor claim) steps stopped
   pub room : LastTakeHadRoom claim.home.value.cell.who journal stopped
   pub started : List Envelope

@@ -15,6 +15,7 @@ use Rattle.mb_home.specs.NamedActors.{NamesActors, SendsBelow}
 use Rattle.mb_home.specs.AgreesWithJournal.{AgreesWithJournal}
 use Rattle.mb_home.specs.Steps.{HasNoBacklog}
 use Rattle.mb_gate.specs.Untouched.{Origin}
+use Rattle.mb_mailbox.specs.Loaded.{loaded_words}
 use Rattle.mb_mailbox.specs.OnlyDrained.{TakesOnlyDrained}
 use Rattle.mb_mailbox.specs.Emptied.{TakesOn}
 use Rattle.mb_mailbox.specs.RunState.{RunState}
@@ -27,7 +28,8 @@ IsKnownClosedTo seen hold other = IsAmong other hold.closed_to ⊎ IsAmong (Read
 -- The claim is of one of the actors of these gates, and what lies at its home is that actor's own, with the same directory of actors as the gates'
 -- first home. The home agrees with its journal, and the status and the system messages that were sent are what the journal says, but for these acts,
 -- which are still to be carried out. The home and these acts name only actors of these gates. Each actor that the home says is closed is known to be.
--- Each envelope was taken when no system message was left to be drained. The claim's seat owes nothing, and has no share.
+-- Each envelope was taken right after a load of an open status word, when no system message was left to be drained, or cleaned up. The claim's seat owes
+-- nothing, and has no share.
 pub record IsRunning (gives : ℕ → Moment → Reply → Type 0) (origin : Origin (Box Contents)) (pending : List Act) (seen : List Observation) (hold : RunState)
     : Type 0 where
   pub same_gates : hold.gates ≡ origin.gates
@@ -64,7 +66,8 @@ pub record SameRun (old new : RunState) : Type 0 where
   pub takes : TakesOn old.home.take new.home.take
   pub counted : length new.home.take.taken + counted_by old ≡ length old.home.take.taken + counted_by new
 
--- The run is the same, and nothing was added to the journal.
+-- The run is the same, nothing was added to the journal, and no envelope was taken to begin it.
 pub record KeepsJournal (old new : RunState) : Type 0 where
   pub same : SameRun old new
   pub journal : new.home.cell.journal ≡ old.home.cell.journal
+  pub loaded : loaded_words new.log ≡ loaded_words old.log

@@ -3,7 +3,9 @@ ghost use Rattle.std.specs.Prelude.{◌≡◌, ◌≤◌, ◌+◌, IfOk, MatchBo
 ghost use Rattle.mb_journal.specs.Run.{most_envelopes};
 ghost use Rattle.mb_mailbox.specs.RunState.{run_state};
 ghost use Rattle.mb_mailbox.specs.InRun.{InRun, Advances, StopsRun};
-ghost use Rattle.mb_mailbox.specs.Ran.{EndsBlock, HasStopped, TakesNoMore};
+ghost use Rattle.mb_status.specs.Mailbox.{word_of};
+ghost use Rattle.mb_gate.specs.Accessors.{status_of};
+ghost use Rattle.mb_mailbox.specs.Ran.{EndsBlock, HasStopped, LoadsAfterBlock, TakesNoMore};
 
 use crate::acts::carry_out;
 use crate::systems::apply_systems;
@@ -13,6 +15,7 @@ use mb_gate::{Claim, Gates, RunQueue};
 use mb_home::BoxedHome;
 use mb_journal::ReadyError;
 use mb_register::Registrar;
+use mb_status::Status;
 use std::sync::Wait;
 
 /// Gives the cell at most as many envelopes as the throughput says (`Mailbox.processMailbox`; 0 counts as 1), each where the
@@ -44,7 +47,7 @@ pub(crate) fn apply_envelopes<A: Actor, K: Behaviours, W: RunQueue<BoxedHome<A, 
     Ok(())
 }
 
-// Gives the cell the next envelope, where the status is open and not suspended and one is there, and carries out its acts.
+// Loads the status, and gives the cell the next envelope where it is open and not suspended and one is there.
 fn apply_envelope<A: Actor, K: Behaviours, W: RunQueue<BoxedHome<A, K>>, R: Wait>(
     rt: &R,
     gates: &Gates<BoxedHome<A, K>>,
@@ -61,7 +64,30 @@ fn apply_envelope<A: Actor, K: Behaviours, W: RunQueue<BoxedHome<A, K>>, R: Wait
         ((turn.new ≡ turn.old) × TakesNoMore claim.old.home.value.take (run_state claim.new))) }
     ensures within_limit { turn.new.envelopes ≤ turn.old.envelopes + 1 }
 {
-    let status = claim.status();
+    let status = gates.held_status(claim);
+    apply_next(rt, gates, registrar, claim, turn, status)
+}
+
+// Gives the cell the next envelope, where this status that was just loaded is open and not suspended and one is there, and
+// carries out its acts.
+fn apply_next<A: Actor, K: Behaviours, W: RunQueue<BoxedHome<A, K>>, R: Wait>(
+    rt: &R,
+    gates: &Gates<BoxedHome<A, K>>,
+    registrar: &mut Registrar<BoxedHome<A, K>, W>,
+    claim: &mut Claim<BoxedHome<A, K>>,
+    turn: &mut Turn,
+    status: Status,
+) -> Result<bool, ReadyError>
+    requires in_run { InRun K.gives W.origin gates.now registrar.old claim.old turn.old }
+    requires status { status ≡ status_of claim.old }
+    requires whole { LoadsAfterBlock (word_of (status_of claim.old)) (run_state claim.old) }
+    ensures in_run { InRun K.gives W.origin gates.now registrar.new claim.new turn.new }
+    ensures advances { Advances W.pushed W.refused result registrar.old registrar.new claim.old claim.new }
+    ensures stops { StopsRun result claim.new }
+    ensures took { IfOk result (λ took. MatchBool took (turn.new.envelopes ≡ turn.old.envelopes + 1)
+        ((turn.new ≡ turn.old) × TakesNoMore claim.old.home.value.take (run_state claim.new))) }
+    ensures within_limit { turn.new.envelopes ≤ turn.old.envelopes + 1 }
+{
     if !status.should_process() {
         return Ok(false);
     }

@@ -7,9 +7,8 @@ ghost use Rattle.mb_pool.specs.Places.{AreEnds, AreFeeds};
 use mb_gate::{Claim, Gates, MailboxState, Pass};
 use mb_pool::{Feed, Pool, PoolEnd, RemainingError, remaining};
 use mb_testkit::give;
-use std::alloc::Global;
+use std::alloc::{AllocError, Global};
 use std::sync::Wait;
-use std::test::Fail;
 
 /// Ends the pool; retried once where memory is refused.
 pub fn left<H: MailboxState, R: Wait>(
@@ -18,7 +17,7 @@ pub fn left<H: MailboxState, R: Wait>(
     pool: Pool<H>,
     ends: Vec<PoolEnd<H>>,
     feeds: Vec<Feed<H>>,
-) -> Result<Vec<Claim<H>>, Fail>
+) -> Result<Vec<Claim<H>>, AllocError>
     requires ends { AreEnds pool ends.items }
     requires feeds { AreFeeds pool feeds.items }
     ensures { IfOk result (λ claims.
@@ -30,7 +29,7 @@ pub fn left<H: MailboxState, R: Wait>(
     };
     match remaining(rt, alloc, pool, ends, feeds) {
         Ok(claims) => Ok(claims),
-        Err(_) => Err(Fail::from("no memory")),
+        Err(_) => Err(AllocError),
     }
 }
 

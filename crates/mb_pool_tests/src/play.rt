@@ -6,10 +6,9 @@ use crate::test_pool::{TestPool, made};
 use mb_gate::MailboxState;
 use mb_msg::PoolKind;
 use mb_testkit::StubHome;
-use std::alloc::Global;
+use std::alloc::{AllocError, Global};
 use std::process::Abort;
 use std::sync::Wait;
-use std::test::Fail;
 
 /// A call, and its answer.
 #[derive(Clone, Copy)]
@@ -31,12 +30,29 @@ pub fn played<R: Abort + Wait>(
     kind: PoolKind,
     actors: u32,
     steps: &[PoolStep],
-) -> Result<TestPool<StubHome>, Fail>
+) -> Result<TestPool<StubHome>, AllocError>
     requires { 0 < actors }
 {
     let mut scene = made(alloc, actors, kind)?;
     play(rt, &mut scene, steps);
     Ok(scene)
+}
+
+/// The same, and ends the pool: checks that the claims of the actors from the first up to before the end are left, in order.
+pub fn leaves<R: Abort + Wait>(
+    rt: &R,
+    alloc: Global,
+    kind: PoolKind,
+    actors: u32,
+    steps: &[PoolStep],
+    first: u32,
+    end: u32,
+) -> Result<(), AllocError>
+    requires { 0 < actors }
+{
+    let are_left = played(rt, alloc, kind, actors, steps)?.leaves(rt, alloc, first, end)?;
+    assert!(rt; are_left);
+    Ok(())
 }
 
 fn play<H: MailboxState, R: Abort + Wait>(rt: &R, scene: &mut TestPool<H>, steps: &[PoolStep]) {

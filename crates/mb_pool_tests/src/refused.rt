@@ -1,22 +1,20 @@
 //! Calls that are retried where memory is refused: `tools/refuse_each_allocation pool` runs this with each allocation
 //! refused in turn.
-use crate::play::{PoolStep, played};
+use crate::play::{PoolStep, leaves};
 use mb_msg::PoolKind;
-use std::test::Fail;
+use std::alloc::AllocError;
+
+const SHARED: &[PoolStep] = &[PoolStep::Push(1, 0, 32), PoolStep::Feed(32, 64)];
 
 #[test]
-fn a_refused_call_of_a_shared_pool_can_be_made_again(rt: HostRuntime) -> Result<(), Fail> {
-    let steps = [PoolStep::Push(1, 0, 32), PoolStep::Feed(32, 64)];
-    let scene = played(&rt, rt.alloc(), PoolKind::Shared, 64, &steps)?;
-    assert!(rt; scene.leaves(&rt, rt.alloc(), 0, 64)?);
-    Ok(())
+fn a_refused_call_of_a_shared_pool_can_be_made_again(rt: HostRuntime) -> Result<(), AllocError> {
+    leaves(&rt, rt.alloc(), PoolKind::Shared, 64, SHARED, 0, 64)
 }
 
-/// This pool holds more claims than a shared one can.
+/// More claims than a shared pool can hold.
+const STEALING: &[PoolStep] = &[PoolStep::Push(1, 0, 200), PoolStep::Feed(200, 400)];
+
 #[test]
-fn a_refused_call_of_a_stealing_pool_can_be_made_again(rt: HostRuntime) -> Result<(), Fail> {
-    let steps = [PoolStep::Push(1, 0, 200), PoolStep::Feed(200, 400)];
-    let scene = played(&rt, rt.alloc(), PoolKind::Stealing, 400, &steps)?;
-    assert!(rt; scene.leaves(&rt, rt.alloc(), 0, 400)?);
-    Ok(())
+fn a_refused_call_of_a_stealing_pool_can_be_made_again(rt: HostRuntime) -> Result<(), AllocError> {
+    leaves(&rt, rt.alloc(), PoolKind::Stealing, 400, STEALING, 0, 400)
 }

@@ -13,7 +13,6 @@ use mb_pool::{Feed, Pool, PoolEnd};
 use mb_testkit::{StubHome, attempt, gates_of, give};
 use std::alloc::{AllocError, Global};
 use std::sync::Wait;
-use std::test::Fail;
 
 /// Gates with a pass, and a pool for their claims with all its ends and feeds.
 #[derive(Drop)]
@@ -89,7 +88,7 @@ impl<H: MailboxState> TestPool<H> {
         alloc: Global,
         first: u32,
         end: u32,
-    ) -> Result<bool, Fail> {
+    ) -> Result<bool, AllocError> {
         let TestPool {
             gates,
             mut pass,

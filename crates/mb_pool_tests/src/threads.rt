@@ -11,11 +11,11 @@ use mb_gate::{Gates, Pass};
 use mb_msg::{ActorId, PoolKind};
 use mb_pool::{Feed, Pool, PoolEnd};
 use mb_testkit::{StubHome, attempt, give};
-use std::alloc::Global;
+use std::alloc::{AllocError, Global};
+use std::process::Abort;
 use std::sync::Wait;
 use std::sync::atomic::AtomicU64;
 use std::sync::atomic::Ordering::SeqCst;
-use std::test::Fail;
 use std::thread::{Threads, join};
 
 /// An end, and the pass of its thread.
@@ -27,7 +27,7 @@ fn move_claims<R: Threads + Wait + Sync>(
     rt: &R,
     alloc: Global,
     kind: PoolKind,
-) -> Result<bool, Fail> {
+) -> Result<bool, AllocError> {
     let TestPool {
         gates,
         mut pass,
@@ -37,7 +37,7 @@ fn move_claims<R: Threads + Wait + Sync>(
     } = made(alloc, ACTORS, kind)?;
     let moved = AtomicU64::new(0);
     let Some(()) = all_work(rt, &gates, &mut pass, &pool, &mut ends, &mut feeds, &moved) else {
-        return Err(Fail::from("not three ends and a feed"));
+        return Ok(false);
     };
     let claims = left(rt, alloc, pool, ends, feeds)?;
     let _ = are_of(&gates, &mut pass, claims, 0, 0);
@@ -198,14 +198,23 @@ fn are_home(gates: &Gates<StubHome>, pass: &mut Pass<StubHome>) -> bool
     are_home
 }
 
-#[test]
-fn a_shared_pool_loses_none(rt: HostRuntime) -> Result<(), Fail> {
-    assert!(rt; move_claims(&rt, rt.alloc(), PoolKind::Shared)?);
+/// Moves claims through a pool of this kind, and checks that none is lost.
+fn loses_none<R: Abort + Threads + Wait + Sync>(
+    rt: &R,
+    alloc: Global,
+    kind: PoolKind,
+) -> Result<(), AllocError> {
+    let is_right = move_claims(rt, alloc, kind)?;
+    assert!(rt; is_right);
     Ok(())
 }
 
 #[test]
-fn a_stealing_pool_loses_none(rt: HostRuntime) -> Result<(), Fail> {
-    assert!(rt; move_claims(&rt, rt.alloc(), PoolKind::Stealing)?);
-    Ok(())
+fn a_shared_pool_loses_none(rt: HostRuntime) -> Result<(), AllocError> {
+    loses_none(&rt, rt.alloc(), PoolKind::Shared)
+}
+
+#[test]
+fn a_stealing_pool_loses_none(rt: HostRuntime) -> Result<(), AllocError> {
+    loses_none(&rt, rt.alloc(), PoolKind::Stealing)
 }

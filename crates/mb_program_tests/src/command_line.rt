@@ -1,7 +1,11 @@
 //! Arguments: there may be none.
-use crate::driven::{COUNT, ran};
+use crate::driven::{COUNT, ran, same_bytes, see};
 use mb_streams::argument_count;
+use std::alloc::Global;
 use std::env::{Env, FillError};
+use std::process::Abort;
+use std::sync::Wait;
+use std::thread::Threads;
 
 /// Arguments as a system gives them: bytes, the program's own path first.
 #[derive(Drop)]
@@ -27,47 +31,32 @@ impl Env for Given<'_> {
     }
 }
 
+/// Checks that so many arguments are too many, and that nothing is read then.
+fn are_too_many<T: Abort + Threads + Wait + Sync>(rt: &T, alloc: Global, count: usize) {
+    let mut rest = COUNT.as_bytes();
+    let found = ran(rt, alloc, count, &mut rest);
+    let line = b"mailrun: 12 BadScenario arguments: too many\n";
+    see(rt, &found, 2, b"", line);
+    same_bytes(rt, rest, COUNT.as_bytes());
+}
+
 #[test]
 fn arguments(rt: HostRuntime) {
-    for count in [1, 2, usize::MAX] {
-        let mut rest = COUNT.as_bytes();
-        let (status, written, errors) = ran(&rt, rt.alloc(), count, &mut rest);
-        assert_eq!(rt; status, 2);
-        assert_eq!(rt; written.len(), 0);
-        assert_eq!(rt;
-            errors.as_slice(),
-            b"mailrun: 12 BadScenario arguments: too many\n".as_slice()
-        );
-        assert_eq!(rt; rest, COUNT.as_bytes());
-    }
+    are_too_many(&rt, rt.alloc(), 1);
+    are_too_many(&rt, rt.alloc(), 2);
+    are_too_many(&rt, rt.alloc(), usize::MAX);
+}
+
+/// Checks that so many arguments are counted of these words.
+fn are_counted<T: Abort>(rt: &T, words: &[&[u8]], count: usize) {
+    assert_eq!(rt; argument_count(&Given { words }), count);
 }
 
 #[test]
 fn counting_arguments(rt: HostRuntime) {
-    let none: [&[u8]; 0] = [];
-    assert_eq!(rt; argument_count(&Given { words: &none }), 0);
-    assert_eq!(rt;
-        argument_count(&Given {
-            words: &[b"mailrun"]
-        }),
-        0
-    );
-    assert_eq!(rt;
-        argument_count(&Given {
-            words: &[b"\xff\xff"]
-        }),
-        0
-    );
-    assert_eq!(rt;
-        argument_count(&Given {
-            words: &[b"mailrun", b""]
-        }),
-        1
-    );
-    assert_eq!(rt;
-        argument_count(&Given {
-            words: &[b"mailrun", b"\xff", b"x"]
-        }),
-        2
-    );
+    are_counted(&rt, &[], 0);
+    are_counted(&rt, &[b"mailrun"], 0);
+    are_counted(&rt, &[b"\xff\xff"], 0);
+    are_counted(&rt, &[b"mailrun", b""], 1);
+    are_counted(&rt, &[b"mailrun", b"\xff", b"x"], 2);
 }

@@ -32,13 +32,33 @@ a live state 6 suspended 0 handled 3 left 0 dead 0 restarts 0
 sent 3 handled 3 left 0 dead 0
 ";
 
-/// Runs the program on a reader; answers the status, standard output and the error output.
-pub fn ran<T: Threads + Wait + Sync>(
+/// What a run of the program leaves: the status, standard output and the error output.
+#[derive(Drop)]
+pub struct Outcome {
+    pub status: u8,
+    pub written: Vec<u8>,
+    pub errors: Vec<u8>,
+}
+
+/// Checks the status of a run, and that this and nothing else is on both outputs.
+pub fn see<T: Abort>(rt: &T, found: &Outcome, status: u8, written: &[u8], errors: &[u8]) {
+    same_bytes(rt, &found.errors, errors);
+    assert_eq!(rt; found.status, status);
+    same_bytes(rt, &found.written, written);
+}
+
+/// Checks that these bytes were found.
+pub fn same_bytes<T: Abort>(rt: &T, found: &[u8], wanted: &[u8]) {
+    assert_eq!(rt; found, wanted);
+}
+
+/// Runs the program on a reader.
+pub fn ran<T: Threads + Wait + Sync, I: Read>(
     rt: &T,
     alloc: Global,
     arguments: usize,
-    reader: &mut impl Read,
-) -> (u8, Vec<u8>, Vec<u8>) {
+    reader: &mut I,
+) -> Outcome {
     let mut written = Vec::new(alloc);
     let mut errors = Vec::new(alloc);
     let status = run_program(
@@ -49,17 +69,23 @@ pub fn ran<T: Threads + Wait + Sync>(
         &mut TrackedStream::new(&mut written),
         &mut TrackedStream::new(&mut errors),
     );
-    (status, written, errors)
+    Outcome {
+        status,
+        written,
+        errors,
+    }
 }
 
 /// The same of a text, without arguments.
-pub fn driven<T: Threads + Wait + Sync>(
-    rt: &T,
-    alloc: Global,
-    text: &[u8],
-) -> (u8, Vec<u8>, Vec<u8>) {
+pub fn driven<T: Threads + Wait + Sync>(rt: &T, alloc: Global, text: &[u8]) -> Outcome {
     let mut rest = text;
     ran(rt, alloc, 0, &mut rest)
+}
+
+/// Checks that the text is run, and that this report and nothing else is written.
+pub fn comes_to<T: Abort + Threads + Wait + Sync>(rt: &T, alloc: Global, text: &str, report: &str) {
+    let found = driven(rt, alloc, text.as_bytes());
+    see(rt, &found, 0, report.as_bytes(), b"");
 }
 
 /// Checks that the text is refused with the status 2 and this line, and that nothing is written.
@@ -69,8 +95,5 @@ pub fn is_refused<T: Abort + Threads + Wait + Sync>(
     text: &[u8],
     line: &str,
 ) {
-    let (found, written, errors) = driven(rt, alloc, text);
-    assert_eq!(rt; errors.as_slice(), line.as_bytes());
-    assert_eq!(rt; found, 2);
-    assert_eq!(rt; written.len(), 0);
+    see(rt, &driven(rt, alloc, text), 2, b"", line.as_bytes());
 }

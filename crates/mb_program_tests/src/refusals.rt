@@ -1,33 +1,49 @@
 //! Texts that are no scenarios.
 use crate::driven::{COUNT, driven, is_refused};
-use std::test::Fail;
+use std::alloc::{AllocError, Global};
+use std::process::Abort;
+use std::sync::Wait;
+use std::thread::Threads;
 
-#[test]
-fn refusals(rt: HostRuntime) -> Result<(), Fail> {
-    is_refused(&rt, rt.alloc(), b"[[actor", "mailrun: 11 NotToml\n");
-    is_refused(&rt, rt.alloc(), b"\xff", "mailrun: 11 NotToml\n");
-    let spaces = vec![in rt.alloc(); b' '; 1_048_577]?;
+/// Checks that a text of spaces is refused where it is too long, and that one that is shorter by one is run.
+fn are_spaces_counted<T: Abort + Threads + Wait + Sync>(
+    rt: &T,
+    alloc: Global,
+) -> Result<(), AllocError> {
+    let spaces = vec![in alloc; b' '; 1_048_577]?;
     is_refused(
-        &rt,
-        rt.alloc(),
+        rt,
+        alloc,
         &spaces,
         "mailrun: 12 BadScenario input: too many\n",
     );
-    let (status, _, _) = driven(&rt, rt.alloc(), &spaces[1..]);
-    assert_eq!(rt; status, 0);
+    assert_eq!(rt; driven(rt, alloc, &spaces[1..]).status, 0);
     Ok(())
+}
+
+#[test]
+fn refusals(rt: HostRuntime) -> Result<(), AllocError> {
+    is_refused(&rt, rt.alloc(), b"[[actor", "mailrun: 11 NotToml\n");
+    is_refused(&rt, rt.alloc(), b"\xff", "mailrun: 11 NotToml\n");
+    are_spaces_counted(&rt, rt.alloc())
+}
+
+/// Checks that this much of the example is either run or refused.
+fn is_run_or_refused<T: Abort + Threads + Wait + Sync>(rt: &T, alloc: Global, text: &[u8]) {
+    let found = driven(rt, alloc, text);
+    let (status, end) = (found.status, text.len());
+    assert!(rt;
+        status == 0 || status == 2,
+        "the first {end} bytes: {status}"
+    );
+    assert_eq!(rt; found.written.is_empty(), status == 2);
+    assert_eq!(rt; found.errors.is_empty(), status == 0);
 }
 
 #[test]
 fn each_prefix(rt: HostRuntime) {
     let text = COUNT.as_bytes();
     for end in 0..text.len() {
-        let (status, written, errors) = driven(&rt, rt.alloc(), &text[..end]);
-        assert!(rt;
-            status == 0 || status == 2,
-            "the first {end} bytes: {status}"
-        );
-        assert_eq!(rt; written.is_empty(), status == 2);
-        assert_eq!(rt; errors.is_empty(), status == 0);
+        is_run_or_refused(&rt, rt.alloc(), &text[..end]);
     }
 }

@@ -1,18 +1,17 @@
 //! Scenarios that are run, each with its report.
-use crate::driven::{COUNT, COUNT_REPORT, driven, is_refused};
-use std::alloc::Global;
-use std::test::Fail;
+use crate::driven::{COUNT, COUNT_REPORT, comes_to, driven, is_refused, see};
+use std::alloc::{AllocError, Global};
+use std::process::Abort;
+use std::sync::Wait;
+use std::thread::Threads;
 
 #[test]
 fn counts(rt: HostRuntime) {
-    let (status, written, errors) = driven(&rt, rt.alloc(), COUNT.as_bytes());
-    assert_eq!(rt; status, 0);
-    assert_eq!(rt; written.as_slice(), COUNT_REPORT.as_bytes());
-    assert_eq!(rt; errors.len(), 0);
+    comes_to(&rt, rt.alloc(), COUNT, COUNT_REPORT);
 }
 
 /// A scenario with so many sends of 1.
-fn with_sends(alloc: Global, count: usize) -> Result<String, Fail> {
+fn with_sends(alloc: Global, count: usize) -> Result<String, AllocError> {
     let mut text = String::from_str(
         alloc,
         "workers = 0\n[[actor]]\nname = \"a\"\n[[actor.on]]\nkind = 1\ndo = [\"add\"]\n",
@@ -23,32 +22,34 @@ fn with_sends(alloc: Global, count: usize) -> Result<String, Fail> {
     Ok(text)
 }
 
-#[test]
-fn the_most_sends(rt: HostRuntime) -> Result<(), Fail> {
-    let text = with_sends(rt.alloc(), 10_000)?;
-    let (status, written, errors) = driven(&rt, rt.alloc(), text.as_bytes());
-    assert_eq!(rt; status, 0);
-    assert_eq!(rt;
-        written.as_slice(),
-        b"guardian live state - suspended 0 handled 0 left 0 dead 0 restarts 0
+const TEN_THOUSAND: &str = "\
+guardian live state - suspended 0 handled 0 left 0 dead 0 restarts 0
 a live state 10000 suspended 0 handled 10000 left 0 dead 0 restarts 0
 sent 10000 handled 10000 left 0 dead 0
-"
-            .as_slice()
-    );
-    assert_eq!(rt; errors.len(), 0);
-    let text = with_sends(rt.alloc(), 10_001)?;
+";
+
+/// Checks that ten thousand sends are run, and that one more is refused.
+fn are_sends_counted<T: Abort + Threads + Wait + Sync>(
+    rt: &T,
+    alloc: Global,
+) -> Result<(), AllocError> {
+    comes_to(rt, alloc, with_sends(alloc, 10_000)?.as_str(), TEN_THOUSAND);
     is_refused(
-        &rt,
-        rt.alloc(),
-        text.as_bytes(),
+        rt,
+        alloc,
+        with_sends(alloc, 10_001)?.as_bytes(),
         "mailrun: 12 BadScenario send: too many\n",
     );
     Ok(())
 }
 
+#[test]
+fn the_most_sends(rt: HostRuntime) -> Result<(), AllocError> {
+    are_sends_counted(&rt, rt.alloc())
+}
+
 /// Scenarios, each with its report.
-const MORE: [(&str, &str); 14] = [
+const MORE: &[(&str, &str)] = &[
     (
         "",
         "guardian live state - suspended 0 handled 0 left 0 dead 0 restarts 0
@@ -178,21 +179,17 @@ sent 1 handled 1 left 0 dead 0
 #[test]
 fn more(rt: HostRuntime) {
     for (text, report) in MORE {
-        let (status, written, errors) = driven(&rt, rt.alloc(), text.as_bytes());
-        assert_eq!(rt; errors.as_slice(), b"".as_slice());
-        assert_eq!(rt; status, 0);
-        assert_eq!(rt; written.as_slice(), report.as_bytes());
+        comes_to(&rt, rt.alloc(), *text, *report);
     }
 }
 
+const SHORT_JOURNAL: &str =
+    "workers = 0\njournal_limit = 2\n[[actor]]\nname = \"a\"\n[[send]]\nto = \"a\"\nkind = 1\n";
+
 #[test]
 fn a_full_journal(rt: HostRuntime) {
-    let text =
-        "workers = 0\njournal_limit = 2\n[[actor]]\nname = \"a\"\n[[send]]\nto = \"a\"\nkind = 1\n";
-    let (status, written, errors) = driven(&rt, rt.alloc(), text.as_bytes());
-    assert_eq!(rt; status, 1);
-    assert_eq!(rt; written.len(), 0);
-    assert_eq!(rt; errors.as_slice(), b"mailrun: 6 JournalFull\n".as_slice());
+    let found = driven(&rt, rt.alloc(), SHORT_JOURNAL.as_bytes());
+    see(&rt, &found, 1, b"", b"mailrun: 6 JournalFull\n");
 }
 
 /// A scenario that says what else can be said of one actor.
@@ -223,17 +220,13 @@ kind = 3
 value = 5
 "#;
 
-#[test]
-fn all_of_one_actor(rt: HostRuntime) {
-    let (status, written, errors) = driven(&rt, rt.alloc(), FULL.as_bytes());
-    assert_eq!(rt; errors.as_slice(), b"".as_slice());
-    assert_eq!(rt; status, 0);
-    assert_eq!(rt;
-        written.as_slice(),
-        b"guardian live state - suspended 0 handled 0 left 0 dead 0 restarts 0
+const FULL_REPORT: &str = "\
+guardian live state - suspended 0 handled 0 left 0 dead 0 restarts 0
 sum live state 9223372036854775807 suspended 0 handled 2 left 0 dead 0 restarts 0
 sent 2 handled 2 left 0 dead 0
-"
-            .as_slice()
-    );
+";
+
+#[test]
+fn all_of_one_actor(rt: HostRuntime) {
+    comes_to(&rt, rt.alloc(), FULL, FULL_REPORT);
 }

@@ -1,5 +1,5 @@
 //! What becomes of streams that fail.
-use crate::driven::{COUNT, COUNT_REPORT, ran};
+use crate::driven::{COUNT, COUNT_REPORT, Outcome, ran, same_bytes, see};
 use mb_program::{TrackedStream, run_program};
 use std::alloc::Global;
 use std::io;
@@ -83,29 +83,37 @@ impl Write for Flushing {
     }
 }
 
+/// Reads the example by single bytes, and fails once it was read so often.
+fn read_by_bytes<T: Threads + Wait + Sync>(rt: &T, alloc: Global, reads: usize) -> Outcome {
+    let mut reader = Stumbling {
+        text: COUNT.as_bytes(),
+        reads,
+    };
+    ran(rt, alloc, 0, &mut reader)
+}
+
 #[test]
 fn a_reader_that_fails(rt: HostRuntime) {
     for reads in 0..=COUNT.len() {
-        let mut reader = Stumbling {
-            text: COUNT.as_bytes(),
-            reads,
-        };
-        let (status, written, errors) = ran(&rt, rt.alloc(), 0, &mut reader);
-        assert_eq!(rt; status, 1, "after {reads} reads");
-        assert_eq!(rt; written.len(), 0);
-        assert_eq!(rt; errors.as_slice(), b"mailrun: 2 Os\n".as_slice());
+        let found = read_by_bytes(&rt, rt.alloc(), reads);
+        see(&rt, &found, 1, b"", b"mailrun: 2 Os\n");
     }
 }
 
 #[test]
 fn a_reader_of_single_bytes(rt: HostRuntime) {
-    let mut reader = Stumbling {
-        text: COUNT.as_bytes(),
-        reads: COUNT.len() + 1,
-    };
-    let (status, written, _) = ran(&rt, rt.alloc(), 0, &mut reader);
-    assert_eq!(rt; status, 0);
-    assert_eq!(rt; written.as_slice(), COUNT_REPORT.as_bytes());
+    let found = read_by_bytes(&rt, rt.alloc(), COUNT.len() + 1);
+    assert_eq!(rt; found.status, 0);
+    same_bytes(&rt, &found.written, COUNT_REPORT.as_bytes());
+}
+
+/// Such a writer, which took nothing yet.
+fn narrow_writer(alloc: Global, room: usize, fails: bool) -> Narrow {
+    Narrow {
+        taken: Vec::new(alloc),
+        room,
+        fails,
+    }
 }
 
 /// Runs the example with so much room on standard output and on the error output.
@@ -113,21 +121,10 @@ fn with_room<T: Threads + Wait + Sync>(
     rt: &T,
     alloc: Global,
     text: &[u8],
-    output: usize,
-    error: usize,
-    fails: bool,
-) -> (u8, Narrow, Narrow) {
+    mut writer: Narrow,
+    mut errors: Narrow,
+) -> Outcome {
     let mut rest = text;
-    let mut writer = Narrow {
-        taken: Vec::new(alloc),
-        room: output,
-        fails,
-    };
-    let mut errors = Narrow {
-        taken: Vec::new(alloc),
-        room: error,
-        fails,
-    };
     let status = run_program(
         rt,
         alloc,
@@ -136,78 +133,104 @@ fn with_room<T: Threads + Wait + Sync>(
         &mut TrackedStream::new(&mut writer),
         &mut TrackedStream::new(&mut errors),
     );
-    (status, writer, errors)
+    Outcome {
+        status,
+        written: writer.taken,
+        errors: errors.taken,
+    }
+}
+
+/// Checks that so many of these bytes were found, from the first one on.
+fn is_start<T: Abort>(rt: &T, found: &[u8], whole: &[u8], count: usize) {
+    assert_eq!(rt; found.len(), count);
+    assert!(rt; whole.starts_with(found));
 }
 
 /// Gives so much room for the report of the example, whose writer then fails, or takes nothing more.
 fn try_output<T: Abort + Threads + Wait + Sync>(rt: &T, alloc: Global, room: usize, fails: bool) {
-    let (status, writer, errors) = with_room(rt, alloc, COUNT.as_bytes(), room, 100, fails);
-    assert_eq!(rt; status, 1, "with room for {room}");
-    assert_eq!(rt; writer.taken.len(), room);
-    assert!(rt; COUNT_REPORT.as_bytes().starts_with(&writer.taken));
-    assert_eq!(rt; errors.taken.as_slice(), b"mailrun: 2 Os\n".as_slice());
+    let (writer, errors) = (
+        narrow_writer(alloc, room, fails),
+        narrow_writer(alloc, 100, fails),
+    );
+    let found = with_room(rt, alloc, COUNT.as_bytes(), writer, errors);
+    assert_eq!(rt; found.status, 1, "with room for {room}");
+    is_start(rt, &found.written, COUNT_REPORT.as_bytes(), room);
+    same_bytes(rt, &found.errors, b"mailrun: 2 Os\n");
 }
 
 /// Gives so much room for the line of a text that is refused.
 fn try_line<T: Abort + Threads + Wait + Sync>(rt: &T, alloc: Global, room: usize, fails: bool) {
-    let (status, writer, errors) = with_room(rt, alloc, b"[", 100, room, fails);
-    assert_eq!(rt; status, 2, "with room for {room}");
-    assert_eq!(rt; writer.taken.len(), 0);
-    assert_eq!(rt; errors.taken.len(), room);
-    assert!(rt; REFUSED.starts_with(&errors.taken));
+    let (writer, errors) = (
+        narrow_writer(alloc, 100, fails),
+        narrow_writer(alloc, room, fails),
+    );
+    let found = with_room(rt, alloc, b"[", writer, errors);
+    assert_eq!(rt; found.status, 2, "with room for {room}");
+    same_bytes(rt, &found.written, b"");
+    is_start(rt, &found.errors, REFUSED, room);
+}
+
+fn try_each_room<T: Abort + Threads + Wait + Sync>(rt: &T, alloc: Global, fails: bool) {
+    for room in 0..COUNT_REPORT.len() {
+        try_output(rt, alloc, room, fails);
+    }
+    for room in 0..REFUSED.len() {
+        try_line(rt, alloc, room, fails);
+    }
 }
 
 #[test]
 fn a_writer_that_fails(rt: HostRuntime) {
-    for fails in [false, true] {
-        for room in 0..COUNT_REPORT.len() {
-            try_output(&rt, rt.alloc(), room, fails);
-        }
-        for room in 0..REFUSED.len() {
-            try_line(&rt, rt.alloc(), room, fails);
-        }
-    }
+    try_each_room(&rt, rt.alloc(), false);
+    try_each_room(&rt, rt.alloc(), true);
+}
+
+/// Gives just enough room for the report of the example, and none for errors.
+fn try_enough<T: Abort + Threads + Wait + Sync>(rt: &T, alloc: Global, fails: bool) {
+    let report = COUNT_REPORT.as_bytes();
+    let (writer, errors) = (
+        narrow_writer(alloc, report.len(), fails),
+        narrow_writer(alloc, 0, fails),
+    );
+    let found = with_room(rt, alloc, COUNT.as_bytes(), writer, errors);
+    see(rt, &found, 0, report, b"");
 }
 
 #[test]
 fn a_writer_with_room(rt: HostRuntime) {
-    let report = COUNT_REPORT.as_bytes();
-    for fails in [false, true] {
-        let (status, writer, errors) = with_room(
-            &rt,
-            rt.alloc(),
-            COUNT.as_bytes(),
-            report.len(),
-            0,
-            fails,
-        );
-        assert_eq!(rt; status, 0);
-        assert_eq!(rt; writer.taken.as_slice(), report);
-        assert_eq!(rt; errors.taken.len(), 0);
-    }
+    try_enough(&rt, rt.alloc(), false);
+    try_enough(&rt, rt.alloc(), true);
+}
+
+/// Runs the example on this writer: the status, and whether nothing is on the error output.
+fn flushed<T: Threads + Wait + Sync>(rt: &T, alloc: Global, writer: &mut Flushing) -> (u8, bool) {
+    let mut rest = COUNT.as_bytes();
+    let mut errors = Vec::new(alloc);
+    let status = run_program(
+        rt,
+        alloc,
+        0,
+        &mut TrackedStream::new(&mut rest),
+        &mut TrackedStream::new(writer),
+        &mut TrackedStream::new(&mut errors),
+    );
+    (status, errors.is_empty())
+}
+
+/// Checks that the report is flushed once.
+fn try_flush<T: Abort + Threads + Wait + Sync>(rt: &T, alloc: Global, fails: bool) {
+    let mut writer = Flushing {
+        taken: Vec::new(alloc),
+        flushes: 0,
+        fails,
+    };
+    let (status, is_quiet) = flushed(rt, alloc, &mut writer);
+    assert!(rt; status == u8::from(fails) && is_quiet == !fails && writer.flushes == 1);
+    same_bytes(rt, &writer.taken, COUNT_REPORT.as_bytes());
 }
 
 #[test]
 fn flushes(rt: HostRuntime) {
-    for fails in [false, true] {
-        let mut rest = COUNT.as_bytes();
-        let mut writer = Flushing {
-            taken: Vec::new(rt.alloc()),
-            flushes: 0,
-            fails,
-        };
-        let mut errors = Vec::new(rt.alloc());
-        let status = run_program(
-            &rt,
-            rt.alloc(),
-            0,
-            &mut TrackedStream::new(&mut rest),
-            &mut TrackedStream::new(&mut writer),
-            &mut TrackedStream::new(&mut errors),
-        );
-        assert_eq!(rt; status, u8::from(fails));
-        assert_eq!(rt; writer.taken.as_slice(), COUNT_REPORT.as_bytes());
-        assert_eq!(rt; writer.flushes, 1);
-        assert_eq!(rt; errors.is_empty(), !fails);
-    }
+    try_flush(&rt, rt.alloc(), false);
+    try_flush(&rt, rt.alloc(), true);
 }

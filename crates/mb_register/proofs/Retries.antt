@@ -141,6 +141,7 @@ module _ (n : ℕ) (before mid now : Owed) (u v w : View) (few : n < 64) (p : Is
   stops pushed_before pushed_now refused_before refused_now still one = record {
     claim = one.0;
     owed = ap (is_owed before) of ∙ was;
+    still = ap (is_owed now) of ∙ still.1;
     refused = one.2;
     before = λ id below. others id (omega (arith, below, of, few)) (λ same. omega (arith, below, of, same)) ∙ p.done id (omega (arith, below, of));
     after = λ id from small. as_before id (omega (arith, from, of)) small (same_or_other id n);

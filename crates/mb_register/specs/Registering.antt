@@ -48,10 +48,11 @@ module _ {H : Type 0} (id : ℕ) (old new : QueueAccount H) where
       ((AsBefore × GotAndGaveBack [] [] before after) ⊎ (WasRefused × GotAndGaveBack (id ∷ []) (id ∷ []) before after))
 
 -- Trying the refused actors again stops at one: the run queue refused the claim of an actor to which a look was owed, and was given no claim after
--- that. No look is owed any more to the actors before this one; to it and those after it, looks are owed as before.
+-- that. A look is owed to this actor still, and no more to those before it; to those after it, looks are owed as before.
 pub record StopsAt {H : Type 0} (old new : QueueAccount H) : Type 0 where
   pub claim : Claim H
   pub owed : is_owed old.owed (held_actor claim) ≡ true
+  pub still : is_owed new.owed (held_actor claim) ≡ true
   pub refused : new.refused ≡ old.refused ++ claim ∷ []
   pub before : (id : ℕ) → id < held_actor claim → is_owed new.owed id ≡ false
   pub after : (id : ℕ) → held_actor claim ≤ id → id < 64 → is_owed new.owed id ≡ is_owed old.owed id

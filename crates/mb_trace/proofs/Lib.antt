@@ -10,3 +10,5 @@ pub mod Spawned
 pub mod Passed
 pub mod Left
 pub mod At
+pub mod Covered
+pub mod Joined

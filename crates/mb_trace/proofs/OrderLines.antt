@@ -12,7 +12,8 @@ use Rattle.mb_trace.specs.declared.step.TraceStep.{TraceStep}
 use Rattle.mb_trace.proofs.Left.{slice_get-drop}
 use Rattle.mb_trace.specs.declared.filter.Filter.{Filter}
 
-standing-more : (a : ℕ) (p : Place) (order : List Place) (b : Bool) → (p.actor == a) ≡ b →
+-- one place more
+pub standing-more : (a : ℕ) (p : Place) (order : List Place) (b : Bool) → (p.actor == a) ≡ b →
     standing a (p ∷ order) ≡ standing a order + cond b 1 0
 standing-more a p order b is =
     let both : standing a (p ∷ order) ≡ count_by (is_of a) (p ∷ []) + standing a order =
@@ -20,7 +21,8 @@ standing-more a p order b is =
     let here : count_by (is_of a) (p ∷ []) ≡ 0 + cond b 1 0 = ap (λ x. 0 + cond x 1 0) is in
     omega (arith, here, both)
 
-turned : (a b : ℕ) (x : Bool) → (a == b) ≡ x → (b == a) ≡ x
+-- the same test the other way round
+pub turned : (a b : ℕ) (x : Bool) → (a == b) ≡ x → (b == a) ≡ x
 turned a b true is = eq-eqb b a (sym (eqb-true a b is))
 turned a b false is = by_other (b == a) refl
   where

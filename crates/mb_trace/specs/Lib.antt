@@ -10,5 +10,6 @@ pub mod Lives
 pub mod Cursors
 pub mod Output
 pub mod Text
+pub mod Coverage
 pub mod Rest
 pub mod Whole

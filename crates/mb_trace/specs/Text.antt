@@ -61,6 +61,14 @@ abbrev pub journal_parts : (ℕ → List Step) → ℕ → List ActorReport → 
 journal_parts steps a [] = []
 journal_parts steps a (r ∷ reported) = record { actor = a; steps = steps a } ∷ journal_parts steps (a + 1) reported
 
+-- the entries of the parts of the actor of this number, in the order of the parts
+abbrev pub joined : ℕ → List Part → List Step
+joined actor parts = flat_map (λ (p : Part). if actor == p.actor then p.steps else []) parts
+
+-- of these entries those of the actor of this number, in their order
+abbrev pub of_actor : ℕ → List Step → List Step
+of_actor actor steps = filter (λ (s : Step). s.actor == actor) steps
+
 -- the actor's name stands above already
 abbrev pub is_above : Option ℕ → ℕ → Bool
 is_above None actor = false

@@ -5,6 +5,8 @@
 #![tactic(auto)]
 
 mod actor_list;
+mod by_actor;
+mod coverage;
 mod cursor;
 mod effect_lines;
 mod end_lines;
@@ -12,10 +14,12 @@ mod entry_kind;
 mod entry_line;
 mod error;
 mod filter;
+mod laws;
 mod life;
 mod on_threads;
 mod output;
 mod parts;
+mod quiet;
 mod rest;
 mod rules;
 mod standing;
@@ -27,8 +31,14 @@ mod text;
 mod trace;
 mod words;
 
+pub use coverage::cover_journals;
 pub use error::TraceError;
 pub use filter::{EntryKinds, Filter};
+pub use laws::{
+    actor_by_actor_has_each_entry_once, merged_order_has_each_entry_once,
+    turns_have_each_entry_once,
+};
+pub use output::write_whole;
 pub use standing::Standing;
 pub use step::TraceStep;
 pub use steps::TraceSteps;

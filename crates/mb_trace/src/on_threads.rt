@@ -3,12 +3,13 @@ ghost use Rattle.std.specs.Prelude.{ℕ, ◌≡◌, ◌++◌, [], List, codes, i
 ghost use Rattle.mb_trace.specs.Output.{IsWritten};
 ghost use Rattle.mb_trace.specs.Steps.{step_data};
 ghost use Rattle.mb_trace.specs.Text.{is_above, step_text, title_text};
-ghost use Rattle.mb_trace.specs.Whole.{HasEntries, journals_text, order_text};
+ghost use Rattle.mb_trace.specs.Whole.{HasEntries, order_text};
 
+use crate::by_actor::write_by_actor;
 use crate::error::TraceError;
 use crate::filter::Filter;
 use crate::output::write_whole;
-use crate::parts::{write_entry, write_journals, write_title};
+use crate::parts::{write_entry, write_title};
 use crate::step::TraceStep;
 use crate::steps::TraceSteps;
 use crate::trace::Trace;
@@ -22,7 +23,7 @@ const ON_THREADS: &str =
     "on threads: one order that agrees with what caused what, not that of the clock\n";
 
 /// The first line where no such order is found.
-const BY_ACTOR: &str =
+const NOT_ORDERED: &str =
     "on threads: no order found that agrees with what caused what; each actor by itself, in the order of its journal\n";
 
 /// Writes the entries of a run on threads: in one order in which each stands after what caused it, or where none is found actor by actor.
@@ -36,21 +37,8 @@ pub(crate) fn write_on_threads<W: Write>(
 {
     match merged_order(alloc, trace.plan, trace.sends, &trace.report.actors)? {
         Some(order) => write_in_order(alloc, trace, filter, &order, out),
-        None => write_by_actor(alloc, trace, filter, out),
+        None => write_by_actor(alloc, trace, filter, NOT_ORDERED, out),
     }
-}
-
-/// Writes the journals, actor by actor.
-fn write_by_actor<W: Write>(
-    alloc: Global,
-    trace: &Trace<'_>,
-    filter: &Filter<'_>,
-    out: &mut W,
-) -> Result<(), TraceError>
-    ensures { IsWritten (W.contents out.old) (W.contents out.new) result (journals_text trace.now filter.now) }
-{
-    write_whole(out, BY_ACTOR.as_bytes())?;
-    write_journals(alloc, trace, filter, &trace.report.actors, out)
 }
 
 /// Writes the entries in this order. Those of an actor one after another have its name above them.

@@ -8,7 +8,7 @@ use std::io;
 use std::io::{ErrorKind, Write};
 
 /// Writes all the bytes. A call that was interrupted is made again. At another error it stops: a beginning of the bytes was written then.
-pub(crate) fn write_whole<W: Write>(out: &mut W, bytes: &[u8]) -> io::Result<()>
+pub fn write_whole<W: Write>(out: &mut W, bytes: &[u8]) -> io::Result<()>
     ensures { IsWritten (W.contents out.old) (W.contents out.new) result bytes.now }
 {
     let mut written = 0;

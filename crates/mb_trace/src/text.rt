@@ -6,14 +6,14 @@ ghost use Rattle.mb_trace.specs.Whole.{IsOfEntries, IsText, names_in};
 use crate::error::TraceError;
 use crate::filter::Filter;
 use crate::on_threads::write_on_threads;
-use crate::parts::write_turns;
+use crate::quiet::write_quiet;
 use crate::rest::write_rest;
 use crate::trace::Trace;
 use std::alloc::Global;
 use std::io::Write;
 
 /// Writes the trace as text: of a quiet run turn by turn, of a run on threads in one order in which each entry stands after what caused
-/// it, or where none is found actor by actor; then the dead letters, what is left and what is set aside. It is written as it is made.
+/// it; where the turns do not have each entry once, or no order is found, actor by actor; then the dead letters, what is left and what is set aside. It is written as it is made.
 /// What the filter leaves out is not written.
 ///
 /// The errors: `NoMemory`, `Closed` where whoever reads the output has closed it, and `Os` where writing failed otherwise. A beginning of
@@ -41,7 +41,7 @@ fn write_entries<W: Write>(
         × IsWritten (W.contents out.old) (W.contents out.new) result entries }
 {
     match trace.turns {
-        Some(turns) => write_turns(alloc, trace, filter, turns, out),
+        Some(turns) => write_quiet(alloc, trace, filter, turns, out),
         None => write_on_threads(alloc, trace, filter, out),
     }
 }

@@ -5,7 +5,9 @@
 #![tactic(auto)]
 
 mod json;
+mod json_ends;
 mod json_rest;
+mod kinds;
 mod letters;
 mod order;
 mod picture;

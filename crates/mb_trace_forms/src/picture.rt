@@ -20,7 +20,7 @@ pub fn write_svg<W: Write>(
 ) -> Result<(), TraceError> {
     let order = order_of(alloc, trace)?;
     let entries = entries_of(alloc, trace, filter, &order.parts)?;
-    let letters = letters_of(alloc, trace, filter)?;
+    let letters = letters_of(alloc, filter, trace.report)?;
     let picture = Picture {
         names: trace.names,
         report: trace.report,
@@ -43,7 +43,7 @@ pub fn write_html<W: Write>(
 ) -> Result<(), TraceError> {
     let order = order_of(alloc, trace)?;
     let entries = entries_of(alloc, trace, filter, &order.parts)?;
-    let letters = letters_of(alloc, trace, filter)?;
+    let letters = letters_of(alloc, filter, trace.report)?;
     let picture = Picture {
         names: trace.names,
         report: trace.report,

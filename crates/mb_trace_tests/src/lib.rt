@@ -1,4 +1,4 @@
-//! The tests of the pictures, the JSON lines and the merged order of a run, on reports made by hand.
+//! The tests of the pictures, the JSON lines, the merged order and the turns of a run, on reports made by hand.
 #![tactic(auto)]
 
 #[cfg(test)]
@@ -9,3 +9,5 @@ mod made;
 mod orders;
 #[cfg(test)]
 mod pictures;
+#[cfg(test)]
+mod turns;

@@ -12,7 +12,7 @@ use std::test::Fail;
 
 /// What came to an actor, and what it asked for.
 #[derive(Clone, Copy)]
-enum Came<'a> {
+pub enum Came<'a> {
     /// The Create of an actor, which answers that it has started.
     Start(&'a [Effect]),
     /// A system message that its cell handles alone.
@@ -21,7 +21,7 @@ enum Came<'a> {
 }
 
 /// The report of an actor to which this came.
-fn actor(alloc: Global, came: &[Came<'_>]) -> Option<ActorReport> {
+pub fn actor(alloc: Global, came: &[Came<'_>]) -> Option<ActorReport> {
     let mut journal = Journal::new(alloc, 100);
     let mut number = 0;
     for one in came {
@@ -59,7 +59,7 @@ fn actor(alloc: Global, came: &[Came<'_>]) -> Option<ActorReport> {
 }
 
 /// A plan of two actors, of which the guardian is the parent.
-fn plan(alloc: Global) -> Option<Plan> {
+pub fn plan(alloc: Global) -> Option<Plan> {
     Some(Plan {
         throughput: 5,
         workers: 2,
@@ -92,7 +92,7 @@ fn envelope(by: u32, number: u64, to: u32, body: Body) -> Envelope {
     }
 }
 
-fn user(by: u32, number: u64, to: u32) -> Envelope {
+pub fn user(by: u32, number: u64, to: u32) -> Envelope {
     envelope(by, number, to, Body::User { kind: 1, value: 1 })
 }
 

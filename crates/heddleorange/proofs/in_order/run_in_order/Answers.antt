@@ -60,3 +60,9 @@ returns-clause-right g c = c.run_planned_in_order.ensures.right
 
 pub returns-clause-refused : goal.returns-clause-refused
 returns-clause-refused g c = c.run_planned_in_order.ensures.refused
+
+pub returns-clause-turns : goal.returns-clause-turns
+returns-clause-turns g c = c.run_planned_in_order.ensures.turns
+
+pub returns-clause-stretches : goal.returns-clause-stretches
+returns-clause-stretches g c = c.run_planned_in_order.ensures.stretches

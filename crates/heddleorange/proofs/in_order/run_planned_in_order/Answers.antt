@@ -8,6 +8,7 @@ use Rattle.heddleorange.proofs.Breaking.{may-break}
 use Rattle.heddleorange.proofs.HasRunLemmas.{complete, has-run}
 use Rattle.heddleorange.proofs.InOrder.{from-many, length-lists}
 use Rattle.heddleorange.proofs.InTurn.{new-owe-nobody}
+use Rattle.heddleorange.proofs.Turns.{turns-of}
 use Rattle.heddleorange.proofs.in_order.run_planned_in_order.Goals as goal
 
 pub send_in_order_and_run-requires-clause-not_empty : goal.send_in_order_and_run-requires-clause-not_empty
@@ -60,3 +61,10 @@ returns-in-Err-clause-refused g c =
     let first = c.in_ok-built.built in
     may-break gives plan first begun.begun (length c.args.actors.items) (lists_of plan.senders sends) begun.right c.in-Err.error
     (subst (λ n. BreaksOff gives first.system (lists_of n sends) c.in-Err.error) (senders-there gives plan first begun.begun).0 c.in-Err.ensures.fault)
+
+pub returns-in-Ok-finish_run-clause-turns : goal.returns-in-Ok-finish_run-clause-turns
+returns-in-Ok-finish_run-clause-turns g c =
+    turns-of g.K.Behaviours.gives c.args.plan c.in_ok-built.built c.in_ok-built.ensures.begun _ c.in-Ok.ensures.turns
+
+pub returns-in-Ok-finish_run-clause-stretches : goal.returns-in-Ok-finish_run-clause-stretches
+returns-in-Ok-finish_run-clause-stretches g c = c.in-Ok.ensures.stretches c.in-Ok-finish_run.report c.in-Ok-finish_run.ensures.seen

@@ -1,7 +1,9 @@
 use Rattle.std.proofs.lemmas.List.Elements.{All-set}
-use Rattle.mb_dispatch.specs.Faults.{BreaksWork}
+use Rattle.mb_dispatch.specs.Faults.{BreaksQuietRun}
 use Rattle.mb_system.specs.Members.{IsEndOf}
 use Rattle.heddleorange.proofs.Sent.{err-weaker, first-number, found-nothing, on-all, see-on}
+use Rattle.heddleorange.proofs.Stretches.{first-extends, stretches-of}
+use Rattle.heddleorange.proofs.Turns.{made-turns, ok-weaker}
 use Rattle.heddleorange.proofs.sending.run_first.Goals as goal
 
 pub returns-clause-found_nothing : goal.returns-clause-found_nothing
@@ -27,5 +29,17 @@ returns-clause-log_kept g c =
 
 pub returns-clause-fault : goal.returns-clause-fault
 returns-clause-fault g c =
-    err-weaker (BreaksWork g.K.Behaviours.gives c.args.built.now.system c.run_quietly.new.end) _ c.run_quietly.result
+    err-weaker (BreaksQuietRun g.K.Behaviours.gives c.args.built.now.system c.run_quietly.new.end) _ c.run_quietly.result
     (λ e broken. (c.run_quietly.new.end, broken)) c.run_quietly.ensures.fault
+
+pub returns-clause-turns : goal.returns-clause-turns
+returns-clause-turns g c =
+    ok-weaker _ _ c.run_quietly.result (λ turns made. made-turns g.K.Behaviours.gives c.args.built.now.system _ turns.items _ made) c.run_quietly.ensures.runs
+
+pub returns-clause-stretches : goal.returns-clause-stretches
+returns-clause-stretches g c =
+    let built = c.args.built.now in let end = c.run_quietly.new.end in
+    ok-weaker _ _ c.run_quietly.result
+    (λ turns made report extends.
+    stretches-of g.K.Behaviours.gives built.system report _ turns.items _ made
+    (first-extends report built.ends.items end c.requires.not_empty extends)) c.run_quietly.ensures.runs

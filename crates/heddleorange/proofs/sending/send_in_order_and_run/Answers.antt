@@ -30,3 +30,9 @@ returns-clause-together g c =
     (subst (λ v. HaveSent gates orders old.senders.items v.items) (sym ran.senders) (subst (HaveSent gates orders old.senders.items) (sym items) sent))
     ran.same_gates
     (subst (λ v. All (λ s. IsSenderOf gates s.inner) v.items) (sym ran.senders) (subst (All (λ s. IsSenderOf gates s.inner)) (sym items) went.same_gates)))
+
+pub returns-clause-turns : goal.returns-clause-turns
+returns-clause-turns g c = c.run_first.ensures.turns
+
+pub returns-clause-stretches : goal.returns-clause-stretches
+returns-clause-stretches g c = c.run_first.ensures.stretches

@@ -1,4 +1,4 @@
-use Rattle.std.proofs.Common.{◌≡◌, inr, ◌∙◌, ap, length, map, refl, sym, subst}
+use Rattle.std.proofs.Common.{◌≡◌, inl, inr, ◌∙◌, ap, length, map, refl, sym, subst}
 use Rattle.std.proofs.lemmas.List.{with_items_is}
 use Rattle.std.specs.Vec.{with_items}
 use Rattle.mb_system.specs.Members.{AreEndsOf}
@@ -26,10 +26,10 @@ returns-in_err-run-clause-fault g c =
     c.in_err-run.ensures.fault)
 
 pub returns-in_default-clause-fault : goal.returns-in_default-clause-fault
-returns-in_default-clause-fault g c = inr (some-one c.args.built.now.ends.items c.requires.not_empty, tt)
+returns-in_default-clause-fault g c = inr (some-one c.args.built.now.ends.items c.requires.not_empty, inl refl)
 
 pub returns-in_default-senders_of-clause-fault : goal.returns-in_default-senders_of-clause-fault
-returns-in_default-senders_of-clause-fault g c = inr (some-one c.args.built.now.ends.items c.requires.not_empty, tt)
+returns-in_default-senders_of-clause-fault g c = inr (some-one c.args.built.now.ends.items c.requires.not_empty, inl refl)
 
 pub returns-clause-sent : goal.returns-clause-sent
 returns-clause-sent g c =

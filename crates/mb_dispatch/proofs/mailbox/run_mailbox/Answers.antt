@@ -24,3 +24,6 @@ returns-clause-ran g c = c.run_mailbox.ensures.ran
 
 pub returns-clause-number : goal.returns-clause-number
 returns-clause-number g c = refl
+
+pub returns-clause-out_of_memory : goal.returns-clause-out_of_memory
+returns-clause-out_of_memory g c = c.run_mailbox.ensures.out_of_memory

@@ -1,4 +1,5 @@
-use Rattle.std.proofs.Common.{List, [], ◌∷◌, ◌++◌, ◌∙◌, ap, subst, sym}
+use Rattle.std.proofs.Common.{List, [], ◌∷◌, ◌++◌, ◌∙◌, ap, refl, subst, sym, inl, inr}
+use Rattle.std.specs.Prelude.{IfErr}
 use Rattle.std.proofs.lemmas.Result.{IfOk-from_err}
 use Rattle.mb_gate.specs.Accessors.{actors_of, pass_view, pass_id}
 use Rattle.mb_gate.specs.Rule.{IsPart}
@@ -12,7 +13,10 @@ use Rattle.mb_system.specs.Members.{end_caller}
 use Rattle.mb_system.proofs.Obligations.{obligations-left, obligations-same, owes-nothing, discharged-still}
 use Rattle.mb_system.proofs.Saw.{saw-then}
 use Rattle.mb_system.specs.OnlyLooks.{OnlyLooks}
+use Rattle.mb_dispatch.specs.Faults.{BreaksQuietRun, BreaksWork}
 use Rattle.mb_dispatch.specs.Found.{FoundPoolEmpty}
+use Rattle.mb_dispatch.proofs.Breaking.{breaks-retry}
+use Rattle.mb_system.proofs.RunErrors.{on-error}
 use Rattle.mb_dispatch.specs.Runs.{MadeRuns, RanMailbox}
 use Rattle.mb_dispatch.proofs.Runs.{runs-looks, runs-more}
 use Rattle.mb_dispatch.proofs.quiet.run_quietly.Goals as goal
@@ -42,7 +46,7 @@ loop-preserved-in-Some-take g c =
           (discharged-still actors old between c.loop.invariant.3 (obligations-same actors old between (ap pass_view same.0) same.1))
           (obligations-left actors between new did.leaves),
       subst (λ turns. MadeRuns gives system first.view turns new.view)
-          (sym {A = List Turn} (c.push_reserved.ensures.items ∙ ap (λ turns. turns ++ turn ∷ []) c.reserve.ensures.items))
+          (sym {A = List Turn} (◌∙◌ {A = List Turn} c.push_reserved.ensures.items (ap {A = List Turn} {B = List Turn} (λ turns. turns ++ turn ∷ []) c.reserve.ensures.items)))
           (runs-more gives system first.view old.view new.view c.loop.turns.items turn c.loop.invariant.4
           (subst (λ p. RanMailbox gives system (pass_view p) new.view turn) same.0 c.in_ok-run_one-in-Some-take.ensures.ran)),
     )
@@ -151,7 +155,20 @@ pub returns-then-is_err-clause-log_kept : goal.returns-then-is_err-clause-log_ke
 returns-then-is_err-clause-log_kept g c = c.loop.invariant.2
 
 pub returns-then-is_err-clause-fault : goal.returns-then-is_err-clause-fault
-returns-then-is_err-clause-fault g c = tt
+returns-then-is_err-clause-fault g c = inl refl
+
+pub returns-in_err-run_one-in-Some-take-clause-fault : goal.returns-in_err-run_one-in-Some-take-clause-fault
+returns-in_err-run_one-in-Some-take-clause-fault g c =
+    on-error c.from_residual.result (BreaksQuietRun g.K.Behaviours.gives c.args.system.now c.run_one.new.end) _ c.from_residual.ensures.1
+    (inr c.in_err-run_one-in-Some-take.ensures.fault)
+
+pub returns-in_err-retry_refused-in-None-take-clause-fault : goal.returns-in_err-retry_refused-in-None-take-clause-fault
+returns-in_err-retry_refused-in-None-take-clause-fault g c =
+    let gives = g.K.Behaviours.gives in let system = c.args.system.now in let end = c.retry_refused.new.self in
+    let retried = c.retry_refused.ensures in let left = c.from_residual-in_err-retry_refused-in-None-take in
+    on-error left.result (BreaksQuietRun gives system end) _ left.ensures.1
+    (inr (subst (λ r. IfErr r (BreaksWork gives system end)) c.in_err-retry_refused-in-None-take.was
+    (breaks-retry gives system end (end_caller c.take.new.self.registrar).account _ c.retry_refused.result retried.stops retried.refused)))
 
 pub returns-in_err-run_one-in-Some-take-clause-same_gates : goal.returns-in_err-run_one-in-Some-take-clause-same_gates
 returns-in_err-run_one-in-Some-take-clause-same_gates g c = c.run_one.ensures.same_gates

@@ -2,7 +2,7 @@ use Rattle.std.proofs.Common.{◌∙◌, ap, refl, subst, sym}
 use Rattle.mb_gate.specs.Accessors.{actors_of, pass_view, pass_id}
 use Rattle.mb_gate.specs.Rule.{IsPart}
 use Rattle.std.specs.Global.{Box}
-use Rattle.std.specs.Prelude.{Option, Err, IfErr, IsErrOf, Ok, OnErr, Result}
+use Rattle.std.specs.Prelude.{Option, IfErr}
 use Rattle.mb_gate.specs.Untouched.{Origin}
 use Rattle.mb_home.specs.Contents.{Contents}
 use Rattle.mb_home.specs.Fresh.{IsFreshClaim}
@@ -10,9 +10,8 @@ use Rattle.std.proofs.lemmas.Result.{err_from_is_err_and}
 use Rattle.mb_system.specs.Members.{end_caller}
 use Rattle.mb_system.proofs.Obligations.{obligations-from, obligations-left, obligations-same}
 use Rattle.mb_system.proofs.Saw.{saw-same, saw-then}
-use Rattle.mb_system.specs.declared.failure.RunError.{RunError}
-use Rattle.mb_system.specs.declared.failure.RunError.TheVariants.{NoMemory}
 use Rattle.mb_dispatch.specs.Faults.{BreaksWork}
+use Rattle.mb_dispatch.proofs.Breaking.{breaks-retry}
 use Rattle.mb_dispatch.proofs.working.run_all.Goals as goal
 
 pub loop-init : goal.loop-init
@@ -75,14 +74,10 @@ returns-in_err-run_one-clause-same_gates g c = c.run_one.ensures.same_gates
 pub returns-in_err-run_one-clause-number : goal.returns-in_err-run_one-clause-number
 returns-in_err-run_one-clause-number g c = c.run_one.ensures.number ∙ c.take.ensures.same.3 ∙ c.loop.invariant.1
 
--- memory alone was refused
-of-memory : {T : Type 0} (r : Result T RunError) (P : RunError → Type 0) → P NoMemory → OnErr r (IsErrOf r NoMemory) → IfErr r P
-of-memory (Ok x) P p refused = tt
-of-memory {T} (Err e) P p refused = subst (λ (q : Result T RunError). IfErr q P) (sym refused) p
-
 pub returns-in_default-clause-fault : goal.returns-in_default-clause-fault
 returns-in_default-clause-fault g c =
-    of-memory c.retry_refused.result (BreaksWork g.K.Behaviours.gives c.args.system.now c.retry_refused.new.self) tt c.retry_refused.ensures.refused
+    let retried = c.retry_refused.ensures in
+    breaks-retry g.K.Behaviours.gives c.args.system.now c.retry_refused.new.self _ _ c.retry_refused.result retried.stops retried.refused
 
 pub returns-in_err-run_one-clause-fault : goal.returns-in_err-run_one-clause-fault
 returns-in_err-run_one-clause-fault g c =

@@ -2,7 +2,7 @@ use Rattle.std.proofs.Common.{◌∙◌, Err, ap}
 use Rattle.std.proofs.lemmas.Result.{IfOk-from_err}
 use Rattle.mb_system.specs.RunErrors.{of_ready}
 use Rattle.mb_dispatch.specs.Faults.{BreaksWork}
-use Rattle.mb_dispatch.proofs.Breaking.{breaks-work, came-to-limit, full-of-ready, ready-is-known}
+use Rattle.mb_dispatch.proofs.Breaking.{breaks-work, came-short, came-to-limit, full-of-ready, ready-is-known, short-of-ready}
 use Rattle.mb_system.proofs.RunErrors.{on-error}
 use Rattle.mb_dispatch.proofs.working.run_one.Goals as goal
 
@@ -13,6 +13,7 @@ returns-in_err-turn-clause-fault g c =
     (breaks-work g.K.Behaviours.gives c.args.system.now end (of_ready error)
     (λ full. came-to-limit _ _ _ _ _ c.requires.untouched c.run_mailbox.result c.run_mailbox.ensures.ran
     (c.in_err-turn.was ∙ ap Err (full-of-ready error full)))
+    (λ short. came-short _ _ _ _ _ c.requires.untouched (c.run_mailbox.ensures.out_of_memory (c.in_err-turn.was ∙ ap Err (short-of-ready error short))))
     (ready-is-known error))
 
 pub run_mailbox-requires-clause-same_gates : goal.run_mailbox-requires-clause-same_gates

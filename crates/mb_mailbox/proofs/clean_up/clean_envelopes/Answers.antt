@@ -170,7 +170,7 @@ loop-preserved g c =
       keeps-then _ _ _ inv.9
           (keeps-taken _ new ours did.same.1 did.same.0 did.known did.taken l.home.value (ap (λ (x : CellView). x.who) cell)
           (one-more mid.take.taken l.home.value.take.taken found.envelope found.took)
-          (takes-one _ _ _ (take-cleaned _ _ found)) (ap (λ (x : CellView). x.journal) cell)),
+          (takes-one _ _ _ (take-cleaned _ _ found)) inv.3 (ap (λ (x : CellView). x.journal) cell)),
       did.taken.recorded ∙ inv.10,
       takes-in-then (run_state c.args.claim.now) (run_state l) (run_state new) inv.9.same.actor inv.9.same.who [] [] [] [] inv.11
           (takes-in-closed (run_state l) (run_state new) (Took (held_actor l) 1 ∷ []) refl (ap (λ (v : View). v.log) did.known)

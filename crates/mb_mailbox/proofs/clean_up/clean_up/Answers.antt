@@ -1,10 +1,10 @@
-use Rattle.std.proofs.Common.{◌≡◌, ℕ, List, [], ◌∷◌, refl, sym, ap, ◌∙◌, subst}
+use Rattle.std.proofs.Common.{◌≡◌, ℕ, List, [], refl, sym, ap, ◌∙◌, subst}
 use Rattle.std.specs.Global.{Box}
 use Rattle.mb_status.specs.Mailbox.{Mailbox}
 use Rattle.mb_gate.specs.Lists.{IsNumberedFrom}
 use Rattle.mb_gate.specs.Accessors.{held_actor, pass_view, given_to}
 use Rattle.mb_gate.specs.Untouched.{origin_of}
-use Rattle.mb_gate.specs.View.{Observation, View, Ended, given_after}
+use Rattle.mb_gate.specs.View.{Observation, View, given_after}
 use Rattle.mb_cell.specs.CellView.{CellView}
 use Rattle.mb_home.specs.AtHome.{given_of}
 use Rattle.mb_home.specs.Contents.{Contents}

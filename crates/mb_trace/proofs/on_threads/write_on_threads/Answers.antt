@@ -3,14 +3,14 @@ use Rattle.mb_build.specs.Planned.{actors_in}
 use Rattle.mb_causal_order.specs.Merged.{IsMerged}
 use Rattle.mb_causal_order.specs.declared.place.Place.{Place}
 use Rattle.mb_report.specs.declared.report.ActorReport.{ActorReport}
-use Rattle.mb_trace.specs.Whole.{journals_text, order_text}
+use Rattle.mb_trace.specs.Whole.{journals_text, not_ordered, order_text}
 use Rattle.mb_trace.specs.Whole.HasEntries.{by_actor, in_order}
 use Rattle.mb_trace.proofs.Written.{begins-none, err-written, written-same}
 use Rattle.mb_trace.proofs.on_threads.write_on_threads.Goals as goal
 
 pub returns-in_err-order : goal.returns-in_err-order
 returns-in_err-order g c = (
-  journals_text c.args.trace.now c.args.filter.now,
+  journals_text c.args.trace.now c.args.filter.now not_ordered,
   by_actor,
   err-written _ _ _ c.from_residual.result _ c.from_residual.ensures.1 (begins-none (g.W.Write.contents c.args.out.now) _),
 )
@@ -27,4 +27,4 @@ returns-in-Some g c =
     )
 
 pub returns-in-None : goal.returns-in-None
-returns-in-None g c = (journals_text c.args.trace.now c.args.filter.now, by_actor, c.write_by_actor.ensures)
+returns-in-None g c = (journals_text c.args.trace.now c.args.filter.now not_ordered, by_actor, c.write_by_actor.ensures)

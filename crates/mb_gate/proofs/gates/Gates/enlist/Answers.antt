@@ -23,7 +23,7 @@ store-requires g c =
           c.args.self.now.keyed in let t = c.requires.present in omega arith) l c.args.node _ c.word_index-gate.ensures (ap (λ m. m.0.list) laid ∙
           lent.has) refl (laid_back c.args.id.0 _ _ c.args.seat.now.me _ laid list)
           (c.with_listed-new.ensures ∙ word_listed c.args.word.bits c.args.list lent.gave c.args.node lent.found)
-          (subst (λ n. NamesBelow n c.args.node) (sym c.args.self.now.keyed) c.requires.named),
+          c.requires.not_ended (subst (λ n. NamesBelow n c.args.node) (sym c.args.self.now.keyed) c.requires.named),
     )
 
 pub returns-clause-listed : goal.returns-clause-listed
@@ -34,5 +34,5 @@ returns-clause-listed g c =
     let list = c.push.ensures.list ∙ ap (λ b. if b then c.args.list else with_last c.args.list c.args.node) c.requires.not_ended in
     let answer = c.push.ensures.answer ∙ ap (λ b. if b then Err (record { 0 = c.args.node }) else Ok (pushed c.args.list)) c.requires.not_ended in
     let number = ok_same (pushed c.args.list) c.in-Ok.number (sym answer ∙ c.in-Ok.is) in
-    c.store.ensures.2 c.args.id.0 l c.args.node (ap (λ m. m.0.list) laid ∙ lent.has) (laid_back c.args.id.0 _ _ c.args.seat.now.me _ laid list) ∙
+    (c.store.ensures.2 c.args.id.0 l c.args.node (ap (λ m. m.0.list) laid ∙ lent.has) (laid_back c.args.id.0 _ _ c.args.seat.now.me _ laid list)).0 ∙
     (λ i. (enlisting c.args.id.0 (number i) c.args.node (laid i).0, rest (laid i).1))

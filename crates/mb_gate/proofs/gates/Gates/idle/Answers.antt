@@ -1,7 +1,8 @@
-use Rattle.std.proofs.Common.{rules, ◌≡◌, ◌%◌, IsTrue, true, false, inl, inr, ap, sym, ◌∙◌, subst, arith}
+use Rattle.std.proofs.Common.{rules, ◌≡◌, ◌+◌, ◌%◌, IsTrue, true, false, inl, inr, ap, sym, ◌∙◌, subst, arith}
 use Rattle.mb_status.specs.Mailbox.{word_of, is_valid, idle}
 use Rattle.mb_gate.specs.Accessors.{first_home}
 use Rattle.mb_gate.proofs.Allowed.{idles_allowed, idles_closed_allowed}
+use Rattle.mb_gate.proofs.HolderChanges.{idle_two}
 use Rattle.mb_gate.proofs.Wins.{valid_word, closed_word, one_closed, idle_free}
 use Rattle.mb_gate.proofs.gates.Gates.idle.Goals as goal
 
@@ -27,6 +28,7 @@ store-requires-2 g c =
       idles_allowed (g.H.MailboxState.is_of (first_home c.args.self.now)) g.H.MailboxState.facts _ _ _ _ c.args.actor.0 _ (let k =
           c.args.self.now.keyed in let t = c.requires.present in omega arith) _ r.home _ c.word_index-index.ensures r.has r.of r.carried r.of_actor
           r.extends r.count r.known_closed
+          (λ two. r.word ∙ (idle_two c.args.status unshut (ap (λ k. k % 4) (sym r.word) ∙ two) ∙ ap (λ k. k + 2) is))
           (λ one. let no = one_closed c.args.status (sym r.word ∙ one) in absurd (cc)) (subst (λ n. IsTrue (is_valid n)) (sym
           c.word.ensures.word) (valid_word c.idle.result c.word.ensures.possible))
           (subst (λ n. n % 4 ≡ 0) is (idle_free c.args.status unshut)) (sym is ∙ sym r.fold) (λ no. r.rest (inr no)) r.share,

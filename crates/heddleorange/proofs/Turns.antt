@@ -1,0 +1,42 @@
+-- What the runs of mailboxes that an end made are in the words of the plan.
+use Rattle.std.proofs.Common.{◌≡◌, ◌+◌, ◌<◌, ◌≤◌, ℕ, List, [], ◌∷◌, length, subst, sym, ◌∙◌}
+use Rattle.std.specs.Prelude.{All, Err, IfOk, Ok, Result}
+use Rattle.std.proofs.lemmas.List.Elements.{All-cons, All-nil}
+use Rattle.mb_actor.specs.Behaviour.{Moment, Reply}
+use Rattle.mb_build.proofs.NewHomesLemmas.{length-who}
+use Rattle.mb_dispatch.specs.Runs.{MadeRuns}
+use Rattle.mb_gate.specs.Accessors.{actors_of}
+use Rattle.mb_gate.specs.View.{View}
+use Rattle.mb_journal.specs.Run.{most_envelopes}
+use Rattle.mb_mailbox.specs.declared.turn.Turn.{Turn}
+use Rattle.mb_msg.specs.declared.plan.Plan.{Plan}
+use Rattle.mb_startup.proofs.Directories.{actors-there}
+use Rattle.mb_startup.specs.Begun.{IsBegun}
+use Rattle.mb_system.specs.declared.built.Built.{Built}
+use Rattle.mb_system.specs.declared.system.System.{System}
+use Rattle.heddleorange.specs.Turns.{AreTurnsOf, IsTurnOf}
+
+-- each is of one of the system's actors, and began at most as many envelopes as the system's throughput says
+pub made-turns : {A K : Type 0} (gives : ℕ → Moment → Reply → Type 0) (system : System A K) (old : View) (turns : List Turn) (new : View) →
+    MadeRuns gives system old turns new → All (IsTurnOf (actors_of system.gates) system.throughput) turns
+made-turns gives system old [] new made = All-nil (IsTurnOf (actors_of system.gates) system.throughput)
+made-turns gives system old (turn ∷ turns) new made =
+    let ran = made.3 in
+    All-cons (IsTurnOf (actors_of system.gates) system.throughput) turn turns (record {
+      actor = subst (λ n. n < actors_of system.gates) (sym ran.left.actor) ran.fresh.same_gates.present;
+      at_most = subst (λ n. n ≤ most_envelopes system.throughput) ran.left.envelopes ran.left.run.at_most;
+    }) (made-turns gives system made.1 turns new made.4)
+
+-- the same of a system of this plan
+pub turns-of : {A K : Type 0} (gives : ℕ → Moment → Reply → Type 0) (plan : Plan) (built : Built A K) (begun : IsBegun gives plan built)
+    (turns : List Turn) → All (IsTurnOf (actors_of built.system.gates) built.system.throughput) turns → AreTurnsOf plan turns
+turns-of gives plan built begun turns are =
+    let actors : actors_of built.system.gates ≡ length plan.actors.items + 1 =
+    actors-there gives plan built begun ∙ length-who plan.journal_limit plan.actors.items in
+    let throughput : built.system.throughput ≡ plan.throughput = begun.numbers.2 in
+    subst (λ n. All (IsTurnOf n plan.throughput) turns) actors
+    (subst (λ n. All (IsTurnOf (actors_of built.system.gates) n) turns) throughput are)
+
+pub ok-weaker : {T E : Type 0} (P Q : T → Type 0) (r : Result T E) → ((x : T) → P x → Q x) → IfOk r P → IfOk r Q
+ok-weaker P Q (Ok x) weaker holds = weaker x holds
+ok-weaker P Q (Err e) weaker holds = tt

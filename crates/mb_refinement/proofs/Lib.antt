@@ -1,0 +1,10 @@
+pub mod Places
+pub mod Tables
+pub mod StatusEvents
+pub mod WaitingEvents
+pub mod ListEvents
+pub mod PartyEvents
+pub mod Interleavings
+pub mod Beginnings
+pub mod KeptFacts
+pub mod TableMoves

@@ -1,0 +1,5 @@
+pub mod Order
+pub mod Way
+pub mod Letters
+pub mod JsonRest
+pub mod Json
