@@ -1,9 +1,9 @@
-//! The running words refine the abstract machine: each step of the gates' table is the event of the machine that the
-//! specification names, by the party whose seat made it, or none.
+//! The running words refine the abstract machine: each step of the gates' table is one of its events, by the party whose
+//! seat made it, or none.
 //!
 //! A law speaks of two tables that obey the gates' rule, between which a seat makes a step: the play of the rule, what it writes
 //! and what it does with a slot. It says which event lies between what the tables show, and that each other actor is shown as
-//! it was. Covered are these kinds of step: on a status word the load, the won and the lost exchange, suspend, resume and close,
+//! it was. Covered are these kinds of step: on a status word the load, the holder's own load, the won and the lost exchange, suspend, resume and close,
 //! and both ways to give a cell back; on a waiting count both subtractions, the addition and the load; on a list's gate the
 //! load, the take, the miss, what a refused message leaves, the three ways to put a list back, and the holder's check; and
 //! splits and joins of seats, which are the machine's of parties. A party is a seat, by its number. Of another kind of step nothing
