@@ -6,7 +6,7 @@ ghost use Rattle.bank_actors.specs.BankAccount.{account_gives, answer_at, balanc
 ghost use Rattle.bank_actors.specs.Bookings.{account, added_by};
 
 use crate::kinds::{DEPOSIT, OUT_OF_RANGE, OVERDRAFT, WITHDRAW};
-use mb_actor::{Actor, Answer, Message, Outbox};
+use mb_actor::{Actor, Answer, CallPermit, Message, Outbox};
 use mb_msg::Cause;
 
 /// An account. It answers that it failed where a withdrawal leaves it below zero; a supervisor that resumes it lets it go on
@@ -61,24 +61,24 @@ impl Actor for BankAccount {
 
     ghost gives = { λ account. account_gives account.opening };
 
-    fn start(&mut self, _out: &mut Outbox) -> Answer {
+    fn start(&mut self, _out: &mut Outbox, _: CallPermit) -> Answer {
         self.balance = self.opening;
         Answer::Handled
     }
 
-    fn receive(&mut self, message: &Message, _out: &mut Outbox) -> Answer {
+    fn receive(&mut self, message: &Message, _out: &mut Outbox, _: CallPermit) -> Answer {
         match *message {
             Message::User { kind, value } => self.book(kind, value),
             _ => Answer::Unhandled,
         }
     }
 
-    fn restart(&mut self, _cause: Cause, _out: &mut Outbox) -> Answer {
+    fn restart(&mut self, _cause: Cause, _out: &mut Outbox, _: CallPermit) -> Answer {
         self.balance = self.opening;
         Answer::Handled
     }
 
-    fn stop(&mut self, _out: &mut Outbox) {}
+    fn stop(&mut self, _out: &mut Outbox, _: CallPermit) {}
 
     fn state(&self) -> i64 {
         self.balance

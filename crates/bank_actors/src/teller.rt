@@ -6,7 +6,7 @@ ghost use Rattle.bank_actors.specs.Bookings.{added_by};
 ghost use Rattle.bank_actors.specs.Teller.{answer_of_transfer, moved, opened, teller_gives};
 
 use crate::kinds::{DEPOSIT, NO_ACCOUNT, TRANSFER, WITHDRAW};
-use mb_actor::{Actor, Answer, Message, Outbox};
+use mb_actor::{Actor, Answer, CallPermit, Message, Outbox};
 use mb_msg::{ActorId, Cause};
 
 /// A teller, with two accounts as its children. It spawns and watches them, and moves money from one to the other until one of
@@ -71,13 +71,13 @@ impl Actor for Teller {
 
     ghost gives = { λ teller. teller_gives teller.from teller.to };
 
-    fn start(&mut self, out: &mut Outbox) -> Answer {
+    fn start(&mut self, out: &mut Outbox, _: CallPermit) -> Answer {
         self.closed = 0;
         self.open(out);
         Answer::Handled
     }
 
-    fn receive(&mut self, message: &Message, out: &mut Outbox) -> Answer {
+    fn receive(&mut self, message: &Message, out: &mut Outbox, _: CallPermit) -> Answer {
         match *message {
             Message::User { kind, value } => {
                 if kind == TRANSFER && self.closed == 0 {
@@ -94,13 +94,13 @@ impl Actor for Teller {
         }
     }
 
-    fn restart(&mut self, _cause: Cause, out: &mut Outbox) -> Answer {
+    fn restart(&mut self, _cause: Cause, out: &mut Outbox, _: CallPermit) -> Answer {
         self.closed = 0;
         self.open(out);
         Answer::Handled
     }
 
-    fn stop(&mut self, _out: &mut Outbox) {}
+    fn stop(&mut self, _out: &mut Outbox, _: CallPermit) {}
 
     fn state(&self) -> i64 {
         self.closed

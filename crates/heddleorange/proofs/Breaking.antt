@@ -37,11 +37,11 @@ either-true false b other = other
 -- what is to nobody by the gates is for none of so many actors
 for-nobody : (gates : Gates (Box Contents)) (actors : ℕ) (to : ActorId) (what : OrderKind) → actors_of gates ≡ actors + 1 → IsToNobody gates to what
     → is_for_nobody actors to what ≡ true
-for-nobody gates actors to (Tell body) same (inl guardian) = zero-first to.0 guardian (nat_lt actors to.0)
+for-nobody gates actors to (Tell payload) same (inl guardian) = zero-first to.0 guardian (nat_lt actors to.0)
   where
     zero-first : (n : ℕ) → n ≡ 0 → (b : Bool) → (n == 0 || b) ≡ true
     zero-first n is b = ap (λ k. k == 0 || b) is
-for-nobody gates actors to (Tell body) same (inr beyond) =
+for-nobody gates actors to (Tell payload) same (inr beyond) =
     either-true (to.0 == 0) (nat_lt actors to.0) (let lt : actors < to.0 = omega (arith, same, beyond) in grind (arith, nat_tests))
 for-nobody gates actors to Stop same beyond = let lt : actors < to.0 = omega (arith, same, beyond) in grind (arith, nat_tests)
 
@@ -55,9 +55,9 @@ module _ {A K : Type 0} (gives : ℕ → Moment → Reply → Type 0) (plan : Pl
   pub may-break : (error : RunError) → BreaksOff gives built.system orders error → IsErrorOfRun gives plan actors orders (Run error)
   may-break Fault.NoMemory broken = right
   may-break Fault.JournalFull (inl one) = absurd one.3
-  may-break Fault.JournalFull (inr (end, inl short)) = absurd (cc short)
-  may-break Fault.JournalFull (inr (end, inr full)) =
-      (right, full-journal gives plan built.system (of-plan gives plan built begun) begun.numbers.2 end full)
+  may-break Fault.JournalFull (inr (start, end, inl short)) = absurd (let is = short.0 in cc is)
+  may-break Fault.JournalFull (inr (start, end, inr full)) =
+      (right, full-journal gives plan built.system (of-plan gives plan built begun) begun.numbers.2 end full.0)
   may-break Fault.NoSuchActor (inl one) =
       let order = one.3.0 in let some = one.3.2 in
       let nobody : has_nobody actors order ≡ true =
@@ -65,5 +65,5 @@ module _ {A K : Type 0} (gives : ℕ → Moment → Reply → Type 0) (plan : Pl
       (for-nobody built.system.gates actors order.to order.what so-many one.3.3) in
       let somebody = All-contains (λ o. has_nobody actors o ≡ false) one.1 order (of-place actors orders one.0 one.1 right.2 one.2) one.3.1 in
       absurd (cc (nobody, somebody))
-  may-break Fault.NoSuchActor (inr (end, inl short)) = absurd (cc short)
-  may-break Fault.NoSuchActor (inr (end, inr broken)) = absurd broken
+  may-break Fault.NoSuchActor (inr (start, end, inl short)) = absurd (let is = short.0 in cc is)
+  may-break Fault.NoSuchActor (inr (start, end, inr broken)) = absurd broken

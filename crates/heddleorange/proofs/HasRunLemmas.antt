@@ -1,8 +1,9 @@
 -- A system of a plan that has run is all there, and has its story or a reason why there is none.
-use Rattle.std.proofs.Common.{◌≡◌, ℕ, ℤ, List, length}
+use Rattle.std.proofs.Common.{◌≡◌, ℕ, ℤ, List, length, subst}
 use Rattle.std.specs.Prelude.{All, Err, IfErr, IfOk, Ok, Result}
 use Rattle.mb_actor.specs.Behaviour.{Moment, Reply}
 use Rattle.mb_actor.specs.declared.message.Message.{Message}
+use Rattle.mb_gate.specs.Untouched.{origin_of}
 use Rattle.mb_msg.specs.declared.order.Order.{Order}
 use Rattle.mb_msg.specs.declared.plan.Plan.{Plan}
 use Rattle.mb_report.specs.declared.report.Report.{Report}
@@ -14,14 +15,23 @@ use Rattle.heddleorange.specs.HasRun.{HasRun}
 use Rattle.heddleorange.specs.NoReport.{IsErrorOfRun, IsRight}
 use Rattle.heddleorange.specs.Sent.{HaveSent}
 use Rattle.heddleorange.specs.WholeRun.{IsReportOfRun}
+use Rattle.heddleorange.specs.Workers.{AllOnlyRuns}
 use Rattle.heddleorange.specs.declared.error.Error.{Error}
 use Rattle.heddleorange.proofs.WholeRun.{no-end-missing, no-sender-missing}
 
 module _ {A K : Type 0} (gives : ℕ → Moment → Reply → Type 0) (plan : Plan) (orders : List (List Order)) (first now : Built A K)
     (begun : IsBegun gives plan first) (system : now.system ≡ first.system) (ends : ends_numbers now.ends.items ≡ ends_numbers first.ends.items)
     (sent : HaveSent first.system.gates orders first.senders.items now.senders.items) (saw : StillSee first.ends.items now.ends.items) where
-  pub has-run : HasRun gives plan orders now
-  has-run = record { first = first; begun = begun; system = system; ends = ends; sent = sent; log_kept = saw }
+  pub has-run : AllOnlyRuns gives (origin_of first.system.gates) first.system.throughput first.ends.items now.ends.items → HasRun gives plan orders now
+  has-run runs = record {
+    first = first;
+    begun = begun;
+    system = system;
+    ends = ends;
+    sent = sent;
+    log_kept = saw;
+    runs = subst (λ n. AllOnlyRuns gives (origin_of first.system.gates) n first.ends.items now.ends.items) begun.numbers.2 runs;
+  }
 
   pub complete : length orders ≡ plan.senders → IsComplete now
   complete right = (

@@ -11,8 +11,8 @@ use Rattle.mb_gate.specs.Accessors.{actors_of}
 use Rattle.mb_gate.specs.declared.gates.Gates.{Gates}
 use Rattle.mb_home.specs.Contents.{Contents}
 use Rattle.mb_msg.specs.declared.order.Order.{Order}
-use Rattle.mb_msg.specs.declared.envelope.Body.TheVariants.{User}
 use Rattle.mb_msg.specs.declared.order.OrderKind.TheVariants.{Tell}
+use Rattle.mb_msg.specs.declared.payload.Payload.TheVariants.{User}
 use Rattle.mb_msg.specs.declared.order.SenderOrder.{SenderOrder}
 use Rattle.mb_queue.specs.Passes.{SendPassView}
 use Rattle.mb_shutdown.proofs.Lists.{at-place}

@@ -16,9 +16,10 @@ use Rattle.mb_system.specs.declared.end.WorkerEnd.{WorkerEnd}
 use Rattle.mb_system.specs.declared.failure.RunError.{RunError}
 use Rattle.mb_system.specs.declared.sender.Sender.{Sender}
 use Rattle.mb_system.specs.declared.system.System.{System}
+use Rattle.mb_gate.specs.Accessors.{pass_view}
 use Rattle.mb_dispatch.specs.Faults.{BreaksRun}
 use Rattle.mb_dispatch.specs.Jobs.{AreDone, AreJobsOf, IsDone}
-use Rattle.mb_dispatch.specs.Parallel.{First, FirstZip}
+use Rattle.mb_dispatch.specs.Parallel.{FirstZip}
 use Rattle.mb_dispatch.specs.declared.job.Job.{Job}
 use Rattle.mb_dispatch.proofs.Alike.{from-looks}
 use Rattle.mb_shutdown.proofs.Lists.{from-mapped, length-mapped, mapped}
@@ -53,13 +54,7 @@ module _ {X Y : Type 0} (R : X → Y → Type 0) where
   zip-length (a ∷ xs) (b ∷ ys) all = ap suc (zip-length xs ys all.1)
 
 module _ {X : Type 0} where
-  -- the first of which something holds
-  first-of : (Done Fails : X → Type 0) (xs : List X) → First Done Fails xs → (x : X) × Fails x
-  first-of Done Fails [] failed = absurd failed
-  first-of Done Fails (x ∷ xs) (inl here) = (x, here)
-  first-of Done Fails (x ∷ xs) (inr there) = first-of Done Fails xs there.1
-
-  -- and its place
+  -- the first place at which something holds
   first-zip-of : (Done Fails : X → X → Type 0) (xs ys : List X) → FirstZip Done Fails xs ys
       → (place : ℕ) × (x : X) × (slice_get xs place ≡ Some x) × (y : X) × Fails x y
   first-zip-of Done Fails [] ys failed = absurd failed
@@ -133,10 +128,10 @@ module _ {A K : Type 0} where
             (subst (HasSentAndRetried gates (sends_in j.0) (sender_in j.0)) d.2 here))
 
   -- why a run of these jobs is broken off, in the words of the orders
-  module _ (gives : ℕ → Moment → Reply → Type 0) (system : System A K) (ends : List (WorkerEnd A K)) (jobs : List (Job A K)) (orders : List (List Order))
+  module _ (gives : ℕ → Moment → Reply → Type 0) (system : System A K) (old ends : List (WorkerEnd A K)) (jobs : List (Job A K)) (orders : List (List Order))
       (sends : map sends_in jobs ≡ orders) where
-    pub broke-off : (after : List (Job A K)) (error : RunError) → BreaksRun gives system ends jobs after error → BreaksOff gives system orders error
-    broke-off after error (inl by_end) = let one = first-of _ _ ends by_end in inr (one.0, inr one.1)
+    pub broke-off : (after : List (Job A K)) (error : RunError) → BreaksRun gives system old ends jobs after error → BreaksOff gives system orders error
+    broke-off after error (inl by_end) = let one = first-zip-of _ _ old ends by_end in inr (pass_view one.1.registrar.pass, one.3, inr one.4)
     broke-off after error (inr by_job) =
         let one = first-zip-of _ _ jobs after by_job.1 in
         let sent = ap (λ l. slice_get l one.0) (sym sends) ∙ mapped sends_in jobs one.0 one.1 one.2 in

@@ -17,6 +17,7 @@ pub mod Weighed
 pub mod Worth
 pub mod Held
 pub mod Conserved
+pub mod Covered
 pub mod Lookup
 pub mod InOrder
 pub mod InTurn

@@ -17,7 +17,7 @@ use Rattle.mb_shutdown.proofs.NotFinished.{does-not-agree, work-left}
 use Rattle.mb_startup.proofs.Directories.{still-planned, still-senders, still-there}
 use Rattle.heddleorange.specs.NoReport.{IsErrorOfRun, IsRight, IsErrorFor, IsUnfit}
 use Rattle.heddleorange.specs.declared.error.Error.{Error}
-use Rattle.heddleorange.specs.declared.error.Error.TheVariants.{BadPlan, Sends, NoMemory, Run, NotQuiet, Mismatch, NameTaken}
+use Rattle.heddleorange.specs.declared.error.Error.TheVariants.{BadPlan, Sends, NoMemory, Run, NotQuiet, Mismatch, NameTaken, Turns}
 
 -- what is refused before anything is done has no story
 pub unfit : (gives : ℕ → Moment → Reply → Type 0) (plan : Plan) (actors : ℕ) (orders : List (List Order)) (error : Error)
@@ -31,6 +31,7 @@ unfit gives plan actors orders (Run Fault.JournalFull) refused = absurd refused
 unfit gives plan actors orders (NotQuiet id) refused = absurd refused
 unfit gives plan actors orders (Mismatch what) refused = absurd refused
 unfit gives plan actors orders (NameTaken id) refused = absurd refused
+unfit gives plan actors orders (Turns id) refused = absurd refused
 
 -- what is right is not built only for want of memory
 pub only-memory : {T : Type 0} (gives : ℕ → Moment → Reply → Type 0) (plan : Plan) (actors : ℕ) (orders : List (List Order)) (result : Result T Error)

@@ -23,6 +23,7 @@ use Rattle.mb_msg.specs.declared.dead_letter.Why.{Why}
 use Rattle.mb_msg.specs.declared.envelope.Envelope.{Envelope}
 use Rattle.mb_msg.specs.declared.id.ActorId.{ActorId}
 use Rattle.mb_msg.specs.declared.order.Order.{Order}
+use Rattle.mb_msg.specs.Payload.{body_of}
 use Rattle.mb_msg.specs.declared.order.OrderKind.{OrderKind}
 use Rattle.mb_msg.specs.declared.order.OrderKind.TheVariants.{Stop, Tell}
 use Rattle.mb_shutdown.proofs.Lists.{at-place}
@@ -65,14 +66,15 @@ module _ (actors : ℕ) where
   there-one : (times : ℕ) (to : ActorId) (what : OrderKind) → (nat_lt 0 times && is_for_nobody actors to what) ≡ false
       → All (IsThere (actors + 1)) (over times (envelopes_of_one to what))
   there-one times to Stop some = there-over times [] (All-nil (IsThere (actors + 1)))
-  there-one zero to (Tell told) some = All-nil (IsThere (actors + 1))
-  there-one (suc times) to (Tell told) some =
+  there-one zero to (Tell payload) some = All-nil (IsThere (actors + 1))
+  there-one (suc times) to (Tell payload) some =
       let more : nat_lt 0 (suc times) ≡ true = grind (arith, nat_tests) in
       let there : (to.0 == 0 || nat_lt actors to.0) ≡ false =
       subst (λ b. (b && (to.0 == 0 || nat_lt actors to.0)) ≡ false) more some in
       let both = or-false (to.0 == 0) (nat_lt actors to.0) there in
       let above : 0 < to.0 = some-number to.0 both.0 in let below : to.0 < actors + 1 = within to.0 both.1 in
-      there-over (suc times) ((to, told) ∷ []) (All-cons (IsThere (actors + 1)) (to, told) [] (above, below) (All-nil (IsThere (actors + 1))))
+      there-over (suc times) ((to, body_of payload) ∷ [])
+      (All-cons (IsThere (actors + 1)) (to, body_of payload) [] (above, below) (All-nil (IsThere (actors + 1))))
     where
       some-number : (n : ℕ) → (n == 0) ≡ false → 0 < n
       some-number n other = grind (arith, nat_tests)

@@ -1,7 +1,7 @@
 -- Senders that carry out their orders, one after another.
 use Rattle.std.proofs.Common.{◌≡◌, ◌⊎◌, inl, inr, ℕ, zero, suc, ◌+◌, ◌-◌, ◌<◌, ◌≤◌, List, [], ◌∷◌, length, map, refl, sym, ap, ◌∙◌, subst, Some}
 use Rattle.std.proofs.Common.{arith, get_or, Vec}
-use Rattle.std.specs.Prelude.{◌≢◌, All, Err, IfErr, IsErrAnd, Ok, OnOk, Result, slice_get, slice_set}
+use Rattle.std.specs.Prelude.{◌≢◌, All, Err, IfErr, IfOk, IsErrAnd, Ok, OnOk, Result, slice_get, slice_set}
 use Rattle.std.specs.Global.{Box, Global}
 use Rattle.std.proofs.lemmas.Bool.{cases_eq}
 use Rattle.std.proofs.lemmas.List.{length-set}
@@ -11,6 +11,7 @@ use Rattle.mb_msg.specs.declared.id.SenderId.{SenderId}
 use Rattle.mb_actor.specs.Behaviour.{Moment, Reply}
 use Rattle.mb_gate.specs.Accessors.{actors_of, pass_view}
 use Rattle.mb_gate.specs.Rule.{IsPart}
+use Rattle.mb_gate.specs.Untouched.{Origin}
 use Rattle.mb_gate.specs.declared.gates.Gates.{Gates}
 use Rattle.mb_home.specs.Contents.{Contents}
 use Rattle.mb_pool.specs.Moves.{WasEmpty}
@@ -27,8 +28,11 @@ use Rattle.mb_msg.specs.declared.order.Order.{Order}
 use Rattle.mb_system.specs.declared.sender.Sender.{Sender}
 use Rattle.mb_dispatch.proofs.Alike.{look-alike}
 use Rattle.mb_dispatch.proofs.Together.{again, by_of}
+use Rattle.mb_dispatch.proofs.Runs.{no-run}
+use Rattle.mb_dispatch.specs.Runs.{OnlyRuns}
 use Rattle.mb_shutdown.proofs.Parts.{part-same}
 use Rattle.heddleorange.specs.Sent.{FoundNothing, HasSentAndRetried, HaveSent}
+use Rattle.heddleorange.specs.Workers.{AllOnlyRuns}
 
 -- what holds of an error holds where it is passed on
 pub err-of : {T E : Type 0} (Q : E → Type 0) (r : Result T E) (e : E) → IsErrAnd r (λ y. y ≡ e) → Q e → IfErr r Q
@@ -44,6 +48,10 @@ module _ {T E : Type 0} where
   pub on-all : {P Q R S : Type 0} (r : Result T E) → OnOk r P → OnOk r Q → OnOk r R → (P → Q → R → S) → OnOk r S
   on-all (Ok x) p q s all = all p q s
   on-all (Err e) p q s all = tt
+
+  pub ok-gives : (P : T → Type 0) (Q : Type 0) (r : Result T E) → ((x : T) → P x → Q) → IfOk r P → OnOk r Q
+  ok-gives P Q (Ok x) f p = f x p
+  ok-gives P Q (Err e) f p = tt
 
   pub err-weaker : (P Q : E → Type 0) (r : Result T E) → ((e : E) → P e → Q e) → IfErr r P → IfErr r Q
   err-weaker P Q (Ok x) f p = tt
@@ -157,6 +165,23 @@ module _ {A K : Type 0} where
   see-on old new [] some is saw = absurd (some refl)
   see-on old new (x ∷ ends) some is saw =
       (subst (λ (e : WorkerEnd A K). IsPart (pass_view e.registrar.pass).log (pass_view new.registrar.pass).log) is saw, see-same ends)
+
+  -- an end that only made runs since is put in its place
+  runs-same : (gives : ℕ → Moment → Reply → Type 0) (origin : Origin (Box Contents)) (throughput : ℕ) (ends : List (WorkerEnd A K))
+      → AllOnlyRuns gives origin throughput ends ends
+  runs-same gives origin throughput [] = tt
+  runs-same gives origin throughput (x ∷ ends) =
+      (no-run gives origin throughput (pass_view x.registrar.pass), runs-same gives origin throughput ends)
+
+  pub ran-on : (gives : ℕ → Moment → Reply → Type 0) (origin : Origin (Box Contents)) (throughput : ℕ) (old new : WorkerEnd A K)
+      (ends : List (WorkerEnd A K)) → ends ≢ [] → old ≡ get_or ends 0 old
+      → OnlyRuns gives origin throughput (pass_view old.registrar.pass) (pass_view new.registrar.pass)
+      → AllOnlyRuns gives origin throughput ends (slice_set ends 0 new)
+  ran-on gives origin throughput old new [] some is ran = absurd (some refl)
+  ran-on gives origin throughput old new (x ∷ ends) some is ran = (
+    subst (λ (e : WorkerEnd A K). OnlyRuns gives origin throughput (pass_view e.registrar.pass) (pass_view new.registrar.pass)) is ran,
+    runs-same gives origin throughput ends,
+  )
 
   -- the first of the ends, which ran, found nothing more
   pub found-nothing : (gives : ℕ → Moment → Reply → Type 0) (gates : Gates (Box Contents)) (ends : List (WorkerEnd A K)) (e : WorkerEnd A K)

@@ -3,11 +3,14 @@ use Rattle.std.proofs.Common.{◌≡◌, ◌≢◌, ◌+◌, ◌++◌, ℕ, suc,
 use Rattle.std.specs.Prelude.{All, slice_get, slice_set}
 use Rattle.std.proofs.lemmas.List.{length-append}
 use Rattle.std.proofs.lemmas.List.Elements.{All-cons, All-head, All-nil}
+use Rattle.std.specs.Global.{Box}
 use Rattle.mb_actor.specs.Behaviour.{Moment, Reply}
 use Rattle.mb_dispatch.specs.Runs.{MadeRuns, RanMailbox}
 use Rattle.mb_gate.specs.Accessors.{pass_view}
 use Rattle.mb_gate.specs.Rule.{IsAmong}
+use Rattle.mb_gate.specs.Untouched.{Origin}
 use Rattle.mb_gate.specs.View.{Observation, View}
+use Rattle.mb_home.specs.Contents.{Contents}
 use Rattle.mb_ghost.specs.Seen.{Each}
 use Rattle.mb_journal.specs.Entry.{Entry}
 use Rattle.mb_journal.specs.Entry.Entry.{Dropped, Handled, System}
@@ -21,16 +24,10 @@ use Rattle.mb_report.specs.declared.report.ActorReport.{ActorReport}
 use Rattle.mb_report.specs.declared.report.Report.{Report}
 use Rattle.mb_shutdown.specs.Seen.{ReportExtends, ReportExtendsAll}
 use Rattle.mb_system.specs.declared.end.WorkerEnd.{WorkerEnd}
-use Rattle.mb_system.specs.declared.system.System.{System as SystemOf}
 use Rattle.heddleorange.specs.Turns.{AreStretches, IsStretch}
+use Rattle.heddleorange.proofs.Covered.{systems-append}
 
 -- ---- the entries that a run added
-
-systems-append : (xs ys : List Entry) → systems_in (xs ++ ys) ≡ systems_in xs + systems_in ys
-systems-append [] ys = omega arith
-systems-append (System number m outcome ∷ xs) ys = let rest = systems-append xs ys in omega (arith, rest)
-systems-append (Handled envelope reading outcome ∷ xs) ys = systems-append xs ys
-systems-append (Dropped envelope ∷ xs) ys = systems-append xs ys
 
 of-envelope : (e : Entry) (xs : List Entry) → IsOfEnvelope e → systems_in (e ∷ xs) ≡ systems_in xs
 of-envelope (Handled envelope reading outcome) xs is = refl
@@ -83,8 +80,8 @@ each-left P (x ∷ xs) ys each = (each.0, each-left P xs ys each.1)
 each-among : {X : Type 0} (P : X → Type 0) (x : X) (xs : List X) → IsAmong x xs → Each P xs → P x
 each-among P x xs among each = (each-right P among.before (x ∷ among.after) (subst (Each P) among.joined each)).0
 
-module _ {A K : Type 0} (gives : ℕ → Moment → Reply → Type 0) (system : SystemOf A K) (P : Observation → Type 0) where
-  each-before : (old : View) (turns : List Turn) (new : View) → MadeRuns gives system old turns new → Each P new.log → Each P old.log
+module _ (gives : ℕ → Moment → Reply → Type 0) (origin : Origin (Box Contents)) (throughput : ℕ) (P : Observation → Type 0) where
+  each-before : (old : View) (turns : List Turn) (new : View) → MadeRuns gives origin throughput old turns new → Each P new.log → Each P old.log
   each-before old [] new made each = each-right P made.looks old.log (subst (Each P) made.log each)
   each-before old (turn ∷ turns) new made each =
       let after = each-before made.1 turns new made.4 each in
@@ -93,9 +90,9 @@ module _ {A K : Type 0} (gives : ℕ → Moment → Reply → Type 0) (system : 
       let before = each-left P made.0.log made.3.left.steps joined in
       each-right P made.2.looks old.log (subst (Each P) made.2.log before)
 
-module _ {A K : Type 0} (gives : ℕ → Moment → Reply → Type 0) (system : SystemOf A K) (report : Report) where
+module _ (gives : ℕ → Moment → Reply → Type 0) (origin : Origin (Box Contents)) (throughput : ℕ) (report : Report) where
   -- the entries of a run of which the report tells
-  stretch-of : (old new : View) (turn : Turn) → RanMailbox gives system old new turn → Each (ReportExtends report) new.log → (a : ActorReport)
+  stretch-of : (old new : View) (turn : Turn) → RanMailbox gives origin throughput old new turn → Each (ReportExtends report) new.log → (a : ActorReport)
       → slice_get report.actors.items turn.actor.0 ≡ Some a → IsStretch a.journal.entries turn
   stretch-of old new turn ran each a at =
       let claim = ran.claim in
@@ -116,12 +113,12 @@ module _ {A K : Type 0} (gives : ℕ → Moment → Reply → Type 0) (system : 
         all = omega (arith, count, same, systems);
       }
 
-  pub stretches-of : (old : View) (turns : List Turn) (new : View) → MadeRuns gives system old turns new → Each (ReportExtends report) new.log
+  pub stretches-of : (old : View) (turns : List Turn) (new : View) → MadeRuns gives origin throughput old turns new → Each (ReportExtends report) new.log
       → AreStretches report turns
   stretches-of old [] new made each = All-nil (λ (turn : Turn). (a : ActorReport) → slice_get report.actors.items turn.actor.0 ≡ Some a → IsStretch a.journal.entries turn)
   stretches-of old (turn ∷ turns) new made each =
       All-cons (λ (t : Turn). (a : ActorReport) → slice_get report.actors.items t.actor.0 ≡ Some a → IsStretch a.journal.entries t) turn turns
-      (stretch-of made.0 made.1 turn made.3 (each-before gives system (ReportExtends report) made.1 turns new made.4 each))
+      (stretch-of made.0 made.1 turn made.3 (each-before gives origin throughput (ReportExtends report) made.1 turns new made.4 each))
       (stretches-of made.1 turns new made.4 each)
 
 -- the first end is one of which the report tells

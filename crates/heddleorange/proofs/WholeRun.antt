@@ -2,8 +2,9 @@
 use Rattle.std.proofs.Common.{◌≡◌, ℤ, ℕ, zero, suc, ◌+◌, ◌-◌, List, [], ◌∷◌, ◌++◌, length, map, refl, sym, ap, ◌∙◌, subst, Some, arith}
 use Rattle.std.specs.Prelude.{All, reverse, slice_get}
 use Rattle.std.specs.Global.{Box}
+use Rattle.std.specs.List.{AllZip}
 use Rattle.std.proofs.lemmas.List.{append-nil}
-use Rattle.std.proofs.lemmas.List.Elements.{All-head, All-map}
+use Rattle.std.proofs.lemmas.List.Elements.{All-cons, All-head, All-map, All-nil}
 use Rattle.std.proofs.lemmas.Option.{get_or_from_slice_get, same_Some, slice_get_within}
 use Rattle.mb_msg.specs.Limits.{most_actors}
 use Rattle.mb_actor.specs.Behaviour.{Moment, Reply}
@@ -12,6 +13,7 @@ use Rattle.mb_journal.specs.Accepted.{accepted}
 use Rattle.mb_journal.specs.declared.sent_envelope.SentEnvelope.{SentEnvelope}
 use Rattle.mb_gate.specs.Accessors.{actors_of, first_home, pass_view}
 use Rattle.mb_gate.specs.Rule.{IsPart}
+use Rattle.mb_gate.specs.Untouched.{origin_of}
 use Rattle.mb_gate.specs.View.{Observation, View}
 use Rattle.mb_gate.specs.declared.gates.Gates.{Gates}
 use Rattle.mb_home.specs.Contents.{Contents}
@@ -23,7 +25,7 @@ use Rattle.mb_shutdown.specs.Homes.{HomesReturned}
 use Rattle.mb_shutdown.specs.Seen.{ReportExtendsAll}
 use Rattle.mb_shutdown.specs.CompleteReport.{IsCompleteReport}
 use Rattle.mb_shutdown.proofs.Lists.{at-place, from-mapped, length-mapped, there}
-use Rattle.mb_startup.specs.Begun.{AreNewSenders, IsBegun}
+use Rattle.mb_startup.specs.Begun.{AreNewEnds, AreNewSenders, IsBegun}
 use Rattle.mb_system.specs.Belonging.{senders_numbers}
 use Rattle.mb_system.specs.Members.{StillSee, ends_numbers}
 use Rattle.mb_dispatch.specs.Orders.{addressed, addressed_system, terminates_of}
@@ -38,6 +40,8 @@ use Rattle.mb_shutdown.proofs.Parts.{part-trans}
 use Rattle.mb_startup.proofs.There.{ends-there, length-numbers, number-at, senders-there}
 use Rattle.heddleorange.specs.Sent.{HaveSent}
 use Rattle.heddleorange.specs.WholeRun.{DidOrders, IsReportOfRun}
+use Rattle.heddleorange.specs.Workers.{AllOnlyRuns, AreNewViews}
+use Rattle.mb_dispatch.specs.Runs.{OnlyRuns}
 use Rattle.heddleorange.proofs.Sent.{numbers-kept}
 
 -- numbers in a row are all there
@@ -62,6 +66,21 @@ module _ {A K : Type 0} (gates : Gates (Box Contents)) where
       )
   new-at number (row ∷ rows) (x ∷ senders) (suc place) s are is =
       let rest = new-at (number + 1) rows senders place s are.1 is in (rest.0 ∙ (omega arith), rest.1, rest.2)
+
+-- what holds at each place of two lists holds of what is known at each place
+zip-mapped : {X Y : Type 0} (R : Y → Y → Type 0) (f : X → Y) (xs ys : List X) → AllZip (λ x y. R (f x) (f y)) xs ys → AllZip R (map f xs) (map f ys)
+zip-mapped R f [] [] all = tt
+zip-mapped R f [] (y ∷ ys) all = absurd all
+zip-mapped R f (x ∷ xs) [] all = absurd all
+zip-mapped R f (x ∷ xs) (y ∷ ys) all = (all.0, zip-mapped R f xs ys all.1)
+
+-- new ends saw nothing
+all-blank : {A K : Type 0} (gates : Gates (Box Contents)) (number : ℕ) (ends : List (WorkerEnd A K)) → AreNewEnds gates number ends
+    → All (λ (v : View). v.log ≡ []) (map (λ (e : WorkerEnd A K). pass_view e.registrar.pass) ends)
+all-blank gates number [] new = All-nil (λ (v : View). v.log ≡ [])
+all-blank gates number (e ∷ ends) new =
+    All-cons (λ (v : View). v.log ≡ []) (pass_view e.registrar.pass) (map (λ (x : WorkerEnd _ _). pass_view x.registrar.pass) ends) new.0.blank
+    (all-blank gates (number + 1) ends new.1)
 
 module _ {A K : Type 0} where
   -- what the first of the ends had seen is among all that they saw
@@ -112,13 +131,14 @@ module _ {A K : Type 0} (gives : ℕ → Moment → Reply → Type 0) (plan : Pl
         }
 
     pub story : (after : ℕ → List Message → ℤ) (report : Report) (log : List Observation) (answers : List (List SentEnvelope))
-        → StillSee built.ends.items now.ends.items → HasAllSeen now log
+        → StillSee built.ends.items now.ends.items
+        → AllOnlyRuns gives (origin_of built.system.gates) plan.throughput built.ends.items now.ends.items → HasAllSeen now log
         → AreAnswers now.system.senders now.senders.items answers
         → IsCompleteReport after gives (first_home now.system.gates).value.directory log answers report
         → All (λ (e : WorkerEnd A K). ReportExtendsAll report (pass_view e.registrar.pass)) now.ends.items
         → All (λ (s : Sender A K). ReportExtendsAll report (pass_view s.inner.registrar.pass)) now.senders.items
         → HasHomesReturned gives now report → IsReportOfRun after gives plan orders report
-    story after report log answers saw seen answered whole ends_seen senders_seen home =
+    story after report log answers saw runs seen answered whole ends_seen senders_seen home =
         let knows = λ (s : Sender A K). pass_view s.inner.registrar.pass in
         let knew = λ (e : WorkerEnd A K). pass_view e.registrar.pass in
         let IsTold = λ (v : View). IsPart v.log log × ReportExtendsAll report v in record {
@@ -147,6 +167,12 @@ module _ {A K : Type 0} (gives : ℕ → Moment → Reply → Type 0) (plan : Pl
             All-map IsTold knows now.senders.items (λ k d lt. (seen.1 k d lt, senders_seen k d lt)),
             All-map IsTold knew now.ends.items (λ k d lt. (seen.0 k d lt, ends_seen k d lt)),
           );
+          origin = origin_of built.system.gates;
+          same_gates = (refl, sym built.system.directory);
+          began = map knew built.ends.items;
+          began_new = subst (λ (l : List (WorkerEnd A K)). AreNewViews (map knew l)) (sym begun.ends_are)
+              (begun.created, all-blank built.system.gates 1 begun.others begun.others_are);
+          runs = zip-mapped (OnlyRuns gives (origin_of built.system.gates) plan.throughput) knew built.ends.items now.ends.items runs;
           created = (
             begun.created.0,
             subst (λ l. IsPart l log) begun.created.1

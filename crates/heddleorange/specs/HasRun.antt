@@ -1,15 +1,17 @@
 -- A system of a plan that has run, up to its end.
 use Rattle.std.specs.Prelude.{◌≡◌, ℕ, List}
 use Rattle.mb_actor.specs.Behaviour.{Moment, Reply}
+use Rattle.mb_gate.specs.Untouched.{origin_of}
 use Rattle.mb_msg.specs.declared.order.Order.{Order}
 use Rattle.mb_msg.specs.declared.plan.Plan.{Plan}
 use Rattle.mb_startup.specs.Begun.{IsBegun}
 use Rattle.mb_system.specs.Members.{StillSee, ends_numbers}
 use Rattle.mb_system.specs.declared.built.Built.{Built}
 use Rattle.heddleorange.specs.Sent.{HaveSent}
+use Rattle.heddleorange.specs.Workers.{AllOnlyRuns}
 
--- It is the system that was built of this plan, with all its ends, which forgot nothing that they saw, and each of its senders carried out the orders
--- of its place.
+-- It is the system that was built of this plan, with all its ends, which forgot nothing that they saw. Each end only made runs of mailboxes of this
+-- system, by the plan's throughput, and each of its senders carried out the orders of its place.
 pub record HasRun {A K : Type 0} (gives : ℕ → Moment → Reply → Type 0) (plan : Plan) (orders : List (List Order)) (now : Built A K) : Type 0 where
   pub first : Built A K
   pub begun : IsBegun gives plan first
@@ -17,3 +19,4 @@ pub record HasRun {A K : Type 0} (gives : ℕ → Moment → Reply → Type 0) (
   pub ends : ends_numbers now.ends.items ≡ ends_numbers first.ends.items
   pub sent : HaveSent first.system.gates orders first.senders.items now.senders.items
   pub log_kept : StillSee first.ends.items now.ends.items
+  pub runs : AllOnlyRuns gives (origin_of first.system.gates) plan.throughput first.ends.items now.ends.items

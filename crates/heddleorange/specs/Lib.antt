@@ -1,4 +1,5 @@
 pub mod Sent
+pub mod Workers
 pub mod WholeRun
 pub mod NoReport
 pub mod HasRun

@@ -1,5 +1,5 @@
 -- Why a whole run gave no report.
-use Rattle.std.specs.Prelude.{◌≡◌, ◌≢◌, ℕ, ◌<◌, ◌==◌, nat_lt, Bool, true, false, ◌&&◌, ◌||◌, List, [], ◌∷◌, length}
+use Rattle.std.specs.Prelude.{◌≡◌, ◌≢◌, ◌⊎◌, ℕ, ◌<◌, ◌≤◌, ◌==◌, nat_lt, Bool, true, false, ◌&&◌, ◌||◌, List, [], ◌∷◌, length}
 use Rattle.std.specs.List.{list_any}
 use Rattle.mb_msg.specs.declared.id.ActorId.{ActorId}
 use Rattle.mb_actor.specs.Behaviour.{Moment, Reply}
@@ -17,11 +17,11 @@ use Rattle.mb_shutdown.specs.declared.ending.FinishError.{FinishError}
 use Rattle.mb_shutdown.specs.declared.ending.FinishError.TheVariants as end
 use Rattle.mb_dispatch.specs.FullJournal.{HasFullJournal}
 use Rattle.heddleorange.specs.declared.error.Error.{Error}
-use Rattle.heddleorange.specs.declared.error.Error.TheVariants.{BadPlan, Sends, NoMemory, Run, NotQuiet, Mismatch, NameTaken}
+use Rattle.heddleorange.specs.declared.error.Error.TheVariants.{BadPlan, Sends, NoMemory, Run, NotQuiet, Mismatch, NameTaken, Turns}
 
 -- This can go to none of so many actors, of which the first has number 1: an envelope goes to one of them, a Terminate also to the guardian.
 abbrev pub is_for_nobody : ℕ → ActorId → OrderKind → Bool
-is_for_nobody actors to (Tell body) = to.0 == 0 || nat_lt actors to.0
+is_for_nobody actors to (Tell payload) = to.0 == 0 || nat_lt actors to.0
 is_for_nobody actors to Stop = nat_lt actors to.0
 
 -- The order is to be carried out, and can go to no actor.
@@ -50,6 +50,7 @@ IsUnfit plan actors orders NoMemory = ⊥
 IsUnfit plan actors orders (NotQuiet id) = ⊥
 IsUnfit plan actors orders (Mismatch what) = ⊥
 IsUnfit plan actors orders (NameTaken id) = ⊥
+IsUnfit plan actors orders (Turns id) = ⊥
 
 -- The error of a whole run for this reason of a system that did not end. A system to which all ends and senders come back has none that speaks of a
 -- missing one.
@@ -74,3 +75,10 @@ IsErrorOfRun gives plan actors orders (NotQuiet id) = IsRight plan actors orders
 IsErrorOfRun gives plan actors orders (Mismatch what) = IsRight plan actors orders × (of_whom what < length (actors_in plan))
     × DoesNotAgree gives plan what
 IsErrorOfRun gives plan actors orders (NameTaken id) = ⊥
+IsErrorOfRun gives plan actors orders (Turns id) = ⊥
+
+-- The error of a run that answers its turns: as above; or the plan and the orders are right, and at the end the journal of this actor was found not to
+-- have the entries of its turns.
+abbrev pub IsErrorInOrder : (ℕ → Moment → Reply → Type 0) → Plan → ℕ → List (List Order) → Error → Type 0
+IsErrorInOrder gives plan actors orders error =
+    IsErrorOfRun gives plan actors orders error ⊎ ((id : ActorId) × (error ≡ Turns id) × IsRight plan actors orders × (id.0 ≤ actors))

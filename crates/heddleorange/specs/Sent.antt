@@ -3,6 +3,7 @@ use Rattle.std.specs.Prelude.{◌≡◌, ◌⊎◌, ℕ, List, ◌∷◌, All, S
 use Rattle.std.specs.Global.{Box}
 use Rattle.mb_actor.specs.Behaviour.{Moment, Reply}
 use Rattle.mb_gate.specs.Accessors.{actors_of}
+use Rattle.mb_gate.specs.View.{View}
 use Rattle.mb_gate.specs.declared.gates.Gates.{Gates}
 use Rattle.mb_home.specs.Contents.{Contents}
 use Rattle.mb_pool.specs.Moves.{WasEmpty}
@@ -47,4 +48,4 @@ module _ {A K : Type 0} where
 
   -- Sending is broken off for this reason, or the run of an end of this system is.
   abbrev pub BreaksOff : (ℕ → Moment → Reply → Type 0) → System A K → List (List Order) → RunError → Type 0
-  BreaksOff gives system orders error = BreaksOne system.gates orders error ⊎ ((end : WorkerEnd A K) × BreaksQuietRun gives system end error)
+  BreaksOff gives system orders error = BreaksOne system.gates orders error ⊎ ((start : View) × (end : WorkerEnd A K) × BreaksQuietRun gives system start end error)

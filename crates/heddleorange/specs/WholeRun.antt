@@ -1,11 +1,15 @@
 -- A whole run, from the plan and the actors to the report.
 use Rattle.std.specs.Prelude.{◌≡◌, ℕ, zero, suc, ℤ, pos, List, [], ◌∷◌, All, Option, Some, None, length, reverse, slice_get}
+use Rattle.std.specs.Global.{Box}
+use Rattle.std.specs.List.{AllZip}
 use Rattle.mb_actor.specs.Behaviour.{Moment, Reply}
 use Rattle.mb_actor.specs.declared.message.Message.{Message}
 use Rattle.mb_journal.specs.Accepted.{accepted}
 use Rattle.mb_journal.specs.declared.sent_envelope.SentEnvelope.{SentEnvelope}
 use Rattle.mb_gate.specs.Rule.{IsPart}
+use Rattle.mb_gate.specs.Untouched.{Origin}
 use Rattle.mb_gate.specs.View.{Pushed, Observation, View}
+use Rattle.mb_home.specs.Contents.{Contents}
 use Rattle.mb_home.specs.Directory.{DirectoryEntry}
 use Rattle.mb_msg.specs.declared.system.SysMsg.TheVariants.{Create}
 use Rattle.mb_msg.specs.declared.plan.Plan.{Plan}
@@ -16,6 +20,8 @@ use Rattle.mb_dispatch.specs.Orders.{addressed, addressed_system, terminates_of,
 use Rattle.mb_build.specs.Planned.{IsDirectoryOf}
 use Rattle.mb_msg.specs.declared.order.Order.{Order}
 use Rattle.mb_shutdown.specs.ReportedHomes.{IsOfHomes}
+use Rattle.mb_dispatch.specs.Runs.{OnlyRuns}
+use Rattle.heddleorange.specs.Workers.{AreNewViews}
 
 -- The actor that was handed in for this number: the first for number 1, since 0 is the guardian's.
 abbrev pub handed_in : {A : Type 0} → List A → ℕ → Option A
@@ -48,7 +54,8 @@ pub record DidOrders (orders : List Order) (postings : List SentEnvelope) (knew 
 
 -- The report of a whole run. It tells of all actors of this plan, and of the plan's senders outside, each of which carried out the orders of its
 -- place. It tells of all that the senders and the workers' ends saw, and extends that; and they saw that a Create went into the guardian's list. It
--- is made of what gates with this directory gave back.
+-- is made of what gates with this directory gave back. From what it knew in the new system to what it saw, each end only made runs of mailboxes of
+-- these gates, by the plan's throughput.
 pub record IsReportOfRun (after : ℕ → List Message → ℤ) (gives : ℕ → Moment → Reply → Type 0) (plan : Plan) (orders : List (List Order)) (report : Report)
     : Type 0 where
   pub directory : List DirectoryEntry
@@ -63,6 +70,11 @@ pub record IsReportOfRun (after : ℕ → List Message → ℤ) (gives : ℕ →
   pub ends : List View
   pub all_ends : length ends ≡ plan.workers
   pub seen : All (λ (v : View). IsPart v.log log × ReportExtendsAll report v) knew × All (λ (v : View). IsPart v.log log × ReportExtendsAll report v) ends
+  pub origin : Origin (Box Contents)
+  pub same_gates : (origin.first.value ≡ homes.first) × (origin.actors ≡ length directory)
+  pub began : List View
+  pub began_new : AreNewViews began
+  pub runs : AllZip (OnlyRuns gives origin plan.throughput) began ends
   pub created : (number : ℕ) × IsPart (Pushed 0 number Create ∷ []) log
   pub did : (place : ℕ) (of : List Order) (postings : List SentEnvelope) (view : View) → slice_get orders place ≡ Some of
       → slice_get outside place ≡ Some postings → slice_get knew place ≡ Some view → DidOrders of postings view

@@ -32,6 +32,10 @@ pub enum Error {
     /// At the end, the parts of the system did not agree.
     #[error("at the end, the parts of the system did not agree: {0:?}")]
     Mismatch(Mismatch),
+    /// The journal of this actor does not have the entries of its turns, turn after turn, or has others. A run on one thread checks
+    /// this at its end. No fault of plan, orders or actors leads to it, and it is not proved that it never comes.
+    #[error("the turns do not have the entries of an actor's journal: {0:?}")]
+    Turns(ActorId),
     /// The actor with this number has the name under which another was to be added. Nothing was added.
     #[error("an actor has this name already: {0:?}")]
     NameTaken(ActorId),

@@ -11,6 +11,7 @@
 mod begin;
 mod by_workers;
 mod conservation;
+mod coverage;
 mod error;
 mod finish;
 mod in_order;
@@ -26,13 +27,14 @@ pub use conservation::{a_run_conserves_what_its_actors_conserve, what_is_sent_ad
 pub use error::Error;
 pub use in_order::{QuietRun, run_in_order};
 pub use laws::{an_actor_without_a_restart_has_handled_all, what_actors_send_is_asked_for};
-pub use mb_actor::{Actor, Answer, Effect, Message, Outbox, OutboxError, Phase};
+pub use mb_actor::{Actor, Answer, CallPermit, Effect, Message, Outbox, OutboxError, Phase};
 pub use mb_build::PlanError;
 pub use mb_dispatch::Turn;
 pub use mb_journal::{EntryRef, Journal, Received};
 pub use mb_msg::{
     ActorId, ActorPlan, Body, Cause, DeadLetter, Directive, Envelope, MailboxType, Order,
-    OrderKind, Pattern, Plan, PoolKind, RankRow, SenderId, SenderOrder, Strategy, SysMsg, Why,
+    OrderKind, Pattern, Payload, Plan, PoolKind, RankRow, SenderId, SenderOrder, Strategy, SysMsg,
+    Why,
 };
 pub use mb_report::{ActorReport, Report, SenderReport, report_text};
 pub use mb_shutdown::Mismatch;

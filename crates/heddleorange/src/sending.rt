@@ -1,6 +1,8 @@
 //! Sending all that is to be sent, and running what that leaves to run.
 ghost use Rattle.std.specs.Prelude.{◌≡◌, ◌≢◌, ◌<◌, [], All, IfErr, IfOk, OnOk, length, map};
 ghost use Rattle.mb_gate.specs.Accessors.{actors_of, pass_view};
+ghost use Rattle.mb_gate.specs.Untouched.{origin_of};
+ghost use Rattle.mb_gate.specs.View.{View};
 ghost use Rattle.mb_report.specs.declared.report.Report.{Report as ReportOf};
 ghost use Rattle.mb_shutdown.specs.Seen.{ReportExtendsAll};
 ghost use Rattle.mb_system.specs.Belonging.{BelongsTogether};
@@ -11,6 +13,7 @@ ghost use Rattle.mb_system.specs.declared.end.WorkerEnd.{WorkerEnd as EndOf};
 ghost use Rattle.heddleorange.specs.Orders.{lists_of};
 ghost use Rattle.heddleorange.specs.Sent.{BreaksOff, BreaksOne, FoundNothing, HasSentAndRetried, HaveSent};
 ghost use Rattle.heddleorange.specs.Turns.{AreStretches, IsTurnOf};
+ghost use Rattle.heddleorange.specs.Workers.{AllOnlyRuns};
 
 use mb_actor::{Actor, Behaviours};
 use mb_dispatch::{Turn, run_quietly, send_all};
@@ -37,6 +40,8 @@ pub(crate) fn send_and_run<A: Actor, K: Behaviours, R: Wait>(
     ensures sent { OnOk result (HaveSent built.old.system.gates (map (λ orders. orders.items) sends.now) built.old.senders.items
         built.new.senders.items) }
     ensures log_kept { OnOk result (StillSee built.old.ends.items built.new.ends.items) }
+    ensures runs { OnOk result (AllOnlyRuns K.gives (origin_of built.old.system.gates) built.old.system.throughput built.old.ends.items
+        built.new.ends.items) }
     ensures found_nothing { OnOk result (FoundNothing K.gives built.old.system.gates built.new.ends.items) }
     ensures fault { IfErr result (BreaksOff K.gives built.old.system (map (λ orders. orders.items) sends.now)) }
 {
@@ -60,6 +65,8 @@ pub(crate) fn send_in_order_and_run<A: Actor, K: Behaviours, R: Wait>(
     ensures sent { OnOk result (HaveSent built.old.system.gates (lists_of (length built.old.senders.items) sends.now) built.old.senders.items
         built.new.senders.items) }
     ensures log_kept { OnOk result (StillSee built.old.ends.items built.new.ends.items) }
+    ensures runs { OnOk result (AllOnlyRuns K.gives (origin_of built.old.system.gates) built.old.system.throughput built.old.ends.items
+        built.new.ends.items) }
     ensures found_nothing { OnOk result (FoundNothing K.gives built.old.system.gates built.new.ends.items) }
     ensures turns { IfOk result (λ turns. All (IsTurnOf (actors_of built.old.system.gates) built.old.system.throughput) turns.items) }
     ensures stretches { IfOk result (λ turns. (report : ReportOf) → All (λ e. ReportExtendsAll report (pass_view e.registrar.pass)) built.new.ends.items
@@ -82,11 +89,13 @@ fn run_first<A: Actor, K: Behaviours, R: Wait>(
     ensures same_gates { AreEndsOf built.old.system.gates built.new.ends.items }
     ensures ends { ends_numbers built.new.ends.items ≡ ends_numbers built.old.ends.items }
     ensures log_kept { StillSee built.old.ends.items built.new.ends.items }
+    ensures runs { OnOk result (AllOnlyRuns K.gives (origin_of built.old.system.gates) built.old.system.throughput built.old.ends.items
+        built.new.ends.items) }
     ensures found_nothing { OnOk result (FoundNothing K.gives built.old.system.gates built.new.ends.items) }
     ensures turns { IfOk result (λ turns. All (IsTurnOf (actors_of built.old.system.gates) built.old.system.throughput) turns.items) }
     ensures stretches { IfOk result (λ turns. (report : ReportOf) → All (λ e. ReportExtendsAll report (pass_view e.registrar.pass)) built.new.ends.items
         → AreStretches report turns.items) }
-    ensures fault { IfErr result (λ error. (end : EndOf A K) × BreaksQuietRun K.gives built.old.system end error) }
+    ensures fault { IfErr result (λ error. (start : View) × (end : EndOf A K) × BreaksQuietRun K.gives built.old.system start end error) }
 {
     run_quietly(rt, &built.system, &mut built.ends[0])
 }

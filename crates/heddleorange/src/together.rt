@@ -1,8 +1,10 @@
 //! Sending and running on threads: each sender has a job with what it is to send, beside the workers.
 ghost use Rattle.std.specs.Prelude.{◌≡◌, ◌≢◌, [], IfErr, IfOk, OnOk, length, map};
+ghost use Rattle.mb_gate.specs.Untouched.{origin_of};
 ghost use Rattle.mb_system.specs.Belonging.{BelongsTogether};
 ghost use Rattle.mb_system.specs.Members.{StillSee, ends_numbers};
 ghost use Rattle.heddleorange.specs.Sent.{BreaksOff, HaveSent};
+ghost use Rattle.heddleorange.specs.Workers.{AllOnlyRuns};
 
 use mb_actor::{Actor, Behaviours};
 use mb_dispatch::{Job, run};
@@ -33,6 +35,8 @@ pub(crate) fn run_together<A: Actor + Send, K: Behaviours + Send, R: Threads + W
     ensures sent { OnOk result (HaveSent built.old.system.gates (map (λ orders. orders.items) sends.now) built.old.senders.items
         built.new.senders.items) }
     ensures log_kept { OnOk result (StillSee built.old.ends.items built.new.ends.items) }
+    ensures runs { OnOk result (AllOnlyRuns K.gives (origin_of built.old.system.gates) built.old.system.throughput built.old.ends.items
+        built.new.ends.items) }
     ensures fault { IfErr result (BreaksOff K.gives built.old.system (map (λ orders. orders.items) sends.now)) }
 {
     let senders = mem::replace(&mut built.senders, Vec::new(alloc));

@@ -5,11 +5,13 @@ ghost use Rattle.mb_actor.specs.declared.call.Call.{Call};
 ghost use Rattle.mb_actor.specs.declared.message.Message.{Message};
 
 use crate::answer::Answer;
+use crate::history::CallPermit;
 use crate::message::Message;
 use crate::outbox::Outbox;
 use mb_msg::Cause;
 
-/// An actor (`akka.actor.Actor`). It is called once for each message that comes to it, one call at a time.
+/// An actor (`akka.actor.Actor`). It is called once for each message that comes to it, one call at a time. Each call
+/// but `state` uses up a permission, so a `RecordedActor` makes no call that it does not record.
 pub trait Actor: Drop {
     /// The content after a list of messages, counted from the last start. No call changes it.
     ghost after: { Self → List Message → ℤ };
@@ -21,16 +23,18 @@ pub trait Actor: Drop {
     ghost gives: { Self → Moment → Reply → Type 0 };
 
     /// Begins (`preStart`): the content is that of no message.
-    fn start(&mut self, out: &mut Outbox) -> Answer
+    fn start(&mut self, out: &mut Outbox, permit: CallPermit) -> Answer
         requires empty { out.old.effects ≡ [] }
+        requires permitted { permit ≡ Call.Start }
         ensures begins { content self.new ≡ after self.new [] }
         ensures given { IsAllowed (content self.old) (after self.old) (gives self.new) Call.Start (Some result)
             out.old out.new }
         ensures kept { Keeps (after self.old) (gives self.old) out.old (after self.new) (gives self.new) out.new };
 
     /// Handles a message (`receive`). Whatever it answers, the content is that of one message more.
-    fn receive(&mut self, message: &Message, out: &mut Outbox) -> Answer
+    fn receive(&mut self, message: &Message, out: &mut Outbox, permit: CallPermit) -> Answer
         requires empty { out.old.effects ≡ [] }
+        requires permitted { permit ≡ Call.Receive message.now }
         ensures continues { (l : List Message) → content self.old ≡ after self.old l →
             content self.new ≡ after self.new (l ++ message.now ∷ []) }
         ensures given { IsAllowed (content self.old) (after self.old) (gives self.new) (Call.Receive message.now) (Some result)
@@ -38,16 +42,18 @@ pub trait Actor: Drop {
         ensures kept { Keeps (after self.old) (gives self.old) out.old (after self.new) (gives self.new) out.new };
 
     /// Begins again after a failure (`preRestart` and `postRestart`): the content is that of no message.
-    fn restart(&mut self, cause: Cause, out: &mut Outbox) -> Answer
+    fn restart(&mut self, cause: Cause, out: &mut Outbox, permit: CallPermit) -> Answer
         requires empty { out.old.effects ≡ [] }
+        requires permitted { permit ≡ Call.Restart cause }
         ensures begins { content self.new ≡ after self.new [] }
         ensures given { IsAllowed (content self.old) (after self.old) (gives self.new) (Call.Restart cause) (Some result)
             out.old out.new }
         ensures kept { Keeps (after self.old) (gives self.old) out.old (after self.new) (gives self.new) out.new };
 
     /// Ends (`postStop`). It changes no content.
-    fn stop(&mut self, out: &mut Outbox)
+    fn stop(&mut self, out: &mut Outbox, permit: CallPermit)
         requires empty { out.old.effects ≡ [] }
+        requires permitted { permit ≡ Call.Stop }
         ensures stays { content self.new ≡ content self.old }
         ensures given { IsAllowed (content self.old) (after self.old) (gives self.new) Call.Stop None
             out.old out.new }

@@ -3,6 +3,7 @@ ghost use Rattle.std.specs.Prelude.{◌≡◌};
 
 use crate::actor::Actor;
 use crate::answer::Answer;
+use crate::history::CallPermit;
 use crate::message::Message;
 use crate::outbox::Outbox;
 use mb_msg::Cause;
@@ -15,20 +16,20 @@ impl Actor for Box<dyn Actor + Send> {
 
     ghost gives = { λ b. (Actor-box b).gives b.value };
 
-    fn start(&mut self, out: &mut Outbox) -> Answer {
-        (**self).start(out)
+    fn start(&mut self, out: &mut Outbox, permit: CallPermit) -> Answer {
+        (**self).start(out, permit)
     }
 
-    fn receive(&mut self, message: &Message, out: &mut Outbox) -> Answer {
-        (**self).receive(message, out)
+    fn receive(&mut self, message: &Message, out: &mut Outbox, permit: CallPermit) -> Answer {
+        (**self).receive(message, out, permit)
     }
 
-    fn restart(&mut self, cause: Cause, out: &mut Outbox) -> Answer {
-        (**self).restart(cause, out)
+    fn restart(&mut self, cause: Cause, out: &mut Outbox, permit: CallPermit) -> Answer {
+        (**self).restart(cause, out, permit)
     }
 
-    fn stop(&mut self, out: &mut Outbox) {
-        (**self).stop(out);
+    fn stop(&mut self, out: &mut Outbox, permit: CallPermit) {
+        (**self).stop(out, permit);
     }
 
     fn state(&self) -> i64 {

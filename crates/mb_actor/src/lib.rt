@@ -24,6 +24,7 @@ pub use answer::Answer;
 pub use behaviours::Behaviours;
 pub use call::Call;
 pub use effect::Effect;
+pub use history::CallPermit;
 pub use message::Message;
 pub use outbox::Outbox;
 pub use outbox_error::OutboxError;

@@ -34,10 +34,8 @@ impl<A: Actor> RecordedActor<A> {
     pub fn new(actor: A) -> Self
         ensures { result ≡ record { actor = actor; calls = [] } }
     {
-        RecordedActor {
-            actor,
-            history: History::new(),
-        }
+        let (actor, history) = History::of(actor);
+        RecordedActor { actor, history }
     }
 
     /// Calls its `start` once.
@@ -50,8 +48,8 @@ impl<A: Actor> RecordedActor<A> {
         ensures kept { Keeps (A.after self.old.actor) (A.gives self.old.actor) out.old
             (A.after self.new.actor) (A.gives self.new.actor) out.new }
     {
-        self.history.add(Call::Start);
-        self.actor.start(out)
+        let permit = self.history.permit(Call::Start);
+        self.actor.start(out, permit)
     }
 
     /// Calls its `receive` once, with this message.
@@ -65,8 +63,8 @@ impl<A: Actor> RecordedActor<A> {
         ensures kept { Keeps (A.after self.old.actor) (A.gives self.old.actor) out.old
             (A.after self.new.actor) (A.gives self.new.actor) out.new }
     {
-        self.history.add(Call::Receive(*message));
-        self.actor.receive(message, out)
+        let permit = self.history.permit(Call::Receive(*message));
+        self.actor.receive(message, out, permit)
     }
 
     /// Calls its `restart` once, with this cause.
@@ -79,8 +77,8 @@ impl<A: Actor> RecordedActor<A> {
         ensures kept { Keeps (A.after self.old.actor) (A.gives self.old.actor) out.old
             (A.after self.new.actor) (A.gives self.new.actor) out.new }
     {
-        self.history.add(Call::Restart(cause));
-        self.actor.restart(cause, out)
+        let permit = self.history.permit(Call::Restart(cause));
+        self.actor.restart(cause, out, permit)
     }
 
     /// Calls its `stop` once.
@@ -93,8 +91,8 @@ impl<A: Actor> RecordedActor<A> {
         ensures kept { Keeps (A.after self.old.actor) (A.gives self.old.actor) out.old
             (A.after self.new.actor) (A.gives self.new.actor) out.new }
     {
-        self.history.add(Call::Stop);
-        self.actor.stop(out);
+        let permit = self.history.permit(Call::Stop);
+        self.actor.stop(out, permit);
     }
 
     /// The actor's content as one number. This is not recorded as a call.

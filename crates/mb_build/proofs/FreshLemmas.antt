@@ -17,7 +17,7 @@ use Rattle.mb_queue.specs.Passes.{SendPassView, TakePassView}
 use Rattle.mb_gate.specs.NamedActors.{NamesBelow}
 use Rattle.mb_gate.specs.Starts.{IsFresh}
 use Rattle.mb_gate.specs.Tries.{IsFree}
-use Rattle.mb_home.specs.AtHome.{IsHomeOf, mailbox_at, given_of, closed_receivers, facts_of}
+use Rattle.mb_home.specs.AtHome.{IsHomeOf, mailbox_at, given_of, drained_of, closed_receivers, facts_of}
 use Rattle.mb_home.specs.Contents.{Contents}
 use Rattle.mb_home.specs.NamedActors.{NamesActors}
 use Rattle.mb_home.specs.Directory.{DirectoryEntry}
@@ -87,6 +87,7 @@ module _ (gives : ℕ → Moment → Reply → Type 0) where
         };
         none_given = ap given_of is ∙ ap (λ n. (n + 0 + 0) % 2 ^ 64) none-yet;
         none_closed = ap (λ (c : Contents). closed_receivers c.dead) is;
+        none_drained = ap drained_of is;
         possible = subst (λ (c : Contents). IsTrue (is_possible (mailbox_at c.cell.who c.cell.journal))) (sym is) (possible-first who);
         free = subst (λ (c : Contents). IsFree (mailbox_at c.cell.who c.cell.journal)) (sym is) (open-first who);
         rest = no_backlog;

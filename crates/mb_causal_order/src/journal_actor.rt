@@ -1,7 +1,7 @@
 //! An actor that answers as a journal records.
 ghost use Rattle.std.specs.Prelude.{◌≡◌};
 
-use mb_actor::{Actor, Answer, Behaviours, Effect, Message, Outbox};
+use mb_actor::{Actor, Answer, Behaviours, CallPermit, Effect, Message, Outbox};
 use mb_journal::{Journal, Received};
 use mb_msg::Cause;
 
@@ -58,20 +58,20 @@ impl<'a> Actor for JournalActor<'a> {
 
     ghost gives = { λ _ _ _. Unit {0} };
 
-    fn start(&mut self, out: &mut Outbox) -> Answer {
+    fn start(&mut self, out: &mut Outbox, _: CallPermit) -> Answer {
         self.answer(out)
     }
 
-    fn receive(&mut self, _message: &Message, out: &mut Outbox) -> Answer {
+    fn receive(&mut self, _message: &Message, out: &mut Outbox, _: CallPermit) -> Answer {
         self.answer(out)
     }
 
-    fn restart(&mut self, _cause: Cause, out: &mut Outbox) -> Answer {
+    fn restart(&mut self, _cause: Cause, out: &mut Outbox, _: CallPermit) -> Answer {
         self.answer(out)
     }
 
     /// The effects are those of the last entry: an actor whose `stop` was called has ended.
-    fn stop(&mut self, out: &mut Outbox) {
+    fn stop(&mut self, out: &mut Outbox, _: CallPermit) {
         let entries = self.journal.len();
         if entries > 0 {
             ask_all(self.journal.get(entries - 1).effects, out);

@@ -1,5 +1,5 @@
 -- An entry of a call of the actor: from what its rule does to the cell's state to the cell's invariant.
-use Rattle.std.proofs.Common.{◌≡◌, ◌≤◌, ℤ, List, [], ◌∷◌, length, true, false, ap, sym, ◌∙◌, subst}
+use Rattle.std.proofs.Common.{◌≡◌, ℕ, ◌≤◌, ℤ, List, [], ◌∷◌, length, true, false, ap, sym, ◌∙◌, subst}
 use Rattle.std.specs.Prelude.{Option, Some, filter, not}
 use Rattle.mb_msg.specs.declared.id.ActorId.{ActorId}
 use Rattle.mb_actor.specs.ActorList.{has}
@@ -21,11 +21,11 @@ use Rattle.mb_journal.proofs.Fold.{Queries, queries, next_queries, queries-fold}
 use Rattle.mb_journal.proofs.LawfulLemmas.{calls-called}
 use Rattle.mb_cell.specs.Agrees.{Agrees, FollowsBehaviour}
 use Rattle.mb_supervision.specs.CellStateRecord.{CellState}
-use Rattle.mb_supervision.specs.Requests.{requests_kept}
+use Rattle.mb_supervision.specs.RetryCounts.{retry_count_of}
 use Rattle.mb_supervision.specs.ActorIdentity.{identity_of}
 use Rattle.mb_supervision.specs.declared.identity.ActorIdentity.{ActorIdentity}
 use Rattle.mb_cell.proofs.CellLaws.{longer, length-added, kept-called}
-use Rattle.mb_cell.proofs.RowLaws.{IsBlank, cell_state_of, agrees-more}
+use Rattle.mb_cell.proofs.RowLaws.{counts_of, IsBlank, cell_state_of, agrees-more}
 
 -- what the rule of such an entry has to show: which call it is; that the entry may come if what was given may be; what it
 -- makes of the queries, that the new state is theirs, and that its acts are the entry's
@@ -35,8 +35,8 @@ pub record IsCallingRow (who : Identity) (gives : Moment → Reply → Type 0) (
   pub answered : IsAnswered call a
   pub lawful : IsGivenBy who gives before call a effects → IsLawfulEntry who gives before e
   pub step : next_queries who (queries who before) e ≡ after
-  pub retries : List ActorId
-  pub counted : retries ≡ requests_kept who.retries after.requests
+  pub retries : List (ActorId × ℕ)
+  pub counted : (y : ActorId) → retry_count_of retries y ≡ counts_of who.retries after.requests y
   pub acts_of_it : List Act
   pub booked : new ≡ cell_state_of after retries acts_of_it cell_state.fanout false
   pub acted : acts who before e ≡ acts_of_it

@@ -56,14 +56,14 @@ module _ (who : Identity) (q : Queries) (number : ℕ) (a : Answer) (effects : L
       ResumeSelf ∷ effect_acts who.this q.watching effects
       ++ (if is_failed (Some a) then fail_acts who q.failed (q.children ++ spawns_of effects) cause.Init [] else [])
 
-  abbrev begun : List ActorId → ℕ → CellState
+  abbrev begun : List (ActorId × ℕ) → ℕ → CellState
   begun r f = with_effects who effects (record (taken number (open_cell_state q r [] f true)) {
     phase = Live;
     count = q.marked - 1;
     acts = ResumeSelf ∷ [];
   })
 
-  by_answer : (b : Bool) (r : List ActorId) (f : ℕ) → q.failed ≡ Nobody →
+  by_answer : (b : Bool) (r : List (ActorId × ℕ)) (f : ℕ) → q.failed ≡ Nobody →
       (if b then failing who Itself cause.Init [] (record (begun r f) { phase = Broken }) else begun r f)
       ≡ record (begun r f) {
         phase = if b then Broken else Live;
@@ -103,7 +103,7 @@ module _ (who : Identity) (q : Queries) (number : ℕ) (a : Answer) (effects : L
       by true e = cc
       by false e = cc
 
-  pub create-booked : (r : List ActorId) (f : ℕ) (rd : Bool) (new : CellState) → q.failed ≡ Nobody →
+  pub create-booked : (r : List (ActorId × ℕ)) (f : ℕ) (rd : Bool) (new : CellState) → q.failed ≡ Nobody →
       new ≡ created who (Some a) effects number (open_cell_state q r [] f rd) → new ≡ cell_state_of create_after r create_acts_of f false
   create-booked r f rd new nobody is =
       cell_state-after create_after r create_acts_of f false new still_open (is ∙ by_answer (is_failed (Some a)) r f nobody)

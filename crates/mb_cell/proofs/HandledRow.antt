@@ -98,10 +98,10 @@ module _ (who : Identity) (q : Queries) (envelope : Envelope) (reading : ℕ) (a
   abbrev pub handled_acts_of : List Act
   handled_acts_of = effect_acts who.this q.watching effects ++ failure_acts_of (failure_of envelope.body a)
 
-  abbrev begun : List ActorId → ℕ → CellState
+  abbrev begun : List (ActorId × ℕ) → ℕ → CellState
   begun r f = with_effects who effects (record (open_cell_state q r [] f true) { due = due_told envelope.body q.due; is_ready = false })
 
-  by_cause : (c : Option Cause) (r : List ActorId) (f : ℕ) →
+  by_cause : (c : Option Cause) (r : List (ActorId × ℕ)) (f : ℕ) →
       failing_if who c (begun r f) ≡ record (begun r f) {
         count = if is_nobody q.failed && is_some c then q.marked + 1 else q.marked;
         failed = if is_nobody q.failed && is_some c then Itself else q.failed;
@@ -120,7 +120,7 @@ module _ (who : Identity) (q : Queries) (envelope : Envelope) (reading : ℕ) (a
         acts = effect_acts who.this q.watching effects ++ failure_acts_of (Some c);
       }
 
-  pub handled-booked : (r : List ActorId) (f : ℕ) (rd : Bool) (new : CellState) → phase_is q.phase Ended ≡ false →
+  pub handled-booked : (r : List (ActorId × ℕ)) (f : ℕ) (rd : Bool) (new : CellState) → phase_is q.phase Ended ≡ false →
       new ≡ handled who envelope.body a effects (open_cell_state q r [] f rd) → new ≡ cell_state_of handled_after r handled_acts_of f false
   handled-booked r f rd new not_ended is =
       cell_state-after handled_after r handled_acts_of f false new not_ended

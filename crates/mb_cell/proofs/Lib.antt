@@ -19,6 +19,7 @@ pub mod QuietEnvelope
 pub mod QuietRows
 pub mod RecreateRow
 pub mod ResumeRow
+pub mod RetryLaws
 pub mod RowLaws
 pub mod RunLaws
 pub mod SilentRow

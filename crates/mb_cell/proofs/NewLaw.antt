@@ -1,6 +1,7 @@
 -- A cell to which nothing came.
 use Rattle.std.proofs.Common.{◌≡◌, ℕ, ◌^◌, ◌<◌, ◌≤◌, ℤ, List, [], length, false, refl, ap, sym, ◌∙◌, subst}
 use Rattle.std.specs.Prelude.{pos, negsuc, nat_lt}
+use Rattle.mb_msg.specs.declared.id.ActorId.{ActorId}
 use Rattle.mb_actor.specs.Behaviour.{Moment, Reply, AllowsSame}
 use Rattle.mb_actor.specs.OutboxView.{OutboxView}
 use Rattle.mb_actor.specs.declared.call.Call.{Call}
@@ -21,8 +22,9 @@ use Rattle.mb_journal.proofs.LawfulLemmas.{lawful-none, calls-none}
 use Rattle.mb_journal.proofs.TestLemmas.{if_same}
 use Rattle.mb_cell.specs.Agrees.{Agrees, FollowsBehaviour, cell_state_at}
 use Rattle.mb_supervision.specs.CellStateRecord.{CellState}
+use Rattle.mb_supervision.specs.RetryCounts.{retry_count_of}
 use Rattle.mb_supervision.specs.ActorIdentity.{identity_of}
-use Rattle.mb_supervision.specs.Requests.{requests_kept}
+use Rattle.mb_cell.proofs.RowLaws.{counts_of}
 use Rattle.mb_supervision.specs.declared.identity.ActorIdentity.{ActorIdentity}
 
 -- the state of a cell to which nothing came
@@ -63,9 +65,9 @@ requests-none : (who : Identity) → requests who [] ≡ []
 unfolding requests
 requests-none who = refl
 
-none-kept : (limit : ℤ) → requests_kept limit [] ≡ []
-none-kept (negsuc n) = refl
-none-kept (pos n) = if_same (nat_lt 0 n) []
+none-counted : (limit : ℤ) (y : ActorId) → counts_of limit [] y ≡ 0
+none-counted (negsuc n) y = refl
+none-counted (pos n) y = if_same (nat_lt 0 n) 0
 
 pub agrees-new : (place : ActorIdentity) (log : JournalView) (limit : ℕ) (gives : Moment → Reply → Type 0) (cell_state : CellState) (tray : OutboxView) →
     log ≡ record { entries = []; limit = limit; is_ready = false } → cell_state ≡ first_cell_state cell_state.fanout →
@@ -93,9 +95,9 @@ agrees-new place log limit gives cell_state tray log_is is fanout_is tray_is sma
       few_prepared = few;
       fanout = fanout_is;
       counted =
-          ap (λ (b : CellState). b.retries) is
-          ∙ (sym (none-kept (identity_of place limit).retries)
-          ∙ ap (requests_kept (identity_of place limit).retries) (sym (requests-none (identity_of place limit))));
+          λ y. ap (λ (b : CellState). retry_count_of b.retries y) is
+          ∙ (sym (none-counted (identity_of place limit).retries y)
+          ∙ ap (λ l. counts_of (identity_of place limit).retries l y) (sym (requests-none (identity_of place limit))));
     })
 
 pub plays-new : (place : ActorIdentity) (log : JournalView) (limit : ℕ) (after : List Message → ℤ) (gives : Moment → Reply → Type 0) (own_after : List Message → ℤ)

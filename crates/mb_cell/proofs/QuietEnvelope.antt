@@ -16,12 +16,12 @@ use Rattle.mb_journal.specs.JournalView.{JournalView}
 use Rattle.mb_journal.proofs.Fold.{Queries, queries, next_queries, queries-fold}
 use Rattle.mb_cell.specs.Agrees.{Agrees}
 use Rattle.mb_supervision.specs.CellStateRecord.{CellState}
-use Rattle.mb_supervision.specs.Requests.{requests_kept}
+use Rattle.mb_supervision.specs.RetryCounts.{retry_count_of}
 use Rattle.mb_supervision.specs.ActorIdentity.{identity_of}
 use Rattle.mb_cell.specs.CellView.{CellView, IsOf, TakesEnvelope}
 use Rattle.mb_supervision.specs.declared.identity.ActorIdentity.{ActorIdentity}
 use Rattle.mb_cell.proofs.CellLaws.{Kept, longer, kept-silent, taken-envelope, length-added}
-use Rattle.mb_cell.proofs.RowLaws.{IsBlank, cell_state_of, agrees-more}
+use Rattle.mb_cell.proofs.RowLaws.{counts_of, IsBlank, cell_state_of, agrees-more}
 
 -- what the rule of such an envelope has to show
 pub record IsQuietEnvelope (who : Identity) (gives : Moment → Reply → Type 0) (before : List Entry) (e : Entry) (cell_state new : CellState) : Type 0 where
@@ -31,8 +31,8 @@ pub record IsQuietEnvelope (who : Identity) (gives : Moment → Reply → Type 0
   pub step : next_queries who (queries who before) e ≡ after
   pub same_unspawned : after.unspawned ≡ (queries who before).unspawned
   pub same_messages : after.messages ≡ (queries who before).messages
-  pub retries : List ActorId
-  pub counted : retries ≡ requests_kept who.retries after.requests
+  pub retries : List (ActorId × ℕ)
+  pub counted : (y : ActorId) → retry_count_of retries y ≡ counts_of who.retries after.requests y
   pub acts_of_it : List Act
   pub booked : new ≡ cell_state_of after retries acts_of_it cell_state.fanout false
   pub acted : acts who before e ≡ acts_of_it

@@ -61,14 +61,14 @@ module _ (who : Identity) (q : Queries) (number : ℕ) (m : SysMsg) (c : Cause) 
   abbrev entry : Entry
   entry = System number m (Applied (Some a) effects)
 
-  abbrev begun : List ActorId → ℕ → CellState
+  abbrev begun : List (ActorId × ℕ) → ℕ → CellState
   begun r f = with_effects who effects (record (taken number (open_cell_state q r [] f true)) {
     count = q.marked - 1;
     failed = Nobody;
     acts = ResumeSelf ∷ [];
   })
 
-  by_answer : (b : Bool) (r : List ActorId) (f : ℕ) →
+  by_answer : (b : Bool) (r : List (ActorId × ℕ)) (f : ℕ) →
       (if b then failing who Itself cause.Init q.children (record (begun r f) { phase = Broken })
       else record (begun r f) { phase = Live; acts = (begun r f).acts ++ to_each (system.Recreate c) q.children })
       ≡ record (begun r f) {
@@ -97,7 +97,7 @@ module _ (who : Identity) (q : Queries) (number : ℕ) (m : SysMsg) (c : Cause) 
       by true e = cc
       by false e = cc
 
-  pub recreate-booked : (r : List ActorId) (f : ℕ) (rd : Bool) (new : CellState) →
+  pub recreate-booked : (r : List (ActorId × ℕ)) (f : ℕ) (rd : Bool) (new : CellState) →
       new ≡ recreated who c (Some a) effects number (open_cell_state q r [] f rd) →
       new ≡ cell_state_of (recreate_after who q entry c a effects) r (recreate_acts_of who q entry c a effects) f false
   recreate-booked r f rd new is =

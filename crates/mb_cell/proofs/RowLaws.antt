@@ -1,6 +1,6 @@
 -- What every rule of the cell uses: the state agrees with the journal after an entry more, if the rule changes the state as
 -- the entry changes the queries.
-use Rattle.std.proofs.Common.{◌≡◌, ℕ, ◌≤◌, List, [], ◌∷◌, length, Bool, true, false, refl, ap, sym, ◌∙◌, subst}
+use Rattle.std.proofs.Common.{◌≡◌, ℕ, ℤ, ◌≤◌, List, [], ◌∷◌, length, Bool, true, false, refl, ap, sym, ◌∙◌, subst}
 use Rattle.std.specs.Prelude.{not, ◌&&◌, if◌then◌else◌, Option, Some, None}
 use Rattle.mb_msg.specs.declared.id.ActorId.{ActorId}
 use Rattle.mb_msg.specs.declared.system.SysMsg.{SysMsg}
@@ -27,10 +27,15 @@ use Rattle.mb_journal.proofs.Steps.{Tests, tests_of}
 use Rattle.mb_journal.proofs.TestLemmas.{if_same}
 use Rattle.mb_cell.specs.Agrees.{Agrees, cell_state_at}
 use Rattle.mb_supervision.specs.CellStateRecord.{CellState}
-use Rattle.mb_supervision.specs.Requests.{requests_kept}
+use Rattle.mb_supervision.specs.RetryCounts.{retry_count_of}
+use Rattle.mb_journal.specs.Retries.{counted_from, times_in}
+
+-- how often each child stands in these requests, where there is a limit above 0, else 0
+abbrev pub counts_of : ℤ → List ActorId → ActorId → ℕ
+counts_of limit asked = λ y. counted_from limit (times_in asked y)
 
 -- the state that these queries say
-abbrev pub cell_state_of : Queries → List ActorId → List Act → ℕ → Bool → CellState
+abbrev pub cell_state_of : Queries → List (ActorId × ℕ) → List Act → ℕ → Bool → CellState
 cell_state_of q retries acts fanout is_ready = record {
   phase = q.phase;
   count = if phase_is q.phase Ended then 0 else q.marked;
@@ -48,15 +53,15 @@ cell_state_of q retries acts fanout is_ready = record {
 }
 
 -- the same of an actor that has not ended
-abbrev pub open_cell_state : Queries → List ActorId → List Act → ℕ → Bool → CellState
+abbrev pub open_cell_state : Queries → List (ActorId × ℕ) → List Act → ℕ → Bool → CellState
 open_cell_state q retries acts fanout is_ready = record (cell_state_of q retries acts fanout is_ready) { count = q.marked; aside = q.aside }
 
-pub cell_state-at : (who : Identity) (journal : List Entry) (r : List ActorId) (a : List Act) (f : ℕ) (rd : Bool) →
+pub cell_state-at : (who : Identity) (journal : List Entry) (r : List (ActorId × ℕ)) (a : List Act) (f : ℕ) (rd : Bool) →
     cell_state_at who journal r a f rd ≡ cell_state_of (queries who journal) r a f rd
 unfolding count aside
 cell_state-at who journal r a f rd = refl
 
-pub cell_state-open : (q : Queries) (r : List ActorId) (a : List Act) (f : ℕ) (rd : Bool) → phase_is q.phase Ended ≡ false →
+pub cell_state-open : (q : Queries) (r : List (ActorId × ℕ)) (a : List Act) (f : ℕ) (rd : Bool) → phase_is q.phase Ended ≡ false →
     cell_state_of q r a f rd ≡ open_cell_state q r a f rd
 cell_state-open q r a f rd not_ended =
     λ i. record (cell_state_of q r a f rd) { count = if not_ended i then 0 else q.marked; aside = if not_ended i then [] else q.aside }
@@ -78,11 +83,11 @@ module _ (who : Identity) (before : List Entry) (gives : Moment → Reply → Ty
       cell_state ≡ open_cell_state (queries who before) cell_state.retries cell_state.acts cell_state.fanout cell_state.is_ready
   booked-open not_ended = booked ∙ cell_state-open (queries who before) _ _ _ _ not_ended
 
-  pub agrees-more : (e : Entry) (q : Queries) (r : List ActorId) (a : List Act) (rd : Bool) (new : CellState) (new_tray : OutboxView) →
+  pub agrees-more : (e : Entry) (q : Queries) (r : List (ActorId × ℕ)) (a : List Act) (rd : Bool) (new : CellState) (new_tray : OutboxView) →
       IsLawfulEntry who gives before e → length (e ∷ before) ≤ who.limit → next_queries who (queries who before) e ≡ q →
       new ≡ cell_state_of q r a cell_state.fanout rd →
       new_tray ≡ record { effects = []; actors = who.actors; unspawned = q.unspawned } → (q.phase ≡ Fresh → IsBlank q) →
-      r ≡ requests_kept who.retries q.requests → Agrees who (e ∷ before) gives new new_tray
+      ((y : ActorId) → retry_count_of r y ≡ counts_of who.retries q.requests y) → Agrees who (e ∷ before) gives new new_tray
   agrees-more e q r a rd new new_tray lawful within step is tray_is blank counted =
       let all : queries who (e ∷ before) ≡ q = queries-fold who before e ∙ step in
       record {
@@ -105,7 +110,7 @@ module _ (who : Identity) (before : List Entry) (gives : Moment → Reply → Ty
         few_prepared = kept.few_prepared;
         fanout = ap (λ (b : CellState). b.fanout) is ∙ kept.fanout;
         counted =
-            ap (λ (b : CellState). b.retries) is ∙ counted ∙ ap (λ (s : Queries). requests_kept who.retries s.requests) (sym all);
+            λ y. ap (λ (b : CellState). retry_count_of b.retries y) is ∙ counted y ∙ ap (λ (s : Queries). counts_of who.retries s.requests y) (sym all);
       }
 
   pub blank-before : (queries who before).phase ≡ Fresh → IsBlank (queries who before)
@@ -159,6 +164,6 @@ pub not-fresh : (p : Phase) → phase_is p Fresh ≡ false → p ≡ Fresh → �
 not-fresh p other is_fresh = let here : phase_is p Fresh ≡ true = ap (λ r. phase_is r Fresh) is_fresh in cc
 
 -- a rule that leaves an actor open, and changes its state so
-pub cell_state-after : (q : Queries) (r : List ActorId) (a : List Act) (f : ℕ) (rd : Bool) (new : CellState) → phase_is q.phase Ended ≡ false →
+pub cell_state-after : (q : Queries) (r : List (ActorId × ℕ)) (a : List Act) (f : ℕ) (rd : Bool) (new : CellState) → phase_is q.phase Ended ≡ false →
     new ≡ open_cell_state q r a f rd → new ≡ cell_state_of q r a f rd
 cell_state-after q r a f rd new not_ended is = is ∙ sym (cell_state-open q r a f rd not_ended)

@@ -21,12 +21,12 @@ use Rattle.mb_journal.proofs.Fold.{Queries, queries, next_queries, queries-fold}
 use Rattle.mb_journal.proofs.Steps.{Tests, tests_of}
 use Rattle.mb_cell.specs.Agrees.{Agrees}
 use Rattle.mb_supervision.specs.CellStateRecord.{CellState}
-use Rattle.mb_supervision.specs.Requests.{requests_kept}
+use Rattle.mb_supervision.specs.RetryCounts.{retry_count_of}
 use Rattle.mb_supervision.specs.ActorIdentity.{identity_of}
 use Rattle.mb_cell.specs.CellView.{CellView, MayTake, TakesSystem}
 use Rattle.mb_supervision.specs.declared.identity.ActorIdentity.{ActorIdentity}
 use Rattle.mb_cell.proofs.CellLaws.{Kept, longer, kept-silent, taken-system, length-added}
-use Rattle.mb_cell.proofs.RowLaws.{IsBlank, cell_state_of, agrees-more, call-by, no_call, lawful-silent}
+use Rattle.mb_cell.proofs.RowLaws.{counts_of, IsBlank, cell_state_of, agrees-more, call-by, no_call, lawful-silent}
 
 -- the entry of a message that calls nothing
 abbrev pub silent : ℕ → SysMsg → Entry
@@ -48,8 +48,8 @@ pub record IsSilentRow (who : Identity) (before : List Entry) (number : ℕ) (m 
   pub step : next_queries who (queries who before) (silent number m) ≡ after
   pub same_unspawned : after.unspawned ≡ (queries who before).unspawned
   pub same_messages : is_guardian who ≡ false → after.messages ≡ (queries who before).messages
-  pub retries : List ActorId
-  pub counted : retries ≡ requests_kept who.retries after.requests
+  pub retries : List (ActorId × ℕ)
+  pub counted : (y : ActorId) → retry_count_of retries y ≡ counts_of who.retries after.requests y
   pub acts_of_it : List Act
   pub booked : new ≡ cell_state_of after retries acts_of_it cell_state.fanout false
   pub acted : acts who before (silent number m) ≡ acts_of_it

@@ -16,14 +16,14 @@ use Rattle.mb_journal.specs.Identity.{Identity, is_guardian}
 use Rattle.mb_journal.specs.Incarnation.{messages}
 use Rattle.mb_journal.specs.Lawful.{IsLawful, calls, unspawned, was_live}
 use Rattle.mb_journal.specs.Life.{phase, children}
-use Rattle.mb_journal.specs.Retries.{requests}
+use Rattle.mb_journal.specs.Retries.{retry_count}
 use Rattle.mb_journal.specs.Suspension.{count}
 use Rattle.mb_journal.specs.Watching.{watchers, watching, due}
 use Rattle.mb_supervision.specs.CellStateRecord.{CellState}
-use Rattle.mb_supervision.specs.Requests.{requests_kept}
+use Rattle.mb_supervision.specs.RetryCounts.{retry_count_of}
 
 -- the cell's state that a journal says, with these acts
-abbrev pub cell_state_at : Identity → List Entry → List ActorId → List Act → ℕ → Bool → CellState
+abbrev pub cell_state_at : Identity → List Entry → List (ActorId × ℕ) → List Act → ℕ → Bool → CellState
 cell_state_at who journal retries acts fanout is_ready = record {
   phase = phase who journal;
   count = count who journal;
@@ -58,7 +58,7 @@ pub record Agrees (who : Identity) (journal : List Entry) (gives : Moment → Re
   pub small_limit : who.limit < 2 ^ 32
   pub few_prepared : length who.prepared ≤ most_actors
   pub fanout : cell_state.fanout ≡ length who.prepared
-  pub counted : cell_state.retries ≡ requests_kept who.retries (requests who journal)
+  pub counted : (y : ActorId) → retry_count_of cell_state.retries y ≡ retry_count who journal y
 
 -- the actor behaves as that of its number, its content is that of the messages since it last began, and the calls that were
 -- made of it are those that the journal records

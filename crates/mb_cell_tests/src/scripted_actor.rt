@@ -2,7 +2,7 @@
 
 ghost use Rattle.std.specs.Prelude.{◌≡◌};
 
-use mb_actor::{Actor, Answer, Behaviours, Message, Outbox};
+use mb_actor::{Actor, Answer, Behaviours, CallPermit, Message, Outbox};
 use mb_msg::{ActorId, Cause};
 
 /// What the actor is asked to do: the kind and the value of a message, where the value is the number of an actor or of
@@ -61,12 +61,12 @@ impl Actor for ScriptedActor {
 
     ghost gives = { λ _ _ _. Unit {0} };
 
-    fn start(&mut self, out: &mut Outbox) -> Answer {
+    fn start(&mut self, out: &mut Outbox, _: CallPermit) -> Answer {
         self.count = 0;
         perform_both(self.start, out)
     }
 
-    fn receive(&mut self, message: &Message, out: &mut Outbox) -> Answer {
+    fn receive(&mut self, message: &Message, out: &mut Outbox, _: CallPermit) -> Answer {
         self.count = self.count.wrapping_add(1);
         match message {
             Message::User { kind, value } | Message::Control { kind, value } => {
@@ -76,12 +76,12 @@ impl Actor for ScriptedActor {
         }
     }
 
-    fn restart(&mut self, _cause: Cause, out: &mut Outbox) -> Answer {
+    fn restart(&mut self, _cause: Cause, out: &mut Outbox, _: CallPermit) -> Answer {
         self.count = 0;
         perform_both(self.restart, out)
     }
 
-    fn stop(&mut self, out: &mut Outbox) {
+    fn stop(&mut self, out: &mut Outbox, _: CallPermit) {
         let _answer = perform_both(self.stop, out);
     }
 

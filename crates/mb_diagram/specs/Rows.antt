@@ -29,7 +29,8 @@ without_numbers (Handled e reading outcome) = Handled (unnumbered e) 0 outcome
 without_numbers (System number message outcome) = System 0 message outcome
 without_numbers (Dropped e) = Dropped (unnumbered e)
 
--- two entries that are drawn as one row are of one actor, and from one sender
+-- two entries that are drawn as one row are of one actor, from one sender, and alike but for their numbers
 pub record AreOneRow (one other : ShownEntry) (source sender : Option ℕ) : Type 0 where
   pub same_actor : one.actor ≡ other.actor
   pub same_sender : source ≡ sender
+  pub alike : without_numbers (entry_of one.entry) ≡ without_numbers (entry_of other.entry)

@@ -3,6 +3,7 @@
 //! A picture shows each entry of the journals once. What is drawn is written as it is made, to any writer.
 #![tactic(auto)]
 
+mod alike;
 mod arrow;
 mod created;
 mod dead_letters;

@@ -1,16 +1,15 @@
 //! The rows of a picture.
-ghost use Rattle.std.specs.Prelude.{◌≡◌, IsTrue, List};
-ghost use Rattle.mb_actor.specs.declared.effect.Effect.{Effect as Asked};
+ghost use Rattle.std.specs.Prelude.{◌≡◌, IsTrue};
 ghost use Rattle.mb_journal.specs.Entry.{is_failed};
-ghost use Rattle.mb_journal.specs.JournalView.{entry_with};
 ghost use Rattle.mb_diagram.specs.Rows as spec;
 
+use crate::alike::{is_like_entry, is_like_letter};
 use crate::picture::{Picture, ShownEntry};
 use crate::sources::Sources;
 use crate::words::Outcome;
 use mb_actor::Answer;
-use mb_journal::{EntryRef, Received};
-use mb_msg::{DeadLetter, Envelope, SysMsg};
+use mb_journal::Received;
+use mb_msg::{DeadLetter, SysMsg};
 use std::alloc::{AllocError, Global};
 
 /// Entries that follow one another and differ in their numbers alone.
@@ -193,52 +192,4 @@ fn is_alike(row: &Row<'_>, shown: &ShownEntry<'_>, source: Option<u32>) -> bool
     row.source == source
         && row.shown.actor == shown.actor
         && is_like_entry(&row.shown.entry, &shown.entry)
-}
-
-fn is_like_entry(one: &EntryRef<'_>, other: &EntryRef<'_>) -> bool {
-    without_numbers(one.arrival) == without_numbers(other.arrival) && one.effects == other.effects
-}
-
-fn is_like_letter(one: &DeadLetter, other: &DeadLetter) -> bool {
-    one.why == other.why && unnumbered(one.envelope) == unnumbered(other.envelope)
-}
-
-/// The same with the number 0.
-fn unnumbered(envelope: Envelope) -> Envelope
-    ensures { result ≡ spec.unnumbered envelope }
-{
-    Envelope {
-        number: 0,
-        ..envelope
-    }
-}
-
-/// The same with the number 0, and read at the status 0.
-fn without_numbers(came: Received) -> Received
-    ensures { (effects : List Asked) → entry_with result effects ≡ spec.without_numbers (entry_with came effects) }
-{
-    match came {
-        Received::Handled {
-            answer,
-            envelope,
-            ..
-        } => Received::Handled {
-            answer,
-            envelope: unnumbered(envelope),
-            reading: 0,
-        },
-        Received::System {
-            answer,
-            message,
-            ..
-        } => Received::System {
-            answer,
-            number: 0,
-            message,
-        },
-        Received::SetAside { message, .. } => Received::SetAside { number: 0, message },
-        Received::Dropped { envelope } => Received::Dropped {
-            envelope: unnumbered(envelope),
-        },
-    }
 }

@@ -1,5 +1,5 @@
 -- For which reasons sending, work and a whole run are broken off.
-use Rattle.std.proofs.Common.{◌≡◌, ◌≤◌, ℕ, List, [], ◌∷◌, ◌<◌, length, refl, subst, sym, ◌∙◌, arith, inl, inr}
+use Rattle.std.proofs.Common.{◌≡◌, ◌≤◌, ℕ, false, List, [], ◌∷◌, ◌<◌, length, refl, subst, sym, ◌∙◌, arith, inl, inr}
 use Rattle.std.specs.Prelude.{◌≢◌, ◌⊎◌, ⊤, Contains, Err, IfErr, IsErrOf, MatchResult, Ok, OnErr, OnOk, Result, Some}
 use Rattle.std.specs.Global.{Box}
 use Rattle.std.specs.List.{AllZip}
@@ -13,7 +13,7 @@ use Rattle.mb_journal.specs.Run.{Stopped}
 use Rattle.mb_journal.specs.Run.Stopped.{NoRoom}
 use Rattle.mb_journal.specs.declared.error.ReadyError.{ReadyError}
 use Rattle.mb_journal.specs.declared.error.ReadyError.TheVariants as Ready
-use Rattle.mb_gate.specs.Accessors.{held_actor, pass_view}
+use Rattle.mb_gate.specs.Accessors.{actors_of, held_actor, pass_view}
 use Rattle.mb_gate.specs.Untouched.{origin_of}
 use Rattle.mb_gate.specs.View.{View}
 use Rattle.mb_gate.specs.declared.claim.Claim.{Claim}
@@ -24,10 +24,12 @@ use Rattle.mb_send.specs.declared.send_error.SendError.TheVariants as Refusal
 use Rattle.mb_home.specs.Fresh.{IsFreshClaim}
 use Rattle.mb_mailbox.specs.Ran.{HadRoom, IsShortOfMemory, LeavesRun}
 use Rattle.mb_mailbox.specs.declared.turn.Turn.{Turn}
-use Rattle.mb_dispatch.specs.Faults.{BreaksRun, BreaksWork, CameShort, CameToLimit, BreaksSending, HasWorked, IsToNobody}
+use Rattle.mb_dispatch.specs.Faults.{BreaksRun, BreaksWork, BreaksSending, HasWorked, IsToNobody, OnlyRunsBySystem, RunsOrBreaks}
+use Rattle.mb_dispatch.specs.Found.{FoundPoolEmpty}
 use Rattle.mb_dispatch.specs.Jobs.{IsDone}
 use Rattle.mb_dispatch.specs.Orders.{order_for}
 use Rattle.mb_dispatch.specs.Parallel.{FirstZip}
+use Rattle.mb_register.specs.Owed.{is_owed}
 use Rattle.mb_register.specs.Registering.{QueueAccount, StopsAt}
 use Rattle.mb_system.specs.Members.{end_caller}
 use Rattle.mb_system.specs.RunErrors.{of_ready, of_send}
@@ -36,7 +38,9 @@ use Rattle.mb_system.specs.declared.failure.RunError.{RunError}
 use Rattle.mb_system.specs.declared.failure.RunError.TheVariants.{JournalFull, NoMemory, NoSuchActor}
 use Rattle.mb_dispatch.specs.declared.job.Job.{Job}
 use Rattle.mb_system.specs.declared.system.System.{System}
-use Rattle.mb_dispatch.proofs.Sides.{all_after, first_after}
+use Rattle.mb_dispatch.proofs.Runs.{no-run, of-looks, runs-then}
+use Rattle.mb_dispatch.proofs.Sides.{first_then, zip_then}
+use Rattle.mb_system.specs.OnlyLooks.{OnlyLooks}
 
 module _ (gates : Gates (Box Contents)) where
   -- it was refused for its receiver
@@ -111,6 +115,7 @@ to-nobody P Q M (Err error) (p, inl q) memory e = q.1
 to-nobody P Q M (Err error) (p, inr m) memory e = absurd (subst IsOfMemory (sym (memory m) ∙ e) tt)
 
 module _ {A K : Type 0} (gives : ℕ → Moment → Reply → Type 0) (system : System A K) where
+  -- a run of a mailbox by this end was broken off
   pub came-to-limit : (before : View) (end : WorkerEnd A K) (claim : Claim (Box Contents)) → IsFreshClaim gives (Some (origin_of system.gates)) claim
       → (result : Result Turn ReadyError)
       → (journal : List Entry) × MatchResult result
@@ -118,58 +123,120 @@ module _ {A K : Type 0} (gives : ℕ → Moment → Reply → Type 0) (system : 
       × LeavesRun system.throughput claim before (pass_view end.registrar.pass) journal turn stopped)
       (λ _. (turn : Turn) × LeavesRun system.throughput claim before (pass_view end.registrar.pass) journal turn NoRoom
       × (IsErrOf result Ready.JournalFull → claim.home.value.cell.who.limit ≤ length journal))
-      → result ≡ Err Ready.JournalFull → CameToLimit gives system end
+      → result ≡ Err Ready.JournalFull → BreaksWork gives system before end JournalFull
   came-to-limit before end claim fresh (Ok turn) ran e = absurd (subst (λ (r : Result Turn ReadyError). OnErr r ⊥) e tt)
-  came-to-limit before end claim fresh (Err error) (journal, ran) e = record {
-    claim = claim;
-    fresh = fresh;
-    before = before;
-    journal = journal;
-    turn = ran.0;
-    left = ran.1;
-    full = ran.2 e;
-  }
+  came-to-limit before end claim fresh (Err error) (journal, ran) e = (
+    record {
+      claim = claim;
+      fresh = fresh;
+      before = before;
+      journal = journal;
+      turn = ran.0;
+      left = ran.1;
+      full = ran.2 e;
+    },
+    no-run gives (origin_of system.gates) system.throughput before,
+  )
 
   pub came-short : (before : View) (end : WorkerEnd A K) (claim : Claim (Box Contents)) → IsFreshClaim gives (Some (origin_of system.gates)) claim
       → (journal : List Entry) × (turn : Turn) × LeavesRun system.throughput claim before (pass_view end.registrar.pass) journal turn NoRoom
-      × IsShortOfMemory claim.home.value.cell.who journal → CameShort gives system end
-  came-short before end claim fresh ran = record {
-    claim = claim;
-    fresh = fresh;
-    before = before;
-    journal = ran.0;
-    turn = ran.1;
-    left = ran.2;
-    short = ran.3;
-  }
+      × IsShortOfMemory claim.home.value.cell.who journal → BreaksWork gives system before end NoMemory
+  came-short before end claim fresh ran = inl (
+    record {
+      claim = claim;
+      fresh = fresh;
+      before = before;
+      journal = ran.0;
+      turn = ran.1;
+      left = ran.2;
+      short = ran.3;
+    },
+    no-run gives (origin_of system.gates) system.throughput before,
+  )
 
-  -- a run of a mailbox was broken off
-  pub breaks-work : (end : WorkerEnd A K) (fault : RunError) → (fault ≡ JournalFull → CameToLimit gives system end)
-      → (fault ≡ NoMemory → CameShort gives system end) → fault ≢ NoSuchActor → BreaksWork gives system end fault
-  breaks-work end NoMemory full short known = inl (short refl)
-  breaks-work end JournalFull full short known = full refl
-  breaks-work end NoSuchActor full short known = known refl
+  pub breaks-work : (before : View) (end : WorkerEnd A K) (fault : RunError) → (fault ≡ JournalFull → BreaksWork gives system before end JournalFull)
+      → (fault ≡ NoMemory → BreaksWork gives system before end NoMemory) → fault ≢ NoSuchActor → BreaksWork gives system before end fault
+  breaks-work before end NoMemory full short known = short refl
+  breaks-work before end JournalFull full short known = full refl
+  breaks-work before end NoSuchActor full short known = known refl
 
   -- the pool refused again the claim of an actor to which a look is owed
-  pub breaks-retry : (end : WorkerEnd A K) (old : QueueAccount (Box Contents)) {T : Type 0} (P : T → Type 0) (r : Result T RunError)
-      → MatchResult r P (λ _. StopsAt old (end_caller end.registrar).account) → OnErr r (IsErrOf r NoMemory) → IfErr r (BreaksWork gives system end)
-  breaks-retry end old P (Ok x) stops refused = tt
-  breaks-retry end old {T} P (Err e) stops refused =
-      subst (λ (q : Result T RunError). IfErr q (BreaksWork gives system end)) (sym refused) (inr (held_actor stops.claim, stops.still))
+  pub breaks-retry : (start : View) (end : WorkerEnd A K) (old : QueueAccount (Box Contents)) {T : Type 0} (P : T → Type 0) (r : Result T RunError)
+      → MatchResult r P (λ _. StopsAt old (end_caller end.registrar).account) → OnErr r (IsErrOf r NoMemory)
+      → OnlyRunsBySystem gives system start (pass_view end.registrar.pass) → IfErr r (BreaksWork gives system start end)
+  breaks-retry start end old P (Ok x) stops refused runs = tt
+  breaks-retry start end old {T} P (Err e) stops refused runs =
+      subst (λ (q : Result T RunError). IfErr q (BreaksWork gives system start end)) (sym refused)
+      (inr ((held_actor stops.claim, stops.still), runs))
 
-  -- a run is broken off by the first of its ends that was, or else by the first of its jobs
-  pub breaks-run : (started ends : List (WorkerEnd A K)) (before after : List (Job A K)) (of_ends of_jobs r : Result (Unit {0}) RunError)
-      → MatchResult of_ends (λ _. r ≡ of_jobs) (λ _. r ≡ of_ends)
-      → OnOk of_ends (AllZip (λ old new. HasWorked gives system new) started ends)
-      → IfErr of_ends (λ error. FirstZip (λ old new. HasWorked gives system new) (λ old new. BreaksWork gives system new error) started ends)
+  -- it made runs before that
+  pub breaks-after : (start between : View) (end : WorkerEnd A K) (error : RunError) → OnlyRunsBySystem gives system start between
+      → BreaksWork gives system between end error → BreaksWork gives system start end error
+  breaks-after start between end NoMemory first (inl (last, runs)) =
+      inl (last, runs-then gives (origin_of system.gates) system.throughput start between last.before first runs)
+  breaks-after start between end NoMemory first (inr (owes, runs)) =
+      inr (owes, runs-then gives (origin_of system.gates) system.throughput start between (pass_view end.registrar.pass) first runs)
+  breaks-after start between end JournalFull first (last, runs) =
+      (last, runs-then gives (origin_of system.gates) system.throughput start between last.before first runs)
+  breaks-after start between end NoSuchActor first broken = broken
+
+  -- whatever came of it
+  pub runs-or-breaks : {T : Type 0} (start : View) (end : WorkerEnd A K) (r : Result T RunError)
+      → OnOk r (OnlyRunsBySystem gives system start (pass_view end.registrar.pass)) → IfErr r (BreaksWork gives system start end)
+      → RunsOrBreaks gives system start end
+  runs-or-breaks start end (Ok x) runs broken = inl runs
+  runs-or-breaks start end (Err error) runs broken = inr (error, broken)
+
+  -- it worked to its end
+  pub has-worked : {T : Type 0} (start : View) (end : WorkerEnd A K) (r : Result T RunError)
+      → OnOk r ((id : ℕ) → id < actors_of system.gates → is_owed end.registrar.owed id ≡ false) → OnOk r (FoundPoolEmpty gives end)
+      → OnOk r (OnlyRunsBySystem gives system start (pass_view end.registrar.pass)) → OnOk r (HasWorked gives system start end)
+  has-worked start end (Ok x) nobody empty runs = (nobody, empty, runs)
+  has-worked start end (Err error) nobody empty runs = tt
+
+  -- first it only looked at actors
+  module _ (x y z : WorkerEnd A K) (looks : OnlyLooks (pass_view x.registrar.pass) (pass_view y.registrar.pass)) where
+    looked : OnlyRunsBySystem gives system (pass_view x.registrar.pass) (pass_view y.registrar.pass)
+    looked = of-looks gives (origin_of system.gates) system.throughput (pass_view x.registrar.pass) (pass_view y.registrar.pass) looks
+
+    pub worked-then : HasWorked gives system (pass_view y.registrar.pass) z → HasWorked gives system (pass_view x.registrar.pass) z
+    worked-then worked = (
+      worked.0,
+      worked.1,
+      runs-then gives (origin_of system.gates) system.throughput (pass_view x.registrar.pass) (pass_view y.registrar.pass) (pass_view z.registrar.pass)
+          looked worked.2,
+    )
+
+    pub broke-then : (error : RunError) → BreaksWork gives system (pass_view y.registrar.pass) z error
+        → BreaksWork gives system (pass_view x.registrar.pass) z error
+    broke-then error broken = breaks-after (pass_view x.registrar.pass) (pass_view y.registrar.pass) z error looked broken
+
+    pub runs-or-broke-then : RunsOrBreaks gives system (pass_view y.registrar.pass) z → RunsOrBreaks gives system (pass_view x.registrar.pass) z
+    runs-or-broke-then (inl runs) =
+        inl (runs-then gives (origin_of system.gates) system.throughput (pass_view x.registrar.pass) (pass_view y.registrar.pass)
+        (pass_view z.registrar.pass) looked runs)
+    runs-or-broke-then (inr (error, broken)) = inr (error, broke-then error broken)
+
+  -- what each end did, and why the run is broken off: by the first of its ends that was, or else by the first of its jobs
+  abbrev Look : WorkerEnd A K → WorkerEnd A K → Type 0
+  Look x y = OnlyLooks (pass_view x.registrar.pass) (pass_view y.registrar.pass)
+
+  abbrev Worked : WorkerEnd A K → WorkerEnd A K → Type 0
+  Worked x y = HasWorked gives system (pass_view x.registrar.pass) y
+
+  abbrev Broke : RunError → WorkerEnd A K → WorkerEnd A K → Type 0
+  Broke error x y = BreaksWork gives system (pass_view x.registrar.pass) y error
+
+  pub breaks-run : (old started ends : List (WorkerEnd A K)) (before after : List (Job A K)) (of_ends of_jobs r : Result (Unit {0}) RunError)
+      → AllZip Look old started → MatchResult of_ends (λ _. r ≡ of_jobs) (λ _. r ≡ of_ends) → OnOk of_ends (AllZip Worked started ends)
+      → IfErr of_ends (λ error. FirstZip Worked (Broke error) started ends)
       → IfErr of_jobs (λ error. FirstZip (IsDone system.gates) (λ old new. BreaksSending system.gates old.sends.items error) before after)
-      → IfErr r (BreaksRun gives system ends before after)
-  breaks-run started ends before after (Ok x) (Ok y) r is worked by_end by_job =
-      subst (λ (q : Result (Unit {0}) RunError). IfErr q (BreaksRun gives system ends before after)) (sym is) tt
-  breaks-run started ends before after (Ok x) (Err error) r is worked by_end by_job =
-      subst (λ (q : Result (Unit {0}) RunError). IfErr q (BreaksRun gives system ends before after)) (sym is)
-      (inr (all_after (λ old new. HasWorked gives system new) (HasWorked gives system) (λ old new w. w) started ends worked, by_job))
-  breaks-run started ends before after (Err error) b r is worked by_end by_job =
-      subst (λ (q : Result (Unit {0}) RunError). IfErr q (BreaksRun gives system ends before after)) (sym is)
-      (inl (first_after (λ old new. HasWorked gives system new) (λ old new. BreaksWork gives system new error) (HasWorked gives system)
-      (λ end. BreaksWork gives system end error) (λ old new w. w) (λ old new f. f) started ends by_end))
+      → IfErr r (BreaksRun gives system old ends before after)
+  breaks-run old started ends before after (Ok x) (Ok y) r looks is worked by_end by_job =
+      subst (λ (q : Result (Unit {0}) RunError). IfErr q (BreaksRun gives system old ends before after)) (sym is) tt
+  breaks-run old started ends before after (Ok x) (Err error) r looks is worked by_end by_job =
+      subst (λ (q : Result (Unit {0}) RunError). IfErr q (BreaksRun gives system old ends before after)) (sym is)
+      (inr (zip_then Look Worked Worked worked-then old started ends looks worked, by_job))
+  breaks-run old started ends before after (Err error) b r looks is worked by_end by_job =
+      subst (λ (q : Result (Unit {0}) RunError). IfErr q (BreaksRun gives system old ends before after)) (sym is)
+      (inl (first_then Look Worked (Broke error) worked-then (λ x y z l broken. broke-then x y z l error broken) old started ends looks by_end))

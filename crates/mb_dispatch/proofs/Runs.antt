@@ -1,21 +1,50 @@
 -- Chains of runs of mailboxes.
 use Rattle.std.proofs.Common.{ℕ, List, [], ◌∷◌, ◌++◌}
+use Rattle.std.specs.Global.{Box}
 use Rattle.mb_actor.specs.Behaviour.{Moment, Reply}
+use Rattle.mb_gate.specs.Untouched.{Origin}
 use Rattle.mb_gate.specs.View.{View}
+use Rattle.mb_home.specs.Contents.{Contents}
 use Rattle.mb_mailbox.specs.declared.turn.Turn.{Turn}
 use Rattle.mb_system.specs.OnlyLooks.{OnlyLooks}
-use Rattle.mb_system.specs.declared.system.System.{System}
 use Rattle.mb_system.proofs.Looking.{only-none, only-then}
-use Rattle.mb_dispatch.specs.Runs.{MadeRuns, RanMailbox}
+use Rattle.mb_dispatch.specs.Runs.{MadeRuns, OnlyRuns, RanMailbox}
 
-module _ {A K : Type 0} (gives : ℕ → Moment → Reply → Type 0) (system : System A K) where
+module _ (gives : ℕ → Moment → Reply → Type 0) (origin : Origin (Box Contents)) (throughput : ℕ) where
   -- then it only read
-  pub runs-looks : (u v w : View) (turns : List Turn) → MadeRuns gives system u turns v → OnlyLooks v w → MadeRuns gives system u turns w
+  pub runs-looks : (u v w : View) (turns : List Turn) → MadeRuns gives origin throughput u turns v → OnlyLooks v w
+      → MadeRuns gives origin throughput u turns w
   runs-looks u v w [] made looks = only-then u v w made looks
   runs-looks u v w (t ∷ turns) made looks = (made.0, made.1, made.2, made.3, runs-looks made.1 v w turns made.4 looks)
 
   -- then it made a run more
-  pub runs-more : (u v w : View) (turns : List Turn) (turn : Turn) → MadeRuns gives system u turns v → RanMailbox gives system v w turn
-      → MadeRuns gives system u (turns ++ turn ∷ []) w
+  pub runs-more : (u v w : View) (turns : List Turn) (turn : Turn) → MadeRuns gives origin throughput u turns v
+      → RanMailbox gives origin throughput v w turn → MadeRuns gives origin throughput u (turns ++ turn ∷ []) w
   runs-more u v w [] turn made ran = (v, w, made, ran, only-none w)
   runs-more u v w (t ∷ turns) turn made ran = (made.0, made.1, made.2, made.3, runs-more made.1 v w turns turn made.4 ran)
+
+  -- first it only read
+  looks-runs : (u v w : View) (turns : List Turn) → OnlyLooks u v → MadeRuns gives origin throughput v turns w
+      → MadeRuns gives origin throughput u turns w
+  looks-runs u v w [] looks made = only-then u v w looks made
+  looks-runs u v w (t ∷ turns) looks made = (made.0, made.1, only-then u v made.0 looks made.2, made.3, made.4)
+
+  made-then : (u v w : View) (before turns : List Turn) → MadeRuns gives origin throughput u before v → MadeRuns gives origin throughput v turns w
+      → MadeRuns gives origin throughput u (before ++ turns) w
+  made-then u v w [] turns looks made = looks-runs u v w turns looks made
+  made-then u v w (t ∷ before) turns first made = (first.0, first.1, first.2, first.3, made-then first.1 v w before turns first.4 made)
+
+  -- it did nothing, only read, or made one run
+  pub no-run : (v : View) → OnlyRuns gives origin throughput v v
+  no-run v = record { turns = []; made = only-none v }
+
+  pub of-looks : (u v : View) → OnlyLooks u v → OnlyRuns gives origin throughput u v
+  of-looks u v looks = record { turns = []; made = looks }
+
+  pub one-run : (u v : View) (turn : Turn) → RanMailbox gives origin throughput u v turn → OnlyRuns gives origin throughput u v
+  one-run u v turn ran = record { turns = turn ∷ []; made = (u, v, only-none u, ran, only-none v) }
+
+  -- it made runs, and then others
+  pub runs-then : (u v w : View) → OnlyRuns gives origin throughput u v → OnlyRuns gives origin throughput v w
+      → OnlyRuns gives origin throughput u w
+  runs-then u v w first made = record { turns = first.turns ++ made.turns; made = made-then u v w first.turns made.turns first.made made.made }

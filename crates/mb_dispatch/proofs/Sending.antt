@@ -4,7 +4,9 @@ use Rattle.std.proofs.Common.{◌+◌, zero, suc, arith}
 use Rattle.std.specs.Prelude.{reverse}
 use Rattle.std.proofs.lemmas.List.{append-nil, map-append, reverse-append}
 use Rattle.mb_msg.specs.declared.dead_letter.Why.{Why}
+use Rattle.mb_msg.specs.Payload.{body_of}
 use Rattle.mb_msg.specs.declared.envelope.Body.{Body}
+use Rattle.mb_msg.specs.declared.payload.Payload.{Payload}
 use Rattle.mb_msg.specs.declared.envelope.Envelope.{Envelope}
 use Rattle.mb_msg.specs.declared.id.ActorId.{ActorId}
 use Rattle.mb_msg.specs.declared.id.SenderId.{SenderId}
@@ -163,15 +165,15 @@ module _ (by : SenderId) (number : ℕ) (to : ActorId) (body : Body) (posted pos
       )
 
 module _ {A K : Type 0} where
-  pub sent-told : (to : ActorId) (body : Body) (put : Put) (a b : Sender A K) → b.inner.send_log.by ≡ a.inner.send_log.by
-      → IsTold a.inner.send_log.by a.inner.send_log.sent to body a.inner.send_log.posted b.inner.send_log.posted a.inner.sends.items (pass_view a.inner.registrar.pass)
-      (pass_view b.inner.registrar.pass) put → HasSent (order_for to (Tell body) 1 ∷ []) a b
-  sent-told to body put a b by told =
-      let one = one-posted a.inner.send_log.by a.inner.send_log.sent to body a.inner.send_log.posted b.inner.send_log.posted a.inner.sends.items
+  pub sent-told : (to : ActorId) (payload : Payload) (put : Put) (a b : Sender A K) → b.inner.send_log.by ≡ a.inner.send_log.by
+      → IsTold a.inner.send_log.by a.inner.send_log.sent to (body_of payload) a.inner.send_log.posted b.inner.send_log.posted a.inner.sends.items
+      (pass_view a.inner.registrar.pass) (pass_view b.inner.registrar.pass) put → HasSent (order_for to (Tell payload) 1 ∷ []) a b
+  sent-told to payload put a b by told =
+      let one = one-posted a.inner.send_log.by a.inner.send_log.sent to (body_of payload) a.inner.send_log.posted b.inner.send_log.posted a.inner.sends.items
       (pass_view a.inner.registrar.pass) (pass_view b.inner.registrar.pass) put told in
       record {
         by = by;
-        more = posting (envelope_of a.inner.send_log.by to a.inner.send_log.sent body) one.0.0 ∷ [];
+        more = posting (envelope_of a.inner.send_log.by to a.inner.send_log.sent (body_of payload)) one.0.0 ∷ [];
         posted = one.0.1;
         accepted_are = refl;
         system_sent = ap addressed_system one.1;

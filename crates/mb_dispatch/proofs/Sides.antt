@@ -8,7 +8,7 @@ use Rattle.mb_gate.specs.declared.gates.Gates.{Gates}
 use Rattle.mb_home.specs.Contents.{Contents}
 use Rattle.mb_system.specs.Members.{AreEndsOf, IsEndOf, ends_numbers}
 use Rattle.mb_system.specs.declared.end.WorkerEnd.{WorkerEnd}
-use Rattle.mb_dispatch.specs.Parallel.{First, FirstZip}
+use Rattle.mb_dispatch.specs.Parallel.{FirstZip}
 
 module _ {T : Type 0} where
   pub all_after : (R : T → T → Type 0) (Q : T → Type 0) → ((x y : T) → R x y → Q y) → (xs ys : List T) → AllZip R xs ys → All Q ys
@@ -55,13 +55,15 @@ module _ {T : Type 0} where
   same_first of [] old new there same = refl
   same_first of (x ∷ xs) old new there same = λ i. (same ∙ ap of there) i ∷ map of xs
 
-  -- the first that failed, by what is said of each alone
-  pub first_after : (D F : T → T → Type 0) (Done Fails : T → Type 0) → ((x y : T) → D x y → Done y) → ((x y : T) → F x y → Fails y)
-      → (xs ys : List T) → FirstZip D F xs ys → First Done Fails ys
-  first_after D F Done Fails d f [] ys failed = absurd failed
-  first_after D F Done Fails d f (x ∷ xs) [] failed = absurd failed
-  first_after D F Done Fails d f (x ∷ xs) (y ∷ ys) (inl here) = inl (f x y here)
-  first_after D F Done Fails d f (x ∷ xs) (y ∷ ys) (inr there) = inr (d x y there.0, first_after D F Done Fails d f xs ys there.1)
+  -- the first that failed, after one thing was done with each
+  pub first_then : (R D F : T → T → Type 0) → ((x y z : T) → R x y → D y z → D x z) → ((x y z : T) → R x y → F y z → F x z) → (xs ys zs : List T)
+      → AllZip R xs ys → FirstZip D F ys zs → FirstZip D F xs zs
+  first_then R D F d f [] [] zs p failed = absurd failed
+  first_then R D F d f [] (y ∷ ys) zs p failed = absurd p
+  first_then R D F d f (x ∷ xs) [] zs p failed = absurd p
+  first_then R D F d f (x ∷ xs) (y ∷ ys) [] p failed = absurd failed
+  first_then R D F d f (x ∷ xs) (y ∷ ys) (z ∷ zs) p (inl here) = inl (f x y z p.0 here)
+  first_then R D F d f (x ∷ xs) (y ∷ ys) (z ∷ zs) p (inr there) = inr (d x y z p.0 there.0, first_then R D F d f xs ys zs p.1 there.1)
 
 -- another end stands first, with the same number
 module _ {A K : Type 0} (gates : Gates (Box Contents)) where

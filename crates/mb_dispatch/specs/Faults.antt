@@ -1,6 +1,7 @@
 -- Why a run is broken off.
-use Rattle.std.specs.Prelude.{◌≡◌, ◌⊎◌, ℕ, ◌<◌, ◌≤◌, false, true, List, All, Contains, Some, length}
+use Rattle.std.specs.Prelude.{◌≡◌, ◌⊎◌, ℕ, ◌<◌, ◌≤◌, false, true, List, Contains, Some, length}
 use Rattle.std.specs.Global.{Box}
+use Rattle.std.specs.List.{AllZip}
 use Rattle.mb_actor.specs.Behaviour.{Moment, Reply}
 use Rattle.mb_msg.specs.declared.id.ActorId.{ActorId}
 use Rattle.mb_journal.specs.Entry.{Entry}
@@ -23,13 +24,14 @@ use Rattle.mb_system.specs.declared.failure.RunError.{RunError}
 use Rattle.mb_system.specs.declared.failure.RunError.TheVariants.{JournalFull, NoMemory, NoSuchActor}
 use Rattle.mb_dispatch.specs.Found.{FoundPoolEmpty}
 use Rattle.mb_dispatch.specs.Jobs.{IsDone}
-use Rattle.mb_dispatch.specs.Parallel.{First, FirstZip}
+use Rattle.mb_dispatch.specs.Parallel.{FirstZip}
+use Rattle.mb_dispatch.specs.Runs.{OnlyRuns}
 use Rattle.mb_dispatch.specs.declared.job.Job.{Job}
 use Rattle.mb_system.specs.declared.system.System.{System}
 
 -- This can go to no actor: an envelope goes to an actor from number 1 on, a Terminate also to the guardian.
 abbrev pub IsToNobody : Gates (Box Contents) → ActorId → OrderKind → Type 0
-IsToNobody gates to (Tell body) = (to.0 ≡ 0) ⊎ (actors_of gates ≤ to.0)
+IsToNobody gates to (Tell payload) = (to.0 ≡ 0) ⊎ (actors_of gates ≤ to.0)
 IsToNobody gates to Stop = actors_of gates ≤ to.0
 
 -- Sending these orders is broken off for this reason: `NoSuchActor` only if one of them can go to no actor.
@@ -64,23 +66,35 @@ module _ {A K : Type 0} (gives : ℕ → Moment → Reply → Type 0) (system : 
   abbrev pub OwesLook : WorkerEnd A K → Type 0
   OwesLook end = (id : ℕ) × (is_owed end.registrar.owed id ≡ true)
 
-  -- The end is broken off for this reason: `JournalFull` only if a journal came to its limit; `NoMemory` only if a run of a mailbox was short of
-  -- memory, or the pool refused the claim of an actor to which a look is owed since.
-  abbrev pub BreaksWork : WorkerEnd A K → RunError → Type 0
-  BreaksWork end NoMemory = CameShort end ⊎ OwesLook end
-  BreaksWork end JournalFull = CameToLimit end
-  BreaksWork end NoSuchActor = ⊥
+  -- From the first view to the second the end only made runs, of mailboxes of claims of this system by its throughput.
+  abbrev pub OnlyRunsBySystem : View → View → Type 0
+  OnlyRunsBySystem = OnlyRuns gives (origin_of system.gates) system.throughput
+
+  -- The end only made runs from this view on, and is broken off for this reason: `JournalFull` only if a journal came to its limit in the last run;
+  -- `NoMemory` only if the last run was short of memory, or the pool refused the claim of an actor to which a look is owed since.
+  abbrev pub BreaksWork : View → WorkerEnd A K → RunError → Type 0
+  BreaksWork start end NoMemory = ((last : CameShort end) × OnlyRunsBySystem start last.before)
+      ⊎ (OwesLook end × OnlyRunsBySystem start (pass_view end.registrar.pass))
+  BreaksWork start end JournalFull = (last : CameToLimit end) × OnlyRunsBySystem start last.before
+  BreaksWork start end NoSuchActor = ⊥
 
   -- A quiet run is broken off for this reason: as any work of an end, or memory was refused for one more answer.
-  abbrev pub BreaksQuietRun : WorkerEnd A K → RunError → Type 0
-  BreaksQuietRun end error = (error ≡ NoMemory) ⊎ BreaksWork end error
+  abbrev pub BreaksQuietRun : View → WorkerEnd A K → RunError → Type 0
+  BreaksQuietRun start end error = ((error ≡ NoMemory) × OnlyRunsBySystem start (pass_view end.registrar.pass)) ⊎ BreaksWork start end error
 
-  -- The end has worked to its end: it owes nobody a look, and found the pool empty last.
-  abbrev pub HasWorked : WorkerEnd A K → Type 0
-  HasWorked end = ((id : ℕ) → id < actors_of system.gates → is_owed end.registrar.owed id ≡ false) × FoundPoolEmpty gives end
+  -- The end only made runs from this view on, up to its end, or until it was broken off.
+  abbrev pub RunsOrBreaks : View → WorkerEnd A K → Type 0
+  RunsOrBreaks start end = OnlyRunsBySystem start (pass_view end.registrar.pass) ⊎ ((error : RunError) × BreaksWork start end error)
 
-  -- A run by these ends with these jobs, given before and after it, is broken off for this reason: that of the first end that was broken off,
+  -- The end has worked to its end from this view on: it only made runs, owes nobody a look, and found the pool empty last.
+  abbrev pub HasWorked : View → WorkerEnd A K → Type 0
+  HasWorked start end = ((id : ℕ) → id < actors_of system.gates → is_owed end.registrar.owed id ≡ false) × FoundPoolEmpty gives end
+      × OnlyRunsBySystem start (pass_view end.registrar.pass)
+
+  -- A run by these ends with these jobs, each given before and after it, is broken off for this reason: that of the first end that was broken off,
   -- or, if all have worked to their end, that of the first job that was.
-  abbrev pub BreaksRun : List (WorkerEnd A K) → List (Job A K) → List (Job A K) → RunError → Type 0
-  BreaksRun ends before after error = First HasWorked (λ end. BreaksWork end error) ends
-      ⊎ (All HasWorked ends × FirstZip (IsDone system.gates) (λ job _. BreaksSending system.gates job.sends.items error) before after)
+  abbrev pub BreaksRun : List (WorkerEnd A K) → List (WorkerEnd A K) → List (Job A K) → List (Job A K) → RunError → Type 0
+  BreaksRun old new before after error =
+      FirstZip (λ o n. HasWorked (pass_view o.registrar.pass) n) (λ o n. BreaksWork (pass_view o.registrar.pass) n error) old new
+      ⊎ (AllZip (λ o n. HasWorked (pass_view o.registrar.pass) n) old new
+      × FirstZip (IsDone system.gates) (λ job _. BreaksSending system.gates job.sends.items error) before after)

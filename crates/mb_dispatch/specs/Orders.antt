@@ -1,5 +1,6 @@
 -- What a sender is to send, and what it sent.
 use Rattle.std.specs.Prelude.{◌≡◌, ℕ, zero, suc, List, [], ◌∷◌, ◌++◌, map, reverse}
+use Rattle.mb_msg.specs.Payload.{body_of}
 use Rattle.mb_msg.specs.declared.envelope.Body.{Body}
 use Rattle.mb_msg.specs.declared.envelope.Envelope.{Envelope}
 use Rattle.mb_msg.specs.declared.id.ActorId.{ActorId}
@@ -26,7 +27,7 @@ over (suc n) xs = xs ++ over n xs
 
 -- The envelope that this is, if it is one: its receiver and its body.
 abbrev pub envelopes_of_one : ActorId → OrderKind → List (ActorId × Body)
-envelopes_of_one to (Tell body) = (to, body) ∷ []
+envelopes_of_one to (Tell payload) = (to, body_of payload) ∷ []
 envelopes_of_one to Stop = []
 
 -- All envelopes of these orders, in order: each receiver with the body.
@@ -36,7 +37,7 @@ envelopes_of (o ∷ orders) = over o.times (envelopes_of_one o.to o.what) ++ env
 
 -- The Terminate that this is, if it is one, with its receiver.
 abbrev pub terminates_of_one : ActorId → OrderKind → List (ℕ × SysMsg)
-terminates_of_one to (Tell body) = []
+terminates_of_one to (Tell payload) = []
 terminates_of_one to Stop = (to.0, Terminate) ∷ []
 
 -- The Terminates of these orders, in order, each with its receiver.

@@ -1,10 +1,5 @@
 -- What became of things that were done in parallel.
-use Rattle.std.specs.Prelude.{◌⊎◌, List, [], ◌∷◌}
-
--- `Fails` holds of an item of the list, and `Done` of each before it.
-abbrev pub First : {T : Type 0} → (T → Type 0) → (T → Type 0) → List T → Type 0
-First Done Fails [] = ⊥
-First Done Fails (x ∷ xs) = Fails x ⊎ (Done x × First Done Fails xs)
+use Rattle.std.specs.Prelude.{◌⊎◌, List, ◌∷◌}
 
 -- `Fails` holds of the items of two lists at a place, and `Done` of those at each place before it.
 abbrev pub FirstZip : {T : Type 0} → (T → T → Type 0) → (T → T → Type 0) → List T → List T → Type 0

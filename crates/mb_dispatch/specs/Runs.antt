@@ -4,7 +4,7 @@ use Rattle.std.specs.Global.{Box}
 use Rattle.mb_actor.specs.Behaviour.{Moment, Reply}
 use Rattle.mb_journal.specs.Entry.{Entry}
 use Rattle.mb_journal.specs.Run.{Stopped}
-use Rattle.mb_gate.specs.Untouched.{origin_of}
+use Rattle.mb_gate.specs.Untouched.{Origin}
 use Rattle.mb_gate.specs.View.{View}
 use Rattle.mb_gate.specs.declared.claim.Claim.{Claim}
 use Rattle.mb_home.specs.Contents.{Contents}
@@ -12,18 +12,17 @@ use Rattle.mb_home.specs.Fresh.{IsFreshClaim}
 use Rattle.mb_mailbox.specs.Ran.{HadRoom, LeavesRun}
 use Rattle.mb_mailbox.specs.declared.turn.Turn.{Turn}
 use Rattle.mb_system.specs.OnlyLooks.{OnlyLooks}
-use Rattle.mb_system.specs.declared.system.System.{System}
 
-module _ {A K : Type 0} (gives : ℕ → Moment → Reply → Type 0) (system : System A K) where
-  -- The end ran the mailbox of a claim of this system, by the system's throughput, and there was room for all that the run took. The result names
-  -- the actor and counts the entries that the run added to its journal.
+module _ (gives : ℕ → Moment → Reply → Type 0) (origin : Origin (Box Contents)) (throughput : ℕ) where
+  -- The end ran the mailbox of a claim of these gates, by this throughput, and there was room for all that the run took. The result names the actor
+  -- and counts the entries that the run added to its journal.
   pub record RanMailbox (old new : View) (turn : Turn) : Type 0 where
     pub claim : Claim (Box Contents)
-    pub fresh : IsFreshClaim gives (Some (origin_of system.gates)) claim
+    pub fresh : IsFreshClaim gives (Some origin) claim
     pub journal : List Entry
     pub stopped : Stopped
     pub room : HadRoom stopped
-    pub left : LeavesRun system.throughput claim old new journal turn stopped
+    pub left : LeavesRun throughput claim old new journal turn stopped
 
   -- These are the results of all runs that the end made, in order, each of a run that began with what the end knew then. Between them it only looked
   -- at actors.
@@ -31,3 +30,8 @@ module _ {A K : Type 0} (gives : ℕ → Moment → Reply → Type 0) (system : 
   MadeRuns old [] new = OnlyLooks old new
   MadeRuns old (turn ∷ turns) new =
       (before : View) × (after : View) × OnlyLooks old before × RanMailbox before after turn × MadeRuns after turns new
+
+  -- The end made runs, one after another, and only looked at actors between them. It took nothing and sent nothing beside these runs.
+  pub record OnlyRuns (old new : View) : Type 0 where
+    pub turns : List Turn
+    pub made : MadeRuns old turns new

@@ -78,8 +78,8 @@ fn send<A: Actor, K: Behaviours, R: Wait>(
     ensures fault { IfErr result (BreaksSending system.now.gates (order_for to what 1 ∷ [])) }
 {
     match what {
-        OrderKind::Tell(body) => {
-            sender.tell(rt, system, to, body)?;
+        OrderKind::Tell(payload) => {
+            sender.tell(rt, system, to, payload)?;
             Ok(())
         }
         OrderKind::Stop => {

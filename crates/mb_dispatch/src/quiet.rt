@@ -2,6 +2,7 @@
 ghost use Rattle.std.specs.Prelude.{◌≡◌, IfErr, IfOk, OnOk};
 ghost use Rattle.mb_gate.specs.Accessors.{actors_of, pass_view};
 ghost use Rattle.mb_gate.specs.Rule.{IsPart};
+ghost use Rattle.mb_gate.specs.Untouched.{origin_of};
 ghost use Rattle.mb_register.specs.Owed.{IsNobody};
 ghost use Rattle.mb_system.specs.Obligations.{AreDischargedOrOwed, HasNoObligationTo};
 ghost use Rattle.mb_system.specs.Members.{end_caller, IsEndOf};
@@ -32,12 +33,12 @@ pub fn run_quietly<A: Actor, K: Behaviours, R: Wait>(
     ensures discharged { OnOk result (IsNobody end.new.registrar.owed) }
     ensures obligations { AreDischargedOrOwed (actors_of system.now.gates) (end_caller end.new.registrar) }
     ensures settled { OnOk result (HasNoObligationTo (actors_of system.now.gates) (end_caller end.new.registrar)) }
-    ensures runs { IfOk result (λ turns. MadeRuns K.gives system.now (pass_view end.old.registrar.pass) turns.items
-        (pass_view end.new.registrar.pass)) }
+    ensures runs { IfOk result (λ turns. MadeRuns K.gives (origin_of system.now.gates) system.now.throughput
+        (pass_view end.old.registrar.pass) turns.items (pass_view end.new.registrar.pass)) }
     ensures empty { OnOk result (FoundPoolEmpty K.gives end.new) }
     ensures number { end.new.number ≡ end.old.number }
     ensures log_kept { IsPart (pass_view end.old.registrar.pass).log (pass_view end.new.registrar.pass).log }
-    ensures fault { IfErr result (BreaksQuietRun K.gives system.now end.new) }
+    ensures fault { IfErr result (BreaksQuietRun K.gives system.now (pass_view end.old.registrar.pass) end.new) }
 {
     end.register_all(rt, system);
     let mut turns = Vec::new(system.alloc);

@@ -1,9 +1,14 @@
 //! A run of all workers and some senders, each on a thread of its own.
 ghost use Rattle.std.specs.Prelude.{◌≡◌, IfErr, OnOk, length};
+ghost use Rattle.std.specs.List.{AllZip};
+ghost use Rattle.mb_gate.specs.Accessors.{pass_view};
+ghost use Rattle.mb_gate.specs.Untouched.{origin_of};
+ghost use Rattle.mb_system.specs.OnlyLooks.{OnlyLooks};
 ghost use Rattle.mb_system.specs.Obligations.{FirstDischargedOrOwed, FirstHasNoObligation, KeepAllObligations};
 ghost use Rattle.mb_system.specs.Members.{AreEndsOf, OweNobody, StillSee, ends_numbers};
-ghost use Rattle.mb_dispatch.specs.Faults.{BreaksRun};
+ghost use Rattle.mb_dispatch.specs.Faults.{BreaksRun, RunsOrBreaks};
 ghost use Rattle.mb_dispatch.specs.Found.{AllFoundPoolEmpty};
+ghost use Rattle.mb_dispatch.specs.Runs.{OnlyRuns};
 ghost use Rattle.mb_dispatch.specs.Jobs.{AreJobsOf, jobs_senders, AreDone};
 
 use crate::job::Job;
@@ -15,7 +20,8 @@ use std::thread::Threads;
 
 /// Takes and runs claims by all these ends while the jobs send, each on a thread of its own, until no claim exists and no job
 /// is open. First all actors are registered. Where a thread is refused, another does its work after its own, jobs before ends.
-/// At its last look each end found the pool empty, and the first owes no actor anything then.
+/// At its last look each end found the pool empty, and the first owes no actor anything then. All that an end does is to run
+/// mailboxes, by the system's throughput, and to look at actors.
 ///
 /// It answers the first error in the order of the ends, then of the jobs. Whatever is answered, no end forgets anything that it
 /// owes.
@@ -35,8 +41,11 @@ pub fn run<A: Actor + Send, K: Behaviours + Send, R: Threads + Wait + Sync>(
     ensures obligations { KeepAllObligations system.now.gates ends.old ends.new }
     ensures settled { OnOk result (FirstHasNoObligation system.now.gates ends.new) }
     ensures empty { OnOk result (AllFoundPoolEmpty K.gives ends.new) }
+    ensures runs { AllZip (λ o n. RunsOrBreaks K.gives system.now (pass_view o.registrar.pass) n) ends.old ends.new }
+    ensures ran { OnOk result (AllZip (λ o n. OnlyRuns K.gives (origin_of system.now.gates) system.now.throughput (pass_view o.registrar.pass)
+        (pass_view n.registrar.pass)) ends.old ends.new) }
     ensures done { OnOk result (AreDone system.now.gates jobs.old jobs.new) }
-    ensures fault { IfErr result (BreaksRun K.gives system.now ends.new jobs.old jobs.new) }
+    ensures fault { IfErr result (BreaksRun K.gives system.now ends.old ends.new jobs.old jobs.new) }
 {
     register_by_first(rt, system, ends);
     system.going.open_jobs(jobs.len());
@@ -54,6 +63,7 @@ fn register_by_first<A: Actor, K: Behaviours, R: Wait>(
     ensures log_kept { StillSee ends.old ends.new }
     ensures obligations { KeepAllObligations system.now.gates ends.old ends.new }
     ensures discharged { FirstDischargedOrOwed system.now.gates ends.new }
+    ensures looks { AllZip (λ o n. OnlyLooks (pass_view o.registrar.pass) (pass_view n.registrar.pass)) ends.old ends.new }
 {
     if let Some(first) = ends.first_mut() {
         first.register_all(rt, system);

@@ -7,6 +7,8 @@ mod alone;
 #[cfg(test)]
 mod boxed;
 #[cfg(test)]
+mod broken_off;
+#[cfg(test)]
 mod by_hand;
 #[cfg(test)]
 mod closing;

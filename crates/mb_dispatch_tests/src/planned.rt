@@ -137,9 +137,13 @@ fn read<R: Abort>(rt: &R, alloc: Global, report: &Report) {
 }
 
 fn read_one<R: Abort>(rt: &R, alloc: Global, report: &Report, id: ActorId, due: &Due) {
-    assert_eq!(rt; state(report, id), due.state);
+    see_state(rt, report, id, due.state);
     assert_eq!(rt; handled(report, id), Some(due.handled));
     see(rt, &read_journal(alloc, report, id), due.journal);
+}
+
+fn see_state<R: Abort>(rt: &R, report: &Report, id: ActorId, due: Option<i64>) {
+    assert_eq!(rt; state(report, id), due);
 }
 
 fn read_journal(alloc: Global, report: &Report, id: ActorId) -> Option<String> {
@@ -173,16 +177,27 @@ fn a_planned_system_comes_to_what_is_due_on_threads(rt: HostRuntime) -> Result<(
     Ok(())
 }
 
+/// Adds a counter.
+fn add_counter(alloc: Global, planned: &mut PlannedSystem<TestActor>) -> Result<ActorId, Error>
+    ensures unused { All (λ actor. actor.sum ≡ pos 0) planned.old.actors.items → All (λ actor. actor.sum ≡ pos 0) planned.new.actors.items }
+{
+    planned.add(plan_of(alloc, &COUNTER), TestActor::new(COUNTER))
+}
+
+fn see_added<R: Abort>(rt: &R, added: Result<ActorId, Error>, due: Result<ActorId, Error>) {
+    assert_eq!(rt; added, due);
+}
+
 #[test]
 fn a_planned_system_takes_sixty_three_actors(rt: HostRuntime) -> Result<(), Fail> {
     let mut planned = planned(rt.alloc(), &[COUNTER; 62])?;
-    let last = planned.add(plan_of(rt.alloc(), &COUNTER), TestActor::new(COUNTER));
-    assert_eq!(rt; last, Ok(ActorId(63)));
-    let one_more = planned.add(plan_of(rt.alloc(), &COUNTER), TestActor::new(COUNTER));
-    assert_eq!(rt; one_more, Err(Error::BadPlan(PlanError::Actors)));
+    let last = add_counter(rt.alloc(), &mut planned);
+    see_added(&rt, last, Ok(ActorId(63)));
+    let one_more = add_counter(rt.alloc(), &mut planned);
+    see_added(&rt, one_more, Err(Error::BadPlan(PlanError::Actors)));
     let sends = orders_of(rt.alloc(), &[tell!(63, ADD, 5)])?;
     let report = planned.run_here(&rt, rt.alloc(), &sends)?;
-    assert_eq!(rt; state(&report, ActorId(63)), Some(5));
-    assert_eq!(rt; state(&report, ActorId(64)), None);
+    see_state(&rt, &report, ActorId(63), Some(5));
+    see_state(&rt, &report, ActorId(64), None);
     Ok(())
 }

@@ -4,7 +4,7 @@ use crate::closing::{FinishRefusal, Unfinished};
 use crate::system_driver::SystemDriver;
 use crate::test_system::TestSystem;
 use mb_dispatch::{Put, RunError, SendError};
-use mb_msg::{ActorId, Body, PoolKind, Why};
+use mb_msg::{ActorId, Payload, PoolKind, Why};
 use mb_report::Report;
 use mb_testkit::{ADD, Action, COUNTER, FAIL, PLAIN, TestActorPlan, TestCase, text_of};
 use std::alloc::Global;
@@ -65,31 +65,31 @@ sent 5 handled 4 left 0 dead 1
 ";
 
 /// What the child is sent, and the report where that finds no memory.
-pub const SENDS: &[(Body, &str)] = &[
+pub const SENDS: &[(Payload, &str)] = &[
     (
-        Body::User {
+        Payload::User {
             kind: ADD,
             value: 5,
         },
         WITHOUT_5,
     ),
     (
-        Body::User {
+        Payload::User {
             kind: FAIL,
             value: 0,
         },
         WITHOUT_FAILURE,
     ),
     (
-        Body::User {
+        Payload::User {
             kind: ADD,
             value: 7,
         },
         WITHOUT_7,
     ),
-    (Body::PoisonPill, WITHOUT_POISON),
+    (Payload::PoisonPill, WITHOUT_POISON),
     (
-        Body::User {
+        Payload::User {
             kind: ADD,
             value: 9,
         },
@@ -108,8 +108,8 @@ fn build_at_last<R: Wait>(rt: &R, alloc: Global, story: &TestCase<'_>) -> Option
 /// Sends all: the report that is due.
 fn tell_each<S: SystemDriver, R: Wait>(rt: &R, company: &mut S) -> Option<&'static str> {
     let mut due = WITH_ALL;
-    for (body, without) in SENDS {
-        match tell_at_last(rt, company, *body)? {
+    for (payload, without) in SENDS {
+        match tell_at_last(rt, company, *payload)? {
             Ok(Put::Queued(_)) => {}
             Ok(Put::Dead(_, Why::NoMemory)) => due = *without,
             _ => return None,
@@ -122,10 +122,10 @@ fn tell_each<S: SystemDriver, R: Wait>(rt: &R, company: &mut S) -> Option<&'stat
 fn tell_at_last<S: SystemDriver, R: Wait>(
     rt: &R,
     company: &mut S,
-    body: Body,
+    payload: Payload,
 ) -> Option<Result<Put, SendError>> {
-    match company.tell(rt, ActorId(2), body)? {
-        Err(SendError::NoMemory) => company.tell(rt, ActorId(2), body),
+    match company.tell(rt, ActorId(2), payload)? {
+        Err(SendError::NoMemory) => company.tell(rt, ActorId(2), payload),
         put => Some(put),
     }
 }

@@ -14,10 +14,10 @@ const SENDER: ActorId = ActorId(3);
 /// What the sender is to send.
 fn orders(alloc: Global) -> Result<Vec<Vec<Order>>, AllocError> {
     let mut own = Vec::new(alloc);
-    for (body, _) in SENDS {
+    for (payload, _) in SENDS {
         own.push(Order {
             to: ActorId(2),
-            what: OrderKind::Tell(*body),
+            what: OrderKind::Tell(*payload),
             times: 1,
         })?;
     }

@@ -1,7 +1,7 @@
 //! Systems that a test drives step by step.
 use crate::closing::Unfinished;
 use mb_dispatch::{Look, Put, RunError, SendError, Ticket, Turn};
-use mb_msg::{ActorId, Body};
+use mb_msg::{ActorId, Payload};
 use mb_report::Report;
 use std::sync::Wait;
 
@@ -28,8 +28,13 @@ pub trait SystemDriver: Drop {
     /// Works until there is no claim.
     fn work<R: Wait>(&mut self, rt: &R) -> Option<Result<(), RunError>>;
 
-    /// Tells an actor this body.
-    fn tell<R: Wait>(&mut self, rt: &R, to: ActorId, body: Body) -> Option<Result<Put, SendError>>;
+    /// Tells an actor this.
+    fn tell<R: Wait>(
+        &mut self,
+        rt: &R,
+        to: ActorId,
+        payload: Payload,
+    ) -> Option<Result<Put, SendError>>;
 
     /// Stops an actor.
     fn stop<R: Wait>(&mut self, rt: &R, id: ActorId) -> Option<Result<bool, SendError>>;
@@ -37,11 +42,11 @@ pub trait SystemDriver: Drop {
     /// Looks at an actor.
     fn look(&mut self, to: ActorId) -> Option<Result<Look, SendError>>;
 
-    /// Puts this body by a ticket.
+    /// Puts this by a ticket.
     fn put<R: Wait>(
         &mut self,
         rt: &R,
         ticket: Ticket,
-        body: Body,
+        payload: Payload,
     ) -> Option<Result<Put, SendError>>;
 }

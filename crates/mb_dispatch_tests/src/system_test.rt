@@ -4,7 +4,7 @@ use crate::shown::{look_text, put_text, run_text, stop_text, turn_text, turns_te
 use crate::system_driver::SystemDriver;
 use crate::system_script::SystemStep;
 use mb_dispatch::{Look, Ticket};
-use mb_msg::{ActorId, Body};
+use mb_msg::{ActorId, Payload};
 use mb_report::{ActorReport, Report};
 use mb_testkit::{ADD, Order, OrderKind, add, journal_text, text_of};
 use std::alloc::Global;
@@ -54,8 +54,8 @@ impl<S: SystemDriver> SystemTest<S> {
 
     fn put<R: Wait>(&mut self, rt: &R, value: i64) -> Option<String> {
         let ticket = self.ticket?;
-        let body = Body::User { kind: ADD, value };
-        let put = self.company.as_mut()?.put(rt, ticket, body)?;
+        let payload = Payload::User { kind: ADD, value };
+        let put = self.company.as_mut()?.put(rt, ticket, payload)?;
         put_text(self.alloc, put).ok()
     }
 
@@ -138,7 +138,7 @@ fn send<S: SystemDriver, R: Wait>(
     order: Order,
 ) -> Option<String> {
     match order.what {
-        OrderKind::Tell(body) => put_text(alloc, company.tell(rt, order.to, body)?).ok(),
+        OrderKind::Tell(payload) => put_text(alloc, company.tell(rt, order.to, payload)?).ok(),
         OrderKind::Stop => stop_text(alloc, company.stop(rt, order.to)?).ok(),
     }
 }

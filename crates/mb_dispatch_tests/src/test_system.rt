@@ -8,10 +8,10 @@ use mb_dispatch::{
     Built, Look, Put, RunError, SendError, Sender, System, Ticket, Turn, WorkerEnd, run_mailbox,
     run_quietly, work,
 };
-use mb_msg::{ActorId, Body};
+use mb_msg::{ActorId, Payload};
 use mb_register::Hint;
 use mb_report::Report;
-use mb_shutdown::{FinishError, finish};
+use mb_shutdown::{FinishError, UnfinishedActor, finish, unfinished_actors};
 use mb_startup::build;
 use mb_testkit::{Adding, TestActor, TestCase, plan_of, test_actors_of};
 use std::alloc::{AllocError, Global};
@@ -72,6 +72,31 @@ impl TestSystem {
             ends,
             senders,
         }
+    }
+}
+
+impl TestSystem {
+    /// What is left of each actor, the guardian first.
+    pub(crate) fn unfinished<R: Wait>(
+        self,
+        rt: &R,
+    ) -> Result<Vec<Option<UnfinishedActor>>, AllocError> {
+        let TestSystem {
+            system,
+            ends,
+            senders,
+        } = self;
+        if ends.len() == 0 {
+            return Err(AllocError);
+        }
+        unfinished_actors(
+            rt,
+            Built {
+                system,
+                ends,
+                senders,
+            },
+        )
     }
 }
 
@@ -139,11 +164,16 @@ impl SystemDriver for TestSystem {
         Some(work(rt, &self.system, &mut self.ends[0]))
     }
 
-    fn tell<R: Wait>(&mut self, rt: &R, to: ActorId, body: Body) -> Option<Result<Put, SendError>> {
+    fn tell<R: Wait>(
+        &mut self,
+        rt: &R,
+        to: ActorId,
+        payload: Payload,
+    ) -> Option<Result<Put, SendError>> {
         if self.senders.len() == 0 {
             return None;
         }
-        Some(self.senders[0].tell(rt, &self.system, to, body))
+        Some(self.senders[0].tell(rt, &self.system, to, payload))
     }
 
     fn stop<R: Wait>(&mut self, rt: &R, id: ActorId) -> Option<Result<bool, SendError>> {
@@ -164,15 +194,13 @@ impl SystemDriver for TestSystem {
         &mut self,
         rt: &R,
         ticket: Ticket,
-        body: Body,
+        payload: Payload,
     ) -> Option<Result<Put, SendError>> {
-        if self.senders.len() == 0
-            || ticket.to.0 == 0
-            || ticket.to.0 as usize >= self.system.gates.actors()
-        {
+        let to = ticket.receiver();
+        if self.senders.len() == 0 || to.0 == 0 || to.0 as usize >= self.system.gates.actors() {
             return None;
         }
-        Some(self.senders[0].put(rt, &self.system, ticket, body))
+        Some(self.senders[0].put(rt, &self.system, ticket, payload))
     }
 }
 

@@ -106,6 +106,7 @@ use Rattle.mb_gate.specs.Rule.{
   slot_offset,
   Ghost,
   Extends,
+  IsAmong,
   ObservationHolds,
   Knows,
   has_work,
@@ -148,8 +149,9 @@ use Rattle.mb_gate.proofs.Views.{drained_nothing}
 use Rattle.mb_gate.proofs.StatusSteps.{reads, is_home, is_held, schedules, writes, idles, idles_closed}
 use Rattle.mb_gate.proofs.WaitingSteps.{sends, unsends, takes_some, counts, looks, sees, glances}
 use Rattle.mb_gate.proofs.ListSteps.{is_shelved, is_lent, grips, enlists, unloads, refuses}
-use Rattle.mb_gate.proofs.Parting.{parts, takes_over, each_without, no_counts_on, no_counts_off, vouches_without}
+use Rattle.mb_gate.proofs.Parting.{parts, takes_over, each_without, no_counts_on, no_counts_off, no_puts, vouches_without}
 use Rattle.mb_gate.specs.Waiting.{on_by, off_by}
+use Rattle.mb_gate.specs.PutIn.{put_by}
 use Rattle.mb_gate.specs.ClaimCounts.{claims_got, claims_returned, IsOwnBalance, WasHeldBy}
 use Rattle.mb_gate.proofs.Whole.{own_balance, was_held}
 use Rattle.mb_gate.specs.Lists.{may_lock_list}
@@ -404,17 +406,17 @@ module _ {H : Type 0} (is_of : ℕ → H → Type 0) (facts : H → HomeFacts) w
       slot_at actor 0,
       Home home,
     ) ∷ [] → is_of actor home → Extends (facts home).journal c.journal → (facts home).given ≡ c.given
-        → Each (λ b. IsKnownClosed b c.closed_to me.0) (facts home).closed_to
+        → Each (λ b. IsKnownClosed b c.closed_to me.0) (facts home).closed_to → Each (λ m. IsAmong m c.drained) (facts home).drained
         → (c.word % 4 ≡ 2 → c.word ≡ new + 2) → c.word ≢ 1 → IsTrue (is_valid new) → new % 4 ≡ 0 → new ≡ word_of (facts home).mailbox → (c.gave ≡ false → (facts home).no_backlog)
         → is_some_item me.0.share ≡ true
         → Allows (Rule n) slots id me i (λ _. new) (λ _. Idles facts (step slots i new 0 none) me new)
-    idles_allowed c home new e has of carried of_actor longer count known bit unshut valid free word rest share = subst (λ j. Allows (Rule n) slots id me j
+    idles_allowed c home new e has of carried of_actor longer count known gave bit unshut valid free word rest share = subst (λ j. Allows (Rule n) slots id me j
         (λ _. new) (λ _.
         Idles facts (step slots j new 0 none) me new)) (sym e)
         (allows word_offset slot_offset words_few slots_few n (F n) slots id me actor Status (λ _. new) (λ _. Idles facts
         (step slots (word_at actor 8) new 0 none) me new) inside
         (λ x vs f at fits. idles is_of facts n actor id me c home new (Idles facts (step slots (word_at
-        actor 8) new 0 none) me new) x vs f at has of carried of_actor longer count known unshut valid free word rest share
+        actor 8) new 0 none) me new) x vs f at has of carried of_actor longer count known gave unshut valid free word rest share
         (told_idle home (step slots (word_at actor 8) new 0 none) new carried (λ c' has'. (
           (λ _. ap (λ (h : Held). h.word) (some_same c' c (sym has' ∙ has)) ∙ bit (let h = (is_held is_of facts n actor id x vs me.0 c f at has of).1 in
               ⊎_elim (λ two. ap (λ k. k % 4) (sym h.word) ∙ two) (λ one. absurd (unshut (sym h.word ∙ one))) h.busy)),
@@ -425,15 +427,15 @@ module _ {H : Type 0} (is_of : ℕ → H → Type 0) (facts : H → HomeFacts) w
       slot_at actor 0,
       Home home,
     ) ∷ [] → is_of actor home → Extends (facts home).journal c.journal → (facts home).given ≡ c.given
-        → Each (λ b. IsKnownClosed b c.closed_to me.0) (facts home).closed_to
+        → Each (λ b. IsKnownClosed b c.closed_to me.0) (facts home).closed_to → Each (λ m. IsAmong m c.drained) (facts home).drained
         → c.word ≡ 1 → 1 ≡ word_of (facts home).mailbox → (facts home).no_backlog → is_some_item me.0.share ≡ true
         → Allows (Rule n) slots id me i (λ _. 1) (λ _. Idles facts (step slots i 1 0 none) me 1)
-    idles_closed_allowed c home e has of carried of_actor longer count known closed word rest share = subst (λ j. Allows (Rule n) slots id me j (λ _. 1)
+    idles_closed_allowed c home e has of carried of_actor longer count known gave closed word rest share = subst (λ j. Allows (Rule n) slots id me j (λ _. 1)
         (λ _. Idles facts (step slots j 1 0 none) me 1)) (sym e)
         (allows word_offset slot_offset words_few slots_few n (F n) slots id me actor Flag (λ _. 1) (λ _. Idles facts (step
         slots (word_at actor 7) 1 0 none) me 1) inside
         (λ x vs f at fits. idles_closed is_of facts n actor id me c home (Idles facts (step slots (word_at
-        actor 7) 1 0 none) me 1) x vs f at has of carried of_actor longer count known closed word rest share
+        actor 7) 1 0 none) me 1) x vs f at has of carried of_actor longer count known gave closed word rest share
         (told_idle home (step slots (word_at actor 7) 1 0 none) 1 carried (λ c' has'. (
           (λ status. absurd (omega arith)),
           (λ _. ap (λ (h : Held). h.word) (some_same c' c (sym has' ∙ has)) ∙ closed),
@@ -573,7 +575,7 @@ module _ {H : Type 0} (is_of : ℕ → H → Type 0) (facts : H → HomeFacts) w
         0 none) me new) inside
         (λ x vs f at fits. unloads is_of facts n actor id new (Drained actor (listed l.listed)) me c l
         (drained l.listed) (is_some_item l.listed.messages) (Drains (step slots (word_at actor 9) new 0 none) me new) x vs f at
-        has of keeps of_list carried word refl (λ e. e) (λ e. inl e) (given_listed l.listed) (λ a. (refl, refl)) (λ a z e w. (e (sym w)).1)
+        has of keeps of_list carried word refl (λ e. e) (λ e. inl e) (given_listed l.listed) (λ a. (refl, refl, λ q. refl)) (λ a z e w. (e (sym w)).1)
         (λ l' c' has' claim'. (
           (λ z. (
             draining ((sym of_list ∙ ap (λ (h : Lent). h.actor) (some_same l l' (sym keeps
@@ -603,7 +605,7 @@ module _ {H : Type 0} (is_of : ℕ → H → Type 0) (facts : H → HomeFacts) w
         facts n actor id x vs me.0 c f at has of).1.gave in
         unloads is_of facts n actor id new (Ended actor (listed l.listed)) me c l (ended l.listed)
         l.gave (Ends (step slots (word_at actor 9) new 0 none) me new) x vs f at
-        has of keeps of_list carried word refl (λ e. refl) (λ e. inr closed) (given_listed l.listed) (λ a. (refl, refl))
+        has of keeps of_list carried word refl (λ e. refl) (λ e. inr closed) (given_listed l.listed) (λ a. (refl, refl, λ q. refl))
         (λ a z e w. (ap (λ (m : MessageList). m.closed) (e (sym w)).0, (e (sym w)).1))
         (λ l' c' list' claim'. (
           (λ z. (
@@ -627,7 +629,7 @@ module _ {H : Type 0} (is_of : ℕ → H → Type 0) (facts : H → HomeFacts) w
         (λ x vs f at fits. let tell = ChecksDrained (step slots (word_at actor 9) 0 0 none) me (x.row Gate) in
         dite (ℕ_discrete (x.row Gate % 8) 0)
         (λ hit. sees is_of facts n actor id Gate (Drained actor []) me tell x vs
-        (λ a y e. record { before = []; after = all_numbered y.ghost; joined = refl }) (λ a. (refl, refl)) f at
+        (λ a y e. record { before = []; after = all_numbered y.ghost; joined = refl }) (λ a. (refl, refl, λ q. refl)) f at
         (λ a c w has of bare. let who : actor ≡ a = same_actor actor a 9 w in
         let gave : c.gave ≡ false = (is_held is_of facts n actor id x vs me.0 c f at has (of ∙ sym who)).1.gave
         ∙ (gave_by x
@@ -638,10 +640,9 @@ module _ {H : Type 0} (is_of : ℕ → H → Type 0) (facts : H → HomeFacts) w
           (λ miss. absurd
               (miss hit)),
         )))
-        (λ miss. glances is_of facts n actor id Gate me tell x vs f at (λ a c w has of bare. (
+        (λ miss. sees is_of facts n actor id Gate (Looked actor true) me tell x vs (λ a y. tt) (λ a. (refl, refl, λ q. refl)) f at (λ a c w has of bare. (
           (λ hit. absurd (miss hit)),
-          (λ _.
-              refl),
+          (λ _ z. (looking (same_actor actor a 9 w z) true me.0, me.1)),
         )))))
 
     pub refuses_allowed : (old : ℕ) (m : SysMsg) → i ≡ word_at actor 9 → old / 8 % 2 ≡ 1 → Allows (Rule n) slots id me i (λ k. either (k == old)
@@ -673,6 +674,7 @@ module _ {H : Type 0} (is_of : ℕ → H → Type 0) (facts : H → HomeFacts) w
         (λ a. record {
           on = no_more (on_by a v) _ (no_counts_on a v.log);
           off = no_more (off_by a v) _ (no_counts_off a v.log);
+          put = λ q. no_more (put_by a q v) _ (no_puts a q v.log);
           got = no_more (claims_got a v) 0 refl;
           back = no_more (claims_returned a v) 0 refl;
         })
@@ -692,6 +694,7 @@ module _ {H : Type 0} (is_of : ℕ → H → Type 0) (facts : H → HomeFacts) w
         (λ a. record {
           on = none_more (on_by a v);
           off = none_more (off_by a v);
+          put = λ q. none_more (put_by a q v);
           got = none_more (claims_got a v);
           back = none_more (claims_returned a v);
         })
@@ -710,11 +713,12 @@ module _ {H : Type 0} (is_of : ℕ → H → Type 0) (facts : H → HomeFacts) w
         (λ a. record {
           on = none_more (on_by a v);
           off = none_more (off_by a v);
+          put = λ q. none_more (put_by a q v);
           got = none_more (claims_got a v);
           back = none_more (claims_returned a v);
         })
         (λ e l r. record { fits = r; amounts = none_more (amount e v.share) })
-        (λ a bare. record { got = refl; back = refl; on = refl; rest = λ _. (refl, refl) }) (λ a bare. absurd (no_share v.share share bare))
+        (λ a bare. record { got = refl; back = refl; on = refl; rest = λ _. (refl, refl, λ q. refl) }) (λ a bare. absurd (no_share v.share share bare))
         (λ b p. p) (λ a x k. record { seen = tt; sent_system = tt }) (λ a x k. record { seen = k.seen; sent_system = k.sent_system }))
 
     pub joins_allowed : (v : View) (other : ℕ) (w : View) → w.claim ≡ None → w.list ≡ None → is_some_item w.share ≡ true → Joins (Rule n) id v other
@@ -755,7 +759,7 @@ module _ {H : Type 0} (all_of : H → ℕ → H → Type 0) (first : Snapshot (S
         (schedules (all_of first.value.value) facts n actor id me old tell x vs f at here hit bare share
         (λ a other w sent_system. subst (λ (b : ℕ × Snapshot (Snapshot H)). (let now : N = (
           taking actor x.ghost.journal x.ghost.closed_to old x.ghost.gave
-              x.ghost.listed.given me.0,
+              x.ghost.listed.given x.ghost.drained me.0,
           (slot_at actor 0, Home h.1.home) ∷ me.1,
         ) in
         (x.row Status ≡ old → Won (all_of b.1.value.value) facts b.0 (x.row Status) me now)
@@ -770,7 +774,7 @@ module _ {H : Type 0} (all_of : H → ℕ → H → Type 0) (first : Snapshot (S
             seen = subst (λ j. ExtendsSeen actor j me.0) (sym h.1.fold) (goes_further (all_of first.value.value) facts
                 actor x me.0 f.ended (λ one. omega arith) (f.seen id me.0 at));
             now = λ z. (
-              taking actor (sym h.1.fold z) (sym h.1.known_closed z) (sym hit z) x.ghost.gave (sym h.1.count z) me.0,
+              taking actor (sym h.1.fold z) (sym h.1.known_closed z) (sym hit z) x.ghost.gave (sym h.1.count z) (sym h.1.drained z) me.0,
               (slot_at actor 0, Home h.1.home) ∷ me.1,
             );
           }),

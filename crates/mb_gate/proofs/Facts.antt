@@ -18,6 +18,8 @@ use Rattle.std.proofs.Common.{
   IsTrue,
   List,
   [],
+  ◌∷◌,
+  ◌++◌,
   set,
   sym,
   refl,
@@ -28,11 +30,14 @@ use Rattle.std.proofs.Common.{
   Some,
   None,
   is_some,
+  eq-eqb,
+  Bool,
   arith,
 }
 use mathlib.Core.Option.{some}
 use lib.ListN.{get_elem?}
-use Rattle.mb_syslist.specs.MessageList.{MessageList}
+use Rattle.mb_msg.specs.declared.system.SysMsg.{SysMsg}
+use Rattle.mb_syslist.specs.MessageList.{MessageList, numbered}
 use Rattle.mb_gate.specs.HomeFacts.{HomeFacts}
 use Rattle.mb_gate.specs.declared.slot.Slot.TheVariants.{List as Listing}
 use Rattle.mb_core.specs.declared.debt.WakeObligation.{WakeObligation}
@@ -41,10 +46,11 @@ use Rattle.mb_ghost.proofs.LockedLemmas.{stays_locked}
 use Rattle.mb_ghost.proofs.OwedLemmas.{still_owed}
 use Rattle.mb_ghost.proofs.SeenLemmas.{learns}
 use Rattle.mb_ghost.specs.Summed.{total}
-use Rattle.mb_ghost.proofs.SummedLemmas.{total_set, total_stays}
+use Rattle.mb_ghost.proofs.SummedLemmas.{total_append, total_set, total_stays}
 use Rattle.mb_ghost.proofs.SharesLemmas.{shares_stay}
 use Rattle.mb_gate.specs.declared.slot.Slot.{Slot}
-use Rattle.mb_gate.specs.View.{View, Held, Lent}
+use Rattle.mb_gate.specs.View.{View, Pushed, Held, Lent}
+use Rattle.mb_gate.specs.PutIn.{put_in, put_by, IsAllPut}
 use Rattle.mb_gate.specs.Rule.{
   Word,
   Status,
@@ -156,6 +162,23 @@ now_held actor new holder vs id v w at same out claims_balance one =
     some_got : (got now back k : ℕ) → now ≡ got → k ≡ 1 → got ≡ back + k → 0 < now
     some_got got now back k is out t = omega arith
 
+-- and what was put into the list
+pub still_put : (actor : ℕ) (pushed : List SysMsg) (vs : List View) (id : ℕ) (v w : View) → get_elem? vs id ≡ some v
+    → ((measure : ℕ × SysMsg → ℕ) → put_by actor measure w ≡ put_by actor measure v) → IsAllPut actor pushed vs → IsAllPut actor pushed (set vs id w)
+still_put actor pushed vs id v w at same all q = total_stays (put_by actor q) vs id v w at (same q) ∙ all q
+
+sum_more : (s t n k a b c : ℕ) → s + b ≡ t + c → c ≡ k + b → t ≡ n → a ≡ n + (k + 0) → s ≡ a
+sum_more s t n k a b c sum more same all = omega arith
+
+-- which one seat put one more into
+pub puts_more : (actor : ℕ) (pushed : List SysMsg) (n : ℕ) (m : SysMsg) (vs : List View) (id : ℕ) (v w : View) → get_elem? vs id ≡ some v
+    → w.log ≡ Pushed actor n m ∷ v.log → numbered 0 (pushed ++ m ∷ []) ≡ numbered 0 pushed ++ (n, m) ∷ [] → IsAllPut actor pushed vs
+    → IsAllPut actor (pushed ++ m ∷ []) (set vs id w)
+puts_more actor pushed n m vs id v w at log last all q = sum_more (total (put_by actor q) (set vs id w)) (total (put_by actor q) vs) (total q
+    (numbered 0 pushed)) (q (n, m)) (total q (numbered 0 (pushed ++ m ∷ []))) (put_by actor q v) (put_by actor q w) (total_set (put_by actor q) vs
+    id v w at) (ap (total (put_in actor q)) log ∙ ap (λ (b : Bool). (if b then q (n, m) else 0) + put_by actor q v) (eq-eqb actor actor refl)) (all q)
+    (ap (total q) last ∙ total_append q (numbered 0 pushed) ((n, m) ∷ []))
+
 -- and what a seat without a share has, where the one that changes has no more
 pub still_bare : (actor : ℕ) (vs : List View) (id : ℕ) (v w : View) → get_elem? vs id ≡ some v → SameAccount actor v w
     → (claim_for actor w ≡ None → claim_for actor v ≡ None) → (list_for actor v ≡ None → list_for actor w ≡ None) → EachBare actor vs
@@ -166,7 +189,7 @@ still_bare actor vs id v w at same claim list bare = learns (λ (u : View). u.sh
       got = same.got ∙ b.got;
       back = same.back ∙ b.back;
       on = same.on ∙ b.on;
-      rest = λ c. (list (b.rest (claim c)).0, same.off ∙ (b.rest (claim c)).1);
+      rest = λ c. (list (b.rest (claim c)).0, same.off ∙ (b.rest (claim c)).1, λ q. same.put q ∙ (b.rest (claim c)).2 q);
     }) bare
 
 -- a seat with a claim may have done more to its actor
@@ -183,6 +206,21 @@ claimed_bare actor vs id v w c at has share got back on bare = learns (λ (u : V
   where
     some_none : (c : Held) → Some c ≡ None → ⊥
     some_none c e = cc
+
+-- and so may one that has the list, which has a share or the claim
+pub lister_bare : (actor : ℕ) (vs : List View) (id : ℕ) (v w : View) (l : Lent) → get_elem? vs id ≡ some v → list_for actor v ≡ Some l → claim_for
+    actor w ≡ claim_for actor v → w.share ≡ v.share → claims_got actor w ≡ claims_got actor v → claims_returned actor w ≡ claims_returned actor v
+    → on_by actor w ≡ on_by actor v → EachBare actor vs → EachBare actor (set vs id w)
+lister_bare actor vs id v w l at has claim share got back on bare = learns (λ (u : View). u.share ≡ [] → IsBare actor u) (λ (u : View). u.share ≡ []
+    → IsBare actor u) vs id w (λ u k. k) (λ none. let b = bare id v at (sym share ∙ none) in record {
+      got = got ∙ b.got;
+      back = back ∙ b.back;
+      on = on ∙ b.on;
+      rest = λ n. absurd (none_some l (sym (b.rest (sym claim ∙ n)).0 ∙ has));
+    }) bare
+  where
+    none_some : (l : Lent) → None ≡ Some l → ⊥
+    none_some l e = cc
 
 pub no_share : (share : List ℕ) → is_some_item share ≡ true → share ≡ [] → ⊥
 no_share share has none = false_true (sym (ap is_some_item none) ∙ has)
@@ -221,25 +259,27 @@ module _ {H : Type 0} (is_of : ℕ → H → Type 0) (facts : H → HomeFacts) (
   Facts = Fact is_of facts actors actor
 
   pub still_kept : (x y : Place) → y.row Status ≡ x.row Status → y.row Flag ≡ x.row Flag → y.slot CellSlot ≡ x.slot CellSlot → y.ghost.journal
-      ≡ x.ghost.journal → y.ghost.closed_to ≡ x.ghost.closed_to → y.ghost.listed.given ≡ x.ghost.listed.given → y.ghost.gave ≡ x.ghost.gave
+      ≡ x.ghost.journal → y.ghost.closed_to ≡ x.ghost.closed_to → y.ghost.drained ≡ x.ghost.drained → y.ghost.listed.given ≡ x.ghost.listed.given → y.ghost.gave ≡ x.ghost.gave
       → (holder : Option (ℕ × Held)) → CellPlace is_of facts actor x holder
       → CellPlace is_of facts actor y holder
-  still_kept x y status flag slot tale shut count gave None k = record {
+  still_kept x y status flag slot tale shut drained count gave None k = record {
     home = k.home;
     present = slot ∙ k.present;
     of_actor = k.of_actor;
     fold = k.fold ∙ sym tale;
     count = k.count ∙ sym count;
     known_closed = k.known_closed ∙ sym shut;
+    drained = k.drained ∙ sym drained;
     word = status ∙ k.word;
     idle = subst (λ n. (n % 4 ≡ 0) ⊎ (n ≡ 1)) (sym status) k.idle;
     flag = flag ∙ (k.flag ∙ ap (λ n. if n == 1 then 1 else 0) (sym status));
     rest = λ r. k.rest (⊎_elim (λ h. inl (sym status ∙ h)) (λ h. inr (sym gave ∙ h)) r);
   }
-  still_kept x y status flag slot tale shut count gave (Some h) k = record {
+  still_kept x y status flag slot tale shut drained count gave (Some h) k = record {
     of_actor = k.of_actor;
     taken = k.taken ∙ sym tale;
     known_closed = k.known_closed ∙ sym shut;
+    drained = k.drained ∙ sym drained;
     count = k.count ∙ sym count;
     gave = k.gave ∙ sym gave;
     word = status ∙ k.word;
@@ -276,6 +316,8 @@ module _ {H : Type 0} (is_of : ℕ → H → Type 0) (facts : H → HomeFacts) (
     ended = f.ended;
     listing = f.listing;
     named = f.named;
+    put = still_put actor x.ghost.pushed vs id v w at account.put f.put;
+    was_pushed = f.was_pushed;
     balance = still_balanced actor (x.row Waiting) vs id v w at account f.balance;
     claims_balance = still_claims actor x.ghost.holder x.ghost.holder vs id v w at account.got account.back refl f.claims_balance;
     held = still_held actor (x.row Status) (x.row Status) vs id v w at account.got (λ one. one) f.held;

@@ -31,6 +31,7 @@ use Rattle.std.proofs.Common.{
   length-append,
   arith,
   All,
+  ne_eqb,
 }
 use Rattle.std.proofs.lemmas.List.Elements.{All-push, All-nil}
 use mathlib.Core.Option.{none, some}
@@ -45,7 +46,7 @@ use Rattle.mb_ghost.specs.Locked.{Locked}
 use Rattle.mb_ghost.specs.Ruled.{RuledStep, stays, takes_from, gives_to}
 use Rattle.mb_ghost.proofs.LockedLemmas.{stays_locked, takes_up, changes_ticket, puts_back, is_holder}
 use Rattle.mb_ghost.proofs.OwedLemmas.{pays, still_owed}
-use Rattle.mb_ghost.proofs.SeenLemmas.{learns}
+use Rattle.mb_ghost.proofs.SeenLemmas.{learns, each_append}
 use Rattle.mb_ghost.proofs.SharesLemmas.{shares_stay}
 use Rattle.mb_gate.specs.HomeFacts.{HomeFacts}
 use Rattle.mb_gate.specs.ClaimCounts.{claims_out}
@@ -75,6 +76,7 @@ use Rattle.mb_gate.specs.Rule.{
   IsPart,
   HasSeenClosed,
   all_numbered,
+  WasPushed,
   Knows,
   MessageDue,
   SystemDue,
@@ -97,11 +99,16 @@ use Rattle.mb_gate.proofs.Views.{
   extends_self,
   Grown,
   grown,
+  pushed_on,
   goes_on,
 }
-use Rattle.mb_gate.proofs.Numbers.{among_more, pushed_so, part_so, length_numbered}
-use Rattle.mb_gate.proofs.Facts.{still_kept, still_balanced, still_claims, still_held, still_bare, claimed_bare, gripper_bare, views_change, elsewhere, load_here}
+use Rattle.mb_gate.proofs.Numbers.{among_more, each_part, pushed_so, pushed_last, part_so, length_numbered}
+use Rattle.mb_gate.specs.Waiting.{on_by, off_by}
+use Rattle.mb_gate.proofs.Facts.{still_kept, still_balanced, same_balance, still_claims, still_held, still_put, puts_more, lister_bare, claimed_bare, gripper_bare, views_change, elsewhere, load_here}
 use Rattle.mb_gate.proofs.StatusSteps.{is_held}
+
+none_more : (m : ℕ) → 0 + m ≡ m
+none_more m = omega arith
 
 bits : (a b c : Bool) → ((if a then 2 else 0) + (if b then 4 else 0) + (if c then 8 else 0)) % 2 ≡ 0
 bits true true true = refl
@@ -174,13 +181,15 @@ module _ {H : Type 0} (is_of : ℕ → H → Type 0) (facts : H → HomeFacts) (
           valid = f.valid;
           claims = stays_locked (claim_for actor) x.ghost.holder vs id v w at refl f.claims;
           cell =
-              still_kept is_of facts actors actor x y refl refl refl refl refl refl refl x.ghost.holder f.cell;
+              still_kept is_of facts actors actor x y refl refl refl refl refl refl refl refl x.ghost.holder f.cell;
           lists = takes_up (list_for actor) vs id v w l at (lent_here actor l refl) (subst (λ o. Locked (list_for actor) o vs) h.0 f.lists);
           list_place = record { taken = refl; gave = refl; word = ap (λ n. n + 1) (sym is ∙ h.1.word) ∙ sym (gate_out x.ghost.listed x.ghost.gave) };
           ended = f.ended;
           listing = f.listing;
           named = f.named;
-          balance = still_balanced actor (x.row Waiting) vs id v w at (record { on = refl; off = refl; share = refl; got = refl; back = refl })
+          put = still_put actor x.ghost.pushed vs id v w at (λ q. refl) f.put;
+          was_pushed = f.was_pushed;
+          balance = still_balanced actor (x.row Waiting) vs id v w at (record { on = refl; off = refl; put = λ q. refl; share = refl; got = refl; back = refl })
               f.balance;
           claims_balance = still_claims actor x.ghost.holder x.ghost.holder vs id v w at refl refl refl f.claims_balance;
           held = still_held actor (x.row Status) (x.row Status) vs id v w at refl (λ one. one) f.held;
@@ -198,7 +207,7 @@ module _ {H : Type 0} (is_of : ℕ → H → Type 0) (facts : H → HomeFacts) (
               claim = refl;
               list = lent_else a l (λ e. n (sym e)) ∙ sym (ap (lent_of a) bare);
               debt = refl;
-              account = record { on = refl; off = refl; share = refl; got = refl; back = refl };
+              account = record { on = refl; off = refl; put = λ q. refl; share = refl; got = refl; back = refl };
               vouches = λ b p. p;
               knows = λ _ s. record {
                 seen
@@ -248,7 +257,7 @@ module _ {H : Type 0} (is_of : ℕ → H → Type 0) (facts : H → HomeFacts) (
         holds = record {
           valid = f.valid;
           claims = stays_locked (claim_for actor) x.ghost.holder vs id v w at refl f.claims;
-          cell = still_kept is_of facts actors actor x y refl refl refl refl refl
+          cell = still_kept is_of facts actors actor x y refl refl refl refl refl refl
               (ap (λ (z : MessageList). z.given) h.1.taken) refl x.ghost.holder f.cell;
           lists = puts_back (list_for actor) vs id v w l at refl (subst (λ o. Locked (list_for actor) o vs) h.0 f.lists);
           list_place = record { present = refl; word = word ∙ ap (gate_word false (with_last l.listed m)) h.1.gave };
@@ -261,14 +270,13 @@ module _ {H : Type 0} (is_of : ℕ → H → Type 0) (facts : H → HomeFacts) (
           };
           named = All-push (NamesBelow actors) l.listed.messages m (subst (λ (z : MessageList). All (NamesBelow actors) z.messages) (sym h.1.taken)
               f.named) names;
-          balance = still_balanced actor (x.row Waiting) vs id v w at (counts_no_more actor (Pushed actor (pushed l.listed) m) v w refl
-              (refl, refl) refl refl refl)
-              f.balance;
+          put = puts_more actor x.ghost.pushed (pushed l.listed) m vs id v w at refl (pushed_last x.ghost l.listed m h.1.taken f.listing) f.put;
+          was_pushed = pushed_on x y grows x.ghost.drained f.was_pushed;
+          balance = same_balance actor (x.row Waiting) vs id v w at (none_more (on_by actor v)) (none_more (off_by actor v)) f.balance;
           claims_balance = still_claims actor x.ghost.holder x.ghost.holder vs id v w at refl refl refl f.claims_balance;
           held = still_held actor (x.row Status) (x.row Status) vs id v w at refl (λ one. one) f.held;
           shares = shares_stay (λ (u : View). u.share) vs id v w at refl f.shares;
-          bare = still_bare actor vs id v w at (counts_no_more actor (Pushed actor (pushed l.listed) m) v w refl (refl, refl) refl refl refl)
-              (λ c. c) (λ c. refl) f.bare;
+          bare = lister_bare actor vs id v w l at (ap (lent_of actor) has ∙ lent_here actor l of) refl refl refl refl (none_more (on_by actor v)) f.bare;
           was_seen_closed = λ b. still_owed (HasSeenClosed b) (IsAmong b x.ghost.closed_to) (IsAmong b x.ghost.closed_to) vs id v w at (λ d. d)
               (λ _. among_more (Read b 1) (Pushed actor (pushed l.listed) m) v.log) (f.was_seen_closed b);
           message = still_owed (HasMessageObligation actor) (MessageDue x) (MessageDue y) vs id v w at (λ z. z) (λ _. subst (λ (z : WakeObligation). IsTrue
@@ -295,7 +303,8 @@ module _ {H : Type 0} (is_of : ℕ → H → Type 0) (facts : H → HomeFacts) (
               claim = refl;
               list = sym (ap (lent_of a) has ∙ lent_else a l (λ e. k (sym e ∙ of)));
               debt = owes_else actor a d u k;
-              account = counts_no_more a (Pushed actor (pushed l.listed) m) v w refl (refl, refl) refl refl refl;
+              account = counts_no_more a (Pushed actor (pushed l.listed) m) v w refl
+                  (refl, refl, λ q. ap (λ (b : Bool). if b then q (pushed l.listed, m) else 0) (ne_eqb actor a (λ e. k (sym e)))) refl refl refl;
               vouches = λ b. among_more (Read b 1) (Pushed actor (pushed l.listed) m) v.log;
               knows
                   = λ _ t. record { seen = ((λ e. absurd (k (sym e))), t.seen); sent_system = ((λ e. absurd (k (sym e))), t.sent_system) };
@@ -323,7 +332,7 @@ module _ {H : Type 0} (is_of : ℕ → H → Type 0) (facts : H → HomeFacts) (
       let w = unloading s given gave v in
       let still : IsTrue x.ghost.listed.closed → IsTrue new.closed = (λ e. stays_closed (ap (λ (z : MessageList). z.closed) k.1.taken ∙ e)) in
       let c' : Held = record c { gave = gave; given = given_after c.given given; drained = c.drained ++ given } in
-      let g : Ghost = record x.ghost { holder = Some (id, c'); lent_to = None; listed = new; gave = gave } in
+      let g : Ghost = record x.ghost { holder = Some (id, c'); drained = x.ghost.drained ++ given; lent_to = None; listed = new; gave = gave } in
       let y : Place = record { row = write word_offset x.row Gate n; slot = fill slot_offset x.slot ListSlot (some (Listing new)); ghost = g } in
       let same_given : l.listed.given ≡ x.ghost.listed.given = ap (λ (z : MessageList). z.given) k.1.taken in
       let grows = grown x y still (λ one. one) (extends_self x.ghost.journal) refl in record {
@@ -339,6 +348,7 @@ module _ {H : Type 0} (is_of : ℕ → H → Type 0) (facts : H → HomeFacts) (
             of_actor = of;
             taken = h.1.taken;
             known_closed = h.1.known_closed;
+            drained = ap (λ z. z ++ given) h.1.drained;
             count = ap (λ z. given_after z given) (h.1.count ∙ sym same_given) ∙ sym counts;
             gave = refl;
             word = h.1.word;
@@ -359,6 +369,9 @@ module _ {H : Type 0} (is_of : ℕ → H → Type 0) (facts : H → HomeFacts) (
                 let before = f.listing.counted in omega arith;
           };
           named = subst (All (NamesBelow actors)) (sym empty) (All-nil (NamesBelow actors));
+          put = still_put actor x.ghost.pushed vs id v w at (counts_no_more actor s v w refl (uncounted actor) refl refl refl).put f.put;
+          was_pushed = each_append (WasPushed x.ghost) x.ghost.drained given f.was_pushed
+              (each_part given (all_numbered x.ghost) (part_so x.ghost l.listed lent.1.taken f.listing));
           balance = still_balanced actor (x.row Waiting) vs id v w at (counts_no_more actor s v w refl (uncounted actor) refl refl refl) f.balance;
           claims_balance = still_claims actor x.ghost.holder (Some (id, c')) vs id v w at refl refl (sym (ap claims_out h.0)) f.claims_balance;
           held = still_held actor (x.row Status) (x.row Status) vs id v w at refl (λ one. one) f.held;
@@ -397,7 +410,7 @@ module _ {H : Type 0} (is_of : ℕ → H → Type 0) (facts : H → HomeFacts) (
     kept = x.ghost;
     is_able = tt;
     holds = load_here is_of facts actors actor x (set vs id w) Gate (views_change is_of facts actors actor x vs id v w at refl
-        refl (record { on = refl; off = refl; share = refl; got = refl; back = refl }) (λ _ p. p) (λ _ p. p) (λ k. record {
+        refl (record { on = refl; off = refl; put = λ q. refl; share = refl; got = refl; back = refl }) (λ _ p. p) (λ _ p. p) (λ k. record {
           seen = k.seen;
           sent_system =
               ((λ _. ((λ _. shut), (λ e. absurd (cc)))), k.sent_system);
@@ -406,7 +419,7 @@ module _ {H : Type 0} (is_of : ℕ → H → Type 0) (facts : H → HomeFacts) (
       claim = refl;
       list = refl;
       debt = refl;
-      account = record { on = refl; off = refl; share = refl; got = refl; back = refl };
+      account = record { on = refl; off = refl; put = λ q. refl; share = refl; got = refl; back = refl };
       vouches = λ b p. p;
       knows = λ _ t.
           record { seen = t.seen; sent_system = ((λ e. absurd (n (sym e))), t.sent_system) };

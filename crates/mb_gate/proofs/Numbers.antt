@@ -65,6 +65,17 @@ module _ {A : Type 0} where
   pub each_among : (P : A → Type 0) (x : A) (l : List A) → Each P l → IsAmong x l → P x
   each_among P x l h a = each_after P x a.before a.after (subst (Each P) a.joined h)
 
+-- each item of a part stands in the list
+each_in : {A : Type 0} (p before after : List A) → Each (λ x. IsAmong x (before ++ (p ++ after))) p
+each_in [] before after = tt
+each_in (x ∷ p) before after = (
+  record { before = before; after = p ++ after; joined = refl },
+  subst (λ l. Each (λ y. IsAmong y l) p) (append_assoc before (x ∷ []) (p ++ after)) (each_in p (before ++ x ∷ []) after),
+)
+
+pub each_part : {A : Type 0} (p l : List A) → IsPart p l → Each (λ x. IsAmong x l) p
+each_part p l a = subst (λ z. Each (λ x. IsAmong x z) p) (sym a.joined) (each_in p a.before a.after)
+
 -- the numbers go on over two lists
 pub numbered_append : (n : ℕ) (a b : List SysMsg) → n < 2 ^ 64 → numbered n (a ++ b) ≡ numbered n a ++ numbered ((n + length a) % 2 ^ 64) b
 numbered_append n [] b small = ap (λ k. numbered k b) (omega arith)
@@ -97,6 +108,18 @@ pushed_so g l m same li = subst (λ z. IsAmong (pushed z, m) (numbered 0 (g.push
       joined = numbered_append 0 (given ++ ms) (m ∷ []) (omega arith) ∙ ap (λ k. numbered 0 (given ++ ms) ++ (k, m) ∷ []) (let t = length-append
           given ms in omega arith);
     }
+
+-- and the others keep theirs
+pub pushed_last : (g : Ghost) (l : MessageList) (m : SysMsg) → l ≡ g.listed → IsListing g.pushed g.listed
+    → numbered 0 (g.pushed ++ m ∷ []) ≡ numbered 0 g.pushed ++ (pushed l, m) ∷ []
+pushed_last g l m same li = subst (λ z. numbered 0 (g.pushed ++ m ∷ []) ≡ numbered 0 g.pushed ++ (pushed z, m) ∷ []) (sym same)
+    (subst (λ z. numbered 0 (z ++ m ∷ []) ≡ numbered 0 z ++ (pushed g.listed, m) ∷ []) (sym li.joined)
+    (last li.given g.listed.messages g.listed.given li.counted))
+  where
+    last : (given ms : List SysMsg) (n : ℕ) → n ≡ length given % 2 ^ 64
+        → numbered 0 ((given ++ ms) ++ m ∷ []) ≡ numbered 0 (given ++ ms) ++ ((n + length ms) % 2 ^ 64, m) ∷ []
+    last given ms n e = numbered_append 0 (given ++ ms) (m ∷ []) (omega arith) ∙ ap (λ k. numbered 0 (given ++ ms) ++ (k, m) ∷ []) (let t =
+        length-append given ms in omega arith)
 
 -- what is listed has the numbers of the list
 pub part_so : (g : Ghost) (l : MessageList) → l ≡ g.listed → IsListing g.pushed g.listed → IsPart (listed l) (numbered 0 g.pushed)

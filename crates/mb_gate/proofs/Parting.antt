@@ -45,6 +45,7 @@ use Rattle.mb_ghost.proofs.SummedLemmas.{total_append, total_splits, total_joins
 use Rattle.mb_ghost.specs.Shares.{FitsIn, amount}
 use Rattle.mb_ghost.proofs.SharesLemmas.{splits_shares, joins_shares}
 use Rattle.mb_gate.specs.HomeFacts.{HomeFacts}
+use Rattle.mb_gate.specs.PutIn.{put_in, put_by}
 use Rattle.mb_gate.specs.ClaimCounts.{claims_got, claims_returned, claims_out}
 use Rattle.mb_gate.proofs.Facts.{no_share}
 use Rattle.atomic_table.proofs.Lists.{set_else}
@@ -146,6 +147,7 @@ some_left (x ∷ xs) b has = refl
 pub record SharesAccount (actor : ℕ) (v left right : View) : Type 0 where
   pub on : on_by actor left + on_by actor right ≡ on_by actor v
   pub off : off_by actor left + off_by actor right ≡ off_by actor v
+  pub put : (measure : ℕ × SysMsg → ℕ) → put_by actor measure left + put_by actor measure right ≡ put_by actor measure v
   pub got : claims_got actor left + claims_got actor right ≡ claims_got actor v
   pub back : claims_returned actor left + claims_returned actor right ≡ claims_returned actor v
 
@@ -164,33 +166,36 @@ each_without P (Looked a b ∷ log) h = (h.0, each_without P log h.1)
 each_without P (Sent a n ∷ log) h = each_without P log h.1
 each_without P (Unsent a n ∷ log) h = each_without P log h.1
 each_without P (Took a n ∷ log) h = each_without P log h.1
-each_without P (Pushed a n m ∷ log) h = (h.0, each_without P log h.1)
+each_without P (Pushed a n m ∷ log) h = each_without P log h.1
 each_without P (Drained a given ∷ log) h = (h.0, each_without P log h.1)
 each_without P (Ended a given ∷ log) h = (h.0, each_without P log h.1)
 
 -- and nothing is counted by those
 nothing_left : (f : Observation → ℕ) (log : List Observation) → ((a w : ℕ) → f (Read a w) ≡ 0) → ((a : ℕ) (j : List Entry) → f (Saw a j) ≡ 0) → ((a n : ℕ) → f
-    (Counted a n) ≡ 0) → ((a : ℕ) (b : Bool) → f (Looked a b) ≡ 0) → ((a n : ℕ) (m : SysMsg) → f (Pushed a n m) ≡ 0) → ((a : ℕ) (l : List (ℕ ×
+    (Counted a n) ≡ 0) → ((a : ℕ) (b : Bool) → f (Looked a b) ≡ 0) → ((a : ℕ) (l : List (ℕ ×
     SysMsg)) → f (Drained a l) ≡ 0) → ((a : ℕ) (l : List (ℕ × SysMsg)) → f (Ended a l) ≡ 0) → total f (without_counts log) ≡ 0
-nothing_left f [] r s c l p d e = refl
-nothing_left f (Read a w ∷ log) r s c l p d e = let z = r a w in let rest = nothing_left f log r s c l p d e in omega arith
-nothing_left f (Saw a j ∷ log) r s c l p d e = let z = s a j in let rest = nothing_left f log r s c l p d e in omega arith
-nothing_left f (Counted a n ∷ log) r s c l p d e = let z = c a n in let rest = nothing_left f log r s c l p d e in omega arith
-nothing_left f (Looked a b ∷ log) r s c l p d e = let z = l a b in let rest = nothing_left f log r s c l p d e in omega arith
-nothing_left f (Sent a n ∷ log) r s c l p d e = nothing_left f log r s c l p d e
-nothing_left f (Unsent a n ∷ log) r s c l p d e = nothing_left f log r s c l p d e
-nothing_left f (Took a n ∷ log) r s c l p d e = nothing_left f log r s c l p d e
-nothing_left f (Pushed a n m ∷ log) r s c l p d e = let z = p a n m in let rest = nothing_left f log r s c l p d e in omega arith
-nothing_left f (Drained a g ∷ log) r s c l p d e = let z = d a g in let rest = nothing_left f log r s c l p d e in omega arith
-nothing_left f (Ended a g ∷ log) r s c l p d e = let z = e a g in let rest = nothing_left f log r s c l p d e in omega arith
+nothing_left f [] r s c l d e = refl
+nothing_left f (Read a w ∷ log) r s c l d e = let z = r a w in let rest = nothing_left f log r s c l d e in omega arith
+nothing_left f (Saw a j ∷ log) r s c l d e = let z = s a j in let rest = nothing_left f log r s c l d e in omega arith
+nothing_left f (Counted a n ∷ log) r s c l d e = let z = c a n in let rest = nothing_left f log r s c l d e in omega arith
+nothing_left f (Looked a b ∷ log) r s c l d e = let z = l a b in let rest = nothing_left f log r s c l d e in omega arith
+nothing_left f (Sent a n ∷ log) r s c l d e = nothing_left f log r s c l d e
+nothing_left f (Unsent a n ∷ log) r s c l d e = nothing_left f log r s c l d e
+nothing_left f (Took a n ∷ log) r s c l d e = nothing_left f log r s c l d e
+nothing_left f (Pushed a n m ∷ log) r s c l d e = nothing_left f log r s c l d e
+nothing_left f (Drained a g ∷ log) r s c l d e = let z = d a g in let rest = nothing_left f log r s c l d e in omega arith
+nothing_left f (Ended a g ∷ log) r s c l d e = let z = e a g in let rest = nothing_left f log r s c l d e in omega arith
 
 pub no_counts_on : (actor : ℕ) (log : List Observation) → total (counted_on actor) (without_counts log) ≡ 0
-no_counts_on actor log = nothing_left (counted_on actor) log (λ a w. refl) (λ a j. refl) (λ a n. refl) (λ a b. refl) (λ a n m. refl) (λ a l. refl)
+no_counts_on actor log = nothing_left (counted_on actor) log (λ a w. refl) (λ a j. refl) (λ a n. refl) (λ a b. refl) (λ a l. refl)
     (λ a l. refl)
 
 pub no_counts_off : (actor : ℕ) (log : List Observation) → total (counted_off actor) (without_counts log) ≡ 0
-no_counts_off actor log = nothing_left (counted_off actor) log (λ a w. refl) (λ a j. refl) (λ a n. refl) (λ a b. refl) (λ a n m. refl) (λ a l.
+no_counts_off actor log = nothing_left (counted_off actor) log (λ a w. refl) (λ a j. refl) (λ a n. refl) (λ a b. refl) (λ a l.
     refl) (λ a l. refl)
+
+pub no_puts : (actor : ℕ) (measure : ℕ × SysMsg → ℕ) (log : List Observation) → total (put_in actor measure) (without_counts log) ≡ 0
+no_puts actor measure log = nothing_left (put_in actor measure) log (λ a w. refl) (λ a j. refl) (λ a n. refl) (λ a b. refl) (λ a l. refl) (λ a l. refl)
 
 -- who was seen closed is so still
 pub vouches_without : (b : ℕ) (log : List Observation) → IsAmong (Read b 1) log → IsAmong (Read b 1) (without_counts log)
@@ -205,7 +210,7 @@ vouches_without b log is = subst (λ l. IsAmong (Read b 1) (without_counts l)) (
     from (Sent a n ∷ log) = from log
     from (Unsent a n ∷ log) = from log
     from (Took a n ∷ log) = from log
-    from (Pushed a n m ∷ log) = among_more (Read b 1) (Pushed a n m) _ (from log)
+    from (Pushed a n m ∷ log) = from log
     from (Drained a given ∷ log) = among_more (Read b 1) (Drained a given) _ (from log)
     from (Ended a given ∷ log) = among_more (Read b 1) (Ended a given) _ (from log)
 
@@ -236,6 +241,8 @@ module _ {H : Type 0} (is_of : ℕ → H → Type 0) (facts : H → HomeFacts) (
         ended = f.ended;
         listing = f.listing;
         named = f.named;
+        put = λ q. total_splits (put_by actor q) vs id v left right at ((account actor).put q) ∙ f.put q;
+        was_pushed = f.was_pushed;
         balance = same_balance actor (x.row Waiting) vs (set vs id left ++ right ∷ []) (total_splits (on_by actor) vs id v left right at (account
             actor).on) (total_splits (off_by actor) vs id v left right at (account actor).off) f.balance;
         claims_balance = total_splits (claims_got actor) vs id v left right at (account actor).got ∙ (f.claims_balance ∙ sym (ap (λ n. n + claims_out x.ghost.holder)
@@ -269,6 +276,8 @@ module _ {H : Type 0} (is_of : ℕ → H → Type 0) (facts : H → HomeFacts) (
         ended = f.ended;
         listing = f.listing;
         named = f.named;
+        put = λ q. total_joins (put_by actor q) vs id other v w both blank at there (both_logs (put_in actor q) w.log v.log) ∙ f.put q;
+        was_pushed = f.was_pushed;
         balance = same_balance actor (x.row Waiting) vs (set (set vs id both) other blank)
             (total_joins (on_by actor) vs id other v w both blank at there (both_logs (counted_on actor) w.log v.log))
             (total_joins (off_by actor) vs id other v w both blank at there (both_logs (counted_off actor) w.log v.log)) f.balance;
@@ -279,7 +288,7 @@ module _ {H : Type 0} (is_of : ℕ → H → Type 0) (facts : H → HomeFacts) (
             (both_logs (λ a. if a == actor then 1 else 0) w.got v.got))) (f.held one);
         shares = joins_shares (λ (u : View). u.share) vs id other v w both blank at apart there refl refl f.shares;
         bare = joins_seen (λ (u : View). u.share ≡ [] → IsBare actor u) vs id other both blank (λ none. absurd (no_share (w.share ++ v.share)
-            (some_left w.share v.share sharer) none)) (λ _. record { got = refl; back = refl; on = refl; rest = λ _. (refl, refl) }) f.bare;
+            (some_left w.share v.share sharer) none)) (λ _. record { got = refl; back = refl; on = refl; rest = λ _. (refl, refl, λ q. refl) }) f.bare;
         was_seen_closed = λ b. joins_owed (HasSeenClosed b) (IsAmong b x.ghost.closed_to) vs id other v w both blank at apart there
             (λ p. among_right (Read b 1) w.log v.log p) (λ p. among_left (Read b 1) w.log v.log p) (f.was_seen_closed b);
         message = joins_owed (HasMessageObligation actor) (MessageDue x) vs id other v w both blank at apart there

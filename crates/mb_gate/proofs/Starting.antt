@@ -132,6 +132,7 @@ module _ {H : Type 0} (is_of : ℕ → H → Type 0) (facts : H → HomeFacts) w
     holder = None;
     journal = journal_at facts hs a;
     closed_to = [];
+    drained = [];
     lent_to = None;
     listed = no_messages;
     gave =
@@ -159,6 +160,7 @@ module _ {H : Type 0} (is_of : ℕ → H → Type 0) (facts : H → HomeFacts) w
             fold = sym b.1.tale;
             count = f.none_given;
             known_closed = f.none_closed;
+            drained = f.none_drained;
             word = b.1.status;
             idle = inl (ap (λ k. k % 4) b.1.status ∙ free_mod m f.free);
             flag = b.1.flag ∙ sym (ap (λ b. if b then 1 else 0) (ne_eqb _ 1 (λ e. let z = free_word m f.free in let s = b.1.status in omega arith)));
@@ -169,6 +171,8 @@ module _ {H : Type 0} (is_of : ℕ → H → Type 0) (facts : H → HomeFacts) w
           ended = λ e. absurd (cc);
           listing = record { given = []; joined = refl; counted = refl };
           named = All-nil (NamesBelow n);
+          put = λ q. refl;
+          was_pushed = tt;
           balance = ap (λ k. (k + total (off_by a) (alone ∷ [])) % 2 ^ 64) b.1.waiting;
           claims_balance = refl;
           held = λ one. absurd (let z = free_word m f.free in let s = b.1.status in omega arith);

@@ -33,6 +33,7 @@ use Rattle.std.proofs.Common.{
 use mathlib.Core.Option.{none, some}
 use lib.ListN.{get_elem?}
 use Rattle.mb_status.specs.Mailbox.{mailbox_of, word_of, is_valid}
+use Rattle.mb_msg.specs.declared.system.SysMsg.{SysMsg}
 use Rattle.mb_journal.specs.Entry.{Entry}
 use Rattle.mb_core.specs.declared.debt.WakeObligation.{WakeObligation}
 use Rattle.mb_core.specs.Run.{after_reading}
@@ -45,7 +46,7 @@ use Rattle.mb_ghost.proofs.LockedLemmas.{stays_locked, takes_up, changes_ticket,
 use Rattle.mb_ghost.specs.Owed.{Owed}
 use Rattle.mb_ghost.specs.Seen.{Each}
 use Rattle.mb_ghost.proofs.OwedLemmas.{pays, still_owed}
-use Rattle.mb_ghost.proofs.SeenLemmas.{learns}
+use Rattle.mb_ghost.proofs.SeenLemmas.{learns, each_weaker}
 use Rattle.mb_gate.specs.HomeFacts.{HomeFacts}
 use Rattle.mb_gate.specs.declared.slot.Slot.{Slot}
 use Rattle.mb_gate.specs.declared.slot.Slot.TheVariants.{Home}
@@ -66,6 +67,7 @@ use Rattle.mb_gate.specs.Rule.{
   Extends,
   Knows,
   IsAmong,
+  WasPushed,
   HasSeenClosed,
   MessageDue,
   SystemDue,
@@ -79,6 +81,7 @@ use Rattle.mb_gate.specs.Rule.{
 }
 use Rattle.mb_ghost.proofs.SharesLemmas.{shares_stay}
 use Rattle.mb_gate.specs.Waiting.{on_by, off_by}
+use Rattle.mb_gate.specs.PutIn.{put_by}
 use Rattle.mb_gate.specs.ClaimCounts.{claims_out}
 use Rattle.mb_gate.proofs.Views.{
   counts_no_more,
@@ -100,6 +103,7 @@ use Rattle.mb_gate.proofs.Facts.{
   same_balance,
   still_claims,
   still_held,
+  still_put,
   now_held,
   claims_more,
   claims_less,
@@ -135,7 +139,7 @@ module _ {H : Type 0} (is_of : ℕ → H → Type 0) (facts : H → HomeFacts) (
     is_able = tt;
     holds = load_here is_of facts actors actor x (set vs id (reading actor r v)) Status
         (views_change is_of facts actors actor x vs id v (reading actor r v) at refl refl
-        (counts_no_more actor (Read actor r) v (reading actor r v) refl (refl, refl) refl refl refl)
+        (counts_no_more actor (Read actor r) v (reading actor r v) refl (refl, refl, λ q. refl) refl refl refl)
         (λ due owed. subst (λ (d : WakeObligation). IsTrue (d.message || d.sending)) (sym (owes_here actor (after_reading (mailbox_of r) (obligation_to actor v))
         v)) (reading_pays_message r (obligation_to actor v) due.0 owed))
         (λ due owed. subst (λ (d : WakeObligation). IsTrue d.system) (sym (owes_here actor (after_reading (mailbox_of r) (obligation_to actor v)) v))
@@ -172,7 +176,7 @@ module _ {H : Type 0} (is_of : ℕ → H → Type 0) (facts : H → HomeFacts) (
   pub schedules : (actor id : ℕ) (me : M) (old : ℕ) (tell : M → Type 0) (x : Place) (vs : List View) (f : F actor x vs) → get_elem? vs id ≡ some
       me.0 → (free : x.row Status % 4 ≡ 0) → x.row Status ≡ old → me.0.claim ≡ None → is_some_item me.0.share ≡ true
       → (let h = (is_home actor x vs f free).1 in tell (
-        taking actor x.ghost.journal x.ghost.closed_to old x.ghost.gave x.ghost.listed.given me.0,
+        taking actor x.ghost.journal x.ghost.closed_to old x.ghost.gave x.ghost.listed.given x.ghost.drained me.0,
         (slot_at actor 0, Home h.home) ∷ me.1,
       ))
       → RuledStep word_offset slot_offset F actor id me Status (old + 2) tell x vs
@@ -187,9 +191,9 @@ module _ {H : Type 0} (is_of : ℕ → H → Type 0) (facts : H → HomeFacts) (
         gave = x.ghost.gave;
         given =
             x.ghost.listed.given;
-        drained = [];
+        drained = x.ghost.drained;
       } in
-      let w = taking actor x.ghost.journal x.ghost.closed_to old x.ghost.gave x.ghost.listed.given v in
+      let w = taking actor x.ghost.journal x.ghost.closed_to old x.ghost.gave x.ghost.listed.given x.ghost.drained v in
       let y : Place = record {
         row = write word_offset x.row Status (old + 2);
         slot = fill slot_offset x.slot CellSlot none;
@@ -208,6 +212,7 @@ module _ {H : Type 0} (is_of : ℕ → H → Type 0) (facts : H → HomeFacts) (
             of_actor = refl;
             taken = refl;
             known_closed = refl;
+            drained = refl;
             count = refl;
             gave = refl;
             word = refl;
@@ -221,6 +226,8 @@ module _ {H : Type 0} (is_of : ℕ → H → Type 0) (facts : H → HomeFacts) (
           ended = λ e. absurd (let one = f.ended e in omega arith);
           listing = f.listing;
           named = f.named;
+          put = still_put actor x.ghost.pushed vs id v w at (λ q. refl) f.put;
+          was_pushed = f.was_pushed;
           balance = same_balance actor (x.row Waiting) vs id v w at refl refl f.balance;
           claims_balance = claims_more actor x.ghost.holder (id, c) vs id v w at (times_here actor v.got) refl (ap claims_out h.0) f.claims_balance;
           held = λ one. absurd (let z : old + 2 ≡ 1 = one in omega arith);
@@ -235,7 +242,7 @@ module _ {H : Type 0} (is_of : ℕ → H → Type 0) (facts : H → HomeFacts) (
         };
         others = λ a n z g. elsewhere is_of facts actors a z vs id v w at
             (taking_elsewhere actor a old x.ghost.listed.given x.ghost.journal
-            x.ghost.closed_to x.ghost.gave v n bare) g;
+            x.ghost.closed_to x.ghost.gave x.ghost.drained v n bare) g;
         tells = told;
       }
 
@@ -264,6 +271,7 @@ module _ {H : Type 0} (is_of : ℕ → H → Type 0) (facts : H → HomeFacts) (
             of_actor = of;
             taken = h.1.taken;
             known_closed = h.1.known_closed;
+            drained = h.1.drained;
             count = h.1.count;
             gave = h.1.gave;
             word = refl;
@@ -277,6 +285,8 @@ module _ {H : Type 0} (is_of : ℕ → H → Type 0) (facts : H → HomeFacts) (
           ended = λ e. shut (f.ended e);
           listing = f.listing;
           named = f.named;
+          put = still_put actor x.ghost.pushed vs id v w at (λ q. refl) f.put;
+          was_pushed = f.was_pushed;
           balance = same_balance actor (x.row Waiting) vs id v w at refl refl f.balance;
           claims_balance = still_claims actor x.ghost.holder (Some (id, d)) vs id v w at refl refl (sym (ap claims_out h.0)) f.claims_balance;
           held = now_held actor new x.ghost.holder vs id v w at refl (ap claims_out h.0) f.claims_balance;
@@ -307,19 +317,25 @@ module _ {H : Type 0} (is_of : ℕ → H → Type 0) (facts : H → HomeFacts) (
       (λ sees. pays (HasSeenClosed b) (IsAmong b after) vs id v (idling actor j v) at (among_more (Read b 1) (Saw actor j) v.log sees) is)
       (each_among (λ a. IsKnownClosed a c.closed_to v) b after known is)
 
+  -- what the home says its list gave was put into the list
+  pushed_home : (x : Place) (c : Held) (after : List (ℕ × SysMsg)) → c.drained ≡ x.ghost.drained → Each (λ m. IsAmong m c.drained) after
+      → Each (WasPushed x.ghost) x.ghost.drained → Each (WasPushed x.ghost) after
+  pushed_home x c after same gave all = each_weaker (λ m. IsAmong m c.drained) (WasPushed x.ghost) after
+      (λ m is. each_among (WasPushed x.ghost) m x.ghost.drained all (subst (IsAmong m) same is)) gave
+
   -- the holder gives the cell of an open actor home
   pub idles : (actor id : ℕ) (me : M) (c : Held) (home : H) (new : ℕ) (tell : M → Type 0) (x : Place) (vs : List View) → F actor x vs → get_elem?
       vs id ≡ some me.0 → me.0.claim ≡ Some c → c.actor ≡ actor
       → me.1 ≡ (slot_at actor 0, Home home) ∷ [] → is_of actor home → Extends (facts home).journal c.journal → (facts home).given ≡ c.given
-      → Each (λ b. IsKnownClosed b c.closed_to me.0) (facts home).closed_to → c.word ≢ 1 → IsTrue (is_valid new) → new
+      → Each (λ b. IsKnownClosed b c.closed_to me.0) (facts home).closed_to → Each (λ m. IsAmong m c.drained) (facts home).drained → c.word ≢ 1 → IsTrue (is_valid new) → new
       % 4 ≡ 0 → new ≡ word_of (facts home).mailbox → (c.gave ≡ false → (facts home).no_backlog) → is_some_item me.0.share ≡ true
       → tell (idling actor (facts home).journal me.0, []) → RuledStep word_offset slot_offset F actor id me Status new tell x vs
-  idles actor id me c home new tell x vs f at has of carried of_actor longer count known unshut valid free word rest share told =
+  idles actor id me c home new tell x vs f at has of carried of_actor longer count known gave unshut valid free word rest share told =
       let v = me.0 in
       let h = is_held actor id x vs v c f at has of in
       let j = (facts home).journal in
       let w = idling actor j v in
-      let g : Ghost = record x.ghost { holder = None; journal = j; closed_to = (facts home).closed_to } in
+      let g : Ghost = record x.ghost { holder = None; journal = j; closed_to = (facts home).closed_to; drained = (facts home).drained } in
       let y : Place = record { row = write word_offset x.row Status new; slot = fill slot_offset x.slot CellSlot (some (Home home)); ghost = g } in
       let farther : Extends j x.ghost.journal = subst (λ z. Extends j z) h.1.taken longer in
       let shut : x.row Status ≡ 1 → new ≡ 1 = (λ one. absurd (unshut (sym h.1.word ∙ one))) in
@@ -339,16 +355,19 @@ module _ {H : Type 0} (is_of : ℕ → H → Type 0) (facts : H → HomeFacts) (
             fold = refl;
             count = count ∙ h.1.count;
             known_closed = refl;
+            drained = refl;
             word = word;
             idle = inl free;
             flag = h.1.flag ∙ sym (ap (λ b. if b then 1 else 0) (ne_eqb new 1 (λ e. omega arith)));
-            rest = ⊎_elim (λ one. absurd (omega arith)) (λ gave. rest (h.1.gave ∙ gave));
+            rest = ⊎_elim (λ one. absurd (omega arith)) (λ none. rest (h.1.gave ∙ none));
           };
           lists = stays_locked (list_for actor) x.ghost.lent_to vs id v w at refl f.lists;
           list_place = still_shelved is_of facts actors actor x y refl refl refl refl x.ghost.lent_to f.list_place;
           ended = λ e. shut (f.ended e);
           listing = f.listing;
           named = f.named;
+          put = still_put actor x.ghost.pushed vs id v w at (λ q. none_more (put_by actor q v)) f.put;
+          was_pushed = pushed_home x c (facts home).drained h.1.drained gave f.was_pushed;
           balance = same_balance actor (x.row Waiting) vs id v w at (none_more (on_by actor v)) (none_more (off_by actor v)) f.balance;
           claims_balance = claims_less actor x.ghost.holder vs id v w at refl (times_here actor v.returned) (ap claims_out h.0) f.claims_balance;
           held = λ one. absurd (let z : new ≡ 1 = one in omega arith);
@@ -378,15 +397,15 @@ module _ {H : Type 0} (is_of : ℕ → H → Type 0) (facts : H → HomeFacts) (
   pub idles_closed : (actor id : ℕ) (me : M) (c : Held) (home : H) (tell : M → Type 0) (x : Place) (vs : List View) → F actor x vs → get_elem? vs
       id ≡ some me.0 → me.0.claim ≡ Some c → c.actor ≡ actor
       → me.1 ≡ (slot_at actor 0, Home home) ∷ [] → is_of actor home → Extends (facts home).journal c.journal → (facts home).given ≡ c.given
-      → Each (λ b. IsKnownClosed b c.closed_to me.0) (facts home).closed_to → c.word ≡ 1 → 1 ≡ word_of (facts home).mailbox
+      → Each (λ b. IsKnownClosed b c.closed_to me.0) (facts home).closed_to → Each (λ m. IsAmong m c.drained) (facts home).drained → c.word ≡ 1 → 1 ≡ word_of (facts home).mailbox
       → (facts home).no_backlog → is_some_item me.0.share ≡ true
       → tell (idling actor (facts home).journal me.0, []) → RuledStep word_offset slot_offset F actor id me Flag 1 tell x vs
-  idles_closed actor id me c home tell x vs f at has of carried of_actor longer count known closed word rest share told =
+  idles_closed actor id me c home tell x vs f at has of carried of_actor longer count known gave closed word rest share told =
       let v = me.0 in
       let h = is_held actor id x vs v c f at has of in
       let j = (facts home).journal in
       let w = idling actor j v in
-      let g : Ghost = record x.ghost { holder = None; journal = j; closed_to = (facts home).closed_to } in
+      let g : Ghost = record x.ghost { holder = None; journal = j; closed_to = (facts home).closed_to; drained = (facts home).drained } in
       let y : Place = record { row = write word_offset x.row Flag 1; slot = fill slot_offset x.slot CellSlot (some (Home home)); ghost = g } in
       let farther : Extends j x.ghost.journal = subst (λ z. Extends j z) h.1.taken longer in
       let shut : x.row Status ≡ 1 = h.1.word ∙ closed in
@@ -406,6 +425,7 @@ module _ {H : Type 0} (is_of : ℕ → H → Type 0) (facts : H → HomeFacts) (
             fold = refl;
             count = count ∙ h.1.count;
             known_closed = refl;
+            drained = refl;
             word = shut ∙ word;
             idle = inr shut;
             flag = sym (ap (λ b. if b then 1 else 0) (eq-eqb (x.row Status) 1 shut));
@@ -416,6 +436,8 @@ module _ {H : Type 0} (is_of : ℕ → H → Type 0) (facts : H → HomeFacts) (
           ended = f.ended;
           listing = f.listing;
           named = f.named;
+          put = still_put actor x.ghost.pushed vs id v w at (λ q. none_more (put_by actor q v)) f.put;
+          was_pushed = pushed_home x c (facts home).drained h.1.drained gave f.was_pushed;
           balance = same_balance actor (x.row Waiting) vs id v w at (none_more (on_by actor v)) (none_more (off_by actor v)) f.balance;
           claims_balance = claims_less actor x.ghost.holder vs id v w at refl (times_here actor v.returned) (ap claims_out h.0) f.claims_balance;
           held = still_held actor (x.row Status) (x.row Status) vs id v w at refl (λ one. one) f.held;

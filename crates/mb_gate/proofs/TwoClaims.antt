@@ -54,6 +54,7 @@ use Rattle.mb_gate.specs.HomeFacts.{HomeFacts}
 use Rattle.mb_gate.specs.declared.slot.Slot.{Slot}
 use Rattle.mb_gate.specs.View.{View, Held, blank}
 use Rattle.mb_gate.specs.Waiting.{on_by, off_by}
+use Rattle.mb_gate.specs.PutIn.{put_by}
 use Rattle.mb_gate.specs.ClaimCounts.{claims_got, claims_returned, claims_out}
 use Rattle.mb_gate.specs.TwoClaims.{moved_out, moved_in, twice_claimed}
 use Rattle.mb_gate.specs.Rule.{
@@ -162,12 +163,14 @@ module _ {H : Type 0} (is_of : ℕ → H → Type 0) (facts : H → HomeFacts) (
       record {
         valid = f.valid;
         claims = moves_locked (claim_for actor) x.ghost.holder vs id v blank at refl f.claims;
-        cell = reseated_place actor id (length vs) y x.ghost.holder (still_kept is_of facts n actor x y refl refl refl refl refl refl refl x.ghost.holder f.cell);
+        cell = reseated_place actor id (length vs) y x.ghost.holder (still_kept is_of facts n actor x y refl refl refl refl refl refl refl refl x.ghost.holder f.cell);
         lists = splits_locked (list_for actor) x.ghost.lent_to vs id v blank v at (sym none) none f.lists;
         list_place = still_shelved is_of facts n actor x y refl refl refl refl x.ghost.lent_to f.list_place;
         ended = f.ended;
         listing = f.listing;
         named = f.named;
+        put = λ q. total_splits (put_by actor q) vs id v blank v at (none_more (put_by actor q v)) ∙ f.put q;
+        was_pushed = f.was_pushed;
         balance = same_balance actor (x.row Waiting) vs (set vs id blank ++ v ∷ []) (total_splits (on_by actor) vs id v blank v at (none_more (on_by actor v)))
             (total_splits (off_by actor) vs id v blank v at (none_more (off_by actor v))) f.balance;
         claims_balance = total_splits (claims_got actor) vs id v blank v at (none_more (claims_got actor v)) ∙ (f.claims_balance ∙ sym
@@ -175,7 +178,7 @@ module _ {H : Type 0} (is_of : ℕ → H → Type 0) (facts : H → HomeFacts) (
             ∙ ap (λ k. total (claims_returned actor) vs + k) (reseated_out id (length vs) x.ghost.holder)));
         held = λ one. subst (λ k. 0 < k) (sym (total_splits (claims_got actor) vs id v blank v at (none_more (claims_got actor v)))) (f.held one);
         shares = splits_shares (λ (u : View). u.share) vs id v blank v at (λ e l r. (r, none_more (amount e v.share))) f.shares;
-        bare = splits_seen (λ (u : View). u.share ≡ [] → IsBare actor u) vs id blank v (λ _. record { got = refl; back = refl; on = refl; rest = λ _. (refl, refl) })
+        bare = splits_seen (λ (u : View). u.share ≡ [] → IsBare actor u) vs id blank v (λ _. record { got = refl; back = refl; on = refl; rest = λ _. (refl, refl, λ q. refl) })
             (f.bare id v at) f.bare;
         was_seen_closed = λ b. splits_owed (HasSeenClosed b) (IsAmong b x.ghost.closed_to) vs id v blank v at (λ p. inr p) (f.was_seen_closed b);
         message = splits_owed (HasMessageObligation actor) (MessageDue x) vs id v blank v at (λ p. inr p) f.message;

@@ -38,6 +38,7 @@ use Rattle.mb_core.specs.Actor.{nothing}
 use Rattle.mb_core.specs.Run.{after_reading}
 use Rattle.mb_status.specs.Mailbox.{mailbox_of}
 use Rattle.mb_ghost.specs.Layout.{Spot}
+use Rattle.mb_ghost.specs.Seen.{Each}
 use Rattle.mb_ghost.proofs.SeenLemmas.{each_weaker}
 use Rattle.mb_msg.specs.declared.system.SysMsg.{SysMsg}
 use Rattle.mb_syslist.specs.MessageList.{numbered}
@@ -73,6 +74,7 @@ use Rattle.mb_gate.specs.View.{
   draining,
 }
 use Rattle.mb_gate.specs.Waiting.{counted_on, counted_off, on_by, off_by}
+use Rattle.mb_gate.specs.PutIn.{put_in, put_by}
 use Rattle.mb_gate.specs.ClaimCounts.{times, claims_got, claims_returned}
 use Rattle.mb_gate.specs.Rule.{
   Word,
@@ -90,6 +92,7 @@ use Rattle.mb_gate.specs.Rule.{
   IsAmong,
   SentSystemHolds,
   all_numbered,
+  WasPushed,
   Knows,
 }
 
@@ -138,13 +141,14 @@ drained_nothing actor c v has no_list gave small i = record v { log = Drained ac
 pub record SameAccount (actor : ℕ) (v w : View) : Type 0 where
   pub on : on_by actor w ≡ on_by actor v
   pub off : off_by actor w ≡ off_by actor v
+  pub put : (measure : ℕ × SysMsg → ℕ) → put_by actor measure w ≡ put_by actor measure v
   pub share : w.share ≡ v.share
   pub got : claims_got actor w ≡ claims_got actor v
   pub back : claims_returned actor w ≡ claims_returned actor v
 
--- the observation counts nothing of this actor
+-- the observation counts nothing of this actor, and put nothing into its list
 abbrev pub CountsNothing : ℕ → Observation → Type 0
-CountsNothing actor s = (counted_on actor s ≡ 0) × (counted_off actor s ≡ 0)
+CountsNothing actor s = (counted_on actor s ≡ 0) × (counted_off actor s ≡ 0) × ((measure : ℕ × SysMsg → ℕ) → put_in actor measure s ≡ 0)
 
 none_more : (m n : ℕ) → m ≡ 0 → m + n ≡ n
 none_more m n none = omega arith
@@ -154,6 +158,7 @@ pub counts_no_more : (actor : ℕ) (s : Observation) (v w : View) → w.log ≡ 
 counts_no_more actor s v w is none share got back = record {
   on = ap (total (counted_on actor)) is ∙ none_more (counted_on actor s) (on_by actor v) none.0;
   off = ap (total (counted_off actor)) is ∙ none_more (counted_off actor s) (off_by actor v) none.1;
+  put = λ q. ap (total (put_in actor q)) is ∙ none_more (put_in actor q s) (put_by actor q v) (none.2 q);
   share = share;
   got = got;
   back = back;
@@ -216,21 +221,21 @@ module _ {H : Type 0} where
     claim = refl;
     list = refl;
     debt = owes_else actor other (after_reading (mailbox_of word) (obligation_to actor v)) v n;
-    account = counts_no_more other (Read actor word) v (reading actor word v) refl (refl, refl) refl refl refl;
+    account = counts_no_more other (Read actor word) v (reading actor word v) refl (refl, refl, λ q. refl) refl refl refl;
     vouches = λ a. among_more (Read a 1) (Read actor word) v.log;
     knows = λ x k. record { seen = ((λ e _. absurd (n (sym e))), k.seen); sent_system = k.sent_system };
   }
 
-  pub taking_elsewhere : (actor other word given : ℕ) (j : List Entry) (shut : List ℕ) (gave : Bool) (v : View) → other ≢ actor → v.claim ≡ None
+  pub taking_elsewhere : (actor other word given : ℕ) (j : List Entry) (shut : List ℕ) (gave : Bool) (drained : List (ℕ × SysMsg)) (v : View) → other ≢ actor → v.claim ≡ None
       → Elsewhere H other v
-      (taking actor j shut word gave given v)
-  taking_elsewhere actor other word given j shut gave v n bare = record {
-    claim = held_else other (record { actor = actor; journal = j; closed_to = shut; word = word + 2; gave = gave; given = given; drained = [] })
+      (taking actor j shut word gave given drained v)
+  taking_elsewhere actor other word given j shut gave drained v n bare = record {
+    claim = held_else other (record { actor = actor; journal = j; closed_to = shut; word = word + 2; gave = gave; given = given; drained = drained })
         (λ e. n (sym e)) ∙ sym (ap
         (held_of other) bare);
     list = refl;
     debt = owes_else actor other nothing v n;
-    account = record { on = refl; off = refl; share = refl; got = times_else actor other v.got n; back = refl };
+    account = record { on = refl; off = refl; put = λ q. refl; share = refl; got = times_else actor other v.got n; back = refl };
     vouches = λ a k. k;
     knows = λ x k. record { seen = k.seen; sent_system = k.sent_system };
   }
@@ -242,7 +247,7 @@ module _ {H : Type 0} where
         other) has ∙ held_else other c (λ e. n (sym e ∙ of))));
     list = refl;
     debt = refl;
-    account = record { on = refl; off = refl; share = refl; got = refl; back = refl };
+    account = record { on = refl; off = refl; put = λ q. refl; share = refl; got = refl; back = refl };
     vouches = λ a k. k;
     knows = λ x k. record { seen = k.seen; sent_system = k.sent_system };
   }
@@ -253,7 +258,7 @@ module _ {H : Type 0} where
     claim = sym (ap (held_of other) has ∙ held_else other c (λ e. n (sym e ∙ of)));
     list = refl;
     debt = owes_else actor other (record (obligation_to actor v) { system = true; message = true }) v n;
-    account = counts_no_more other (Saw actor j) v (idling actor j v) refl (refl, refl) refl refl (times_else actor other v.returned n);
+    account = counts_no_more other (Saw actor j) v (idling actor j v) refl (refl, refl, λ q. refl) refl refl (times_else actor other v.returned n);
     vouches = λ a. among_more (Read a 1) (Saw actor j) v.log;
     knows = λ x k. record { seen = ((λ e. absurd (n (sym e))), k.seen); sent_system = k.sent_system };
   }
@@ -305,6 +310,13 @@ module _ {H : Type 0} where
     subst (IsPart given) (sym (numbers_go_on x y g)) (part_left given
         (all_numbered x.ghost) (numbered ((0 + length x.ghost.pushed) % 2 ^ 64) g.more) (h e).1),
   )
+
+  -- what was put into the list was put into it where the place goes on
+  pub pushed_on : (x y : Spot Word SlotName (Slot H) Ghost) → Grown x y → (messages : List (ℕ × SysMsg)) → Each (WasPushed x.ghost) messages
+      → Each (WasPushed y.ghost) messages
+  pushed_on x y g messages all = each_weaker (WasPushed x.ghost) (WasPushed y.ghost) messages
+      (λ m is. subst (IsAmong m) (sym (numbers_go_on x y g)) (among_left m (all_numbered x.ghost) (numbered ((0 + length x.ghost.pushed) % 2 ^ 64) g.more) is))
+      all
 
   -- what was known of a place is so where the place goes on
   pub goes_on : (actor : ℕ) (x y : Spot Word SlotName (Slot H) Ghost) (v : View) → Grown x y → Knows actor x v → Knows actor y v

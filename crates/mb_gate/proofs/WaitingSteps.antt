@@ -60,6 +60,8 @@ use Rattle.mb_gate.specs.View.{
   counting,
   looking,
 }
+use Rattle.mb_msg.specs.declared.system.SysMsg.{SysMsg}
+use Rattle.mb_gate.specs.PutIn.{put_in, put_by}
 use Rattle.mb_gate.specs.Waiting.{counted_on, counted_off, on_by, off_by, IsBalance}
 use Rattle.mb_gate.specs.Rule.{
   Word,
@@ -97,7 +99,7 @@ use Rattle.mb_gate.proofs.Views.{
   goes_on,
 }
 use Rattle.mb_gate.proofs.Numbers.{among_more}
-use Rattle.mb_gate.proofs.Facts.{still_kept, still_shelved, still_claims, still_held, claimed_bare, sharer_bare, views_change, elsewhere, load_here}
+use Rattle.mb_gate.proofs.Facts.{still_kept, still_shelved, still_claims, still_held, still_put, claimed_bare, sharer_bare, views_change, elsewhere, load_here}
 use Rattle.mb_gate.proofs.StatusSteps.{is_held}
 use Rattle.std.proofs.lemmas.Bool.{eqb-true}
 
@@ -119,6 +121,9 @@ if_else actor other k n = ap (λ (b : Bool). if b then k else 0) (ne_eqb actor o
 
 none_more : (m : ℕ) → 0 + m ≡ m
 none_more m = omega arith
+
+none_in : (m n : ℕ) → m ≡ 0 → m + n ≡ n
+none_in m n none = omega arith
 
 module _ (actor k : ℕ) (vs : List View) (id : ℕ) (v w : View) (at : get_elem? vs id ≡ some v) (before after : ℕ)
     (was : IsBalance actor before vs) where
@@ -149,11 +154,11 @@ module _ {H : Type 0} (is_of : ℕ → H → Type 0) (facts : H → HomeFacts) (
 
   -- the waiting count changes, and the seat owes a look where one is due
   recounts : (actor id n : ℕ) (d : WakeObligation) (s : Observation) (me : M) (tell : M → Type 0) (x : Place) (vs : List View) → IsQuiet H s → ((a : ℕ) → a ≢ actor →
-      CountsNothing a s) → F actor x vs → get_elem? vs id ≡ some me.0 → IsBalance actor n (set vs id (with_obligation actor d (seeing s me.0)))
+      CountsNothing a s) → ((measure : ℕ × SysMsg → ℕ) → put_in actor measure s ≡ 0) → F actor x vs → get_elem? vs id ≡ some me.0 → IsBalance actor n (set vs id (with_obligation actor d (seeing s me.0)))
       → is_some_item me.0.share ≡ true → IsTrue (d.message || d.sending) → d.system ≡ (obligation_to actor me.0).system
       → tell (with_obligation actor d (seeing s me.0), me.1) → RuledStep word_offset slot_offset F
       actor id me Waiting n tell x vs
-  recounts actor id n d s me tell x vs so none f at balance share owed same told =
+  recounts actor id n d s me tell x vs so none unput f at balance share owed same told =
       let v = me.0 in
       let w = with_obligation actor d (seeing s v) in
       let y : Place = record { row = write word_offset x.row Waiting n; slot = x.slot; ghost = x.ghost } in
@@ -166,12 +171,14 @@ module _ {H : Type 0} (is_of : ℕ → H → Type 0) (facts : H → HomeFacts) (
           valid = f.valid;
           claims = stays_locked (claim_for actor) x.ghost.holder vs id v w at refl f.claims;
           cell =
-              still_kept is_of facts actors actor x y refl refl refl refl refl refl refl x.ghost.holder f.cell;
+              still_kept is_of facts actors actor x y refl refl refl refl refl refl refl refl x.ghost.holder f.cell;
           lists = stays_locked (list_for actor) x.ghost.lent_to vs id v w at refl f.lists;
           list_place = still_shelved is_of facts actors actor x y refl refl refl refl x.ghost.lent_to f.list_place;
           ended = f.ended;
           listing = f.listing;
           named = f.named;
+          put = still_put actor x.ghost.pushed vs id v w at (λ q. none_in (put_in actor q s) (put_by actor q v) (unput q)) f.put;
+          was_pushed = f.was_pushed;
           balance = balance;
           claims_balance = still_claims actor x.ghost.holder x.ghost.holder vs id v w at refl refl refl f.claims_balance;
           held = still_held actor (x.row Status) (x.row Status) vs id v w at refl (λ one. one) f.held;
@@ -206,7 +213,7 @@ module _ {H : Type 0} (is_of : ℕ → H → Type 0) (facts : H → HomeFacts) (
       → RuledStep word_offset slot_offset F actor id me Waiting n tell x vs
   sends actor id n k me tell x vs f at share more told = recounts actor id n (record (obligation_to actor me.0) { sending = true })
       (Sent actor k) me tell x vs (λ
-      a y. tt) (λ a z. (if_else actor a k z, refl)) f at (balances_more actor k vs id me.0 (sending actor k me.0) at (x.row Waiting) n f.balance refl
+      a y. tt) (λ a z. (if_else actor a k z, refl, λ q. refl)) (λ q. refl) f at (balances_more actor k vs id me.0 (sending actor k me.0) at (x.row Waiting) n f.balance refl
       more) share (or_true (obligation_to actor me.0).message) refl told
 
   -- a seat takes back what it counted
@@ -214,7 +221,7 @@ module _ {H : Type 0} (is_of : ℕ → H → Type 0) (facts : H → HomeFacts) (
       is_some_item me.0.share ≡ true → (n + k) % 2 ^ 64 ≡ x.row Waiting % 2 ^ 64 → tell (unsending actor k me.0, me.1)
       → RuledStep word_offset slot_offset F actor id me Waiting n tell x vs
   unsends actor id n k me tell x vs f at share less told = recounts actor id n (record (obligation_to actor me.0) { message = true; sending = false }) (Unsent
-      actor k) me tell x vs (λ a y. tt) (λ a z. (refl, if_else actor a k z)) f at (balances_less actor k vs id me.0 (unsending actor k me.0) at
+      actor k) me tell x vs (λ a y. tt) (λ a z. (refl, if_else actor a k z, λ q. refl)) (λ q. refl) f at (balances_less actor k vs id me.0 (unsending actor k me.0) at
       (x.row
       Waiting) n f.balance (Unsent actor k) refl refl refl less) share refl refl told
 
@@ -237,12 +244,14 @@ module _ {H : Type 0} (is_of : ℕ → H → Type 0) (facts : H → HomeFacts) (
           valid = f.valid;
           claims = stays_locked (claim_for actor) x.ghost.holder vs id v w at refl f.claims;
           cell =
-              still_kept is_of facts actors actor x y refl refl refl refl refl refl refl x.ghost.holder f.cell;
+              still_kept is_of facts actors actor x y refl refl refl refl refl refl refl refl x.ghost.holder f.cell;
           lists = stays_locked (list_for actor) x.ghost.lent_to vs id v w at refl f.lists;
           list_place = still_shelved is_of facts actors actor x y refl refl refl refl x.ghost.lent_to f.list_place;
           ended = f.ended;
           listing = f.listing;
           named = f.named;
+          put = still_put actor x.ghost.pushed vs id v w at (λ q. none_more (put_by actor q v)) f.put;
+          was_pushed = f.was_pushed;
           balance = balances_less actor k vs id v w at (x.row Waiting) n f.balance s refl refl refl less;
           claims_balance = still_claims actor x.ghost.holder x.ghost.holder vs id v w at refl refl refl f.claims_balance;
           held = still_held actor (x.row Status) (x.row Status) vs id v w at refl (λ one. one) f.held;
@@ -260,7 +269,7 @@ module _ {H : Type 0} (is_of : ℕ → H → Type 0) (facts : H → HomeFacts) (
               }) f.seen;
         };
         others = λ a z y g. elsewhere is_of facts actors a y vs id v w at (seeing_elsewhere a s v (λ b q. tt)
-            (refl, if_else actor a k z)) g;
+            (refl, if_else actor a k z, λ q. refl)) g;
         tells = told;
       }
 
@@ -315,13 +324,13 @@ module _ {H : Type 0} (is_of : ℕ → H → Type 0) (facts : H → HomeFacts) (
     kept = x.ghost;
     is_able = tt;
     holds = load_here is_of facts actors actor x (set vs id v) name (views_change is_of facts actors actor x vs id v v at refl
-        refl (record { on = refl; off = refl; share = refl; got = refl; back = refl }) (λ _ p. p) (λ _ p. p)
+        refl (record { on = refl; off = refl; put = λ q. refl; share = refl; got = refl; back = refl }) (λ _ p. p) (λ _ p. p)
         (λ k. record { seen = k.seen; sent_system = k.sent_system }) (λ b p. p) f);
     others = λ a n y g. elsewhere is_of facts actors a y vs id v v at (record {
       claim = refl;
       list = refl;
       debt = refl;
-      account = record { on = refl; off = refl; share = refl; got = refl; back = refl };
+      account = record { on = refl; off = refl; put = λ q. refl; share = refl; got = refl; back = refl };
       vouches = λ b p. p;
       knows = λ _ k.
           record { seen = k.seen; sent_system = k.sent_system };
@@ -337,10 +346,10 @@ module _ {H : Type 0} (is_of : ℕ → H → Type 0) (facts : H → HomeFacts) (
         me.1,
       ) → RuledStep word_offset slot_offset F actor id me Waiting (x.row Waiting) tell x vs
   counts_as actor id me tell x vs true is f at told = finds actor id Waiting (record (obligation_to actor me.0) { message = false }) (Counted actor (x.row
-      Waiting)) me tell x vs (λ a y. tt) (λ a. (refl, refl)) f at
+      Waiting)) me tell x vs (λ a y. tt) (λ a. (refl, refl, λ q. refl)) f at
       (λ due. absurd (let zero : x.row Waiting ≡ 0 = eqb-true (x.row Waiting) 0 is in let z = due.1 in omega arith)) (λ _ p. p) told
   counts_as actor id me tell x vs false is f at told = sees actor id Waiting (Counted actor (x.row Waiting)) me tell x vs (λ a y. tt) (λ a.
-      (refl, refl)) f at told
+      (refl, refl, λ q. refl)) f at told
 
   -- a seat reads the waiting number
   pub counts : (actor id : ℕ) (me : M) (tell : M → Type 0) (x : Place) (vs : List View) → F actor x vs → get_elem? vs id ≡ some me.0 → tell
@@ -352,6 +361,6 @@ module _ {H : Type 0} (is_of : ℕ → H → Type 0) (facts : H → HomeFacts) (
   pub looks : (actor id : ℕ) (me : M) (b : Bool) (tell : M → Type 0) (x : Place) (vs : List View) → has_work x.ghost ≡ b → F actor x vs →
       get_elem? vs id ≡ some me.0 → tell (looking actor b me.0, me.1)
       → RuledStep word_offset slot_offset F actor id me Gate (x.row Gate) tell x vs
-  looks actor id me true tell x vs is f at told = sees actor id Gate (Looked actor true) me tell x vs (λ a y. tt) (λ a. (refl, refl)) f at told
+  looks actor id me true tell x vs is f at told = sees actor id Gate (Looked actor true) me tell x vs (λ a y. tt) (λ a. (refl, refl, λ q. refl)) f at told
   looks actor id me false tell x vs is f at told = finds actor id Gate (record (obligation_to actor me.0) { system = false }) (Looked actor false) me tell x
-      vs (λ a y. tt) (λ a. (refl, refl)) f at (λ _ p. p) (λ due. absurd (let no = due.1 in cc)) told
+      vs (λ a y. tt) (λ a. (refl, refl, λ q. refl)) f at (λ _ p. p) (λ due. absurd (let no = due.1 in cc)) told

@@ -13,6 +13,10 @@ use Rattle.mb_ghost.proofs.SharesLemmas.{alone, total_alone}
 use Rattle.mb_gate.specs.HomeFacts.{HomeFacts}
 use Rattle.mb_gate.specs.declared.slot.Slot.{Slot}
 use Rattle.mb_gate.specs.View.{View, Held, Lent}
+use Rattle.mb_msg.specs.declared.system.SysMsg.{SysMsg}
+use Rattle.mb_syslist.specs.MessageList.{numbered}
+use Rattle.mb_ghost.specs.Summed.{total}
+use Rattle.mb_gate.specs.PutIn.{put_by}
 use Rattle.mb_gate.specs.Waiting.{on_by, off_by}
 use Rattle.mb_gate.specs.ClaimCounts.{claims_got, claims_returned, claims_out, IsOwnBalance}
 use Rattle.mb_gate.specs.Rule.{Word, Status, Waiting, SlotName, Ghost, IsBare, lent_of, claim_for, list_for, Fact}
@@ -81,6 +85,11 @@ module _ {H : Type 0} (is_of : ℕ → H → Type 0) (facts : H → HomeFacts) (
       let on = total_alone (on_by actor) vs id v at (λ q u other there. (others_bare q u other there).on) in
       let off = total_alone (off_by actor) vs id v at (λ q u other there. ((others_bare q u other there).rest (unclaimed free q u there)).1) in
       ap (λ k. (x.row Waiting + k) % 2 ^ 64) (sym off) ∙ (f.balance ∙ ap (λ k. k % 2 ^ 64) on)
+
+  -- and all that was put into the list is what the seat itself put into it
+  pub own_put : x.ghost.holder ≡ None → (measure : ℕ × SysMsg → ℕ) → put_by actor measure v ≡ total measure (numbered 0 x.ghost.pushed)
+  own_put free q =
+      sym (total_alone (put_by actor q) vs id v at (λ p u other there. ((others_bare p u other there).rest (unclaimed free p u there)).2 q)) ∙ f.put q
 
   -- a closed actor was held by a claim that the seat itself got
   pub was_held : x.row Status ≡ 1 → 0 < claims_got actor v

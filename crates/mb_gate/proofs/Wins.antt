@@ -84,7 +84,7 @@ module _ {H : Type 0} (is_of : ℕ → H → Type 0) (facts : H → HomeFacts) (
       word = sym word i;
       gave = w.gave;
       given = (facts w.home).given;
-      drained = [];
+      drained = (facts w.home).drained;
     }));
     no_list = ap (λ (z : Me (Slot H) View). z.0.list) w.now ∙ no_list;
     share = ap (λ (z : Me (Slot H) View). is_some_item z.0.share) w.now ∙ share;
@@ -97,7 +97,7 @@ module _ {H : Type 0} (is_of : ℕ → H → Type 0) (facts : H → HomeFacts) (
   got seen claim after free is_seen bare status of none known carried rest =
       let same : w.home ≡ claim.home = home_same w.home claim.home (ap (λ (z : ℕ × Slot H). z.1) (head_same _ _ _ _ (sym (ap (λ (z : Me (Slot H)
       View). z.1) w.now) ∙ carried))) in
-      let all : claim_view claim ≡ claimed actor (facts w.home).journal (facts w.home).closed_to (found + 2) w.gave (facts w.home).given = known
+      let all : claim_view claim ≡ claimed actor (facts w.home).journal (facts w.home).closed_to (found + 2) w.gave (facts w.home).given (facts w.home).drained = known
       ∙ ap (λ (z : Me (Slot H) View). claim_alone z.0) w.now in
       let gave : gave_last claim ≡ w.gave = ap (λ v. (held_in v).gave) all in
       let word : found + 2 ≡ word_of (status_of claim) = ap (λ n. n + 2) is_seen
@@ -109,7 +109,7 @@ module _ {H : Type 0} (is_of : ℕ → H → Type 0) (facts : H → HomeFacts) (
         word = ap (λ h. word_of (facts h).mailbox) (sym same) ∙ (sym w.word ∙ is_seen);
         continues = subst (λ h. ExtendsSeen actor (facts h).journal m.0) same w.seen;
         rest = λ no. subst (λ (h : H). (facts h).no_backlog) same (w.rest (sym gave ∙ no));
-        known = all ∙ (λ i. claimed actor (facts (same i)).journal (facts (same i)).closed_to (word i) (sym gave i) (facts (same i)).given);
+        known = all ∙ (λ i. claimed actor (facts (same i)).journal (facts (same i)).closed_to (word i) (sym gave i) (facts (same i)).given (facts (same i)).drained);
         recorded = none;
         pass = rest ∙ (ap (λ (z : Me (Slot H) View). without_claim z.0) w.now ∙ (λ i. record (winning actor m.0) { claim = sym bare i }));
       }

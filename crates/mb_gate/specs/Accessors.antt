@@ -55,7 +55,7 @@ module _ {H : Type 0} where
   abbrev pub gave_last : Claim H → Bool
   gave_last claim = (held_in claim.seat.me.0).gave
 
-  -- What was drained since the claim was taken, with the numbers.
+  -- The messages, with their numbers, of which the home said when the claim was taken that the list gave them, and then what was drained since.
   abbrev pub drained_by : Claim H → List (ℕ × SysMsg)
   drained_by claim = (held_in claim.seat.me.0).drained
 

@@ -2,6 +2,7 @@
 use Rattle.std.specs.Prelude.{◌≡◌, ℕ, ◌%◌, ◌==◌, ◌⊎◌, Bool, true, false, ◌||◌, List, [], ◌∷◌, Option, Some, None}
 use Rattle.mb_journal.specs.Entry.{Entry}
 use Rattle.mb_status.specs.Mailbox.{Mailbox, word_of, idle}
+use Rattle.mb_msg.specs.declared.system.SysMsg.{SysMsg}
 use Rattle.atomic_table.specs.Table.{Me}
 use Rattle.mb_ghost.specs.Layout.{slot_at}
 use Rattle.mb_ghost.specs.Seen.{Each}
@@ -29,9 +30,9 @@ abbrev pub is_busy : ℕ → Bool
 is_busy word = word % 4 == 2 || word == 1
 
 -- The view of a claim that was just taken: of this actor, with this journal, these actors that its home says are closed, this status word, whether
--- the last drain gave something, and how many messages the list gave so far.
-abbrev pub claimed : ℕ → List Entry → List ℕ → ℕ → Bool → ℕ → View
-claimed actor journal shut word gave given =
+-- the last drain gave something, how many messages the list gave so far, and those of them of which the home says so.
+abbrev pub claimed : ℕ → List Entry → List ℕ → ℕ → Bool → ℕ → List (ℕ × SysMsg) → View
+claimed actor journal shut word gave given drained =
     record blank {
       claim = Some (record {
         actor = actor;
@@ -40,7 +41,7 @@ claimed actor journal shut word gave given =
         word = word;
         gave = gave;
         given = given;
-        drained = [];
+        drained = drained;
       });
     }
 
@@ -49,9 +50,10 @@ abbrev pub IsKnownClosed : ℕ → List ℕ → View → Type 0
 IsKnownClosed actor shut v = IsAmong actor shut ⊎ HasSeenClosed actor v
 
 module _ {H : Type 0} (is_of : ℕ → H → Type 0) (facts : H → HomeFacts) where
-  -- A seat has the claim of the actor with this status and carries its cell, which may go home: it is the actor's own, its journal goes
-  -- on from the one that was taken, its word is the one of the status; it knows how many its list gave; each actor that it says is closed
-  -- is known to be; and unless the actor is open and its last drain gave something, nothing is left beside it.
+  -- A seat has the claim of the actor with this status and carries its cell, which may go home: it is the actor's own, its journal goes on
+  -- from the one that was taken, its word is the one of the status; it knows how many its list gave, and each message that it says the list
+  -- gave is known to be given; each actor that it says is closed is known to be; and unless the actor is open and its last drain gave
+  -- something, nothing is left beside it.
   pub record IsReadyToRelease (actor : ℕ) (status : Mailbox) (me : Me (Slot H) View) : Type 0 where
     pub home : H
     pub carried : me.1 ≡ (slot_at actor 0, Home home) ∷ []
@@ -63,6 +65,7 @@ module _ {H : Type 0} (is_of : ℕ → H → Type 0) (facts : H → HomeFacts) w
     pub fold : word_of (facts home).mailbox ≡ word_of (idle status)
     pub count : (facts home).given ≡ (held_in me.0).given
     pub known_closed : Each (λ other. IsKnownClosed other (held_in me.0).closed_to me.0) (facts home).closed_to
+    pub drained : Each (λ m. IsAmong m (held_in me.0).drained) (facts home).drained
     pub rest : (status.closed ≡ true) ⊎ ((held_in me.0).gave ≡ false) → (facts home).no_backlog
     pub share : is_some_item me.0.share ≡ true
 

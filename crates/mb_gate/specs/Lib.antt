@@ -1,6 +1,7 @@
 pub mod HomeFacts
 pub mod View
 pub mod Waiting
+pub mod PutIn
 pub mod ClaimCounts
 pub mod NamedActors
 pub mod Untouched

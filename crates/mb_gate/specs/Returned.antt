@@ -16,7 +16,10 @@ use Rattle.mb_gate.specs.declared.slot.Slot.TheVariants.{Home, List as Listing}
 use Rattle.mb_gate.specs.declared.returned_actor.ReturnedActor.{ReturnedActor}
 use Rattle.mb_gate.specs.View.{View, Observation, Read, Saw, Counted, Looked, Sent, Unsent, Took, Pushed, Drained, Ended}
 use Rattle.mb_gate.specs.ClaimCounts.{claims_got, claims_returned}
-use Rattle.mb_gate.specs.Rule.{Word, Status, word_offset, SlotName, slot_offset, Ghost, Extends, IsAmong, Fact, is_some_item}
+use Rattle.mb_gate.specs.PutIn.{put_by}
+use Rattle.mb_ghost.specs.Summed.{total}
+use Rattle.mb_msg.specs.declared.system.SysMsg.{SysMsg}
+use Rattle.mb_gate.specs.Rule.{Word, Status, word_offset, SlotName, slot_offset, Ghost, Extends, IsAmong, WasPushed, all_numbered, Fact, is_some_item}
 
 -- By its words, the actor's cell and its list are in their slots: the actor is not scheduled, or it is closed and its flag is set; and the gate of
 -- its list is not locked.
@@ -68,8 +71,9 @@ module _ {H : Type 0} (is_of : ℕ → H → Type 0) (facts : H → HomeFacts) w
   IsReturned actor x v None = (x.ghost.holder ≢ None) ⊎ (x.ghost.lent_to ≢ None)
 
   -- of each actor, in a last state of the table that meets the rule, in which the pass has this view; and each actor of which a home that
-  -- is left says that it is closed is closed. A pass that has taken in all others knows which actors have no home left: those of which a
-  -- claim was got that was not given back.
+  -- is left says that it is closed is closed; and each message of which it says that its list gave it was put into this list, under this
+  -- number. A pass that has taken in all others knows which actors have no home left: those of which a claim was got that was not given
+  -- back. What it logs as put into the list of an actor whose home is left is all that was ever put into it.
   pub record AreReturned (actors : ℕ) (v : View) (all : List (Option (ReturnedActor H))) : Type 0 where
     pub state : State (Slot H) View
     pub rule : Ruled word_offset slot_offset actors (Fact is_of facts actors) state
@@ -83,3 +87,8 @@ module _ {H : Type 0} (is_of : ℕ → H → Type 0) (facts : H → HomeFacts) w
         actor v
     pub closed : (actor other : ℕ) (left : ReturnedActor H) → actor < actors → other < actors → slice_get all actor ≡ Some (Some left)
         → IsAmong other (facts left.home).closed_to → (spot_of word_offset slot_offset state rule.ghosts other).row Status ≡ 1
+    pub pushed : (actor : ℕ) (left : ReturnedActor H) → actor < actors → slice_get all actor ≡ Some (Some left)
+        → Each (WasPushed (spot_of word_offset slot_offset state rule.ghosts actor).ghost) (facts left.home).drained
+    pub put : IsWhole v.share → (actor : ℕ) (left : ReturnedActor H) → actor < actors → slice_get all actor ≡ Some (Some left)
+        → (measure : ℕ × SysMsg → ℕ)
+        → put_by actor measure v ≡ total measure (all_numbered (spot_of word_offset slot_offset state rule.ghosts actor).ghost)

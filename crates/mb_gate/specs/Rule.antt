@@ -38,6 +38,7 @@ use Rattle.mb_gate.specs.View.{View, Observation, Read, Saw, Counted, Looked, Se
 use Rattle.mb_ghost.specs.Summed.{total}
 use Rattle.mb_ghost.specs.Shares.{AreShares}
 use Rattle.mb_gate.specs.Waiting.{on_by, off_by, IsBalance}
+use Rattle.mb_gate.specs.PutIn.{put_by, IsAllPut}
 use Rattle.mb_gate.specs.ClaimCounts.{claims_got, claims_returned, claims_out}
 use Rattle.mb_gate.specs.NamedActors.{NamesBelow}
 use Rattle.mb_gate.specs.declared.slot.Slot.{Slot}
@@ -69,11 +70,13 @@ slot_offset CellSlot = 0
 slot_offset ListSlot = 1
 
 -- What is kept of an actor besides its words and slots: who has its claim; its journal, and the actors of which its home says that they are closed,
--- as they are in its slot, or were when its home was taken; who has its list; what is listed; whether the last drain gave something; and all messages that were ever listed, in order.
+-- as they are in its slot, or were when its home was taken; the messages of which its home says that its list gave them, or said so when it was taken,
+-- and those drained since; who has its list; what is listed; whether the last drain gave something; and all messages that were ever listed, in order.
 pub record Ghost : Type 0 where
   pub holder : Option (ℕ × Held)
   pub journal : List Entry
   pub closed_to : List ℕ
+  pub drained : List (ℕ × SysMsg)
   pub lent_to : Option (ℕ × Lent)
   pub listed : MessageList
   pub gave : Bool
@@ -113,12 +116,13 @@ abbrev pub list_for : ℕ → View → Option Lent
 list_for actor v = lent_of actor v.list
 
 -- What a seat without a share of the whole has of the actor: it got no claim, gave none back, and counted nothing as sent; and unless it has the
--- claim, it has not the list and counted nothing off.
+-- claim, it has not the list, counted nothing off, and put nothing into the list.
 pub record IsBare (actor : ℕ) (v : View) : Type 0 where
   pub got : claims_got actor v ≡ 0
   pub back : claims_returned actor v ≡ 0
   pub on : on_by actor v ≡ 0
   pub rest : claim_for actor v ≡ None → (list_for actor v ≡ None) × (off_by actor v ≡ 0)
+      × ((measure : ℕ × SysMsg → ℕ) → put_by actor measure v ≡ 0)
 
 -- Each seat that has no share of the whole has nothing of this actor but what its claim gives it.
 abbrev pub EachBare : ℕ → List View → Type 0
@@ -169,6 +173,10 @@ pub record IsPart {A : Type 0} (part items : List A) : Type 0 where
 abbrev pub all_numbered : Ghost → List (ℕ × SysMsg)
 all_numbered g = numbered 0 g.pushed
 
+-- This message was put into the list under this number.
+abbrev pub WasPushed : Ghost → ℕ × SysMsg → Type 0
+WasPushed g m = IsAmong m (all_numbered g)
+
 -- This observation holds. What was seen closed is closed; the journal extends each that was seen; what was put into the list, and what the list gave,
 -- has the numbers of the list; and a list that was ended is ended.
 abbrev pub ObservationHolds : {H : Type 0} → ℕ → Spot Word SlotName (Slot H) Ghost → Observation → Type 0
@@ -213,6 +221,7 @@ module _ {H : Type 0} (is_of : ℕ → H → Type 0) (facts : H → HomeFacts) w
     pub fold : (facts home).journal ≡ x.ghost.journal
     pub count : (facts home).given ≡ x.ghost.listed.given
     pub known_closed : (facts home).closed_to ≡ x.ghost.closed_to
+    pub drained : (facts home).drained ≡ x.ghost.drained
     pub word : x.row Status ≡ word_of (facts home).mailbox
     pub idle : (x.row Status % 4 ≡ 0) ⊎ (x.row Status ≡ 1)
     pub flag : x.row Flag ≡ (if x.row Status == 1 then 1 else 0)
@@ -223,6 +232,7 @@ module _ {H : Type 0} (is_of : ℕ → H → Type 0) (facts : H → HomeFacts) w
     pub of_actor : claim.actor ≡ actor
     pub taken : claim.journal ≡ x.ghost.journal
     pub known_closed : claim.closed_to ≡ x.ghost.closed_to
+    pub drained : claim.drained ≡ x.ghost.drained
     pub count : claim.given ≡ x.ghost.listed.given
     pub gave : claim.gave ≡ x.ghost.gave
     pub word : x.row Status ≡ claim.word
@@ -252,7 +262,8 @@ module _ {H : Type 0} (is_of : ℕ → H → Type 0) (facts : H → HomeFacts) w
   ListPlace x (Some k) = IsListOut x k.1
 
   -- All that holds of one actor among so many: who has its cell, who has its list, how many are counted as waiting, what is owed and what
-  -- was seen; who is closed was held; what is listed names actors alone; and of each actor that its home says is closed some seat has seen it.
+  -- was seen; who is closed was held; what is listed names actors alone; what was put into the list is what all seats log so; each message that its home says its list gave was put into the list,
+  -- under this number; and of each actor that its home says is closed some seat has seen it.
   pub record Fact (actors actor : ℕ) (x : Spot Word SlotName (Slot H) Ghost) (vs : List View) : Type 0 where
     pub valid : IsTrue (is_valid (x.row Status))
     pub claims : Locked (claim_for actor) x.ghost.holder vs
@@ -262,6 +273,8 @@ module _ {H : Type 0} (is_of : ℕ → H → Type 0) (facts : H → HomeFacts) w
     pub ended : IsTrue x.ghost.listed.closed → x.row Status ≡ 1
     pub listing : IsListing x.ghost.pushed x.ghost.listed
     pub named : All (NamesBelow actors) x.ghost.listed.messages
+    pub put : IsAllPut actor x.ghost.pushed vs
+    pub was_pushed : Each (WasPushed x.ghost) x.ghost.drained
     pub balance : IsBalance actor (x.row Waiting) vs
     pub claims_balance : ClaimsBalance actor x.ghost.holder vs
     pub held : WasHeld actor (x.row Status) vs

@@ -42,6 +42,7 @@ module _ {H : Type 0} where
     pub of_actor : is_of actor h
     pub none_given : (facts h).given ≡ 0
     pub none_closed : (facts h).closed_to ≡ []
+    pub none_drained : (facts h).drained ≡ []
     pub possible : IsTrue (is_possible (facts h).mailbox)
     pub free : IsFree (facts h).mailbox
     pub rest : (facts h).no_backlog

@@ -1,6 +1,6 @@
 -- What each step at the gates tells the seat that makes it. (The steps are those of `akka.dispatch.Mailbox` and its `SystemMessageQueue`; what a seat
 -- knows is this project's own profile.) A step does not know its actor, so the actor is found by the place of the word.
-use Rattle.std.specs.Prelude.{◌≡◌, ◌≢◌, ◌⊎◌, ℕ, ◌+◌, ◌*◌, ◌%◌, ◌<◌, Bool, false, IsTrue, List, [], ◌∷◌, Some, None, All}
+use Rattle.std.specs.Prelude.{◌≡◌, ◌≢◌, ◌⊎◌, ℕ, ◌+◌, ◌*◌, ◌%◌, ◌<◌, Bool, true, false, IsTrue, List, [], ◌∷◌, Some, None, All}
 use mathlib.Core.Option.{some}
 use Rattle.atomic_table.specs.Table.{Me, Step, rest}
 use Rattle.std.specs.declared.snapshot.Snapshot.{Snapshot}
@@ -174,10 +174,10 @@ module _ {H : Type 0} where
       × (m.1 ≡ (slot_at l.actor 1, Listing (ended l.listed)) ∷ rest m.1)
 
   -- The holder read the gate's word. Where it shows that nothing is listed and that the last drain gave nothing, this counts as a drain that gives
-  -- nothing.
+  -- nothing; else as a look that found work. (A list that is out counts as work too, since a message may be on its way into it.)
   abbrev pub ChecksDrained : Step (Slot H) → Me (Slot H) View → ℕ → Me (Slot H) View → Type 0
   ChecksDrained st m found m' = (actor : ℕ) (c : Held) → st.word ≡ word_at actor 9 → m.0.claim ≡ Some c → c.actor ≡ actor → m.0.list ≡ None
-      → (found % 8 ≡ 0 → m' ≡ (draining actor [] false m.0, m.1)) × (found % 8 ≢ 0 → m' ≡ m)
+      → (found % 8 ≡ 0 → m' ≡ (draining actor [] false m.0, m.1)) × (found % 8 ≢ 0 → m' ≡ (looking actor true m.0, m.1))
 
 module _ {H : Type 0} (is_of : ℕ → H → Type 0) (facts : H → HomeFacts) where
   -- The actor was scheduled by an exchange that found this word, and its cell was taken: it is the actor's own, its journal goes on
@@ -190,7 +190,7 @@ module _ {H : Type 0} (is_of : ℕ → H → Type 0) (facts : H → HomeFacts) w
     pub gave : Bool
     pub rest : gave ≡ false → (facts home).no_backlog
     pub seen : ExtendsSeen actor (facts home).journal m.0
-    pub now : m' ≡ (taking actor (facts home).journal (facts home).closed_to found gave (facts home).given m.0, (slot_at actor 0, Home home) ∷ m.1)
+    pub now : m' ≡ (taking actor (facts home).journal (facts home).closed_to found gave (facts home).given (facts home).drained m.0, (slot_at actor 0, Home home) ∷ m.1)
 
 module _ {H : Type 0} (is_of : H → ℕ → H → Type 0) (facts : H → HomeFacts) where
   -- a step that knows the first home tried to schedule an actor

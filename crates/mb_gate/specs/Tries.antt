@@ -34,7 +34,7 @@ pub record WonClaim {H : Type 0} (facts : H → HomeFacts) (actor : ℕ) (status
     word = word_of status;
     gave = gave;
     given = (facts home).given;
-    drained = [];
+    drained = (facts home).drained;
   })
   pub no_list : me.0.list ≡ None
   pub share : is_some_item me.0.share ≡ true
@@ -57,7 +57,7 @@ module _ {H : Type 0} (is_of : ℕ → H → Type 0) (facts : H → HomeFacts) (
     pub continues : ExtendsSeen actor (facts claim.home).journal before
     pub rest : gave_last claim ≡ false → (facts claim.home).no_backlog
     pub known : claim_view claim ≡ claimed actor (facts claim.home).journal (facts claim.home).closed_to (word_of (status_of claim)) (gave_last claim)
-        (facts claim.home).given
+        (facts claim.home).given (facts claim.home).drained
     pub recorded : recorded_by claim ≡ []
     pub pass : after ≡ winning actor before
 

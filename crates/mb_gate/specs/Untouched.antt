@@ -36,5 +36,5 @@ module _ {H : Type 0} (is_of : H → ℕ → H → Type 0) (facts : H → HomeFa
     pub rest : gave_last claim ≡ false → (facts claim.home).no_backlog
     pub known : claim_view claim ≡ claimed (held_actor claim) (facts claim.home).journal (facts claim.home).closed_to (word_of (status_of claim))
         (gave_last claim)
-        (facts claim.home).given
+        (facts claim.home).given (facts claim.home).drained
     pub recorded : recorded_by claim ≡ []

@@ -11,9 +11,9 @@ use Rattle.mb_core.specs.Run.{after_reading}
 use Rattle.mb_ghost.specs.Shares.{halved, half_of}
 
 -- One thing that a seat saw or did at an actor, whose number stands first. It read the status word; it saw the journal; it read how many envelopes
--- are counted as waiting; it read the list's gate, which showed system work or none; it counted so many envelopes as waiting, took so many back that
--- were refused, or counted so many as taken; it put a message last into the list, under this number; it drained the list, which gave these numbered
--- messages; or it ended the list, which gave these.
+-- are counted as waiting; it read the list's gate, which showed system work or none (to the actor's holder, a list that is out is work too); it counted
+-- so many envelopes as waiting, took so many back that were refused, or counted so many as taken; it put a message last into the list, under this
+-- number; it drained the list, which gave these numbered messages; or it ended the list, which gave these.
 pub data Observation : Type 0 where
   Read : ℕ → ℕ → Observation
   Saw : ℕ → List Entry → Observation
@@ -27,8 +27,8 @@ pub data Observation : Type 0 where
   Ended : ℕ → List (ℕ × SysMsg) → Observation
 
 -- A claim: its actor; the journal with which it was taken; the actors of which the home said then that they are closed; the status word as it knows
--- it; whether the last drain of the actor's list gave something; how many messages that list gave so far, modulo 2^64; and all that was drained since
--- the claim was taken, with the numbers.
+-- it; whether the last drain of the actor's list gave something; how many messages that list gave so far, modulo 2^64; and those of them, with their
+-- numbers, of which the home said so then, followed by all that was drained since.
 pub record Held : Type 0 where
   pub actor : ℕ
   pub journal : List Entry
@@ -97,8 +97,8 @@ abbrev pub reading_held : ℕ → ℕ → View → View
 reading_held actor word v = seeing (Read actor word) v
 
 -- The view after it scheduled the actor by an exchange that found this word, and took the cell.
-abbrev pub taking : ℕ → List Entry → List ℕ → ℕ → Bool → ℕ → View → View
-taking actor journal shut word gave given v =
+abbrev pub taking : ℕ → List Entry → List ℕ → ℕ → Bool → ℕ → List (ℕ × SysMsg) → View → View
+taking actor journal shut word gave given drained v =
     with_obligation actor nothing (record v {
       claim = Some (record {
         actor = actor;
@@ -107,7 +107,7 @@ taking actor journal shut word gave given v =
         word = word + 2;
         gave = gave;
         given = given;
-        drained = [];
+        drained = drained;
       });
       got = actor ∷ v.got;
     })
@@ -124,12 +124,13 @@ claim_alone v = record blank { claim = v.claim }
 abbrev pub without_claim : View → View
 without_claim v = record v { claim = None }
 
--- The observations without those of what was counted, which are one seat's own.
+-- The observations without those of what was counted or put into lists, which are one seat's own.
 abbrev pub without_counts : List Observation → List Observation
 without_counts [] = []
 without_counts (Sent a n ∷ log) = without_counts log
 without_counts (Unsent a n ∷ log) = without_counts log
 without_counts (Took a n ∷ log) = without_counts log
+without_counts (Pushed a n m ∷ log) = without_counts log
 without_counts (s ∷ log) = s ∷ without_counts log
 
 -- What a second pass knows and owes, with a half of a part of the share.

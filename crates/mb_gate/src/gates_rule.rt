@@ -133,7 +133,7 @@ impl<H> Play<Slot<H>, SeatView> for End {
 }
 
 /// The holder's load of its list's gate. Where nothing is listed and the last drain gave nothing, this counts as a drain that
-/// gives nothing.
+/// gives nothing, else as a look that found work.
 pub struct CheckDrained;
 
 impl<H> Play<Slot<H>, SeatView> for CheckDrained {

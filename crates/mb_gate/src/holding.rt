@@ -5,11 +5,12 @@ ghost use Rattle.mb_ghost.specs.Layout.{slot_at};
 ghost use Rattle.mb_gate.specs.View.{idling, taking_in, writing};
 ghost use Rattle.mb_gate.specs.TableSteps.{IsHolderChange};
 ghost use Rattle.mb_gate.specs.Claims.{is_busy, IsReadyToRelease, Idled, IsKnownClosed};
-ghost use Rattle.mb_gate.specs.Rule.{Extends, is_some_item};
+ghost use Rattle.mb_gate.specs.Rule.{Extends, IsAmong, is_some_item};
 ghost use Rattle.mb_gate.specs.SentSystem.{HasSentDueSince};
 ghost use Rattle.mb_ghost.specs.Seen.{Each};
 ghost use Rattle.mb_gate.specs.Accessors.{gates_id, pass_id, claim_id, actors_of, first_home, pass_view};
-ghost use Rattle.mb_gate.specs.Accessors.{claim_view, held_actor, status_of, taken_with, closed_with, gave_last, given_to, recorded_by, SameTaken};
+ghost use Rattle.mb_gate.specs.Accessors.{claim_view, held_actor, status_of, taken_with, closed_with, gave_last, given_to};
+ghost use Rattle.mb_gate.specs.Accessors.{drained_by, recorded_by, SameTaken};
 ghost use Rattle.mb_gate.specs.declared.slot.Slot.TheVariants.{Empty, Home};
 
 use crate::claim::Claim;
@@ -104,9 +105,10 @@ impl<H: MailboxState> Gates<H> {
     /// Gives the claim's cell back (`Mailbox.setAsIdle`). An open actor can then be scheduled again, a closed one never.
     ///
     /// What it asks for: the cell is the actor's own; its journal extends the one that was taken; its status is the word of its
-    /// journal; it knows how many messages the list gave; each actor that it says is closed is known to be; the new journal
-    /// entries have had their system messages sent; and, unless the actor is open and its last drain gave something, nothing is
-    /// left beside the cell. Afterwards the pass has seen the journal, and owes the actor a look at both its queues.
+    /// journal; it knows how many messages the list gave, and each that it says the list gave is one that the list gave; each
+    /// actor that it says is closed is known to be; the new journal entries have had their system messages sent; and, unless
+    /// the actor is open and its last drain gave something, nothing is left beside the cell. Afterwards the pass has seen the
+    /// journal, and owes the actor a look at both its queues.
     pub fn release(&self, claim: Claim<H>, pass: &mut Pass<H>)
         requires same_gates { (claim_id claim ≡ gates_id self.now) × (pass_id pass.old ≡ gates_id self.now) }
         requires present { held_actor claim < actors_of self.now }
@@ -116,6 +118,7 @@ impl<H: MailboxState> Gates<H> {
         requires count { (H.facts claim.home).given ≡ given_to claim }
         requires known_closed { Each (λ other. IsKnownClosed other (closed_with claim) (taking_in (claim_view claim) (pass_view pass.old)))
             (H.facts claim.home).closed_to }
+        requires drained { Each (λ m. IsAmong m (drained_by claim)) (H.facts claim.home).drained }
         requires told { HasSentDueSince (H.who claim.home) (held_actor claim) (status_of claim).closed (H.facts claim.home).journal
             (taken_with claim) (recorded_by claim) }
         requires rest { ((status_of claim).closed ≡ true) ⊎ (gave_last claim ≡ false) → (H.facts claim.home).no_backlog }

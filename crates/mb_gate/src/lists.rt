@@ -5,7 +5,7 @@ ghost use Rattle.atomic_table.specs.Table.{rest};
 ghost use Rattle.mb_syslist.specs.MessageList.{MessageList};
 ghost use Rattle.mb_ghost.specs.Layout.{slot_at};
 ghost use Rattle.mb_gate.specs.declared.slot.Slot.TheVariants.{Empty, List};
-ghost use Rattle.mb_gate.specs.View.{enlisting, refusing, draining, ending, given_after};
+ghost use Rattle.mb_gate.specs.View.{enlisting, refusing, draining, ending, looking, given_after};
 ghost use Rattle.mb_gate.specs.Rule.{is_some_item};
 ghost use Rattle.mb_gate.specs.Claims.{held_in};
 ghost use Rattle.mb_gate.specs.NamedActors.{NamesBelow, EachNamesBelow};
@@ -14,7 +14,7 @@ ghost use Rattle.mb_gate.specs.Lists.{IsLentBy, IsOut, HasClaim, IsNumberedFrom,
 ghost use Rattle.mb_gate.specs.ListWord.{is_locked, is_ended};
 ghost use Rattle.mb_gate.specs.Accessors.{gates_id, pass_id, claim_id, actors_of, pass_view};
 ghost use Rattle.mb_gate.specs.Accessors.{claim_view, held_actor, status_of, taken_with, closed_with, gave_last, given_to};
-ghost use Rattle.mb_gate.specs.Accessors.{drained_by, recorded_by, IsRecorded};
+ghost use Rattle.mb_gate.specs.Accessors.{drained_by, recorded_by, IsRecorded, SameTaken};
 
 use crate::claim::Claim;
 use crate::gates::Gates;
@@ -224,14 +224,14 @@ impl<H: MailboxState> Gates<H> {
     }
 
     // Whether nothing is listed and the last drain gave nothing, by the gate's word: then this load counts as a drain that
-    // gives nothing.
+    // gives nothing, else as a look that found work.
     fn is_drained(&self, seat: &mut Seat<Slot<H>, SeatView>, id: ActorId) -> bool
         requires same_gates { seat.old.table_id ≡ gates_id self.now }
         requires present { id.0 < actors_of self.now }
         requires holder { HasClaim id.0 seat.old.me }
         requires no_list { seat.old.me.0.list ≡ None }
         ensures same_gates { seat.new.table_id ≡ seat.old.table_id }
-        ensures answer { seat.new.me ≡ (if result then (draining id.0 [] false seat.old.me.0, seat.old.me.1) else seat.old.me) }
+        ensures known { seat.new.me ≡ (if result then (draining id.0 [] false seat.old.me.0, seat.old.me.1) else (looking id.0 true seat.old.me.0, seat.old.me.1)) }
     {
         let gate = word_index(id, GATE);
         let bits = self.table.shared.load::<CheckDrained>(seat, gate);
@@ -289,30 +289,30 @@ impl<H: MailboxState> Gates<H> {
         chain
     }
 
-    /// Whether nothing is listed of the claim's actor and the last drain gave nothing: then this one load counts as a drain
-    /// that gives nothing, as by `sys_drain`. Else nothing changes (`systemQueue` that is empty). It waits for nobody.
+    /// Whether nothing is listed of the claim's actor and the last drain gave nothing (`systemQueue` that is empty). It is one
+    /// load, and answers by what that shows: the load counts as a drain that gives nothing, as by `sys_drain`, or stands in
+    /// what the claim saw as a look that found work. A list that is out counts as work too. It waits for nobody.
     #[inline]
     pub fn sys_is_drained(&self, claim: &mut Claim<H>) -> bool
         requires same_gates { claim_id claim.old ≡ gates_id self.now }
         requires present { held_actor claim.old < actors_of self.now }
         ensures same_gates { (claim_id claim.new ≡ claim_id claim.old) × (held_actor claim.new ≡ held_actor claim.old) }
         ensures known { result ≡ true → claim_view claim.new ≡ draining (held_actor claim.old) [] false (claim_view claim.old) }
+        ensures looked { result ≡ false → claim_view claim.new ≡ looking (held_actor claim.old) true (claim_view claim.old) }
         ensures same { (status_of claim.new ≡ status_of claim.old) × (claim.new.home ≡ claim.old.home) }
         ensures taken { (taken_with claim.new ≡ taken_with claim.old) × (closed_with claim.new ≡ closed_with claim.old) }
         ensures recorded { recorded_by claim.new ≡ recorded_by claim.old }
         ensures given { result ≡ true → given_to claim.new ≡ given_after (given_to claim.old) [] }
         ensures gave { result ≡ true → gave_last claim.new ≡ false }
         ensures drained { result ≡ true → drained_by claim.new ≡ drained_by claim.old ++ [] }
-        ensures unchanged { result ≡ false → (claim_view claim.new ≡ claim_view claim.old) × (gave_last claim.new ≡ gave_last claim.old)
-            × (given_to claim.new ≡ given_to claim.old) × (drained_by claim.new ≡ drained_by claim.old) }
+        ensures unchanged { result ≡ false → SameTaken claim.old claim.new }
     {
         self.is_drained(&mut claim.seat, claim.actor)
     }
 
     /// Takes all system messages that are listed out of the list of the claim's actor, the earliest first, with their numbers,
     /// which go on from how many were given before (`systemDrain`). Each names actors of these gates alone. It takes no memory,
-    /// and may wait for the list's gate. Where nothing is listed and the last drain gave nothing, it is one load.
-    #[inline]
+    /// and may wait for the list's gate. `sys_is_drained` says first, in one load, whether there is anything to drain.
     pub fn sys_drain<R: Wait>(&self, rt: &R, claim: &mut Claim<H>) -> Chain
         requires same_gates { claim_id claim.old ≡ gates_id self.now }
         requires present { held_actor claim.old < actors_of self.now }
@@ -327,32 +327,8 @@ impl<H: MailboxState> Gates<H> {
         ensures gave { gave_last claim.new ≡ is_some_item result }
         ensures drained { drained_by claim.new ≡ drained_by claim.old ++ result }
     {
-        if self.is_drained(&mut claim.seat, claim.actor) {
-            return Chain::new();
-        }
-        self.drain_listed(rt, &mut claim.seat, claim.actor)
-    }
-
-    // Takes the list out, and all out of it. It is a function of its own, so that a drain of an empty list stays short where it
-    // is called.
-    #[inline(never)]
-    fn drain_listed<R: Wait>(
-        &self,
-        rt: &R,
-        seat: &mut Seat<Slot<H>, SeatView>,
-        id: ActorId,
-    ) -> Chain
-        requires same_gates { seat.old.table_id ≡ gates_id self.now }
-        requires present { id.0 < actors_of self.now }
-        requires no_list { seat.old.me.0.list ≡ None }
-        requires holder { HasClaim id.0 seat.old.me }
-        ensures same_gates { seat.new.table_id ≡ seat.old.table_id }
-        ensures drained { seat.new.me ≡ (draining id.0 result (is_some_item result) seat.old.me.0, seat.old.me.1) }
-        ensures numbers { IsNumberedFrom (held_in seat.old.me.0).given result }
-        ensures named { EachNamesBelow (actors_of self.now) result }
-    {
-        let (word, list) = self.lock_list(rt, seat, id);
-        self.drain_list(seat, id, word, list)
+        let (word, list) = self.lock_list(rt, &mut claim.seat, claim.actor);
+        self.drain_list(&mut claim.seat, claim.actor, word, list)
     }
 
     /// Takes out all that is listed, as `sys_drain` does, and ends the list for good (`systemDrain` that leaves no list). The

@@ -12,8 +12,8 @@ pub trait MailboxState: Drop {
     ghost is_of: { Self → ℕ → Self → Type 0 };
     // who the cell's actor is
     ghost who: { Self → Identity };
-    // its journal, the mailbox that the journal says, whether nothing is left beside the cell, how many system messages its list gave, and
-    // which actors it says are closed
+    // its journal, the mailbox that the journal says, whether nothing is left beside the cell, how many system messages its list gave, which
+    // of these it still knows, and which actors it says are closed
     ghost facts: { Self → HomeFacts };
 
     /// The status that the journal says.

@@ -2,6 +2,7 @@ pub mod CarryLemmas
 pub mod CountLemmas
 pub mod Crossing
 pub mod DrainLemmas
+pub mod DrainedLemmas
 pub mod EndLaw
 pub mod FoldLaw
 pub mod GivenLemmas

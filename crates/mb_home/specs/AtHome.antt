@@ -1,13 +1,15 @@
 -- When a home may lie in its actor's slot, and what it says of the actor there.
-use Rattle.std.specs.Prelude.{◌≡◌, ℕ, ◌+◌, ◌%◌, ◌^◌, false, List, [], ◌∷◌, length}
+use Rattle.std.specs.Prelude.{◌≡◌, ℕ, ◌+◌, ◌%◌, ◌^◌, false, List, [], ◌∷◌, ◌++◌, length}
 use Rattle.std.specs.List.{flat_map}
 use Rattle.mb_msg.specs.declared.dead_letter.DeadLetter.{DeadLetter}
 use Rattle.mb_msg.specs.declared.dead_letter.Why.{Why}
 use Rattle.mb_msg.specs.declared.dead_letter.Why.TheVariants as why
+use Rattle.mb_msg.specs.declared.system.SysMsg.{SysMsg}
 use Rattle.mb_status.specs.Mailbox.{Mailbox}
 use Rattle.mb_actor.specs.Behaviour.{Moment, Reply}
 use Rattle.mb_journal.specs.Aside.{next_number}
 use Rattle.mb_journal.specs.Entry.{Entry}
+use Rattle.mb_journal.specs.Entry.Entry.{Handled, System, Dropped}
 use Rattle.mb_journal.specs.Identity.{Identity}
 use Rattle.mb_journal.specs.Life.{closed}
 use Rattle.mb_journal.specs.Suspension.{count}
@@ -34,6 +36,17 @@ mailbox_at who journal = record { closed = closed who journal; scheduled = false
 abbrev pub given_of : Contents → ℕ
 given_of h = (next_number h.cell.journal + h.dropped + length h.rest) % 2 ^ 64
 
+-- The system messages that have these entries, each with its number: one that was set aside and applied later stands twice.
+abbrev pub system_entries : List Entry → List (ℕ × SysMsg)
+system_entries [] = []
+system_entries (System number message outcome ∷ before) = (number, message) ∷ system_entries before
+system_entries (Handled envelope reading outcome ∷ before) = system_entries before
+system_entries (Dropped envelope ∷ before) = system_entries before
+
+-- The system messages of which the home says that the actor's list gave them: those that have an entry, and those left beside the cell.
+abbrev pub drained_of : Contents → List (ℕ × SysMsg)
+drained_of h = system_entries h.cell.journal ++ h.rest
+
 -- The receiver of a dead letter that says that its receiver is closed.
 abbrev pub receiver_if_closed : Why → ℕ → List ℕ
 receiver_if_closed why.Closed to = to ∷ []
@@ -52,5 +65,6 @@ facts_of h = record {
   mailbox = mailbox_at h.cell.who h.cell.journal;
   no_backlog = HasNoBacklog h;
   given = given_of h;
+  drained = drained_of h;
   closed_to = closed_receivers h.dead;
 }

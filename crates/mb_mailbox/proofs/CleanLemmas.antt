@@ -1,5 +1,5 @@
 -- How a clean-up changes a run, step by step.
-use Rattle.std.proofs.Common.{◌≡◌, ◌⊎◌, ℕ, suc, ◌+◌, ◌%◌, ◌^◌, true, List, ◌∷◌, length, Option, Some, None}
+use Rattle.std.proofs.Common.{◌≡◌, ◌⊎◌, ℕ, suc, ◌+◌, ◌%◌, ◌^◌, true, List, ◌∷◌, ◌++◌, length, Option, Some, None}
 use Rattle.std.proofs.Common.{refl, sym, ap, ◌∙◌, subst, arith}
 use Rattle.std.proofs.Math.Nat.{mod-add-mod}
 use Rattle.std.specs.Global.{Box}
@@ -12,7 +12,7 @@ use Rattle.mb_journal.specs.Life.{closed}
 use Rattle.mb_cell.specs.CellView.{CellView}
 use Rattle.mb_ghost.specs.Summed.{total}
 use Rattle.mb_gate.specs.declared.claim.Claim.{Claim}
-use Rattle.mb_gate.specs.Accessors.{claim_id, claim_view, held_actor, status_of, taken_with, closed_with, gave_last, given_to, recorded_by}
+use Rattle.mb_gate.specs.Accessors.{claim_id, claim_view, held_actor, status_of, taken_with, closed_with, gave_last, given_to, drained_by, recorded_by}
 use Rattle.mb_gate.specs.Accessors.{IsRecorded, SameTaken}
 use Rattle.mb_gate.specs.SentSystem.{notice}
 use Rattle.mb_gate.specs.Untouched.{Origin}
@@ -147,9 +147,14 @@ module _ (c new : Claim (Box Contents)) (ours : (claim_id new ≡ claim_id c) ×
 module _ (c new : Claim (Box Contents)) (ours : (claim_id new ≡ claim_id c) × (held_actor new ≡ held_actor c))
     (same : (status_of new ≡ status_of c) × (new.home ≡ c.home)) (taken : (taken_with new ≡ taken_with c) × (closed_with new ≡ closed_with c))
     (recorded : recorded_by new ≡ recorded_by c) (result : List (ℕ × SysMsg)) (given : given_to new ≡ given_after (given_to c) result)
-    (known : claim_view new ≡ ending (held_actor c) result (gave_last c) (claim_view c)) (gave : gave_last new ≡ gave_last c) where
-  hold-end : run_state new ≡ record (run_state c) { given = given_after (given_to c) result; log = Ended (held_actor c) result ∷ (claim_view c).log }
-  hold-end = hold-ended c new ours same.1 same.0 taken recorded result given (held_actor c) (gave_last c) known gave
+    (known : claim_view new ≡ ending (held_actor c) result (gave_last c) (claim_view c)) (gave : gave_last new ≡ gave_last c)
+    (drained : drained_by new ≡ drained_by c ++ result) where
+  hold-end : run_state new ≡ record (run_state c) {
+    given = given_after (given_to c) result;
+    drained = drained_by c ++ result;
+    log = Ended (held_actor c) result ∷ (claim_view c).log;
+  }
+  hold-end = hold-ended c new ours same.1 same.0 taken recorded result given drained (held_actor c) (gave_last c) known gave
 
   pub keeps-ended : KeepsJournal (run_state c) (run_state new)
   keeps-ended =

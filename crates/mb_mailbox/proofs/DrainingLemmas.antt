@@ -10,7 +10,7 @@ use Rattle.mb_ghost.specs.Summed.{total}
 use Rattle.mb_gate.specs.declared.claim.Claim.{Claim}
 use Rattle.mb_gate.specs.Lists.{IsNumberedFrom}
 use Rattle.mb_gate.specs.NamedActors.{EachNamesBelow}
-use Rattle.mb_gate.specs.Accessors.{claim_id, claim_view, held_actor, status_of, taken_with, closed_with, gave_last, given_to, recorded_by}
+use Rattle.mb_gate.specs.Accessors.{claim_id, claim_view, held_actor, status_of, taken_with, closed_with, gave_last, given_to, drained_by, recorded_by}
 use Rattle.mb_gate.specs.Rule.{is_some_item}
 use Rattle.mb_gate.specs.Untouched.{Origin}
 use Rattle.mb_gate.specs.View.{Observation, Drained, draining, given_after}
@@ -28,7 +28,7 @@ use Rattle.mb_mailbox.proofs.CountLemmas.{counted-still}
 use Rattle.mb_mailbox.proofs.EmptiedLemmas.{takes-same}
 use Rattle.mb_mailbox.proofs.RunStateLemmas.{hold-drained}
 use Rattle.mb_mailbox.proofs.RunSendsLemmas.{sends-none, takes-in-open}
-use Rattle.mb_mailbox.proofs.RunningSteps.{running-drained, running-kept}
+use Rattle.mb_mailbox.proofs.RunningSteps.{given-among, running-drained, running-kept}
 use Rattle.mb_mailbox.proofs.TellingLemmas.{settled-here}
 
 -- a home that keeps nothing, where nothing was drained, keeps that
@@ -43,16 +43,18 @@ module _ (c mid : Claim (Box Contents)) (ours : (claim_id mid ≡ claim_id c) ×
     (same : (status_of mid ≡ status_of c) × (mid.home ≡ c.home)) (taken : (taken_with mid ≡ taken_with c) × (closed_with mid ≡ closed_with c))
     (recorded : recorded_by mid ≡ recorded_by c) (result : List (ℕ × SysMsg)) (given : given_to mid ≡ given_after (given_to c) result)
     (known : claim_view mid ≡ draining (held_actor c) result (is_some_item result) (claim_view c)) (gave : gave_last mid ≡ is_some_item result)
+    (drained : drained_by mid ≡ drained_by c ++ result)
     (new : Contents) (kept : new ≡ record mid.home.value { rest = result }) where
   abbrev drained_hold : RunState
   drained_hold = record (run_state c) {
     gave = is_some_item result;
     given = given_after (given_to c) result;
+    drained = drained_by c ++ result;
     log = Drained (held_actor c) result ∷ (claim_view c).log;
   }
 
   hold-drain : run_state mid ≡ drained_hold
-  hold-drain = hold-drained c mid ours same.1 same.0 taken recorded result given (held_actor c) (is_some_item result) known gave
+  hold-drain = hold-drained c mid ours same.1 same.0 taken recorded result given drained (held_actor c) (is_some_item result) known gave
 
   kept_here : new ≡ record c.home.value { rest = result }
   kept_here = kept ∙ ap (λ (b : Box Contents). record b.value { rest = result }) same.1
@@ -124,4 +126,5 @@ module _ (c mid : Claim (Box Contents)) (ours : (claim_id mid ≡ claim_id c) ×
       subst (λ (x : RunState). IsRunning gives origin [] seen (record x { home = new })) (sym hold-drain)
       (running-kept gives origin seen drained_hold [] new result
       (running-drained gives origin seen (run_state c) [] (is_some_item result) (given_after (given_to c) result) result r) kept_here
-      (subst (λ l. AgreesWithJournal (gives (held_actor c)) l new) none (settled-here gives (held_actor c) c.home.value new r.number cell settled)) named)
+      (subst (λ l. AgreesWithJournal (gives (held_actor c)) l new) none (settled-here gives (held_actor c) c.home.value new r.number cell settled))
+      (given-among (drained_by c) result) named)

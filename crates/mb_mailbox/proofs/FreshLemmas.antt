@@ -16,8 +16,8 @@ use Rattle.mb_gate.specs.Accessors.{claim_id, held_actor, claim_view, status_of,
 use Rattle.mb_gate.specs.Rule.{IsAmong}
 use Rattle.mb_gate.specs.Untouched.{Origin}
 use Rattle.mb_gate.specs.View.{View, Observation}
-use Rattle.mb_gate.proofs.Numbers.{among_first, among_more}
-use Rattle.mb_home.specs.AtHome.{closed_receivers, given_of, mailbox_at}
+use Rattle.mb_gate.proofs.Numbers.{among_first, among_left, among_more, among_right}
+use Rattle.mb_home.specs.AtHome.{closed_receivers, drained_of, given_of, mailbox_at, system_entries}
 use Rattle.mb_home.specs.Contents.{Contents}
 use Rattle.mb_home.specs.Directory.{DirectoryEntry}
 use Rattle.mb_home.specs.Steps.{HasNoBacklog}
@@ -46,6 +46,7 @@ module _ (gives : ℕ → Moment → Reply → Type 0) (origin : Origin (Box Con
       closed_to = closed_receivers c.home.value.dead;
       gave = gave_last c;
       given = given_of c.home.value;
+      drained = drained_of c.home.value;
       recorded = [];
       log = [];
       obligations = [];
@@ -62,6 +63,7 @@ module _ (gives : ℕ → Moment → Reply → Type 0) (origin : Origin (Box Con
       closed_to = (held_in (u.known i)).closed_to;
       gave = (held_in (u.known i)).gave;
       given = (held_in (u.known i)).given;
+      drained = (held_in (u.known i)).drained;
       recorded = u.recorded i;
       log = (u.known i).log;
       obligations = (u.known i).obligations;
@@ -100,6 +102,9 @@ module _ (gives : ℕ → Moment → Reply → Type 0) (origin : Origin (Box Con
           };
           told = told-first h.cell.who (held_actor c) h.cell.journal (status_of c).closed;
           known_closed = each-of (IsKnownClosedTo seen fresh_hold) (closed_receivers h.dead) (λ other among. inl among);
+          entered = each-of (λ m. IsAmong m (drained_of h)) (system_entries h.cell.journal) (λ m among. among_left m (system_entries h.cell.journal) h.rest among);
+          left = each-of (λ m. IsAmong m (drained_of h)) h.rest (λ m among. among_right m (system_entries h.cell.journal) h.rest among);
+          logged = tt;
           same_count = u.same_gates.of_actor.settled.is_own.all_there ∙ ap (λ (l : List DirectoryEntry). length l) u.same_gates.of_actor.directory ∙ many;
           named = u.same_gates.of_actor.named;
           sends = tt;

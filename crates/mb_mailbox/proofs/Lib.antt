@@ -24,6 +24,7 @@ pub mod RunCountLemmas
 pub mod DrainingLemmas
 pub mod AppliedLemmas
 pub mod LoadLemmas
+pub mod LookLemmas
 pub mod EnvelopeLemmas
 pub mod FreshLemmas
 pub mod FinishLemmas

@@ -1,12 +1,12 @@
 -- What the gates' calls change of a claim, as the run sees it.
-use Rattle.std.proofs.Common.{◌≡◌, ℕ, Bool, List, [], ◌∷◌, ◌++◌}
+use Rattle.std.proofs.Common.{◌≡◌, ℕ, Bool, true, List, [], ◌∷◌, ◌++◌}
 use Rattle.std.specs.Global.{Box}
 use Rattle.mb_msg.specs.declared.system.SysMsg.{SysMsg}
 use Rattle.mb_gate.specs.Claims.{held_in}
 use Rattle.mb_gate.specs.declared.claim.Claim.{Claim}
-use Rattle.mb_gate.specs.Accessors.{claim_id, claim_view, held_actor, status_of, taken_with, closed_with, gave_last, given_to, recorded_by}
+use Rattle.mb_gate.specs.Accessors.{claim_id, claim_view, held_actor, status_of, taken_with, closed_with, gave_last, given_to, drained_by, recorded_by}
 use Rattle.mb_gate.specs.Accessors.{IsRecorded, SameTaken}
-use Rattle.mb_gate.specs.View.{SentSystem, Read, Took, Drained, Ended, reading_held, writing, counting_off, draining, ending, given_after}
+use Rattle.mb_gate.specs.View.{SentSystem, Read, Looked, Took, Drained, Ended, reading_held, looking, writing, counting_off, draining, ending, given_after}
 use Rattle.mb_home.specs.Contents.{Contents}
 use Rattle.mb_mailbox.specs.RunState.{run_state}
 
@@ -23,6 +23,7 @@ module _ (c new : Claim (Box Contents)) (ours : (claim_id new ≡ claim_id c) ×
     closed_to = same.closed i;
     gave = same.gave i;
     given = same.given i;
+    drained = same.drained i;
     recorded = same.recorded i;
     log = (known i).log;
     obligations = (known i).obligations;
@@ -41,6 +42,7 @@ module _ (c new : Claim (Box Contents)) (ours : (claim_id new ≡ claim_id c) ×
     closed_to = same.closed i;
     gave = same.gave i;
     given = same.given i;
+    drained = same.drained i;
     recorded = same.recorded i;
     log = (known i).log;
     obligations = (known i).obligations;
@@ -59,35 +61,43 @@ module _ (c new : Claim (Box Contents)) (ours : (claim_id new ≡ claim_id c) ×
     closed_to = same.closed i;
     gave = same.gave i;
     given = same.given i;
+    drained = same.drained i;
     recorded = same.recorded i;
     log = (known i).log;
     obligations = (known i).obligations;
     share = (known i).share;
   }
 
-  -- nothing was changed
-  pub hold-same : status_of new ≡ status_of c → (taken_with new ≡ taken_with c) × (closed_with new ≡ closed_with c) → recorded_by new ≡ recorded_by c →
-      claim_view new ≡ claim_view c → gave_last new ≡ gave_last c → given_to new ≡ given_to c → run_state new ≡ run_state c
-  hold-same status taken recorded known gave given = λ i. record {
+  -- the gate of the actor's list was read, and showed work
+  pub hold-looked : (actor : ℕ) → status_of new ≡ status_of c → claim_view new ≡ looking actor true (claim_view c) → SameTaken c new →
+      run_state new ≡ record (run_state c) { log = Looked actor true ∷ (claim_view c).log }
+  hold-looked actor status known same = λ i. record {
     gates = ours.0 i;
     actor = ours.1 i;
     status = status i;
     home = (home i).value;
-    before = taken.0 i;
-    closed_to = taken.1 i;
-    gave = gave i;
-    given = given i;
-    recorded = recorded i;
+    before = same.journal i;
+    closed_to = same.closed i;
+    gave = same.gave i;
+    given = same.given i;
+    drained = same.drained i;
+    recorded = same.recorded i;
     log = (known i).log;
     obligations = (known i).obligations;
     share = (known i).share;
   }
 
   module _ (status : status_of new ≡ status_of c) (taken : (taken_with new ≡ taken_with c) × (closed_with new ≡ closed_with c))
-      (recorded : recorded_by new ≡ recorded_by c) (result : List (ℕ × SysMsg)) (given : given_to new ≡ given_after (given_to c) result) where
+      (recorded : recorded_by new ≡ recorded_by c) (result : List (ℕ × SysMsg)) (given : given_to new ≡ given_after (given_to c) result)
+      (drained : drained_by new ≡ drained_by c ++ result) where
     -- the list was drained
     pub hold-drained : (actor : ℕ) (gave : Bool) → claim_view new ≡ draining actor result gave (claim_view c) → gave_last new ≡ gave →
-        run_state new ≡ record (run_state c) { gave = gave; given = given_after (given_to c) result; log = Drained actor result ∷ (claim_view c).log }
+        run_state new ≡ record (run_state c) {
+          gave = gave;
+          given = given_after (given_to c) result;
+          drained = drained_by c ++ result;
+          log = Drained actor result ∷ (claim_view c).log;
+        }
     hold-drained actor gave known last = λ i. record {
       gates = ours.0 i;
       actor = ours.1 i;
@@ -97,6 +107,7 @@ module _ (c new : Claim (Box Contents)) (ours : (claim_id new ≡ claim_id c) ×
       closed_to = taken.1 i;
       gave = last i;
       given = given i;
+      drained = drained i;
       recorded = recorded i;
       log = (known i).log;
       obligations = (known i).obligations;
@@ -105,7 +116,11 @@ module _ (c new : Claim (Box Contents)) (ours : (claim_id new ≡ claim_id c) ×
 
     -- it was ended
     pub hold-ended : (actor : ℕ) (gave : Bool) → claim_view new ≡ ending actor result gave (claim_view c) → gave_last new ≡ gave_last c →
-        run_state new ≡ record (run_state c) { given = given_after (given_to c) result; log = Ended actor result ∷ (claim_view c).log }
+        run_state new ≡ record (run_state c) {
+          given = given_after (given_to c) result;
+          drained = drained_by c ++ result;
+          log = Ended actor result ∷ (claim_view c).log;
+        }
     hold-ended actor gave known last = λ i. record {
       gates = ours.0 i;
       actor = ours.1 i;
@@ -115,6 +130,7 @@ module _ (c new : Claim (Box Contents)) (ours : (claim_id new ≡ claim_id c) ×
       closed_to = taken.1 i;
       gave = last i;
       given = given i;
+      drained = drained i;
       recorded = recorded i;
       log = (known i).log;
       obligations = (known i).obligations;
@@ -133,6 +149,7 @@ hold-recorded c new sent_system r = λ i. record {
   closed_to = (held_in (r.known i)).closed_to;
   gave = (held_in (r.known i)).gave;
   given = (held_in (r.known i)).given;
+  drained = (held_in (r.known i)).drained;
   recorded = r.record_is i;
   log = (r.known i).log;
   obligations = (r.known i).obligations;

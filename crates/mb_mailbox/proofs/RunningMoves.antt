@@ -1,5 +1,5 @@
 -- What holds of a claim in its run holds after a message was taken.
-use Rattle.std.proofs.Common.{◌≡◌, inl, inr, ℕ, false, List, [], Option}
+use Rattle.std.proofs.Common.{◌≡◌, inl, inr, ℕ, false, List, [], ◌∷◌, Option}
 use Rattle.std.proofs.Common.{sym, ap, ◌∙◌, subst}
 use Rattle.std.specs.Prelude.{MatchBool, IsSome}
 use Rattle.std.specs.Global.{Box}
@@ -11,22 +11,25 @@ use Rattle.mb_journal.specs.Entry.Entry.{System}
 use Rattle.mb_journal.specs.Life.{closed}
 use Rattle.mb_journal.specs.Suspension.{count}
 use Rattle.mb_ghost.specs.Seen.{Each}
+use Rattle.mb_gate.specs.Rule.{IsAmong}
 use Rattle.mb_gate.specs.View.{Observation}
 use Rattle.mb_cell.specs.CellView.{CellView, with_entry}
-use Rattle.mb_home.specs.AtHome.{closed_receivers, given_of, mailbox_at}
+use Rattle.mb_home.specs.AtHome.{closed_receivers, given_of, mailbox_at, system_entries}
 use Rattle.mb_home.specs.Carried.{Leads, LeadsOn}
 use Rattle.mb_home.specs.Contents.{Contents}
 use Rattle.mb_home.specs.NamedActors.{NamesActors, SendsBelow}
 use Rattle.mb_home.specs.AgreesWithJournal.{AgreesWithJournal}
 use Rattle.mb_home.specs.Steps.{AppliesNext, Begins, HasNext, HasNoBacklog}
 use Rattle.mb_home.proofs.CarryLemmas.{leads-nowhere}
+use Rattle.mb_home.proofs.DrainedLemmas.{due-entered, entries-begun}
 use Rattle.mb_home.proofs.GivenLemmas.{given-applied, given-begun}
 use Rattle.mb_home.proofs.NamedLaw.{named-applied, named-begun}
 use Rattle.mb_gate.specs.Untouched.{Origin}
 use Rattle.mb_mailbox.specs.RunState.{RunState}
-use Rattle.mb_mailbox.specs.Running.{IsRunning, BacklogAgrees, IsKnownClosedTo}
+use Rattle.mb_mailbox.specs.Running.{IsRunning, BacklogAgrees, IsKnownClosedTo, WereDrained}
 use Rattle.mb_mailbox.specs.SentDue.{HasSentDueExcept}
 use Rattle.mb_mailbox.proofs.RestLemmas.{begun-no_backlog}
+use Rattle.mb_mailbox.proofs.RunningSteps.{tail-drained}
 use Rattle.mb_mailbox.proofs.SentDueLemmas.{told-entry}
 
 -- between two messages the status is the one of the journal
@@ -42,9 +45,10 @@ module _ (gives : ℕ → Moment → Reply → Type 0) (origin : Origin (Box Con
     (r : IsRunning gives origin [] seen h) where
   -- an entry was added, whose acts are to be carried out
   running-entry : (e : Entry) → new.cell ≡ with_entry h.home.cell e → LeadsOn h.home new → AgreesWithJournal (gives h.actor) new.cell.acts new →
-      new.directory ≡ h.home.directory → new.dead ≡ h.home.dead → NamesActors new × SendsBelow new.cell.who.actors new.cell.acts →
+      new.directory ≡ h.home.directory → new.dead ≡ h.home.dead → WereDrained h (system_entries (e ∷ h.home.cell.journal)) → WereDrained h new.rest →
+      NamesActors new × SendsBelow new.cell.who.actors new.cell.acts →
       IsRunning gives origin new.cell.acts seen (record h { home = new })
-  running-entry e adds leads settled directory dead named = record {
+  running-entry e adds leads settled directory dead entered left named = record {
     same_gates = r.same_gates;
     present = r.present;
     directory = directory ∙ r.directory;
@@ -55,6 +59,9 @@ module _ (gives : ℕ → Moment → Reply → Type 0) (origin : Origin (Box Con
         subst (λ (c : CellView). HasSentDueExcept c.who h.actor h.status.closed c.journal h.before c.acts h.recorded) (sym adds)
         (told-entry h.home.cell.who h.actor h.before h.status.closed h.home.cell.journal h.recorded e r.told);
     known_closed = subst (λ d. Each (IsKnownClosedTo seen h) (closed_receivers d)) (sym dead) r.known_closed;
+    entered = subst (λ (c : CellView). WereDrained h (system_entries c.journal)) (sym adds) entered;
+    left = left;
+    logged = r.logged;
     same_count = ap (λ (c : CellView). c.who.actors) adds ∙ r.same_count;
     named = named.0;
     sends = subst (λ n. SendsBelow n new.cell.acts) (ap (λ (c : CellView). c.who.actors) adds ∙ r.same_count) named.1;
@@ -66,13 +73,16 @@ module _ (gives : ℕ → Moment → Reply → Type 0) (origin : Origin (Box Con
   pub running-applied : AppliesNext h.home new → LeadsOn h.home new → AgreesWithJournal (gives h.actor) new.cell.acts new →
       IsRunning gives origin new.cell.acts seen (record h { home = new })
   running-applied a leads settled =
+      let due = due-entered (λ m. IsAmong m h.drained) h.home.cell.who h.home.cell.journal h.home.rest new.rest a.number a.message r.entered r.left a.due in
       running-entry (System a.number a.message a.taken.outcome) a.taken.adds leads settled (ap (λ (x : Contents). x.directory) a.same)
-      (ap (λ (x : Contents). x.dead) a.same) (named-applied (gives h.actor) h.home new r.named settled a)
+      (ap (λ (x : Contents). x.dead) a.same) (due.0, r.entered) (tail-drained h a.number a.message new.rest due) (named-applied (gives h.actor) h.home new r.named settled a)
 
   pub running-begun : (reading : ℕ) → Begins h.home new reading → LeadsOn h.home new → AgreesWithJournal (gives h.actor) new.cell.acts new →
       IsRunning gives origin new.cell.acts seen (record h { home = new })
   running-begun reading b leads settled =
       running-entry b.taken.entry b.taken.adds leads settled (ap (λ (x : Contents). x.directory) b.same) (ap (λ (x : Contents). x.dead) b.same)
+      (subst (WereDrained h) (sym (entries-begun h.home.cell.journal b.taken.entry b.envelope reading b.taken.of_it)) r.entered)
+      (subst (WereDrained h) (sym (ap (λ (x : Contents). x.rest) b.same)) r.left)
       (named-begun (gives h.actor) h.home new r.named settled reading b)
 
   module _ (s : BacklogAgrees h) (not_closed : h.status.closed ≡ false) where

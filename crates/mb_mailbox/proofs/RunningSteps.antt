@@ -1,6 +1,6 @@
 -- What holds of a claim in its run holds after each step.
 use Rattle.std.proofs.Common.{◌≡◌, ◌⊎◌, ℕ, ◌+◌, ◌<◌, Bool, true, false, List, [], ◌∷◌, ◌++◌, Some, None}
-use Rattle.std.proofs.Common.{refl, sym, ap, ◌∙◌, subst}
+use Rattle.std.proofs.Common.{refl, sym, ap, ◌∙◌, subst, append-nil}
 use Rattle.std.specs.Prelude.{if◌then◌else◌}
 use Rattle.std.specs.Global.{Box}
 use Rattle.mb_status.specs.Mailbox.{Mailbox, most_suspensions, suspend, resume, closed_mailbox}
@@ -13,11 +13,14 @@ use Rattle.mb_journal.specs.Acts.Act.{Tell, Sys, SuspendSelf, ResumeSelf, CloseS
 use Rattle.mb_journal.specs.Entry.{Entry}
 use Rattle.mb_journal.specs.Identity.{Identity}
 use Rattle.mb_ghost.specs.Seen.{Each}
+use Rattle.mb_ghost.proofs.SeenLemmas.{each_append, each_weaker}
+use Rattle.mb_gate.proofs.Numbers.{among_left, each_part}
+use Rattle.mb_gate.specs.Rule.{IsAmong}
 use Rattle.mb_gate.specs.NamedActors.{EachNamesBelow}
 use Rattle.mb_gate.specs.SentSystem.{answered_to, notice}
-use Rattle.mb_gate.specs.View.{Observation, SentSystem, Read, Took, Drained, Ended}
+use Rattle.mb_gate.specs.View.{Observation, SentSystem, Read, Looked, Took, Drained, Ended}
 use Rattle.mb_cell.specs.CellView.{CellView}
-use Rattle.mb_home.specs.AtHome.{closed_receivers, mailbox_at}
+use Rattle.mb_home.specs.AtHome.{closed_receivers, mailbox_at, system_entries}
 use Rattle.mb_home.specs.Carried.{Leads}
 use Rattle.mb_home.specs.Contents.{Contents}
 use Rattle.mb_home.specs.NamedActors.{NamesActors, SendsBelow}
@@ -25,8 +28,9 @@ use Rattle.mb_home.specs.AgreesWithJournal.{AgreesWithJournal}
 use Rattle.mb_home.proofs.CarryLemmas.{leads-tell, leads-sys, leads-suspend, leads-resume, leads-close}
 use Rattle.mb_gate.specs.Untouched.{Origin}
 use Rattle.mb_mailbox.specs.OnlyDrained.{LoadedOpenLast, WasEnded, TakesOnlyDrained}
+use Rattle.mb_mailbox.specs.RunSends.{given_by}
 use Rattle.mb_mailbox.specs.RunState.{RunState}
-use Rattle.mb_mailbox.specs.Running.{IsRunning, IsKnownClosedTo}
+use Rattle.mb_mailbox.specs.Running.{IsRunning, IsKnownClosedTo, WereDrained}
 use Rattle.mb_mailbox.specs.SentDue.{HasSentDueExcept}
 use Rattle.mb_mailbox.proofs.NamedLemmas.{named-as, named-others}
 use Rattle.mb_mailbox.proofs.SettledLemmas.{settled-silent}
@@ -39,6 +43,30 @@ suspend-closed m = either m.closed refl
     either : (b : Bool) → m.closed ≡ b → (suspend m).closed ≡ m.closed
     either true is = ap (λ c. (if c then m else record m { count = m.count + 1 }).closed) is
     either false is = ap (λ c. (if c then m else record m { count = m.count + 1 }).closed) is
+
+-- what was drained last is known to be given
+pub given-among : (drained result : List (ℕ × SysMsg)) → Each (λ m. IsAmong m (drained ++ result)) result
+given-among drained result = each_part result (drained ++ result) (record { before = drained; after = []; joined = ap (λ l. drained ++ l) (sym (append-nil result)) })
+
+-- and so is all that the log says
+logged-more : (drained logged result : List (ℕ × SysMsg)) → Each (λ m. IsAmong m drained) logged → Each (λ m. IsAmong m (drained ++ result)) (logged ++ result)
+logged-more drained logged result all =
+    each_append (λ m. IsAmong m (drained ++ result)) logged result
+    (each_weaker (λ m. IsAmong m drained) (λ m. IsAmong m (drained ++ result)) logged (λ m. among_left m drained result) all)
+    (given-among drained result)
+
+each-right : {A : Type 0} (P : A → Type 0) (a b : List A) → Each P (a ++ b) → Each P b
+each-right P [] b all = all
+each-right P (x ∷ a) b all = each-right P a b all.1
+
+-- what a list gave that was ended just before
+pub ended-among : (drained : List (ℕ × SysMsg)) (actor : ℕ) (result : List (ℕ × SysMsg)) (log before : List Observation) → log ≡ Ended actor result ∷ before →
+    Each (λ m. IsAmong m drained) (given_by log) → Each (λ m. IsAmong m drained) result
+ended-among drained actor result log before is all =
+    each-right (λ m. IsAmong m drained) (given_by before) result (subst (λ l. Each (λ m. IsAmong m drained) (given_by l)) is all)
+
+pub tail-drained : (h : RunState) (number : ℕ) (m : SysMsg) (rest : List (ℕ × SysMsg)) → WereDrained h ((number, m) ∷ rest) → WereDrained h rest
+tail-drained h number m rest all = all.1
 
 module _ (gives : ℕ → Moment → Reply → Type 0) (origin : Origin (Box Contents)) where
   -- the pass saw more
@@ -53,6 +81,9 @@ module _ (gives : ℕ → Moment → Reply → Type 0) (origin : Origin (Box Con
     leads = r.leads;
     told = r.told;
     known_closed = shut-more newer seen h (closed_receivers h.home.dead) r.known_closed;
+    entered = r.entered;
+    left = r.left;
+    logged = r.logged;
     same_count = r.same_count;
     named = r.named;
     sends = r.sends;
@@ -67,9 +98,9 @@ module _ (gives : ℕ → Moment → Reply → Type 0) (origin : Origin (Box Con
         new.cell.journal ≡ h.home.cell.journal → new.directory ≡ h.home.directory → AgreesWithJournal (gives h.actor) left new →
         Leads h.status left (mailbox_at h.home.cell.who h.home.cell.journal) →
         HasSentDueExcept h.home.cell.who h.actor h.status.closed h.home.cell.journal h.before left h.recorded →
-        Each (IsKnownClosedTo seen h) (closed_receivers new.dead) → SendsBelow origin.actors left → NamesActors new →
+        Each (IsKnownClosedTo seen h) (closed_receivers new.dead) → WereDrained h new.rest → SendsBelow origin.actors left → NamesActors new →
         IsRunning gives origin left seen (record h { home = new })
-    running-home pending left new r who journal directory settled leads told shut sends named = record {
+    running-home pending left new r who journal directory settled leads told shut drained sends named = record {
       same_gates = r.same_gates;
       present = r.present;
       directory = directory ∙ r.directory;
@@ -80,6 +111,9 @@ module _ (gives : ℕ → Moment → Reply → Type 0) (origin : Origin (Box Con
           subst (λ (x : Identity × List Entry). HasSentDueExcept x.0 h.actor h.status.closed x.1 h.before left h.recorded)
           (λ i. (sym who i, sym journal i)) told;
       known_closed = shut;
+      entered = subst (λ j. WereDrained h (system_entries j)) (sym journal) r.entered;
+      left = drained;
+      logged = r.logged;
       same_count = ap (λ (w : Identity). w.actors) who ∙ r.same_count;
       named = named;
       sends = sends;
@@ -94,17 +128,19 @@ module _ (gives : ℕ → Moment → Reply → Type 0) (origin : Origin (Box Con
         AgreesWithJournal (gives h.actor) pending new → IsRunning gives origin pending seen (record h { home = new })
     running-same pending new r who journal directory dead rest settled =
         running-home pending pending new r who journal directory settled r.leads r.told
-        (subst (λ d. Each (IsKnownClosedTo seen h) (closed_receivers d)) (sym dead) r.known_closed) r.sends
+        (subst (λ d. Each (IsKnownClosedTo seen h) (closed_receivers d)) (sym dead) r.known_closed) (subst (WereDrained h) (sym rest) r.left) r.sends
         (named-as h.home new who journal (subst (EachNamesBelow h.home.cell.who.actors) (sym rest) r.named.rest) r.named)
 
     -- what was drained lies beside the cell
     pub running-kept : (pending : List Act) (new : Contents) (drained : List (ℕ × SysMsg)) → IsRunning gives origin pending seen h →
-        new ≡ record h.home { rest = drained } → AgreesWithJournal (gives h.actor) pending new → EachNamesBelow origin.actors drained →
+        new ≡ record h.home { rest = drained } → AgreesWithJournal (gives h.actor) pending new → WereDrained h drained →
+        EachNamesBelow origin.actors drained →
         IsRunning gives origin pending seen (record h { home = new })
-    running-kept pending new drained r is settled named =
+    running-kept pending new drained r is settled given named =
         running-home pending pending new r (ap (λ (x : Contents). x.cell.who) is) (ap (λ (x : Contents). x.cell.journal) is)
         (ap (λ (x : Contents). x.directory) is) settled r.leads r.told
-        (subst (λ (x : Contents). Each (IsKnownClosedTo seen h) (closed_receivers x.dead)) (sym is) r.known_closed) r.sends
+        (subst (λ (x : Contents). Each (IsKnownClosedTo seen h) (closed_receivers x.dead)) (sym is) r.known_closed)
+        (subst (λ (x : Contents). WereDrained h x.rest) (sym is) given) r.sends
         (named-as h.home new (ap (λ (x : Contents). x.cell.who) is) (ap (λ (x : Contents). x.cell.journal) is)
         (subst (λ (x : Contents). EachNamesBelow h.home.cell.who.actors x.rest) (sym is)
         (subst (λ n. EachNamesBelow n drained) (sym r.same_count) named)) r.named)
@@ -115,7 +151,7 @@ module _ (gives : ℕ → Moment → Reply → Type 0) (origin : Origin (Box Con
         AgreesWithJournal (gives h.actor) pending new → IsRunning gives origin pending seen (record h { home = new })
     running-dropped_first pending new number m r cell directory dead is settled =
         running-home pending pending new r (ap (λ (c : CellView). c.who) cell) (ap (λ (c : CellView). c.journal) cell) directory settled r.leads r.told
-        (subst (λ d. Each (IsKnownClosedTo seen h) (closed_receivers d)) (sym dead) r.known_closed) r.sends
+        (subst (λ d. Each (IsKnownClosedTo seen h) (closed_receivers d)) (sym dead) r.known_closed) (tail-drained h number m new.rest (subst (WereDrained h) is r.left)) r.sends
         (named-as h.home new (ap (λ (c : CellView). c.who) cell) (ap (λ (c : CellView). c.journal) cell)
         (named-others h.home.cell.who.actors number m new.rest (subst (EachNamesBelow h.home.cell.who.actors) is r.named.rest)) r.named)
 
@@ -127,7 +163,8 @@ module _ (gives : ℕ → Moment → Reply → Type 0) (origin : Origin (Box Con
     running-told rest to body new r who journal directory left settled shut =
         running-home (Tell to body ∷ rest) rest new r who journal directory settled
         (leads-tell h.status (mailbox_at h.home.cell.who h.home.cell.journal) rest to body r.leads)
-        (told-tell h.home.cell.who h.actor h.before h.home.cell.journal rest h.recorded h.status.closed to body r.told) shut r.sends
+        (told-tell h.home.cell.who h.actor h.before h.home.cell.journal rest h.recorded h.status.closed to body r.told) shut
+        (subst (WereDrained h) (sym left) r.left) r.sends
         (named-as h.home new who journal (subst (EachNamesBelow h.home.cell.who.actors) (sym left) r.named.rest) r.named)
 
     -- the status was written
@@ -144,6 +181,9 @@ module _ (gives : ℕ → Moment → Reply → Type 0) (origin : Origin (Box Con
       leads = leads;
       told = told;
       known_closed = r.known_closed;
+      entered = r.entered;
+      left = r.left;
+      logged = r.logged;
       same_count = r.same_count;
       named = r.named;
       sends = sends;
@@ -195,6 +235,9 @@ module _ (gives : ℕ → Moment → Reply → Type 0) (origin : Origin (Box Con
       leads = leads;
       told = told;
       known_closed = r.known_closed;
+      entered = r.entered;
+      left = r.left;
+      logged = r.logged;
       same_count = r.same_count;
       named = r.named;
       sends = sends;
@@ -247,9 +290,11 @@ module _ (gives : ℕ → Moment → Reply → Type 0) (origin : Origin (Box Con
         r.sends
 
     -- the claim's own seat did something at its actor
-    running-log : (pending : List Act) (gave : Bool) (given : ℕ) (s : Observation) → IsRunning gives origin pending seen h → TakesOnlyDrained h.actor (s ∷ h.log) →
-        IsRunning gives origin pending seen (record h { gave = gave; given = given; log = s ∷ h.log })
-    running-log pending gave given s r only_drained = record {
+    running-log : (pending : List Act) (gave : Bool) (given : ℕ) (drained : List (ℕ × SysMsg)) (s : Observation) → IsRunning gives origin pending seen h →
+        ((m : ℕ × SysMsg) → IsAmong m h.drained → IsAmong m drained) → Each (λ m. IsAmong m drained) (given_by (s ∷ h.log)) →
+        TakesOnlyDrained h.actor (s ∷ h.log) →
+        IsRunning gives origin pending seen (record h { gave = gave; given = given; drained = drained; log = s ∷ h.log })
+    running-log pending gave given drained s r more logged only_drained = record {
       same_gates = r.same_gates;
       present = r.present;
       directory = r.directory;
@@ -257,7 +302,10 @@ module _ (gives : ℕ → Moment → Reply → Type 0) (origin : Origin (Box Con
       settled = r.settled;
       leads = r.leads;
       told = r.told;
-      known_closed = shut-own (s ∷ []) seen h (record h { gave = gave; given = given; log = s ∷ h.log }) (closed_receivers h.home.dead) refl refl r.known_closed;
+      known_closed = shut-own (s ∷ []) seen h (record h { gave = gave; given = given; drained = drained; log = s ∷ h.log }) (closed_receivers h.home.dead) refl refl r.known_closed;
+      entered = each_weaker (λ m. IsAmong m h.drained) (λ m. IsAmong m drained) (system_entries h.home.cell.journal) more r.entered;
+      left = each_weaker (λ m. IsAmong m h.drained) (λ m. IsAmong m drained) h.home.rest more r.left;
+      logged = logged;
       same_count = r.same_count;
       named = r.named;
       sends = r.sends;
@@ -267,17 +315,26 @@ module _ (gives : ℕ → Moment → Reply → Type 0) (origin : Origin (Box Con
     }
 
     pub running-drained : (pending : List Act) (gave : Bool) (given : ℕ) (result : List (ℕ × SysMsg)) → IsRunning gives origin pending seen h →
-        IsRunning gives origin pending seen (record h { gave = gave; given = given; log = Drained h.actor result ∷ h.log })
-    running-drained pending gave given result r = running-log pending gave given (Drained h.actor result) r r.only_drained
+        IsRunning gives origin pending seen
+        (record h { gave = gave; given = given; drained = h.drained ++ result; log = Drained h.actor result ∷ h.log })
+    running-drained pending gave given result r =
+        running-log pending gave given (h.drained ++ result) (Drained h.actor result) r (λ m. among_left m h.drained result)
+        (logged-more h.drained (given_by h.log) result r.logged) r.only_drained
 
     pub running-read : (pending : List Act) (word : ℕ) → IsRunning gives origin pending seen h →
         IsRunning gives origin pending seen (record h { log = Read h.actor word ∷ h.log })
-    running-read pending word r = running-log pending h.gave h.given (Read h.actor word) r r.only_drained
+    running-read pending word r = running-log pending h.gave h.given h.drained (Read h.actor word) r (λ m is. is) r.logged r.only_drained
+
+    pub running-looked : (pending : List Act) → IsRunning gives origin pending seen h →
+        IsRunning gives origin pending seen (record h { log = Looked h.actor true ∷ h.log })
+    running-looked pending r = running-log pending h.gave h.given h.drained (Looked h.actor true) r (λ m is. is) r.logged r.only_drained
 
     pub running-ended : (pending : List Act) (given : ℕ) (result : List (ℕ × SysMsg)) → IsRunning gives origin pending seen h →
-        IsRunning gives origin pending seen (record h { given = given; log = Ended h.actor result ∷ h.log })
-    running-ended pending given result r = running-log pending h.gave given (Ended h.actor result) r r.only_drained
+        IsRunning gives origin pending seen (record h { given = given; drained = h.drained ++ result; log = Ended h.actor result ∷ h.log })
+    running-ended pending given result r =
+        running-log pending h.gave given (h.drained ++ result) (Ended h.actor result) r (λ m. among_left m h.drained result)
+        (logged-more h.drained (given_by h.log) result r.logged) r.only_drained
 
     pub running-taken : (pending : List Act) (n : ℕ) → LoadedOpenLast h.actor h.log ⊎ WasEnded h.actor h.log → IsRunning gives origin pending seen h →
         IsRunning gives origin pending seen (record h { log = Took h.actor n ∷ h.log })
-    running-taken pending n when r = running-log pending h.gave h.given (Took h.actor n) r (when, r.only_drained)
+    running-taken pending n when r = running-log pending h.gave h.given h.drained (Took h.actor n) r (λ m is. is) r.logged (when, r.only_drained)

@@ -1,6 +1,7 @@
 -- What holds of a claim between two steps of its run (`akka.dispatch.Mailbox.run`; what is kept beside a cell is this project's own profile).
 use Rattle.std.specs.Prelude.{◌≡◌, ◌<◌, ◌+◌, ℕ, false, MatchBool, List, [], ◌++◌, ◌⊎◌, length}
 use Rattle.std.specs.Global.{Box}
+use Rattle.mb_msg.specs.declared.system.SysMsg.{SysMsg}
 use Rattle.mb_actor.specs.Behaviour.{Moment, Reply}
 use Rattle.mb_journal.specs.Acts.{Act}
 use Rattle.mb_ghost.specs.Seen.{Each}
@@ -8,7 +9,7 @@ use Rattle.mb_ghost.specs.Summed.{total}
 use Rattle.mb_gate.specs.Rule.{IsAmong}
 use Rattle.mb_gate.specs.View.{Observation, Read}
 use Rattle.mb_gate.specs.Waiting.{counted_off}
-use Rattle.mb_home.specs.AtHome.{closed_receivers, given_of, mailbox_at}
+use Rattle.mb_home.specs.AtHome.{closed_receivers, given_of, mailbox_at, system_entries}
 use Rattle.mb_home.specs.Carried.{Leads}
 use Rattle.mb_home.specs.Contents.{Contents}
 use Rattle.mb_home.specs.NamedActors.{NamesActors, SendsBelow}
@@ -18,6 +19,7 @@ use Rattle.mb_gate.specs.Untouched.{Origin}
 use Rattle.mb_mailbox.specs.Loaded.{loaded_words}
 use Rattle.mb_mailbox.specs.OnlyDrained.{TakesOnlyDrained}
 use Rattle.mb_mailbox.specs.Emptied.{TakesOn}
+use Rattle.mb_mailbox.specs.RunSends.{given_by}
 use Rattle.mb_mailbox.specs.RunState.{RunState}
 use Rattle.mb_mailbox.specs.SentDue.{HasSentDueExcept}
 
@@ -25,10 +27,15 @@ use Rattle.mb_mailbox.specs.SentDue.{HasSentDueExcept}
 abbrev pub IsKnownClosedTo : List Observation → RunState → ℕ → Type 0
 IsKnownClosedTo seen hold other = IsAmong other hold.closed_to ⊎ IsAmong (Read other 1) (seen ++ hold.log)
 
+-- The claim knows that the list gave each of these messages.
+abbrev pub WereDrained : RunState → List (ℕ × SysMsg) → Type 0
+WereDrained hold messages = Each (λ m. IsAmong m hold.drained) messages
+
 -- The claim is of one of the actors of these gates, and what lies at its home is that actor's own, with the same directory of actors as the gates'
 -- first home. The home agrees with its journal, and the status and the system messages that were sent are what the journal says, but for these acts,
 -- which are still to be carried out. The home and these acts name only actors of these gates. Each actor that the home says is closed is known to be.
--- Each envelope was taken right after a load of an open status word, when no system message was left to be drained, or cleaned up. The claim's seat owes
+-- The claim knows that the list gave each system message that has an entry, is left beside the cell, or was drained by the claim's own seat. Each
+-- envelope was taken right after a load of an open status word, when no system message was left to be drained, or cleaned up. The claim's seat owes
 -- nothing, and has no share.
 pub record IsRunning (gives : ℕ → Moment → Reply → Type 0) (origin : Origin (Box Contents)) (pending : List Act) (seen : List Observation) (hold : RunState)
     : Type 0 where
@@ -40,6 +47,9 @@ pub record IsRunning (gives : ℕ → Moment → Reply → Type 0) (origin : Ori
   pub leads : Leads hold.status pending (mailbox_at hold.home.cell.who hold.home.cell.journal)
   pub told : HasSentDueExcept hold.home.cell.who hold.actor hold.status.closed hold.home.cell.journal hold.before pending hold.recorded
   pub known_closed : Each (IsKnownClosedTo seen hold) (closed_receivers hold.home.dead)
+  pub entered : WereDrained hold (system_entries hold.home.cell.journal)
+  pub left : WereDrained hold hold.home.rest
+  pub logged : WereDrained hold (given_by hold.log)
   pub same_count : hold.home.cell.who.actors ≡ origin.actors
   pub named : NamesActors hold.home
   pub sends : SendsBelow origin.actors pending

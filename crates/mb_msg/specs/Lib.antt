@@ -1,3 +1,4 @@
 pub mod Limits
+pub mod Payload
 pub mod Sender
 pub mod Strategy

@@ -1,16 +1,16 @@
 //! What senders outside the actors are to send.
 ghost use Rattle.std.specs.Prelude.{◌≡◌, ℤ};
-ghost use Rattle.mb_msg.specs.declared.envelope.Body.TheVariants.{User};
 ghost use Rattle.mb_msg.specs.declared.order.OrderKind.TheVariants.{Stop, Tell};
+ghost use Rattle.mb_msg.specs.declared.payload.Payload.TheVariants.{User};
 
-use crate::envelope::Body;
 use crate::id::ActorId;
+use crate::payload::Payload;
 
 /// What is sent to an actor from outside the system.
 #[derive(Clone, Copy, Debug, PartialEq, Eq)]
 pub enum OrderKind {
-    /// An envelope with this body (`ActorRef.tell`).
-    Tell(Body),
+    /// An envelope that carries this (`ActorRef.tell`).
+    Tell(Payload),
     /// A Terminate, which is no envelope (`ActorSystem.stop`).
     Stop,
 }
@@ -33,7 +33,7 @@ impl Order {
     {
         Order {
             to,
-            what: OrderKind::Tell(Body::User { kind, value }),
+            what: OrderKind::Tell(Payload::User { kind, value }),
             times: 1,
         }
     }

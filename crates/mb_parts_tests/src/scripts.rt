@@ -2,7 +2,7 @@
 ghost use Rattle.std.specs.Prelude.{◌≡◌, ◌<◌, [], ◌∷◌, IfOk};
 
 use crate::course::{Step, each_call};
-use mb_actor::{Actor, Answer, Call, Effect, Message, Outbox};
+use mb_actor::{Answer, Call, Effect, Message, Outbox, RecordedActor};
 use mb_msg::{ActorId, Cause};
 use mb_script::{Hooks, Operation, Row, Script};
 use std::alloc::{AllocError, Global};
@@ -282,7 +282,7 @@ fn after_a_million(alloc: Global, kinds: u32) -> Result<i64, Fail>
         let operations = vec![in alloc; Operation::Add]?;
         rows.push(Row { kind, operations })?;
     }
-    let mut script = with_rows(alloc, 0, rows)?;
+    let mut script = RecordedActor::new(with_rows(alloc, 0, rows)?);
     let mut out = outbox(alloc)?;
     for number in 0..1_000_000u32 {
         out.clear();

@@ -6,12 +6,14 @@ pub mod Emptying
 pub mod Ending
 pub mod Gathering
 pub mod Handing
+pub mod InOrder
 pub mod Lending
 pub mod Lent
 pub mod Lists
 pub mod Loops
 pub mod Making
 pub mod Moves
+pub mod Permuted
 pub mod PoolPortCrossing
 pub mod PoolPortLemmas
 pub mod PortViews

@@ -1,5 +1,5 @@
 -- What contracts see of a pool, its ends and its feeds (this project's own profile).
-use Rattle.std.specs.Prelude.{◌≡◌, ℕ, zero, suc, ◌+◌, List, [], ◌∷◌, ◌++◌, map, flat_map, take, drop, replicate, Option, Some}
+use Rattle.std.specs.Prelude.{◌≡◌, ℕ, zero, suc, ◌+◌, List, [], ◌∷◌, ◌++◌, map, flat_map, take, drop, replicate, IsPermutation, Option, Some}
 use Rattle.atomic_blocks.specs.Laid.{WebId}
 use Rattle.atomic_blocks.specs.Lent.{RowsId}
 use Rattle.atomic_table.specs.Seated.{TableId}
@@ -116,9 +116,22 @@ abbrev pub numbers : ℕ → ℕ → List ℕ
 numbers first zero = []
 numbers first (suc count) = first ∷ numbers (first + 1) count
 
+-- the number of the end whose own deque is the first of these; 0 where there is none
+abbrev pub number_in : {H : Type 0} → List (Part H) → ℕ
+number_in [] = 0
+number_in (p ∷ ps) = owner_of p.queue
+
+-- the number of an end, by its own deque; 0 where it has none
+abbrev pub number_of : {H : Type 0} → PoolEndpoint H → ℕ
+number_of w = number_in (parts_of w).own_deque
+
 -- they are all the ends of the pool, in the order of their numbers
 abbrev pub AreEnds : {H : Type 0} → PoolView H → List (PoolEndpoint H) → Type 0
 AreEnds {H} pool ends = map (parts_of {H = H}) ends ≡ map (end_parts pool) (numbers 0 pool.ends)
+
+-- they are all the ends of the pool, in any order
+abbrev pub AreAllEnds : {H : Type 0} → PoolView H → List (PoolEndpoint H) → Type 0
+AreAllEnds {H} pool ends = IsPermutation (map (parts_of {H = H}) ends) (map (end_parts pool) (numbers 0 pool.ends))
 
 -- they are all the feeds of the pool, in any order
 abbrev pub AreFeeds : {H : Type 0} → PoolView H → List (PoolEndpoint H) → Type 0

@@ -2,7 +2,7 @@
 ghost use Rattle.std.specs.Prelude.{◌≡◌, All, IfSome, MatchOption, MatchResult};
 ghost use Rattle.mb_pool.specs.Moves.{given_back, IsRefusedBy, Pushes, Takes, WasEmpty};
 ghost use Rattle.mb_pool.specs.Parts.{port_view};
-ghost use Rattle.mb_pool.specs.Places.{gates_of, ports_of, parts_of};
+ghost use Rattle.mb_pool.specs.Places.{gates_of, number_of, ports_of, parts_of};
 ghost use Rattle.mb_gate.specs.Untouched.{IsUntouched};
 ghost use Rattle.mb_pool.specs.Endpoints.{AreOpen, endpoint_of};
 
@@ -86,6 +86,16 @@ impl<H: MailboxState> PoolEnd<H> {
         ensures same { parts_of self.new ≡ parts_of self.old }
     {
         take_first(rt, &mut self.shared_port, &mut self.member)
+    }
+
+    /// Its number in a stealing pool. In a shared one no end has a number of its own, and this is 0.
+    pub(crate) fn number(&self) -> usize
+        ensures { result ≡ number_of self.now }
+    {
+        match &self.member {
+            None => 0,
+            Some(member) => member.own_deque.number(),
+        }
     }
 
     /// Its port of the queue that all share, and what it has beside that in a stealing pool.

@@ -1,15 +1,16 @@
 //! Ending a pool: which claims are left.
 ghost use Rattle.std.specs.Prelude.{◌≡◌, ◌<◌, [], ◌∷◌, ◌++◌, length, All, IfOk, MatchResult, Some};
 ghost use Rattle.mb_pool.specs.Ends.{AreAlike, shared_ports_of, Empties, IsAllOf, owns_of, TakesIn};
-ghost use Rattle.mb_pool.specs.Made.{IsLeft};
+ghost use Rattle.mb_pool.specs.Made.{IsLeft, IsWhole};
 ghost use Rattle.mb_pool.specs.Parts.{port_view};
-ghost use Rattle.mb_pool.specs.Places.{AreEnds, AreFeeds, gates_of};
+ghost use Rattle.mb_pool.specs.Places.{AreAllEnds, AreEnds, AreFeeds, gates_of};
 ghost use Rattle.mb_gate.specs.Untouched.{IsUntouched};
 ghost use Rattle.mb_pool.specs.Endpoints.{HasShare};
 
 use crate::end::PoolEnd;
 use crate::feed::Feed;
 use crate::gather::gather;
+use crate::in_order::put_in_order;
 use crate::own_deque::OwnDeque;
 use crate::pool::Pool;
 use crate::shared_port::SharedPort;
@@ -22,15 +23,15 @@ use std::sync::Wait;
 pub struct RemainingError<H: MailboxState> {
     /// The pool.
     pub pool: Pool<H>,
-    /// Its ends, in the order of their numbers.
+    /// Its ends, in the order in which they were given.
     pub ends: Vec<PoolEnd<H>>,
     /// Its feeds, in the order in which they were given.
     pub feeds: Vec<Feed<H>>,
 }
 
-/// Ends a pool. All its ends, in the order of their numbers, and all its feeds have to be given. The answer is the
-/// claims that were pushed and not taken, each once and as it was pushed. This takes memory for as many claims as there
-/// are actors; where that is refused, all comes back as it was (this project's own profile).
+/// Ends a pool. All its ends and all its feeds have to be given, in any order. The answer is the claims that were pushed
+/// and not taken, each once and as it was pushed. This takes memory for as many claims as there are actors; where that
+/// is refused, all comes back as it was (this project's own profile).
 pub fn remaining<H: MailboxState, R: Wait>(
     rt: &R,
     alloc: Global,
@@ -38,22 +39,45 @@ pub fn remaining<H: MailboxState, R: Wait>(
     ends: Vec<PoolEnd<H>>,
     feeds: Vec<Feed<H>>,
 ) -> Result<Vec<Claim<H>>, RemainingError<H>>
-    requires ends { AreEnds pool ends.items }
+    requires ends { AreAllEnds pool ends.items }
     requires feeds { AreFeeds pool feeds.items }
     ensures left { MatchResult result (λ claims. IsLeft (ends.items ++ feeds.items) claims.items)
         (λ back. (back.pool ≡ pool) × (back.ends.items ≡ ends.items) × (back.feeds.items ≡ feeds.items)) }
     ensures untouched { IfOk result (λ claims. All (IsUntouched H.is_of H.facts (Some pool.gates)) claims.items) }
 {
-    let mut left = match Vec::with_capacity(alloc, pool.actors) {
+    let left = match Vec::with_capacity(alloc, pool.actors) {
         Ok(left) => left,
         Err(_) => return Err(RemainingError { pool, ends, feeds }),
     };
+    let mut ends = ends;
+    put_in_order(&pool, ends.as_mut_slice());
+    Ok(empty_all(rt, alloc, pool, ends, feeds, left))
+}
+
+/// Takes all claims out of a pool's queues. Its ends are in the order of their numbers.
+fn empty_all<H: MailboxState, R: Wait>(
+    rt: &R,
+    alloc: Global,
+    pool: Pool<H>,
+    ends: Vec<PoolEnd<H>>,
+    feeds: Vec<Feed<H>>,
+    mut left: Vec<Claim<H>>,
+) -> Vec<Claim<H>>
+    requires ends { AreEnds pool ends.items }
+    requires feeds { AreFeeds pool feeds.items }
+    requires whole { IsWhole pool }
+    requires none { left.items ≡ [] }
+    ensures left { IsLeft (ends.items ++ feeds.items) result.items }
+    ensures untouched { All (IsUntouched H.is_of H.facts (Some pool.gates)) result.items }
+{
+    // Only the contract uses it.
+    let _ = pool;
     let mut ends = ends;
     gather(alloc, ends.as_mut_slice());
     let shared_port = empty_ends(rt, ends, &mut left);
     let shared_port = join_feeds(shared_port, feeds);
     empty_shared_port(rt, shared_port, &mut left);
-    Ok(left)
+    left
 }
 
 /// Takes all claims out of the ends' deques, and joins their ports of the queue that all share.

@@ -23,6 +23,7 @@ mod feed_port;
 mod feed_queue;
 mod feed_queue_port;
 mod gather;
+mod in_order;
 mod leaving;
 mod new_end_deques;
 mod own_deque;

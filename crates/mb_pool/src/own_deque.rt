@@ -3,6 +3,7 @@ ghost use Rattle.std.specs.Prelude.{◌≡◌, ◌<◌, [], None, Some, IfOk, Ma
 ghost use Rattle.mb_pool.specs.Ledger.{borrowing, joining, lending, opened, unused};
 ghost use Rattle.mb_gate.specs.Untouched.{origin_of, IsUntouched};
 ghost use Rattle.mb_pool.specs.Made.{IsDeque};
+ghost use Rattle.mb_pool.specs.Places.{owner_of};
 ghost use Rattle.mb_pool.specs.Rule.{QueueMoment, PutsLast, TakesFirst};
 
 use crate::deque::Deque;
@@ -60,6 +61,13 @@ impl<H: MailboxState> OwnDeque<H> {
             deque,
             apart,
         })
+    }
+
+    /// The number of the end whose deque it is.
+    pub fn number(&self) -> usize
+        ensures { result ≡ owner_of self.now.queue }
+    {
+        self.number
     }
 
     /// Pushes the claim, or gives it back where memory was refused.

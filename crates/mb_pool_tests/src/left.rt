@@ -2,7 +2,7 @@
 ghost use Rattle.std.specs.Prelude.{◌≡◌, All, Some, IfOk};
 ghost use Rattle.mb_gate.specs.Accessors.{gates_id, pass_id};
 ghost use Rattle.mb_gate.specs.Untouched.{origin_of, IsUntouched};
-ghost use Rattle.mb_pool.specs.Places.{AreEnds, AreFeeds};
+ghost use Rattle.mb_pool.specs.Places.{AreAllEnds, AreEnds, AreFeeds};
 
 use mb_gate::{Claim, Gates, MailboxState, Pass};
 use mb_pool::{Feed, Pool, PoolEnd, RemainingError, remaining};
@@ -10,7 +10,7 @@ use mb_testkit::give;
 use std::alloc::{AllocError, Global};
 use std::sync::Wait;
 
-/// Ends the pool; retried once where memory is refused.
+/// Ends the pool, whose ends are in order; retried once where memory is refused.
 pub fn left<H: MailboxState, R: Wait>(
     rt: &R,
     alloc: Global,
@@ -19,6 +19,22 @@ pub fn left<H: MailboxState, R: Wait>(
     feeds: Vec<Feed<H>>,
 ) -> Result<Vec<Claim<H>>, AllocError>
     requires ends { AreEnds pool ends.items }
+    requires feeds { AreFeeds pool feeds.items }
+    ensures { IfOk result (λ claims.
+        All (IsUntouched H.is_of H.facts (Some pool.gates)) claims.items) }
+{
+    left_in_any_order(rt, alloc, pool, ends, feeds)
+}
+
+/// As `left`, whatever the order of the ends.
+fn left_in_any_order<H: MailboxState, R: Wait>(
+    rt: &R,
+    alloc: Global,
+    pool: Pool<H>,
+    ends: Vec<PoolEnd<H>>,
+    feeds: Vec<Feed<H>>,
+) -> Result<Vec<Claim<H>>, AllocError>
+    requires ends { AreAllEnds pool ends.items }
     requires feeds { AreFeeds pool feeds.items }
     ensures { IfOk result (λ claims.
         All (IsUntouched H.is_of H.facts (Some pool.gates)) claims.items) }

@@ -1,5 +1,5 @@
 -- A scenario that was read can be run.
-use Rattle.std.proofs.Common.{◌≡◌, ℕ, ◌+◌, ◌<◌, ◌≤◌, ◌==◌, ◌&&◌, Bool, true, false, List, [], ◌∷◌, ◌++◌, length, map, max, refl, sym, ap, ◌∙◌, subst, arith}
+use Rattle.std.proofs.Common.{◌≡◌, ℕ, ◌+◌, ◌<◌, ◌≤◌, ◌==◌, ◌&&◌, Bool, true, false, List, [], ◌∷◌, ◌++◌, length, map, max, refl, sym, ap, ◌∙◌, subst, arith, inl, inr}
 use Rattle.std.proofs.Common.{codes, None}
 use Rattle.std.specs.Prelude.{◌||◌, All, nat_le, nat_lt}
 use Rattle.std.specs.List.{list_any}
@@ -33,10 +33,10 @@ use Rattle.mb_program.specs.Faults.{IsFaultOf}
 use Rattle.mb_streams.specs.declared.fault.RunFault.{RunFault}
 use Rattle.mb_streams.specs.declared.fault.RunFault.TheVariants as told
 use Rattle.mb_system.specs.declared.failure.RunError.TheVariants as Fault
-use Rattle.heddleorange.specs.NoReport.{IsErrorOfRun, IsRight, has_nobody, is_for_nobody}
+use Rattle.heddleorange.specs.NoReport.{IsErrorInOrder, IsErrorOfRun, IsRight, has_nobody, is_for_nobody}
 use Rattle.heddleorange.specs.Orders.{lists_of, orders_of}
 use Rattle.heddleorange.specs.declared.error.Error.{Error}
-use Rattle.heddleorange.specs.declared.error.Error.TheVariants.{BadPlan, Sends, NoMemory, Run, NotQuiet, Mismatch, NameTaken}
+use Rattle.heddleorange.specs.declared.error.Error.TheVariants.{BadPlan, Sends, NoMemory, Run, NotQuiet, Mismatch, NameTaken, Turns}
 use Rattle.heddleorange.proofs.InOrder.{for-nobody, length-lists, many-from}
 use Rattle.mb_scenario.proofs.Passed.{AreActorData, IsBoundData, IsReceived, IsSendData, length-items, passed, senders-right}
 
@@ -107,7 +107,7 @@ no-reasons plan actors few as_many are senders least most limit =
 
 -- none of them is for nobody
 for-somebody : (actors : ℕ) (to : ActorId) (what : OrderKind) → IsReceived (actors + 1) to what → is_for_nobody actors to what ≡ false
-for-somebody actors to (Tell body) is = λ i. above to.0 is.0 i || not-below actors to.0 is.1 i
+for-somebody actors to (Tell payload) is = λ i. above to.0 is.0 i || not-below actors to.0 is.1 i
   where
     above : (n : ℕ) → 0 < n → (n == 0) ≡ false
     above n lt = grind (arith, nat_tests)
@@ -170,7 +170,7 @@ as-many-names text scenario names read named =
     ∙ sym (ap length (named ∙ ap (λ (s : ScenarioData). s.names) is))
 
 -- a fault tells of the error of a run whose plan and orders are right
-pub some-fault : (gives : ℕ → Moment → Reply → Type 0) (plan : Plan) (actors : ℕ) (orders : List (List Order)) (error : Error)
+some-fault : (gives : ℕ → Moment → Reply → Type 0) (plan : Plan) (actors : ℕ) (orders : List (List Order)) (error : Error)
     → IsRight plan actors orders → IsErrorOfRun gives plan actors orders error → (fault : RunFault) × IsFaultOf error fault
 some-fault gives plan actors orders (BadPlan reason) right is = let none = ap length (sym is.1 ∙ right.0) in absurd (omega (arith, none))
 some-fault gives plan actors orders Sends right is = absurd (is.1 right.1)
@@ -181,6 +181,12 @@ some-fault gives plan actors orders (Run Fault.NoSuchActor) right is = absurd (c
 some-fault gives plan actors orders (NotQuiet id) right is = (told.NotQuiet id, refl)
 some-fault gives plan actors orders (Mismatch what) right is = (told.Mismatch, refl)
 some-fault gives plan actors orders (NameTaken id) right is = absurd is
+some-fault gives plan actors orders (Turns id) right is = absurd is
+
+pub fault-in-order : (gives : ℕ → Moment → Reply → Type 0) (plan : Plan) (actors : ℕ) (orders : List (List Order)) (error : Error)
+    → IsRight plan actors orders → IsErrorInOrder gives plan actors orders error → (fault : RunFault) × IsFaultOf error fault
+fault-in-order gives plan actors orders error right (inl is) = some-fault gives plan actors orders error right is
+fault-in-order gives plan actors orders error right (inr is) = subst (λ e. (fault : RunFault) × IsFaultOf e fault) (sym is.1) (told.Mismatch, refl)
 
 -- the lists of all senders are those of the orders in a row
 pub lists-are : (senders : ℕ) (sends : List SenderOrder) (lists : List (List Order)) → length (lists_of senders sends) ≡ senders

@@ -1,8 +1,9 @@
 //! A run, from the plan and its actors to the report.
-ghost use Rattle.std.specs.Prelude.{◌≡◌, ◌+◌, [], All, IfErr, IfOk, is_some, length};
-ghost use Rattle.heddleorange.specs.NoReport.{IsErrorOfRun, IsRight};
+ghost use Rattle.std.specs.Prelude.{◌≡◌, ◌+◌, [], All, IfErr, IfOk, IfSome, false, is_some, length};
+ghost use Rattle.heddleorange.specs.NoReport.{IsErrorInOrder, IsErrorOfRun, IsRight};
 ghost use Rattle.heddleorange.specs.Orders.{lists_of};
 ghost use Rattle.heddleorange.specs.RunHeadline.{RunHeadline};
+ghost use Rattle.heddleorange.specs.Turns.{CoverJournals};
 ghost use Rattle.heddleorange.specs.WholeRun.{IsReportOfRun, after_at, gives_at};
 
 use crate::orders::lists_of;
@@ -26,7 +27,7 @@ pub struct FinishedRun {
 /// calling thread alone, after all was sent in the order of the text; of it the turns are answered too. Else each worker and each
 /// sender has a thread of its own.
 ///
-/// The errors are `NoMemory`, and `Run`, `NotQuiet` and `Mismatch` as `heddleorange` says of them.
+/// The errors are `NoMemory`, and `Run`, `NotQuiet`, `Mismatch` and, of a quiet run, `Turns` as `heddleorange` says of them.
 pub fn run<A: Actor + Send, R: Threads + Wait + Sync>(
     rt: &R,
     alloc: Global,
@@ -42,7 +43,10 @@ pub fn run<A: Actor + Send, R: Threads + Wait + Sync>(
     ensures headline { IfOk result (λ run. RunHeadline plan (lists_of plan.senders sends.now) run.report) }
     ensures lines { IfOk result (λ run. length run.report.actors.items ≡ length actors.items + 1) }
     ensures turns { IfOk result (λ run. is_some run.turns ≡ is_quiet) }
-    ensures fault { IfErr result (IsErrorOfRun (gives_at actors.items A.gives) plan (length actors.items) (lists_of plan.senders sends.now)) }
+    ensures covers { IfOk result (λ run. IfSome run.turns (λ turns. CoverJournals run.report turns.items)) }
+    ensures fault { IfErr result (IsErrorInOrder (gives_at actors.items A.gives) plan (length actors.items) (lists_of plan.senders sends.now)) }
+    ensures threads_fault { is_quiet ≡ false → IfErr result (IsErrorOfRun (gives_at actors.items A.gives) plan (length actors.items)
+        (lists_of plan.senders sends.now)) }
 {
     if is_quiet {
         let QuietRun { report, turns } = run_in_order(rt, alloc, plan, actors, sends)?;

@@ -1,5 +1,5 @@
 //! Tests of the program as a function of its streams: whole runs from bytes to bytes, texts that it refuses, streams that fail, and
-//! arguments.
+//! arguments; and those of the reader of scenarios (`scenarios`).
 #![tactic(auto)]
 
 #[cfg(test)]
@@ -10,5 +10,7 @@ mod driven;
 mod refusals;
 #[cfg(test)]
 mod reports;
+#[cfg(test)]
+mod scenarios;
 #[cfg(test)]
 mod streams;

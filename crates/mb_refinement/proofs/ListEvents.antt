@@ -383,7 +383,7 @@ module _ {H : Type 0} (is_of : ℕ → H → Type 0) (facts : H → HomeFacts) w
                 owed = owed_back actor x s.views id v made.present i;
               }),
             ))),
-        (λ miss. let so : w ≡ v = first_of _ _ (told.1 miss) in
+        (λ miss. let so : w ≡ seeing (Looked actor true) v = first_of _ _ (told.1 miss) in
             load_silent is_of facts n s r actor inside Gate id v w me.1 made.present (λ a. record {
               claim = ap (claim_for a) so;
               list = ap (list_for a) so;

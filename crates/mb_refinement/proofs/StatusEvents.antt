@@ -277,14 +277,15 @@ module _ {H : Type 0} (is_of : H → ℕ → H → Type 0) (first : H) (facts : 
       let j = (facts won.home).journal in
       let shut = (facts won.home).closed_to in
       let given = (facts won.home).given in
-      let is : w ≡ taking actor j shut found won.gave given v = first_of _ _ won.now in
-      let c : Held = record { actor = actor; journal = j; closed_to = shut; word = new; gave = won.gave; given = given; drained = [] } in
+      let drained = (facts won.home).drained in
+      let is : w ≡ taking actor j shut found won.gave given drained v = first_of _ _ won.now in
+      let c : Held = record { actor = actor; journal = j; closed_to = shut; word = new; gave = won.gave; given = given; drained = drained } in
       let there : x.slot CellSlot ≡ some (some (Home home)) = made.able in
       let before = at_home (is_of first) facts actor x (Home home) x.ghost.holder f.cell there in
       let lists : (a : ℕ) → get_elem? (set s.homes (slot_at actor 0) none) (slot_at a 1) ≡ get_elem? s.homes (slot_at a 1) = (λ a. set_else s.homes (slot_at
       actor 0) (slot_at a 1) none (λ e. omega arith)) in
       event_at (is_of first) facts n s r actor inside Status new id v w me.1 (takes (slot_at actor 0) (Home home)) made.present
-      (λ a apart. aside_of {H = H} a v w (taking actor j shut found won.gave given v) is (taking_elsewhere actor a found given j shut won.gave v apart bare))
+      (λ a apart. aside_of {H = H} a v w (taking actor j shut found won.gave given drained v) is (taking_elsewhere actor a found given j shut won.gave drained v apart bare))
       (λ a apart. lists a) s'
       (made.after ∙ ap (λ k. stepped s (word_at actor 8) k id me.1 w (takes (slot_at actor 0) (Home home))) (won_word found st.first st.second hit ∙ (bit ∙ ap
       (λ k. k + 2) (sym hit)))) r' Schedule rest rest

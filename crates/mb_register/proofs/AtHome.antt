@@ -1,6 +1,7 @@
 -- A claim that was just taken is all that the gates ask of a claim that is given back.
 use Rattle.std.proofs.Common.{◌≡◌, ◌⊎◌, inl, inr, ℕ, true, false, List, [], ◌∷◌, sym, ◌∙◌, subst}
 use Rattle.std.specs.Prelude.{Bool}
+use Rattle.mb_msg.specs.declared.system.SysMsg.{SysMsg}
 use Rattle.mb_journal.specs.Entry.{Entry}
 use Rattle.mb_journal.specs.Identity.{Identity}
 use Rattle.mb_ghost.specs.Seen.{Each}
@@ -23,6 +24,10 @@ each-of P (x ∷ xs) f = (f x (among_first x xs), each-of P xs (λ y a. f y (amo
 pub shut-same : (now shut : List ℕ) (v : View) → shut ≡ now → Each (λ other. IsKnownClosed other shut v) now
 shut-same now shut v same =
     each-of (λ other. IsKnownClosed other shut v) now (λ other a. inl (subst (IsAmong other) (sym same) a))
+
+-- and each message that the home says its list gave is one that the claim knows, by what the home said when it was taken
+pub drained-same : (now drained : List (ℕ × SysMsg)) → drained ≡ now → Each (λ m. IsAmong m drained) now
+drained-same now drained same = each-of (λ m. IsAmong m drained) now (λ m a. subst (IsAmong m) (sym same) a)
 
 -- no system message was sent for it, and it has no new entries
 pub told-nothing : (who : Identity) (actor : ℕ) (closed : Bool) (journal before : List Entry) (sent_system : List SentSystem) → before ≡ journal → sent_system ≡ [] →

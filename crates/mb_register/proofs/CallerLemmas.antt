@@ -6,7 +6,7 @@ use Rattle.mb_ghost.proofs.SeenLemmas.{each_append}
 use Rattle.mb_gate.specs.declared.claim.Claim.{Claim}
 use Rattle.mb_gate.specs.Accessors.{held_actor}
 use Rattle.mb_gate.specs.Rule.{IsAmong}
-use Rattle.mb_gate.specs.View.{View, Observation, SentSystem, obligation_to}
+use Rattle.mb_gate.specs.View.{View, SentSystem, obligation_to}
 use Rattle.mb_gate.proofs.Numbers.{among_first, among_left, among_right}
 use Rattle.mb_register.specs.Owed.{is_owed}
 use Rattle.mb_register.specs.Registering.{QueueAccount, WasRefused, IsRegistered}

@@ -1,6 +1,7 @@
 -- Which claims a pass got, and which it gave back.
 use Rattle.std.proofs.Common.{◌≡◌, ◌==◌, ℕ, ◌+◌, Bool, true, false, if◌then◌else◌, inl, inr}
 use Rattle.std.proofs.Common.{List, [], ◌∷◌, ◌++◌, refl, sym, ap, ◌∙◌, subst, arith, append_assoc, append-nil}
+use Rattle.mb_msg.specs.declared.system.SysMsg.{SysMsg}
 use Rattle.mb_journal.specs.Entry.{Entry}
 use Rattle.mb_ghost.proofs.SummedLemmas.{total_append}
 use Rattle.mb_gate.specs.Claims.{claimed}
@@ -45,9 +46,9 @@ module _ (id : ℕ) where
   claims-looked false v w is = subst (GotAndGaveBack [] [] v) (sym is) (record { got = refl; returned = refl })
 
 -- a claim that was just taken is given back
-pub claims-back : (id : ℕ) (j before : List Entry) (shut : List ℕ) (word : ℕ) (gave : Bool) (given : ℕ) (v c w : View) →
-    c ≡ claimed id before shut word gave given → w ≡ idling id j (taking_in c v) → GotAndGaveBack [] (id ∷ []) v w
-claims-back id j before shut word gave given v c w is after =
+pub claims-back : (id : ℕ) (j before : List Entry) (shut : List ℕ) (word : ℕ) (gave : Bool) (given : ℕ) (drained : List (ℕ × SysMsg)) (v c w : View) →
+    c ≡ claimed id before shut word gave given drained → w ≡ idling id j (taking_in c v) → GotAndGaveBack [] (id ∷ []) v w
+claims-back id j before shut word gave given drained v c w is after =
     subst (GotAndGaveBack [] (id ∷ []) v) (sym (after ∙ ap (λ (u : View). idling id j (taking_in u v)) is))
     (record { got = append-nil v.got; returned = ap (λ l. id ∷ l) (append-nil v.returned) })
 

@@ -8,4 +8,5 @@ pub mod Retries
 pub mod Crossing
 pub mod SendingLemmas
 pub mod CallerLemmas
+pub mod Joining
 pub mod MoveLemmas

@@ -160,20 +160,20 @@ added-none other [] = refl
 added-none other (d ∷ ds) = λ i. if d.0 == other then either-none d.1 i else added-none other ds i
 
 -- a claim that was just taken is given back
-module _ (id : ℕ) (j before : List Entry) (shut : List ℕ) (word : ℕ) (gave : Bool) (given : ℕ) where
-  looks-idled : (v : View) → LooksAfter id v (idling id j (taking_in (claimed id before shut word gave given) v))
+module _ (id : ℕ) (j before : List Entry) (shut : List ℕ) (word : ℕ) (gave : Bool) (given : ℕ) (drained : List (ℕ × SysMsg)) where
+  looks-idled : (v : View) → LooksAfter id v (idling id j (taking_in (claimed id before shut word gave given drained) v))
   looks-idled v = record {
     looks = Saw id j ∷ [];
     only = (refl, tt);
     log = ap (λ l. Saw id j ∷ l) (append-nil v.log);
     sent_system = refl;
-    others = λ other ne. owes-other id _ (taking_in (claimed id before shut word gave given) v) other ne ∙ added-none other v.obligations;
+    others = λ other ne. owes-other id _ (taking_in (claimed id before shut word gave given drained) v) other ne ∙ added-none other v.obligations;
     share = append-nil v.share;
   }
 
-  pub looks-back : (actor : ℕ) (v c w : View) → actor ≡ id → c ≡ claimed actor before shut word gave given → w ≡ idling actor j (taking_in c v) →
+  pub looks-back : (actor : ℕ) (v c w : View) → actor ≡ id → c ≡ claimed actor before shut word gave given drained → w ≡ idling actor j (taking_in c v) →
       LooksAfter id v w
   looks-back actor v c w here is after =
       subst (LooksAfter id v) (sym (after ∙ ap (λ (u : View). idling actor j (taking_in u v)) is
-      ∙ ap (λ a. idling a j (taking_in (claimed a before shut word gave given) v)) here))
+      ∙ ap (λ a. idling a j (taking_in (claimed a before shut word gave given drained) v)) here))
       (looks-idled v)

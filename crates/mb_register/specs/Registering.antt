@@ -3,7 +3,7 @@ use Rattle.std.specs.Prelude.{◌≡◌, ℕ, ◌+◌, ◌<◌, ◌≤◌, ◌==
 use Rattle.mb_ghost.specs.Summed.{total}
 use Rattle.mb_gate.specs.declared.claim.Claim.{Claim}
 use Rattle.mb_gate.specs.Accessors.{held_actor}
-use Rattle.mb_gate.specs.View.{View}
+use Rattle.mb_gate.specs.View.{View, obligation_to}
 use Rattle.mb_gate.specs.ClaimCounts.{claims_got, claims_returned}
 use Rattle.mb_register.specs.declared.owed.Owed.{Owed}
 use Rattle.mb_register.specs.Owed.{is_owed}
@@ -14,6 +14,14 @@ pub record QueueAccount (H : Type 0) : Type 0 where
   pub pushed : List (Claim H)
   pub refused : List (Claim H)
   pub owed : Owed
+
+-- The view owes this actor a look at its list, and one at its envelopes.
+abbrev pub OwesALook : ℕ → View → Type 0
+OwesALook id view = ((obligation_to id view).system ≡ true) × ((obligation_to id view).message ≡ true)
+
+-- Each actor that joined the set is owed a look by the view.
+abbrev pub JoinAsOwed : Owed → Owed → View → Type 0
+JoinAsOwed old new view = (id : ℕ) → is_owed new id ≡ true → (is_owed old id ≡ true) ⊎ OwesALook id view
 
 module _ {H : Type 0} (id : ℕ) (old new : QueueAccount H) where
   -- The claim of this actor went into the run queue.

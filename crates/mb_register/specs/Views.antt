@@ -27,11 +27,12 @@ pub record Does (id : ℕ) (did : List Observation) (told : List SentSystem) (ol
   pub others : (other : ℕ) → other ≢ id → obligation_to other new ≡ obligation_to other old
   pub share : new.share ≡ old.share
 
--- It read, and did nothing.
+-- It read, took no envelope, and sent nothing. Whether it scheduled the actor and gave its claim to a pool, the log does not say.
 abbrev pub LooksAfter : ℕ → View → View → Type 0
 LooksAfter id = Does id [] []
 
--- It read at actors of a set, as often as it liked, and did nothing. What it owes actors outside of the set, and its share, did not change.
+-- It read at actors of a set, as often as it liked, took no envelope, and sent nothing. What it owes actors outside of the set, and its share, did
+-- not change.
 pub record LooksAmong (among : ℕ → Bool) (old new : View) : Type 0 where
   pub looks : List Observation
   pub only : Each (λ (s : Observation). (id : ℕ) × (among id ≡ true) × IsLook id s) looks

@@ -7,7 +7,7 @@ ghost use Rattle.mb_gate.specs.Untouched.{origin_of};
 ghost use Rattle.mb_register.specs.Owed.{is_owed};
 ghost use Rattle.mb_register.specs.Due.{GotOnlyDue};
 ghost use Rattle.mb_register.specs.Views.{LooksAfter};
-ghost use Rattle.mb_register.specs.Registering.{HandsClaimOn, IsRegistered};
+ghost use Rattle.mb_register.specs.Registering.{HandsClaimOn, IsRegistered, JoinAsOwed};
 
 use crate::due::{is_due, take_due};
 use crate::hint::Hint;
@@ -33,7 +33,8 @@ impl<H: MailboxState, W: RunQueue<H>> Registrar<H, W> {
     /// (`Dispatcher.registerForExecution`), and answers whether it did. A hint says that the actor has envelopes, or system
     /// work, and saves reading that. It takes the claim only of an actor that it saw to be due.
     ///
-    /// Where the run queue refuses the claim, the claim goes back, and a look is owed to the actor.
+    /// Where the run queue refuses the claim, the claim goes back, and a look is owed to the actor: it joins the set, and the
+    /// pass owes it the look.
     #[inline(always)]
     pub fn register<R: Wait>(&mut self, rt: &R, gates: &Gates<H>, id: ActorId, hint: Hint) -> bool
         requires same_gates { (pass_id self.old.pass ≡ gates_id gates.now) × (W.origin self.old.run_queue ≡ Some (origin_of gates.now)) }
@@ -41,6 +42,7 @@ impl<H: MailboxState, W: RunQueue<H>> Registrar<H, W> {
         ensures same_gates { (pass_id self.new.pass ≡ pass_id self.old.pass) × (W.origin self.new.run_queue ≡ W.origin self.old.run_queue) }
         ensures looks { LooksAfter id.0 (pass_view self.old.pass) (pass_view self.new.pass) }
         ensures discharged { (obligation_to id.0 (pass_view self.new.pass) ≡ nothing) ⊎ (is_owed self.new.owed id.0 ≡ true) }
+        ensures owes { JoinAsOwed self.old.owed self.new.owed (pass_view self.new.pass) }
         ensures registered { IsRegistered id.0
             (record { pushed = W.pushed self.old.run_queue; refused = W.refused self.old.run_queue; owed = self.old.owed })
             (record { pushed = W.pushed self.new.run_queue; refused = W.refused self.new.run_queue; owed = self.new.owed }) result }
@@ -64,6 +66,7 @@ impl<H: MailboxState, W: RunQueue<H>> Registrar<H, W> {
         ensures same_gates { (pass_id self.new.pass ≡ pass_id self.old.pass) × (W.origin self.new.run_queue ≡ W.origin self.old.run_queue) }
         ensures looks { LooksAfter id.0 (pass_view self.old.pass) (pass_view self.new.pass) }
         ensures discharged { (obligation_to id.0 (pass_view self.new.pass) ≡ nothing) ⊎ (is_owed self.new.owed id.0 ≡ true) }
+        ensures owes { JoinAsOwed self.old.owed self.new.owed (pass_view self.new.pass) }
         ensures registered { IsRegistered id.0
             (record { pushed = W.pushed self.old.run_queue; refused = W.refused self.old.run_queue; owed = self.old.owed })
             (record { pushed = W.pushed self.new.run_queue; refused = W.refused self.new.run_queue; owed = self.new.owed }) result }

@@ -9,7 +9,7 @@ ghost use Rattle.mb_register.specs.declared.hint.Hint.TheVariants as Hint;
 ghost use Rattle.mb_register.specs.Due.{GotOnlyDue};
 ghost use Rattle.mb_register.specs.Owed.{is_owed};
 ghost use Rattle.mb_register.specs.Views.{LooksAfter, LooksAmong};
-ghost use Rattle.mb_register.specs.Registering.{LosesNoClaim, StopsAt};
+ghost use Rattle.mb_register.specs.Registering.{LosesNoClaim, OwesALook, StopsAt};
 
 use crate::hint::Hint;
 use crate::registrar::Registrar;
@@ -38,6 +38,8 @@ impl<H: MailboxState, W: RunQueue<H>> Registrar<H, W> {
         ensures refused { MatchResult result (λ _. W.refused self.new.run_queue ≡ W.refused self.old.run_queue) (λ _. StopsAt
             (record { pushed = W.pushed self.old.run_queue; refused = W.refused self.old.run_queue; owed = self.old.owed })
             (record { pushed = W.pushed self.new.run_queue; refused = W.refused self.new.run_queue; owed = self.new.owed })) }
+        ensures owes { OnErr result ((claim : Claim H) × (W.refused self.new.run_queue ≡ W.refused self.old.run_queue ++ claim ∷ [])
+            × OwesALook (held_actor claim) (pass_view self.new.pass)) }
         ensures handed { LosesNoClaim
             (record { pushed = W.pushed self.old.run_queue; refused = W.refused self.old.run_queue; owed = self.old.owed })
             (record { pushed = W.pushed self.new.run_queue; refused = W.refused self.new.run_queue; owed = self.new.owed })
@@ -69,6 +71,7 @@ impl<H: MailboxState, W: RunQueue<H>> Registrar<H, W> {
             (obligation_to id.0 (pass_view self.new.pass) ≡ nothing) ⊎ (is_owed self.new.owed id.0 ≡ true) }
         ensures done { OnOk result (is_owed self.new.owed id.0 ≡ false) }
         ensures left { OnErr result ((is_owed self.old.owed id.0 ≡ true) × (is_owed self.new.owed id.0 ≡ true)) }
+        ensures owes { OnErr result (OwesALook id.0 (pass_view self.new.pass)) }
         ensures refused { MatchResult result (λ _. W.refused self.new.run_queue ≡ W.refused self.old.run_queue) (λ _. (claim : Claim H)
             × (held_actor claim ≡ id.0) × (W.refused self.new.run_queue ≡ W.refused self.old.run_queue ++ claim ∷ [])) }
         ensures none { is_owed self.old.owed id.0 ≡ false → self.new ≡ self.old }

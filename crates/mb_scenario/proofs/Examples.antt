@@ -7,7 +7,7 @@ use Rattle.toml.proofs.OnLiterals.{toml_on_literals}
 use Rattle.toml.specs.Parse.{parse_document}
 use Rattle.mb_schema.specs.Location.{FindingData as Found, reason_text}
 use Rattle.mb_msg.specs.declared.strategy.Pattern.TheVariants.{AnyError}
-use Rattle.mb_msg.specs.declared.envelope.Body.TheVariants.{User}
+use Rattle.mb_msg.specs.declared.payload.Payload.TheVariants.{User}
 use Rattle.mb_msg.specs.declared.supervision.Directive.TheVariants.{Resume}
 use Rattle.mb_msg.specs.declared.order.OrderKind.TheVariants.{Tell, Stop}
 use Rattle.mb_msg.specs.declared.pool_kind.PoolKind.TheVariants.{Shared, Stealing}

@@ -13,7 +13,7 @@ use Rattle.mb_schema.specs.Check.{actor_check, actor_key_check, actor_table_chec
 use Rattle.mb_schema.specs.Check.{each, items_in, key_check, actor_entry_of, name_check, rows_check, send_check, table_check, unknown_check}
 use Rattle.mb_schema.specs.Context.{ContextData, ActorEntryData, knows}
 use Rattle.mb_schema.specs.Format.{KeyData, actor_keys, any_number, name_key, optional, other_actor_keys, required, send_keys, top_keys}
-use Rattle.mb_msg.specs.declared.envelope.Body.TheVariants.{User, Control, PoisonPill, Kill}
+use Rattle.mb_msg.specs.declared.payload.Payload.TheVariants.{User, Control, PoisonPill, Kill}
 use Rattle.mb_msg.specs.declared.id.ActorId.{ActorId}
 use Rattle.mb_schema.specs.Name.{is_guardian, is_name}
 use Rattle.mb_schema.specs.Location.{FindingData, entry_text, first, when}
@@ -22,7 +22,7 @@ use Rattle.mb_schema.specs.declared.finding.Reason.TheVariants.{Missing}
 use Rattle.mb_schema.specs.declared.form.Form.TheVariants.{Whole, AnyInteger, Word, Name, Parent, Receiver, Tables}
 use Rattle.mb_schema.specs.declared.form.Only.TheVariants.{Always, Bounded, Message}
 use Rattle.mb_schema.specs.declared.form.Words.TheVariants.{Pool, Mailbox, What as WhatWord}
-use Rattle.mb_msg.specs.declared.envelope.Body.{Body}
+use Rattle.mb_msg.specs.declared.payload.Payload.{Payload}
 use Rattle.mb_msg.specs.declared.mailbox_type.RankRow.{RankRow}
 use Rattle.mb_msg.specs.declared.order.OrderKind.{OrderKind}
 use Rattle.mb_msg.specs.declared.order.OrderKind.TheVariants.{Tell, Stop}
@@ -133,8 +133,8 @@ module _ (actor_entries : List ActorEntryData) (names : Named actor_entries) whe
 -- ---- sends
 
 -- an envelope is none of the word that stops
-no-stop : (word : List ℕ) (kind : ℕ) (value : ℤ) (body : Body) → what_sent word kind value ≡ Tell body → bytes_eq word (codes "stop") ≡ false
-no-stop word kind value body is = by_tests (bytes_eq word (codes "poison")) (bytes_eq word (codes "kill")) (bytes_eq word (codes "stop")) refl refl refl
+no-stop : (word : List ℕ) (kind : ℕ) (value : ℤ) (payload : Payload) → what_sent word kind value ≡ Tell payload → bytes_eq word (codes "stop") ≡ false
+no-stop word kind value payload is = by_tests (bytes_eq word (codes "poison")) (bytes_eq word (codes "kill")) (bytes_eq word (codes "stop")) refl refl refl
   where
     by_tests : (poison kill stop : Bool) → bytes_eq word (codes "poison") ≡ poison → bytes_eq word (codes "kill") ≡ kill
         → bytes_eq word (codes "stop") ≡ stop → stop ≡ false
@@ -148,11 +148,11 @@ no-stop word kind value body is = by_tests (bytes_eq word (codes "poison")) (byt
     by_tests false false true is_poison is_kill is_stop =
         let e : what_sent word kind value ≡ Stop = (λ i. cond (is_poison i) (Tell PoisonPill) (cond (is_kill i) (Tell Kill)
         (cond (is_stop i) Stop (cond (bytes_eq word (codes "control")) (Tell (Control kind value)) (Tell (User kind value)))))) in
-        let f : Tell body ≡ Stop = sym is ∙ e in absurd (cc)
+        let f : Tell payload ≡ Stop = sym is ∙ e in absurd (cc)
 
 -- the receiver is an actor that there is; of an envelope it is not the guardian
 abbrev pub IsReceived : ℕ → ActorId → OrderKind → Type 0
-IsReceived actors to (Tell body) = (0 < to.0) × (to.0 < actors)
+IsReceived actors to (Tell payload) = (0 < to.0) × (to.0 < actors)
 IsReceived actors to Stop = to.0 < actors
 
 abbrev pub IsSendData : ℕ → SenderOrder → Type 0
@@ -168,9 +168,9 @@ module _ (actor_entries : List ActorEntryData) (few : 1 + length actor_entries <
       → IsReceived (1 + length actor_entries) (id_of actor_entries (text_or (codes "") o)) what
   received ms None kind value what none is = absurd (none-some Missing (sym none))
   received ms (Some d) kind value Stop none is = number-below 1 actor_entries (text_of d) (omega arith)
-  received ms (Some d) kind value (Tell body) none is =
+  received ms (Some d) kind value (Tell payload) none is =
       let fits = fit (context_of_send actor_entries) ms (required (codes "to") Always Receiver) d none in
-      let other : bytes_eq (what_word ms) (codes "stop") ≡ false = no-stop (what_word ms) kind value body is in
+      let other : bytes_eq (what_word ms) (codes "stop") ≡ false = no-stop (what_word ms) kind value payload is in
       let name : is_name (text_of d) ≡ true = a-name (is_name (text_of d)) (is_guardian (text_of d)) (bytes_eq (what_word ms) (codes "stop"))
       fits.in_range other in
       let known = or-false (is_guardian (text_of d)) (knows actor_entries (text_of d)) fits.known (no-guardian (text_of d) name) in

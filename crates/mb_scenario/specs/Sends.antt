@@ -4,10 +4,10 @@ use Rattle.std.specs.Str.{bytes_eq}
 use Rattle.toml.specs.Data.{Data}
 use Rattle.mb_schema.specs.Context.{ActorEntryData}
 use Rattle.mb_schema.specs.Value.{text_or}
-use Rattle.mb_msg.specs.declared.envelope.Body.TheVariants.{User, Control, PoisonPill, Kill}
 use Rattle.mb_msg.specs.declared.order.OrderKind.{OrderKind}
 use Rattle.mb_msg.specs.declared.order.OrderKind.TheVariants.{Tell, Stop}
 use Rattle.mb_msg.specs.declared.order.SenderOrder.{SenderOrder}
+use Rattle.mb_msg.specs.declared.payload.Payload.TheVariants.{User, Control, PoisonPill, Kill}
 use Rattle.mb_scenario.specs.Fields.{field, id_of, integer_or, number_or}
 
 -- what is sent by this word, with this kind and value

@@ -7,7 +7,7 @@ ghost use Rattle.mb_scenario.specs.Fields.{map_items, small};
 ghost use Rattle.mb_scenario.specs.Sends.{send_of, senders_of, what_sent};
 
 use crate::fields::{field, id_of, integer_or, number_or, small};
-use mb_msg::{Body, Order, OrderKind, SenderOrder};
+use mb_msg::{Order, OrderKind, Payload, SenderOrder};
 use mb_schema::{ActorEntry, is_text, text_or};
 use std::alloc::{AllocError, Global};
 use toml::Value;
@@ -47,18 +47,18 @@ fn what_sent(word: &[u8], kind: u32, value: i64) -> OrderKind
     ensures { result ≡ what_sent word.now kind value }
 {
     if is_text(word, b"poison") {
-        return OrderKind::Tell(Body::PoisonPill);
+        return OrderKind::Tell(Payload::PoisonPill);
     }
     if is_text(word, b"kill") {
-        return OrderKind::Tell(Body::Kill);
+        return OrderKind::Tell(Payload::Kill);
     }
     if is_text(word, b"stop") {
         return OrderKind::Stop;
     }
     if is_text(word, b"control") {
-        return OrderKind::Tell(Body::Control { kind, value });
+        return OrderKind::Tell(Payload::Control { kind, value });
     }
-    OrderKind::Tell(Body::User { kind, value })
+    OrderKind::Tell(Payload::User { kind, value })
 }
 
 /// How many senders there are.

@@ -5,7 +5,7 @@ ghost use Rattle.mb_script.specs.Script.{answer_with, after_work, asked_with, ro
 use crate::index::{Index, first_of_kind, index_of};
 use crate::operation::{Operation, Row};
 use crate::perform::{Performed, perform};
-use mb_actor::{Actor, Answer, Message, Outbox};
+use mb_actor::{Actor, Answer, CallPermit, Message, Outbox};
 use mb_msg::Cause;
 use std::alloc::{AllocError, Global};
 use std::marker::Model;
@@ -134,12 +134,12 @@ impl Actor for Script {
 
     ghost gives = { λ s. gives_of s.script };
 
-    fn start(&mut self, out: &mut Outbox) -> Answer {
+    fn start(&mut self, out: &mut Outbox, _: CallPermit) -> Answer {
         self.state = self.initial;
         perform(&self.hooks.start, 0, 0, out).answer
     }
 
-    fn receive(&mut self, message: &Message, out: &mut Outbox) -> Answer {
+    fn receive(&mut self, message: &Message, out: &mut Outbox, _: CallPermit) -> Answer {
         match *message {
             Message::User { kind, value } => self.do_kind(kind, value, out),
             Message::Control { kind, value } => self.do_kind(kind, value, out),
@@ -150,12 +150,12 @@ impl Actor for Script {
         }
     }
 
-    fn restart(&mut self, _cause: Cause, out: &mut Outbox) -> Answer {
+    fn restart(&mut self, _cause: Cause, out: &mut Outbox, _: CallPermit) -> Answer {
         self.state = self.initial;
         perform(&self.hooks.restart, 0, 0, out).answer
     }
 
-    fn stop(&mut self, out: &mut Outbox) {
+    fn stop(&mut self, out: &mut Outbox, _: CallPermit) {
         let _ = perform(&self.hooks.stop, 0, 0, out).answer;
     }
 

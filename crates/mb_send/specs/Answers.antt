@@ -9,6 +9,7 @@ use Rattle.mb_gate.specs.View.{View, Pushed, reading}
 use Rattle.mb_journal.specs.declared.sent_envelope.SentEnvelope.{SentEnvelope}
 use Rattle.mb_queue.specs.Passes.{SendPassView}
 use Rattle.mb_queue.specs.Pushes.{WasFull}
+use Rattle.mb_send.specs.declared.ticket.Ticket.{Ticket}
 use Rattle.mb_send.specs.declared.ticket.Look.{Look}
 use Rattle.mb_send.specs.declared.ticket.Look.TheVariants.{Open, Closed}
 use Rattle.mb_msg.specs.declared.dead_letter.Why.{Why}
@@ -26,9 +27,13 @@ abbrev pub put_of : ℕ → Option Why → Put
 put_of number None = Queued number
 put_of number (Some why) = Dead number why
 
+-- The receiver that a ticket is for.
+abbrev pub receiver_of : Ticket → ActorId
+receiver_of ticket = ticket.to
+
 -- The answer to a look is what this status says.
 abbrev pub AnswersLook : ActorId → Mailbox → Look → Type 0
-AnswersLook to seen (Open ticket) = (ticket.to ≡ to) × (seen.closed ≡ false)
+AnswersLook to seen (Open ticket) = (receiver_of ticket ≡ to) × (seen.closed ≡ false)
 AnswersLook to seen Closed = seen.closed ≡ true
 
 -- The receiver's status was read once, and the answer is what it says.

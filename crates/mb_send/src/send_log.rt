@@ -1,5 +1,6 @@
 //! The log of what a sender was answered.
 ghost use Rattle.std.specs.Prelude.{◌≡◌, ◌<◌, [], ◌∷◌, ◌++◌, length, vec_len, vec_capacity, Some, None, IfOk, OnErr, IsErrOf};
+ghost use Rattle.mb_msg.specs.Payload.{body_of};
 ghost use Rattle.mb_journal.specs.Accepted.{accepted, dead_letters};
 ghost use Rattle.mb_send.specs.declared.send_error.SendError.TheVariants as SendError;
 ghost use Rattle.mb_send.specs.Posted.{envelope_of, names_from, names_of, posting};
@@ -7,7 +8,7 @@ ghost use Rattle.mb_send.specs.Posted.{envelope_of, names_from, names_of, postin
 use crate::send_error::SendError;
 use mb_ghost::Log;
 use mb_journal::SentEnvelope;
-use mb_msg::{ActorId, Body, DeadLetter, Envelope, SenderId, Why};
+use mb_msg::{ActorId, Body, DeadLetter, Envelope, Payload, SenderId, Why};
 use std::alloc::Global;
 
 /// The log of a sender outside the actors: how many envelopes it sent, and those of them that are dead letters. Contracts see
@@ -55,15 +56,15 @@ impl SendLog {
         Ok(())
     }
 
-    /// The next envelope, to this receiver with this body.
-    pub(crate) fn next(&self, to: ActorId, body: Body) -> Envelope
-        ensures { result ≡ envelope_of self.now.by to self.now.sent body }
+    /// The next envelope, to this receiver with this payload.
+    pub(crate) fn next(&self, to: ActorId, payload: Payload) -> Envelope
+        ensures { result ≡ envelope_of self.now.by to self.now.sent (body_of payload) }
     {
         Envelope {
             by: self.by,
             to,
             number: self.sent,
-            body,
+            body: Body::from(payload),
         }
     }
 

@@ -1,5 +1,6 @@
 //! What a sender outside the actors sends to them.
 ghost use Rattle.std.specs.Prelude.{◌≡◌, ◌⊎◌, ℕ, ◌+◌, ◌<◌, ◌≤◌, true, vec_len, IfOk, IsErrOf, OnErr, Some};
+ghost use Rattle.mb_msg.specs.Payload.{body_of};
 ghost use Rattle.mb_core.specs.Actor.{nothing};
 ghost use Rattle.mb_gate.specs.View.{obligation_to};
 ghost use Rattle.mb_gate.specs.Accessors.{gates_id, pass_id, actors_of, pass_view};
@@ -7,7 +8,7 @@ ghost use Rattle.mb_send.specs.declared.send_error.SendError.TheVariants as Send
 ghost use Rattle.mb_gate.specs.Untouched.{origin_of};
 ghost use Rattle.mb_register.specs.Owed.{is_owed};
 ghost use Rattle.mb_send.specs.Sends.{receiving_queues};
-ghost use Rattle.mb_send.specs.Answers.{IsSent, IsDeadLetter, IsTold, reason};
+ghost use Rattle.mb_send.specs.Answers.{IsSent, IsDeadLetter, IsTold, reason, receiver_of};
 ghost use Rattle.mb_send.specs.SeenClosed.{has_seen_closed};
 ghost use Rattle.mb_send.specs.Faults.{OnlyLooked, IsSameSendLog};
 ghost use Rattle.mb_send.specs.Asked.{RegistersAtMost, account_of};
@@ -17,13 +18,13 @@ use crate::send_error::SendError;
 use crate::sender::GatesSender;
 use crate::ticket::{Look, Ticket};
 use mb_gate::{Gates, MailboxState, RunQueue};
-use mb_msg::{ActorId, Body, Why};
+use mb_msg::{ActorId, Payload, Why};
 use mb_queue::PushError;
 use mb_register::Hint;
 use std::sync::Wait;
 
 impl<H: MailboxState, W: RunQueue<H>> GatesSender<H, W> {
-    /// Sends this body to the receiver of the ticket: counts the envelope, queues it, and registers the receiver. An envelope
+    /// Sends this payload to the receiver of the ticket: counts the envelope, queues it, and registers the receiver. An envelope
     /// that a queue refuses, since it is full or memory was refused, becomes a dead letter, which takes a number too.
     ///
     /// It answers `NoMemory` if there was no room for the dead letter that it might become, or if the sender's last number is
@@ -34,20 +35,20 @@ impl<H: MailboxState, W: RunQueue<H>> GatesSender<H, W> {
         rt: &R,
         gates: &Gates<H>,
         ticket: Ticket,
-        body: Body,
+        payload: Payload,
     ) -> Result<Put, SendError>
         requires same_gates { (pass_id self.old.registrar.pass ≡ gates_id gates.now) × (W.origin self.old.registrar.run_queue ≡ Some (origin_of gates.now)) }
         requires all { vec_len self.old.sends + 1 ≡ actors_of gates.now }
-        requires present { (0 < ticket.to.0) × (ticket.to.0 < actors_of gates.now) × (ticket.to.0 < 64) }
+        requires present { (0 < (receiver_of ticket).0) × ((receiver_of ticket).0 < actors_of gates.now) × ((receiver_of ticket).0 < 64) }
         ensures refused { OnErr result (IsErrOf result SendError.NoMemory × (self.new.send_log.posted ≡ self.old.send_log.posted)
             × (self.new.registrar ≡ self.old.registrar)) }
         ensures unsent { OnErr result (IsSameSendLog self.old.send_log self.new.send_log × (self.new.sends ≡ self.old.sends)) }
-        ensures sent { IfOk result (IsSent self.old.send_log.by self.old.send_log.sent ticket.to body self.old.send_log.posted self.new.send_log.posted
+        ensures sent { IfOk result (IsSent self.old.send_log.by self.old.send_log.sent (receiver_of ticket) (body_of payload) self.old.send_log.posted self.new.send_log.posted
             self.old.sends.items (pass_view self.old.registrar.pass) (pass_view self.new.registrar.pass)) }
-        ensures discharged { IfOk result (λ _. (obligation_to ticket.to.0 (pass_view self.new.registrar.pass) ≡ nothing) ⊎ (is_owed self.new.registrar.owed ticket.to.0
+        ensures discharged { IfOk result (λ _. (obligation_to (receiver_of ticket).0 (pass_view self.new.registrar.pass) ≡ nothing) ⊎ (is_owed self.new.registrar.owed (receiver_of ticket).0
             ≡ true)) }
         ensures still { (id : ℕ) → is_owed self.old.registrar.owed id ≡ true → is_owed self.new.registrar.owed id ≡ true }
-        ensures registered { RegistersAtMost ticket.to.0 (account_of W.pushed W.refused self.old.registrar) (account_of W.pushed W.refused self.new.registrar) }
+        ensures registered { RegistersAtMost (receiver_of ticket).0 (account_of W.pushed W.refused self.old.registrar) (account_of W.pushed W.refused self.new.registrar) }
         ensures same_gates { (pass_id self.new.registrar.pass ≡ pass_id self.old.registrar.pass) × (W.origin self.new.registrar.run_queue ≡ W.origin self.old.registrar.run_queue) }
         ensures same { (self.new.send_log.by ≡ self.old.send_log.by) × (vec_len self.new.sends ≡ vec_len self.old.sends) }
         ensures queues { receiving_queues self.new.sends.items ≡ receiving_queues self.old.sends.items }
@@ -55,7 +56,7 @@ impl<H: MailboxState, W: RunQueue<H>> GatesSender<H, W> {
         self.send_log.ready()?;
         let to = ticket.to;
         let number = self.send_log.sent;
-        let envelope = self.send_log.next(to, body);
+        let envelope = self.send_log.next(to, payload);
         // Counted before its queue gets it, and taken back where that refuses it (`counts` of `mb_register`). A run does so too with
         // what its actor tells (`send` of `mb_mailbox`, which says why these are two functions).
         gates.note_sent(&mut self.registrar.pass, to);
@@ -75,7 +76,7 @@ impl<H: MailboxState, W: RunQueue<H>> GatesSender<H, W> {
         }
     }
 
-    /// Sends this body to the receiver (`ActorRef.tell`): looks, and puts where it saw the receiver open. If it saw it closed,
+    /// Sends this payload to the receiver (`ActorRef.tell`): looks, and puts where it saw the receiver open. If it saw it closed,
     /// the envelope becomes a dead letter.
     ///
     /// It answers `NoSuchActor` as a look does, and else `NoMemory` as a put does: then nothing is sent, and no number is used,
@@ -86,7 +87,7 @@ impl<H: MailboxState, W: RunQueue<H>> GatesSender<H, W> {
         rt: &R,
         gates: &Gates<H>,
         to: ActorId,
-        body: Body,
+        payload: Payload,
     ) -> Result<Put, SendError>
         requires same_gates { (pass_id self.old.registrar.pass ≡ gates_id gates.now) × (W.origin self.old.registrar.run_queue ≡ Some (origin_of gates.now)) }
         requires all { (vec_len self.old.sends + 1 ≡ actors_of gates.now) × (actors_of gates.now ≤ 64) }
@@ -96,7 +97,7 @@ impl<H: MailboxState, W: RunQueue<H>> GatesSender<H, W> {
         ensures unknown { IsErrOf result SendError.NoSuchActor → self.new ≡ self.old }
         ensures unsent { IsErrOf result SendError.NoMemory → OnlyLooked to self.old self.new }
         ensures present { IfOk result (λ _. (0 < to.0) × (to.0 < actors_of gates.now)) }
-        ensures told { IfOk result (IsTold self.old.send_log.by self.old.send_log.sent to body self.old.send_log.posted self.new.send_log.posted
+        ensures told { IfOk result (IsTold self.old.send_log.by self.old.send_log.sent to (body_of payload) self.old.send_log.posted self.new.send_log.posted
             self.old.sends.items (pass_view self.old.registrar.pass) (pass_view self.new.registrar.pass)) }
         ensures discharged { IfOk result (λ _. (obligation_to to.0 (pass_view self.new.registrar.pass) ≡ nothing) ⊎ (is_owed self.new.registrar.owed to.0 ≡ true)) }
         ensures still { (id : ℕ) → is_owed self.old.registrar.owed id ≡ true → is_owed self.new.registrar.owed id ≡ true }
@@ -107,23 +108,23 @@ impl<H: MailboxState, W: RunQueue<H>> GatesSender<H, W> {
     {
         let look = self.look(gates, to)?;
         match look {
-            Look::Open(ticket) => self.put(rt, gates, ticket, body),
-            Look::Closed => self.record_dead_letter(to, body),
+            Look::Open(ticket) => self.put(rt, gates, ticket, payload),
+            Look::Closed => self.record_dead_letter(to, payload),
         }
     }
 
     // Makes the next envelope a dead letter, since its receiver was seen closed.
-    fn record_dead_letter(&mut self, to: ActorId, body: Body) -> Result<Put, SendError>
+    fn record_dead_letter(&mut self, to: ActorId, payload: Payload) -> Result<Put, SendError>
         requires closed { has_seen_closed (pass_view self.old.registrar.pass).log to.0 ≡ true }
         requires present { (0 < to.0) × (to.0 ≤ vec_len self.old.sends) }
         ensures refused { OnErr result (IsErrOf result SendError.NoMemory × (self.new.send_log.posted ≡ self.old.send_log.posted)) }
         ensures unsent { OnErr result (IsSameSendLog self.old.send_log self.new.send_log) }
-        ensures is_dead_letter { IfOk result (IsDeadLetter self.old.send_log.by self.old.send_log.sent to body self.old.send_log.posted self.new.send_log.posted) }
+        ensures is_dead_letter { IfOk result (IsDeadLetter self.old.send_log.by self.old.send_log.sent to (body_of payload) self.old.send_log.posted self.new.send_log.posted) }
         ensures same { (self.new.registrar ≡ self.old.registrar) × (self.new.sends ≡ self.old.sends) × (self.new.send_log.by ≡ self.old.send_log.by) }
     {
         self.send_log.ready()?;
         let number = self.send_log.sent;
-        let envelope = self.send_log.next(to, body);
+        let envelope = self.send_log.next(to, payload);
         self.send_log.record_dead(envelope, Why::Closed);
         Ok(Put::Dead(number, Why::Closed))
     }

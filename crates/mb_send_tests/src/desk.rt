@@ -66,6 +66,7 @@ impl MailboxState for OpenHome {
       mailbox = desk.status;
       no_backlog = Unit {0};
       given = 0;
+      drained = [];
       closed_to = [];
     } };
 

@@ -12,7 +12,7 @@ use mb_gate::{Gates, Pass};
 use mb_msg::{ActorId, MailboxType, SenderId};
 use mb_queue::{MailQueue, SendPass};
 use mb_register::{Owed, Registrar};
-use mb_send::{GatesSender, Ticket};
+use mb_send::{GatesSender, Look, Put, SendError, Ticket};
 use std::alloc::Global;
 use std::sync::Wait;
 use std::test::Fail;
@@ -20,12 +20,13 @@ use std::test::Fail;
 /// The sender.
 pub const ME: SenderId = SenderId(64);
 
-/// The gates of three actors, a sender whose run queue has one place, and a second pass. The queue of the second actor has two
-/// places.
+/// The gates of three actors, a sender whose run queue has one place, a second pass, and the ticket that the last look at the
+/// first actor gave, while that was open. The queue of the second actor has two places.
 pub struct Outside {
     gates: Gates<OpenHome>,
     sender: GatesSender<OpenHome, OnePlace>,
     other: Pass<OpenHome>,
+    ticket: Option<Ticket>,
     ghost three: { actors_of gates ≡ 3 },
     ghost same_gates: { (pass_id sender.registrar.pass ≡ gates_id gates) × (pass_id other ≡ gates_id gates) },
     ghost run_queue: { origin_of sender.registrar.run_queue.gates.value ≡ origin_of gates },
@@ -38,6 +39,7 @@ impl Drop for Outside {
             gates: _,
             sender,
             other: _,
+            ticket: _,
         } = self;
         let GatesSender {
             registrar,
@@ -83,18 +85,38 @@ impl Outside {
             gates,
             sender,
             other,
+            ticket: None,
         })
+    }
+
+    // For whom the ticket is that a look gives, if it gives one. One for the first actor is kept.
+    fn look(&mut self, to: ActorId) -> Result<Option<ActorId>, SendError> {
+        match self.sender.look(&self.gates, to)? {
+            Look::Open(ticket) => {
+                if to.0 == FIRST.0 {
+                    self.ticket = Some(ticket);
+                }
+                Ok(Some(ticket.receiver()))
+            }
+            Look::Closed => Ok(None),
+        }
+    }
+
+    // Sends by the ticket that is kept, if one is.
+    fn put_first<R: Wait>(&mut self, rt: &R) -> Option<Result<Put, SendError>> {
+        let ticket = self.ticket?;
+        if ticket.receiver().0 != FIRST.0 {
+            return None;
+        }
+        Some(self.sender.put(rt, &self.gates, ticket, HELLO))
     }
 
     /// Whether the call of the step has its answer.
     pub fn answers<R: Wait>(&mut self, rt: &R, step: SendStep) -> bool {
         match step {
-            SendStep::Look(to, seen) => self.sender.look(&self.gates, to) == seen,
+            SendStep::Look(to, seen) => self.look(to) == seen,
             SendStep::Tell(to, put) => self.sender.tell(rt, &self.gates, to, HELLO) == put,
-            SendStep::PutFirst(put) => {
-                let ticket = Ticket { to: FIRST };
-                self.sender.put(rt, &self.gates, ticket, HELLO) == put
-            }
+            SendStep::PutFirst(put) => self.put_first(rt) == Some(put),
             SendStep::Stop(id, is_listed) => self.sender.stop(rt, &self.gates, id) == is_listed,
             SendStep::Close(actor, is_done) => {
                 close(rt, &self.gates, &mut self.other, actor.id()) == is_done

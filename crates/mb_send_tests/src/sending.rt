@@ -2,8 +2,8 @@
 
 use crate::desk::{FIRST, GUARDIAN, NOBODY, SECOND, Target};
 use crate::outside::{ME, Outside};
-use mb_msg::{ActorId, Body, DeadLetter, Envelope, Why};
-use mb_send::{Look, Put, SendError, Ticket};
+use mb_msg::{ActorId, Body, DeadLetter, Envelope, Payload, Why};
+use mb_send::{Put, SendError};
 use std::alloc::Global;
 use std::process::Abort;
 use std::sync::Wait;
@@ -12,11 +12,11 @@ use std::test::Fail;
 /// A call, and its answer.
 #[derive(Clone, Copy)]
 pub enum SendStep {
-    /// Looks whether the receiver is open.
-    Look(ActorId, Result<Look, SendError>),
+    /// Looks whether the receiver is open: for whom the ticket is, if it is.
+    Look(ActorId, Result<Option<ActorId>, SendError>),
     /// Sends an envelope to the receiver.
     Tell(ActorId, Result<Put, SendError>),
-    /// Sends an envelope to the first actor, by a ticket.
+    /// Sends an envelope to the first actor, by the ticket that a look gave.
     PutFirst(Result<Put, SendError>),
     /// Stops the actor.
     Stop(ActorId, Result<bool, SendError>),
@@ -35,7 +35,10 @@ pub enum SendStep {
 }
 
 /// What is sent.
-pub const HELLO: Body = Body::User { kind: 1, value: 7 };
+pub const HELLO: Payload = Payload::User { kind: 1, value: 7 };
+
+/// The body of its envelopes.
+const HELLO_BODY: Body = Body::User { kind: 1, value: 7 };
 
 /// The envelope that found the second actor's queue full.
 const FULL: DeadLetter = DeadLetter {
@@ -43,7 +46,7 @@ const FULL: DeadLetter = DeadLetter {
         by: ME,
         to: SECOND,
         number: 4,
-        body: HELLO,
+        body: HELLO_BODY,
     },
     why: Why::Full,
 };
@@ -57,7 +60,7 @@ const TOLD: [SendStep; 21] = [
     SendStep::Stop(NOBODY, Err(SendError::NoSuchActor)),
     SendStep::Sent(0),
     // Envelopes are numbered over all receivers, and counted.
-    SendStep::Look(FIRST, Ok(Look::Open(Ticket { to: FIRST }))),
+    SendStep::Look(FIRST, Ok(Some(FIRST))),
     SendStep::Tell(FIRST, Ok(Put::Queued(0))),
     SendStep::Tell(SECOND, Ok(Put::Queued(1))),
     SendStep::PutFirst(Ok(Put::Queued(2))),
@@ -82,16 +85,16 @@ const CLOSED: DeadLetter = DeadLetter {
         by: ME,
         to: FIRST,
         number: 0,
-        body: HELLO,
+        body: HELLO_BODY,
     },
     why: Why::Closed,
 };
 
 const ENDED: [SendStep; 15] = [
     // What is told to an ended actor is a dead letter.
-    SendStep::Look(FIRST, Ok(Look::Open(Ticket { to: FIRST }))),
+    SendStep::Look(FIRST, Ok(Some(FIRST))),
     SendStep::Close(Target::First, true),
-    SendStep::Look(FIRST, Ok(Look::Closed)),
+    SendStep::Look(FIRST, Ok(None)),
     SendStep::Tell(FIRST, Ok(Put::Dead(0, Why::Closed))),
     SendStep::Dead(0, Some(CLOSED)),
     SendStep::Tell(SECOND, Ok(Put::Queued(1))),

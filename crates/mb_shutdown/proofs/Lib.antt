@@ -8,6 +8,7 @@ pub mod EndLaw
 pub mod FinishedSenders
 pub mod Gathered
 pub mod Gathering
+pub mod GivingBack
 pub mod HeadlineLaw
 pub mod IdleLemmas
 pub mod JoinAndDrainLemmas

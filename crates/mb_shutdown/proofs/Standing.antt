@@ -5,6 +5,7 @@ use Rattle.std.specs.Prelude.{if◌then◌else◌, slice_get}
 use Rattle.std.specs.Global.{Box}
 use Rattle.mb_status.specs.Mailbox.{word_of}
 use Rattle.mb_msg.specs.declared.system.SysMsg.{SysMsg}
+use Rattle.mb_syslist.specs.MessageList.{numbered}
 use Rattle.mb_actor.specs.Behaviour.{Moment, Reply}
 use Rattle.mb_journal.specs.Entry.{Entry}
 use Rattle.mb_journal.specs.Identity.{Identity}
@@ -15,9 +16,9 @@ use Rattle.mb_ghost.specs.Seen.{Each}
 use Rattle.mb_ghost.proofs.SeenLemmas.{each_weaker}
 use Rattle.mb_gate.specs.declared.slot.Slot.{Slot}
 use Rattle.mb_gate.specs.Returned.{IsKept}
-use Rattle.mb_gate.specs.Rule.{Ghost, IsAmong, ObservationHolds, SlotName, Word, is_some_item, slot_offset, word_offset}
+use Rattle.mb_gate.specs.Rule.{Ghost, IsAmong, WasPushed, ObservationHolds, SlotName, Word, is_some_item, slot_offset, word_offset}
 use Rattle.mb_gate.specs.View.{View, Observation, Read, Saw, Counted, Looked, Sent, Unsent, Took, Pushed, Drained, Ended}
-use Rattle.mb_home.specs.AtHome.{IsHomeOf, closed_receivers, given_of, mailbox_at}
+use Rattle.mb_home.specs.AtHome.{IsHomeOf, closed_receivers, given_of, mailbox_at, system_entries}
 use Rattle.mb_home.specs.Contents.{Contents}
 use Rattle.mb_shutdown.specs.Homes.{AreHomes, BoxedHome}
 use Rattle.mb_shutdown.specs.CompleteReport.{IsPutAmong}
@@ -34,6 +35,11 @@ closed-by-word who journal word = by_test (closed who journal) word
     by_test : (b : Bool) → (if b then 1 else 4 * count who journal + 0) ≡ 1 → b ≡ true
     by_test true e = refl
     by_test false e = absurd (omega (arith, e))
+
+-- what holds of each of two lists holds of each of the first
+each-left : {A : Type 0} (P : A → Type 0) (a b : List A) → Each P (a ++ b) → Each P a
+each-left P [] b all = tt
+each-left P (x ∷ a) b all = (all.0, each-left P a b all.1)
 
 -- what was put into the list, as the rule says it
 so-put : (actor : ℕ) (x : Spot Word SlotName (Slot (Box Contents)) Ghost) (s : Observation) → ObservationHolds actor x s → IsPutAmong actor x.ghost.pushed s
@@ -59,6 +65,7 @@ module _ (gives : ℕ → Moment → Reply → Type 0) (first : Contents) where
     pub kept : Each (IsKept actor h.cell.journal (own_word h)) log
     pub pushed : List SysMsg
     pub known : Each (IsPutAmong actor pushed) log
+    pub entered : Each (λ m. IsAmong m (numbered 0 pushed)) (system_entries h.cell.journal)
     pub given : given_of h ≡ length pushed % 2 ^ 64
 
   module _ (actors : ℕ) (v : View) (all : List (Option BoxedHome)) (lefts : List BoxedHome) (left : AreHomes gives first actors v all)
@@ -89,6 +96,8 @@ module _ (gives : ℕ → Moment → Reply → Type 0) (first : Contents) where
           kept = subst (λ w. Each (IsKept actor l.home.value.cell.journal w) v.log) is.1 is.2;
           pushed = (spot actor).ghost.pushed;
           known = each_weaker (ObservationHolds actor (spot actor)) (IsPutAmong actor (spot actor).ghost.pushed) v.log (so-put actor (spot actor)) known.seen;
+          entered = each-left (WasPushed (spot actor).ghost) (system_entries l.home.value.cell.journal) l.home.value.rest
+              (left.pushed actor l lt (at actor l there));
           given = is.5 ∙ is.3 ∙ fact.listing.counted ∙ ap (λ (g : List SysMsg). length g % 2 ^ 64) (sym all_given);
         }
 

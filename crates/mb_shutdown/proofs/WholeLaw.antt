@@ -33,7 +33,9 @@ use Rattle.mb_shutdown.specs.Parts.{ArePartsInOrder, IsControlsFirst}
 use Rattle.mb_shutdown.proofs.JoinAndDrainLemmas.{in_order, often, once, parts_in_order}
 use Rattle.mb_gate.specs.View.{Observation}
 use Rattle.mb_ghost.specs.Seen.{Each}
-use Rattle.mb_home.specs.AtHome.{given_of}
+use Rattle.mb_gate.specs.Rule.{IsAmong}
+use Rattle.mb_syslist.specs.MessageList.{numbered}
+use Rattle.mb_home.specs.AtHome.{given_of, system_entries}
 use Rattle.mb_home.specs.Contents.{Contents}
 use Rattle.mb_home.specs.Numbers.{applied_numbers, numbers_in, times}
 use Rattle.mb_home.specs.Directory.{DirectoryEntry, queues_of}
@@ -124,6 +126,7 @@ module _ (after : ℕ → List Message → ℤ) (gives : ℕ → Moment → Repl
     counts-all = record {
       pushed = st.pushed;
       known = subst (λ n. Each (IsPutAmong n st.pushed) log) (sym st.is_home_of.number) st.known;
+      entered = subst (λ (j : List Entry). Each (λ m. IsAmong m (numbered 0 st.pushed)) (system_entries j)) back st.entered;
       once = subst (λ (j : List Entry). (n : ℕ) → n < next_number j
           → times n (applied_numbers j) + times n (numbers_in (ever_aside j)) ≡ 1) back (stands-once (gives id) [] h st.is_home_of.settled);
       later = h.dropped;

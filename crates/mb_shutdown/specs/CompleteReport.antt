@@ -23,6 +23,7 @@ use Rattle.mb_journal.specs.declared.sent_envelope.SentEnvelope.{SentEnvelope}
 use Rattle.mb_gate.specs.Rule.{IsAmong}
 use Rattle.mb_gate.specs.View.{Observation, Read, Saw, Counted, Looked, Sent, Unsent, Took, Pushed, Drained, Ended}
 use Rattle.mb_ghost.specs.Seen.{Each}
+use Rattle.mb_home.specs.AtHome.{system_entries}
 use Rattle.mb_home.specs.Numbers.{applied_numbers, numbers_in, times}
 use Rattle.mb_home.specs.Directory.{DirectoryEntry, IsBounded}
 use Rattle.mb_queue.specs.Passes.{first_in_first_out, control_first}
@@ -70,11 +71,12 @@ IsPutAmong actor pushed (Drained a given) = Unit {0}
 IsPutAmong actor pushed (Ended a given) = Unit {0}
 
 -- Of all system messages that were ever put into the actor's list, in order, each was applied once, or is set aside or dead once. Each that has an
--- entry was applied or is still set aside. To an actor that ended some more may have come later, without an entry. As dead it counts what was set
--- aside when it ended, and these.
+-- entry was put into the list under the entry's number, and was applied or is still set aside. To an actor that ended some more may have come later,
+-- without an entry. As dead it counts what was set aside when it ended, and these.
 pub record CountsSystems (log : List Observation) (who : Identity) (actor : ActorReport) : Type 0 where
   pub pushed : List SysMsg
   pub known : Each (IsPutAmong who.this.0 pushed) log
+  pub entered : Each (λ m. IsAmong m (numbered 0 pushed)) (system_entries actor.journal.entries)
   pub once : (n : ℕ) → n < next_number actor.journal.entries
       → times n (applied_numbers actor.journal.entries) + times n (numbers_in (ever_aside actor.journal.entries)) ≡ 1
   pub later : ℕ

@@ -18,3 +18,4 @@ pub mod Rooms
 pub mod Seen
 pub mod Shown
 pub mod Taken
+pub mod Unfinished

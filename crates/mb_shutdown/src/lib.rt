@@ -31,6 +31,7 @@ mod report;
 mod rest;
 mod room;
 mod showing;
+mod unfinished;
 
 pub use collecting::join_and_drain;
 pub use draining::TooMany;
@@ -41,3 +42,4 @@ pub use laws::what_arrived_is_accounted_for;
 pub use mismatch::Mismatch;
 pub use report::build_report;
 pub use room::{Room, make_room};
+pub use unfinished::{UnfinishedActor, unfinished_actors};

@@ -7,8 +7,8 @@ use Rattle.mb_journal.specs.Acts.{Act}
 use Rattle.mb_journal.specs.declared.failed_by.FailedBy.{FailedBy}
 
 -- the phase of the actor; how often its mailbox is suspended; by whom it is failed; its children, its watchers, whom it
--- watches and whose end it is still to be told; what is set aside; whether it was Live when it was told to end; for which
--- children a restart was requested, where there is a limit; the acts that are to be carried out; how many children a start
+-- watches and whose end it is still to be told; what is set aside; whether it was Live when it was told to end; how often a
+-- restart of each child was requested, where there is a limit above 0; the acts that are to be carried out; how many children a start
 -- may start; and whether there is room for one message more (fields of `akka.actor.ActorCell`; that they are queries of a
 -- journal is this project's own profile)
 pub record CellState : Type 0 where
@@ -21,7 +21,7 @@ pub record CellState : Type 0 where
   pub due : List ActorId
   pub aside : List (ℕ × SysMsg)
   pub was_live : Bool
-  pub retries : List ActorId
+  pub retries : List (ActorId × ℕ)
   pub acts : List Act
   pub fanout : ℕ
   pub is_ready : Bool

@@ -3,5 +3,5 @@ pub mod CellState
 pub mod CellStateRecord
 pub mod ActorIdentity
 pub mod ActQueueView
-pub mod Requests
+pub mod RetryCounts
 pub mod Rows

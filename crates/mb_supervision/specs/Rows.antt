@@ -27,11 +27,11 @@ use Rattle.mb_journal.specs.declared.failed_by.FailedBy.{FailedBy}
 use Rattle.mb_journal.specs.declared.failed_by.FailedBy.TheVariants.{Nobody, Itself, Child}
 use Rattle.mb_journal.specs.Identity.{Identity}
 use Rattle.mb_journal.specs.Phase.{phase_is}
-use Rattle.mb_journal.specs.Retries.{permits, times_in, is_restart_directive, through_refusal}
+use Rattle.mb_journal.specs.Retries.{permits, is_restart_directive, through_refusal}
 use Rattle.mb_journal.specs.Supervision.{directive_of}
 use Rattle.mb_journal.specs.Watching.{watching_after, due_after}
 use Rattle.mb_supervision.specs.CellStateRecord.{CellState}
-use Rattle.mb_supervision.specs.Requests.{requests_kept}
+use Rattle.mb_supervision.specs.RetryCounts.{counted_more, retry_count_of}
 
 -- ---- parts of rules
 
@@ -67,15 +67,19 @@ ended who effects b = record b {
 
 -- one more restart of a child is permitted
 abbrev pub given_now : Identity → CellState → ActorId → Bool
-given_now who b y = permits who.retries (times_in b.retries y + 1)
+given_now who b y = permits who.retries (retry_count_of b.retries y + 1)
 
 -- the children whom a decision about one is for
 abbrev pub meant_now : Identity → CellState → ActorId → List ActorId
 meant_now who b x = if who.all_for_one then b.children else x ∷ []
 
--- the children for which a restart is requested
-abbrev pub asked_now : Identity → CellState → ActorId → Cause → List ActorId
-asked_now who b x c = if is_restart_directive (directive_of who c) then through_refusal (given_now who b) (meant_now who b x) else []
+-- the counts of requests after the decision: where it is to restart, a restart is requested of each child up to and with the
+-- first that is refused
+abbrev pub counted_now : Identity → CellState → ActorId → Cause → ActorId → ℕ
+counted_now who b x c =
+    if is_restart_directive (directive_of who c)
+    then counted_more who.retries (through_refusal (given_now who b) (meant_now who b x)) (λ y. retry_count_of b.retries y)
+    else (λ y. retry_count_of b.retries y)
 
 -- what is carried out: a restart that is not permitted becomes a stop
 abbrev pub carried_out_now : Identity → CellState → ActorId → Cause → Directive
@@ -131,11 +135,11 @@ supervised_by who x c directive.Restart b = record b { acts = flat_map (restart_
 supervised_by who x c directive.Stop b = record b { acts = to_each system.Terminate (meant_now who b x) }
 supervised_by who x c directive.Escalate b = failing who (Child x) c (x ∷ []) (record b { acts = [] })
 
--- a Failed of a child
-abbrev pub supervised : Identity → ActorId → Cause → ℕ → CellState → CellState
-supervised who x c number b =
+-- a Failed of a child, with the counts of requests after it
+abbrev pub supervised : Identity → ActorId → Cause → ℕ → List (ActorId × ℕ) → CellState → CellState
+supervised who x c number counts b =
     supervised_by who x c (carried_out_now who b x c)
-    (record (taken number b) { retries = b.retries ++ requests_kept who.retries (asked_now who b x c) })
+    (record (taken number b) { retries = counts })
 
 -- a Terminate of an actor with children that is not Ending
 abbrev pub ending : Identity → ℕ → CellState → CellState

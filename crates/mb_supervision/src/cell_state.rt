@@ -39,7 +39,7 @@ pub struct CellState {
     due: Vec<ActorId>,
     aside: Vec<(u64, SysMsg)>,
     was_live: bool,
-    retries: Vec<ActorId>,
+    retries: Vec<(ActorId, u64)>,
     acts: ActQueue,
     fanout: usize,
     ready: bool,

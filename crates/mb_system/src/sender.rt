@@ -1,10 +1,11 @@
 //! A sender outside the actors.
 ghost use Rattle.std.specs.Prelude.{◌≡◌, ◌⊎◌, ℕ, ◌<◌, ◌≤◌, true, IfOk, IsErrOf, MatchResult, OnErr, OnOk};
+ghost use Rattle.mb_msg.specs.Payload.{body_of};
 ghost use Rattle.mb_core.specs.Actor.{nothing};
 ghost use Rattle.mb_gate.specs.Accessors.{actors_of, pass_view};
 ghost use Rattle.mb_gate.specs.Rule.{IsPart};
 ghost use Rattle.mb_gate.specs.View.{obligation_to};
-ghost use Rattle.mb_send.specs.Answers.{IsSeen, IsSent, IsTold, Stops};
+ghost use Rattle.mb_send.specs.Answers.{IsSeen, IsSent, IsTold, Stops, receiver_of};
 ghost use Rattle.mb_send.specs.Asked.{RegistersAtMost};
 ghost use Rattle.mb_send.specs.Faults.{OnlyLooked, IsSameSendLog};
 ghost use Rattle.mb_send.specs.declared.send_error.SendError.TheVariants as Refusal;
@@ -19,7 +20,7 @@ use crate::system::System;
 use mb_actor::{Actor, Behaviours};
 use mb_gate::Pass;
 use mb_home::BoxedHome;
-use mb_msg::{ActorId, Body};
+use mb_msg::{ActorId, Payload};
 use mb_pool::FeedPort;
 use mb_queue::SendPass;
 use mb_send::{Look, Put, SendError, SendLog, Ticket};
@@ -65,7 +66,7 @@ impl<A: Actor, K: Behaviours> Sender<A, K> {
         self.inner.look(&system.gates, to)
     }
 
-    /// Sends this body to the receiver of the ticket, which may be used again. An envelope that a queue refuses, since it is
+    /// Sends this payload to the receiver of the ticket, which may be used again. An envelope that a queue refuses, since it is
     /// full or memory was refused, becomes a dead letter, which takes a number too.
     ///
     /// It answers `NoMemory` if there was no room for the dead letter that it might become, or if the sender's last number is
@@ -76,23 +77,23 @@ impl<A: Actor, K: Behaviours> Sender<A, K> {
         rt: &R,
         system: &System<A, K>,
         ticket: Ticket,
-        body: Body,
+        payload: Payload,
     ) -> Result<Put, SendError>
         requires same_gates { IsSenderOf system.now.gates self.old.inner }
-        requires present { (0 < ticket.to.0) × (ticket.to.0 < actors_of system.now.gates) }
+        requires present { (0 < (receiver_of ticket).0) × ((receiver_of ticket).0 < actors_of system.now.gates) }
         ensures same_gates { IsSenderOf system.now.gates self.new.inner }
         ensures same_sender { self.new.inner.send_log.by ≡ self.old.inner.send_log.by }
         ensures refused { OnErr result (IsErrOf result Refusal.NoMemory × (self.new.inner.send_log.posted ≡ self.old.inner.send_log.posted)
             × (self.new.inner.registrar ≡ self.old.inner.registrar)) }
         ensures unsent { OnErr result (IsSameSendLog self.old.inner.send_log self.new.inner.send_log × (self.new.inner.sends ≡ self.old.inner.sends)) }
-        ensures sent { IfOk result (IsSent self.old.inner.send_log.by self.old.inner.send_log.sent ticket.to body self.old.inner.send_log.posted
+        ensures sent { IfOk result (IsSent self.old.inner.send_log.by self.old.inner.send_log.sent (receiver_of ticket) (body_of payload) self.old.inner.send_log.posted
             self.new.inner.send_log.posted self.old.inner.sends.items (pass_view self.old.inner.registrar.pass) (pass_view self.new.inner.registrar.pass)) }
-        ensures discharged { IfOk result (λ _. (obligation_to ticket.to.0 (pass_view self.new.inner.registrar.pass) ≡ nothing)
-            ⊎ (is_owed self.new.inner.registrar.owed ticket.to.0 ≡ true)) }
+        ensures discharged { IfOk result (λ _. (obligation_to (receiver_of ticket).0 (pass_view self.new.inner.registrar.pass) ≡ nothing)
+            ⊎ (is_owed self.new.inner.registrar.owed (receiver_of ticket).0 ≡ true)) }
         ensures still { (id : ℕ) → is_owed self.old.inner.registrar.owed id ≡ true → is_owed self.new.inner.registrar.owed id ≡ true }
-        ensures registered { RegistersAtMost ticket.to.0 (sender_caller self.old.inner.registrar).account (sender_caller self.new.inner.registrar).account }
+        ensures registered { RegistersAtMost (receiver_of ticket).0 (sender_caller self.old.inner.registrar).account (sender_caller self.new.inner.registrar).account }
     {
-        self.inner.put(rt, &system.gates, ticket, body)
+        self.inner.put(rt, &system.gates, ticket, payload)
     }
 
     /// Looks, and puts where the receiver was seen open (`ActorRef.tell`). If it was seen closed, the envelope becomes a dead
@@ -106,7 +107,7 @@ impl<A: Actor, K: Behaviours> Sender<A, K> {
         rt: &R,
         system: &System<A, K>,
         to: ActorId,
-        body: Body,
+        payload: Payload,
     ) -> Result<Put, SendError>
         requires same_gates { IsSenderOf system.now.gates self.old.inner }
         ensures same_gates { IsSenderOf system.now.gates self.new.inner }
@@ -117,14 +118,14 @@ impl<A: Actor, K: Behaviours> Sender<A, K> {
         ensures unknown { IsErrOf result Refusal.NoSuchActor → self.new ≡ self.old }
         ensures unsent { IsErrOf result Refusal.NoMemory → OnlyLooked to self.old.inner self.new.inner }
         ensures present { IfOk result (λ _. (0 < to.0) × (to.0 < actors_of system.now.gates)) }
-        ensures told { IfOk result (IsTold self.old.inner.send_log.by self.old.inner.send_log.sent to body self.old.inner.send_log.posted
+        ensures told { IfOk result (IsTold self.old.inner.send_log.by self.old.inner.send_log.sent to (body_of payload) self.old.inner.send_log.posted
             self.new.inner.send_log.posted self.old.inner.sends.items (pass_view self.old.inner.registrar.pass) (pass_view self.new.inner.registrar.pass)) }
         ensures discharged { IfOk result (λ _. (obligation_to to.0 (pass_view self.new.inner.registrar.pass) ≡ nothing)
             ⊎ (is_owed self.new.inner.registrar.owed to.0 ≡ true)) }
         ensures still { (id : ℕ) → is_owed self.old.inner.registrar.owed id ≡ true → is_owed self.new.inner.registrar.owed id ≡ true }
         ensures registered { RegistersAtMost to.0 (sender_caller self.old.inner.registrar).account (sender_caller self.new.inner.registrar).account }
     {
-        self.inner.tell(rt, &system.gates, to, body)
+        self.inner.tell(rt, &system.gates, to, payload)
     }
 
     /// Sends a Terminate to the actor, which may be the guardian (`ActorSystem.stop`). It answers `false` if the actor's list

@@ -7,7 +7,7 @@ use Rattle.mb_journal.specs.Identity.{Identity}
 use Rattle.mb_gate.specs.declared.claim.Claim.{Claim}
 use Rattle.mb_gate.specs.HomeFacts.{HomeFacts}
 use Rattle.mb_gate.specs.Claims.{IsKnownClosed, held_in}
-use Rattle.mb_gate.specs.Accessors.{closed_with, gave_last, given_to, held_actor, recorded_by, status_of, taken_with}
+use Rattle.mb_gate.specs.Accessors.{closed_with, drained_by, gave_last, given_to, held_actor, recorded_by, status_of, taken_with}
 use Rattle.mb_gate.specs.SentSystem.{HasSentDueSince}
 use Rattle.mb_gate.specs.Rule.{Extends, IsAmong}
 use Rattle.mb_gate.specs.View.{SentSystem, View}
@@ -38,6 +38,12 @@ module _ {H : Type 0} (is_of : H → ℕ → H → Type 0) (facts : H → HomeFa
       subst (λ l. Each (λ other. IsKnownClosed other l v) (facts claim.home).closed_to) (sym same)
       (each_among (λ other. IsKnownClosed other (facts claim.home).closed_to v) [] (facts claim.home).closed_to (facts claim.home).closed_to refl
       (λ x among. inl among))
+
+  pub drained : Each (λ m. IsAmong m (drained_by claim)) (facts claim.home).drained
+  drained =
+      let same : drained_by claim ≡ (facts claim.home).drained = ap (λ (w : View). (held_in w).drained) fit.known in
+      subst (λ l. Each (λ m. IsAmong m l) (facts claim.home).drained) (sym same)
+      (each_among (λ m. IsAmong m (facts claim.home).drained) [] (facts claim.home).drained (facts claim.home).drained refl (λ m among. among))
 
   pub told : (who : Identity) → HasSentDueSince who (held_actor claim) (status_of claim).closed (facts claim.home).journal (taken_with claim)
       (recorded_by claim)

@@ -26,6 +26,6 @@ module _ {H : Type 0} (is_of : H → ℕ → H → Type 0) (facts : H → HomeFa
         word = got.word ∙ ap word_of (sym back);
         rest = got.rest;
         known = got.known ∙ ap (λ a. claimed a (facts claim.home).journal (facts claim.home).closed_to (word_of (status_of claim)) (gave_last claim)
-            (facts claim.home).given) (sym got.of);
+            (facts claim.home).given (facts claim.home).drained) (sym got.of);
         recorded = got.recorded;
       }

@@ -28,7 +28,7 @@ mod watcher;
 pub use action::{Action, Handlers};
 pub use claims::{attempt, give};
 pub use counters::{crowd_report, crowd_sends};
-pub use mb_msg::{ActorId, Body, Order, OrderKind};
+pub use mb_msg::{ActorId, Order, OrderKind, Payload};
 pub use orders::sends_of;
 pub use random_actor::{RandomActor, random_actors};
 pub use random_plan::{actors_by_chance, plan_by_chance, sends_by_chance};

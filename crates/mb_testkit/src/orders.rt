@@ -20,7 +20,7 @@ macro_rules! tell {
     ($to:expr, $kind:expr, $value:expr) => {
         $crate::once!(
             $to,
-            $crate::OrderKind::Tell($crate::Body::User {
+            $crate::OrderKind::Tell($crate::Payload::User {
                 kind: $kind,
                 value: $value,
             })
@@ -34,7 +34,7 @@ macro_rules! control {
     ($to:expr, $kind:expr, $value:expr) => {
         $crate::once!(
             $to,
-            $crate::OrderKind::Tell($crate::Body::Control {
+            $crate::OrderKind::Tell($crate::Payload::Control {
                 kind: $kind,
                 value: $value,
             })
@@ -46,7 +46,7 @@ macro_rules! control {
 #[macro_export]
 macro_rules! poison {
     ($to:expr) => {
-        $crate::once!($to, $crate::OrderKind::Tell($crate::Body::PoisonPill))
+        $crate::once!($to, $crate::OrderKind::Tell($crate::Payload::PoisonPill))
     };
 }
 
@@ -54,7 +54,7 @@ macro_rules! poison {
 #[macro_export]
 macro_rules! kill {
     ($to:expr) => {
-        $crate::once!($to, $crate::OrderKind::Tell($crate::Body::Kill))
+        $crate::once!($to, $crate::OrderKind::Tell($crate::Payload::Kill))
     };
 }
 

@@ -3,7 +3,7 @@ ghost use Rattle.std.specs.Prelude.{◌≡◌, pos, All, IfOk};
 
 use crate::random::Random;
 use crate::test_actor::{ADD, with};
-use mb_actor::{Actor, Answer, Message, Outbox};
+use mb_actor::{Actor, Answer, CallPermit, Message, Outbox};
 use mb_msg::{ActorId, Cause};
 use std::alloc::{AllocError, Global};
 
@@ -31,14 +31,14 @@ impl Actor for RandomActor {
 
     ghost gives = { λ _ _ _. Unit {0} };
 
-    fn start(&mut self, out: &mut Outbox) -> Answer {
+    fn start(&mut self, out: &mut Outbox, _: CallPermit) -> Answer {
         self.sum = 0;
         spawn_all(self.actors, out);
         act(&mut self.dice, self.actors, ADD, out);
         fail_once_in(20, &mut self.dice)
     }
 
-    fn receive(&mut self, message: &Message, out: &mut Outbox) -> Answer {
+    fn receive(&mut self, message: &Message, out: &mut Outbox, _: CallPermit) -> Answer {
         self.sum = with(self.sum, message);
         match *message {
             Message::User { kind, .. } => hear(&mut self.dice, self.actors, kind, out),
@@ -47,13 +47,13 @@ impl Actor for RandomActor {
         }
     }
 
-    fn restart(&mut self, _cause: Cause, out: &mut Outbox) -> Answer {
+    fn restart(&mut self, _cause: Cause, out: &mut Outbox, _: CallPermit) -> Answer {
         self.sum = 0;
         act(&mut self.dice, self.actors, ADD, out);
         fail_once_in(20, &mut self.dice)
     }
 
-    fn stop(&mut self, out: &mut Outbox) {
+    fn stop(&mut self, out: &mut Outbox, _: CallPermit) {
         act(&mut self.dice, self.actors, ADD, out);
     }
 

@@ -1,7 +1,7 @@
 //! Actors that wait for each other during a call, to show that two workers run at the same time.
 ghost use Rattle.std.specs.Prelude.{◌≡◌};
 
-use mb_actor::{Actor, Answer, Message, Outbox};
+use mb_actor::{Actor, Answer, CallPermit, Message, Outbox};
 use mb_msg::Cause;
 use std::alloc::{AllocError, Global};
 use std::sync::Arc;
@@ -60,11 +60,11 @@ impl Actor for MeetingActor {
 
     ghost gives = { λ _ _ _. Unit {0} };
 
-    fn start(&mut self, _out: &mut Outbox) -> Answer {
+    fn start(&mut self, _out: &mut Outbox, _: CallPermit) -> Answer {
         Answer::Handled
     }
 
-    fn receive(&mut self, _message: &Message, _out: &mut Outbox) -> Answer {
+    fn receive(&mut self, _message: &Message, _out: &mut Outbox, _: CallPermit) -> Answer {
         if self.hall.meet(self.is_first) {
             Answer::Handled
         } else {
@@ -72,11 +72,11 @@ impl Actor for MeetingActor {
         }
     }
 
-    fn restart(&mut self, _cause: Cause, _out: &mut Outbox) -> Answer {
+    fn restart(&mut self, _cause: Cause, _out: &mut Outbox, _: CallPermit) -> Answer {
         Answer::Handled
     }
 
-    fn stop(&mut self, _out: &mut Outbox) {}
+    fn stop(&mut self, _out: &mut Outbox, _: CallPermit) {}
 
     fn state(&self) -> i64 {
         0

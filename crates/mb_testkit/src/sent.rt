@@ -38,8 +38,8 @@ impl Sent {
 
     fn send_own(&mut self, own: &[Order]) -> Result<(), AllocError> {
         for order in own {
-            if let OrderKind::Tell(body) = order.what {
-                self.send_often(order.to, body, order.times)?;
+            if let OrderKind::Tell(payload) = order.what {
+                self.send_often(order.to, Body::from(payload), order.times)?;
             }
         }
         Ok(())

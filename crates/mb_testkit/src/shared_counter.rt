@@ -2,7 +2,7 @@
 ghost use Rattle.std.specs.Prelude.{◌≡◌, pos, All, IfOk};
 
 use crate::test_actor::with;
-use mb_actor::{Actor, Answer, Message, Outbox};
+use mb_actor::{Actor, Answer, CallPermit, Message, Outbox};
 use mb_msg::Cause;
 use std::alloc::{AllocError, Global};
 use std::sync::Arc;
@@ -27,23 +27,23 @@ impl Actor for SharedCounter {
 
     ghost gives = { λ _ _ _. Unit {0} };
 
-    fn start(&mut self, _out: &mut Outbox) -> Answer {
+    fn start(&mut self, _out: &mut Outbox, _: CallPermit) -> Answer {
         self.sum = 0;
         Answer::Handled
     }
 
-    fn receive(&mut self, message: &Message, _out: &mut Outbox) -> Answer {
+    fn receive(&mut self, message: &Message, _out: &mut Outbox, _: CallPermit) -> Answer {
         self.sum = with(self.sum, message);
         self.shown.store(self.sum, SeqCst);
         Answer::Handled
     }
 
-    fn restart(&mut self, _cause: Cause, _out: &mut Outbox) -> Answer {
+    fn restart(&mut self, _cause: Cause, _out: &mut Outbox, _: CallPermit) -> Answer {
         self.sum = 0;
         Answer::Handled
     }
 
-    fn stop(&mut self, _out: &mut Outbox) {}
+    fn stop(&mut self, _out: &mut Outbox, _: CallPermit) {}
 
     fn state(&self) -> i64 {
         self.sum

@@ -32,6 +32,7 @@ impl MailboxState for StubHome {
       mailbox = fresh;
       no_backlog = Unit {0};
       given = 0;
+      drained = [];
       closed_to = [];
     } };
 

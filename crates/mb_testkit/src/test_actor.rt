@@ -4,7 +4,7 @@ ghost use Rattle.std.specs.Prelude.{◌≡◌, pos, All, IfOk};
 ghost use Rattle.mb_testkit.specs.Sum.{sum_with, sum_with_value};
 
 use crate::action::{Action, Handlers, do_all, hear};
-use mb_actor::{Actor, Answer, Behaviours, Message, Outbox};
+use mb_actor::{Actor, Answer, Behaviours, CallPermit, Message, Outbox};
 use mb_msg::{Cause, Directive, Pattern, RankRow};
 use std::alloc::{AllocError, Global};
 
@@ -103,22 +103,22 @@ impl Actor for TestActor {
 
     ghost gives = { λ _ _ _. Unit {0} };
 
-    fn start(&mut self, out: &mut Outbox) -> Answer {
+    fn start(&mut self, out: &mut Outbox, _: CallPermit) -> Answer {
         self.sum = 0;
         do_all(self.part.start, 0, out)
     }
 
-    fn receive(&mut self, message: &Message, out: &mut Outbox) -> Answer {
+    fn receive(&mut self, message: &Message, out: &mut Outbox, _: CallPermit) -> Answer {
         self.sum = with(self.sum, message);
         hear(self.part.habits, message, out)
     }
 
-    fn restart(&mut self, _cause: Cause, out: &mut Outbox) -> Answer {
+    fn restart(&mut self, _cause: Cause, out: &mut Outbox, _: CallPermit) -> Answer {
         self.sum = 0;
         do_all(self.part.restart, 0, out)
     }
 
-    fn stop(&mut self, out: &mut Outbox) {
+    fn stop(&mut self, out: &mut Outbox, _: CallPermit) {
         let _answer = do_all(self.part.stop, 0, out);
     }
 

@@ -49,10 +49,10 @@ found-in r trace a n script entries is_script is_journal found =
     subst P (λ i. steps_of a (who_in trace.plan.now a) (is_script i) (sym is_journal i)) found
 
 -- the cursor of one actor is moved on
-pub are-moved : (trace : Trace) (founders : List ActorId) (cursors : List JournalCursor) (n : ℕ) (new : JournalCursor) →
-    AreAt trace founders cursors → n < length cursors → IsIn trace n new → AreAt trace founders (set cursors n new)
-are-moved trace founders cursors n new are within at = record {
-  founders_are = are.founders_are;
+pub are-moved : (trace : Trace) (prepared : List ActorId) (cursors : List JournalCursor) (n : ℕ) (new : JournalCursor) →
+    AreAt trace prepared cursors → n < length cursors → IsIn trace n new → AreAt trace prepared (set cursors n new)
+are-moved trace prepared cursors n new are within at = record {
+  prepared_are = are.prepared_are;
   as_many = length-set cursors n new ∙ are.as_many;
   each = λ a c inside. by_number a c (let same = length-set cursors n new in omega (arith, inside, same)) (a == n) refl;
 }

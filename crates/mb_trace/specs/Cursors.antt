@@ -18,8 +18,8 @@ pub record IsAt (who : Identity) (script : Option Scripted) (journal : List Entr
   pub few : cursor.life.suspended ≤ 1 + 3 * cursor.next
 
 -- the cursors are at places of the journals of this trace, one for each actor, and these are the children that the guardian starts
-pub record AreAt (trace : Trace) (founders : List ActorId) (cursors : List JournalCursor) : Type 0 where
-  pub founders_are : founders ≡ children_in trace.plan.now 0
+pub record AreAt (trace : Trace) (prepared : List ActorId) (cursors : List JournalCursor) : Type 0 where
+  pub prepared_are : prepared ≡ children_in trace.plan.now 0
   pub as_many : length cursors ≡ length trace.report.now.actors.items
   pub each : (a : ℕ) (c : JournalCursor) → a < length cursors
       → IsAt (who_in trace.plan.now a) (script_in trace.scripts.now a) (journal_of trace.report.now.actors.items a) (slice_index_or cursors a c)

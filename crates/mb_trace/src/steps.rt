@@ -23,7 +23,7 @@ use std::marker::Model;
 pub struct TraceSteps<'a> {
     trace: Trace<'a>,
     /// The children that the guardian starts.
-    founders: Vec<ActorId>,
+    prepared: Vec<ActorId>,
     cursors: Vec<JournalCursor>,
 }
 
@@ -36,7 +36,7 @@ impl<'a> Model for TraceSteps<'a> {
 
     ghost view = { λ s. left_from s.trace 0 s.cursors.items };
 
-    ghost invariant = { λ s. AreAt s.trace s.founders.items s.cursors.items };
+    ghost invariant = { λ s. AreAt s.trace s.prepared.items s.cursors.items };
 }
 
 impl<'a> TraceSteps<'a> {
@@ -44,15 +44,15 @@ impl<'a> TraceSteps<'a> {
     pub fn new(alloc: Global, trace: Trace<'a>) -> Result<Self, AllocError>
         ensures { IfOk result (λ steps. (actor : ℕ) → left_of steps actor ≡ steps_in trace.entry actor) }
     {
-        let founders = children_of_guardian(alloc, planned(&trace.plan.actors))?;
+        let prepared = children_of_guardian(alloc, planned(&trace.plan.actors))?;
         let mut cursors = Vec::new(alloc);
         for number in 0..trace.report.actors.len() {
-            let rules = rules_of(&trace, &founders, number);
+            let rules = rules_of(&trace, &prepared, number);
             cursors.push(JournalCursor::new(alloc, &rules))?;
         }
         Ok(TraceSteps {
             trace,
-            founders,
+            prepared,
             cursors,
         })
     }
@@ -70,7 +70,7 @@ impl<'a> TraceSteps<'a> {
             return Ok(None);
         }
         let journal = &trace.report.actors[number].journal;
-        let rules = rules_of(&trace, &self.founders, number);
+        let rules = rules_of(&trace, &self.prepared, number);
         self.cursors[number].pass(actor, &rules, journal)
     }
 }
@@ -101,21 +101,21 @@ fn children_of_guardian(alloc: Global, actors: &[ActorPlan]) -> Result<Vec<Actor
 }
 
 /// What decides how the actor of this number stands.
-fn rules_of<'a, 'b>(trace: &Trace<'a>, founders: &'b [ActorId], number: usize) -> Rules<'a, 'b>
-    ensures rules { founders.now ≡ children_in trace.now.plan.now 0 → AreRulesOf (who_in trace.now.plan.now number) result }
+fn rules_of<'a, 'b>(trace: &Trace<'a>, prepared: &'b [ActorId], number: usize) -> Rules<'a, 'b>
+    ensures rules { prepared.now ≡ children_in trace.now.plan.now 0 → AreRulesOf (who_in trace.now.plan.now number) result }
     ensures script { script_read result.script ≡ script_in trace.now.scripts.now number }
 {
     if number == 0 {
         return Rules {
             is_guardian: true,
-            prepared: founders,
+            prepared,
             script: None,
             strategy: None,
         };
     }
     Rules {
         is_guardian: false,
-        prepared: founders,
+        prepared: prepared,
         script: trace.scripts.get(number - 1),
         strategy: strategy_at(trace.plan, number - 1),
     }

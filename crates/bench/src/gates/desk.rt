@@ -37,6 +37,7 @@ impl MailboxState for BenchHome {
       mailbox = desk.status;
       no_backlog = Unit {0};
       given = desk.given;
+      drained = [];
       closed_to = [];
     } };
 

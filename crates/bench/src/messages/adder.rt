@@ -3,7 +3,7 @@
 ghost use Rattle.std.specs.Prelude.{◌≡◌, pos};
 
 use crate::messages::measured::ACTOR;
-use mb_actor::{Actor, Answer, Message, Outbox};
+use mb_actor::{Actor, Answer, CallPermit, Message, Outbox};
 use mb_msg::Cause;
 
 /// Adds up the values that it receives, saturating at the ends of 64 bits, and may send itself each of them.
@@ -45,12 +45,12 @@ impl Actor for Adder {
 
     ghost gives = { λ _. is_no_failure };
 
-    fn start(&mut self, _out: &mut Outbox) -> Answer {
+    fn start(&mut self, _out: &mut Outbox, _: CallPermit) -> Answer {
         self.sum = 0;
         Answer::Handled
     }
 
-    fn receive(&mut self, message: &Message, out: &mut Outbox) -> Answer {
+    fn receive(&mut self, message: &Message, out: &mut Outbox, _: CallPermit) -> Answer {
         match *message {
             Message::User { kind, value } => {
                 self.sum = self.sum.saturating_add(value);
@@ -64,12 +64,12 @@ impl Actor for Adder {
         Answer::Handled
     }
 
-    fn restart(&mut self, _cause: Cause, _out: &mut Outbox) -> Answer {
+    fn restart(&mut self, _cause: Cause, _out: &mut Outbox, _: CallPermit) -> Answer {
         self.sum = 0;
         Answer::Handled
     }
 
-    fn stop(&mut self, _out: &mut Outbox) {}
+    fn stop(&mut self, _out: &mut Outbox, _: CallPermit) {}
 
     fn state(&self) -> i64 {
         self.sum

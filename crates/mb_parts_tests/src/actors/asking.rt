@@ -1,7 +1,7 @@
 //! An actor with effects, proved against what it states of them.
 
 use crate::course::{Step, each_call};
-use mb_actor::{Actor, Answer, Call, Effect, Message, Outbox};
+use mb_actor::{Actor, Answer, Call, CallPermit, Effect, Message, Outbox};
 use mb_msg::{ActorId, Cause};
 use std::test::Fail;
 
@@ -40,12 +40,12 @@ impl Actor for Asking {
               (asked (Tell (record { 0 = 1 }) kind value) empty))).effects;
         } };
 
-    fn start(&mut self, _out: &mut Outbox) -> Answer {
+    fn start(&mut self, _out: &mut Outbox, _: CallPermit) -> Answer {
         self.count = 0;
         Answer::Handled
     }
 
-    fn receive(&mut self, message: &Message, out: &mut Outbox) -> Answer {
+    fn receive(&mut self, message: &Message, out: &mut Outbox, _: CallPermit) -> Answer {
         self.count = self.count.wrapping_add(1);
         match *message {
             Message::User { kind, value } => {
@@ -58,12 +58,12 @@ impl Actor for Asking {
         }
     }
 
-    fn restart(&mut self, _cause: Cause, _out: &mut Outbox) -> Answer {
+    fn restart(&mut self, _cause: Cause, _out: &mut Outbox, _: CallPermit) -> Answer {
         self.count = 0;
         Answer::Handled
     }
 
-    fn stop(&mut self, _out: &mut Outbox) {}
+    fn stop(&mut self, _out: &mut Outbox, _: CallPermit) {}
 
     fn state(&self) -> i64 {
         i64::from(self.count)

@@ -3,7 +3,7 @@
 ghost use Rattle.std.specs.Prelude.{◌≡◌};
 
 use crate::course::{Step, each_call};
-use mb_actor::{Actor, Answer, Call, Effect, Message, Outbox, RecordedActor};
+use mb_actor::{Actor, Answer, Call, CallPermit, Effect, Message, Outbox, RecordedActor};
 use mb_msg::{ActorId, Cause};
 use std::test::Fail;
 
@@ -48,13 +48,13 @@ impl Actor for Counting {
 
     ghost gives = { λ _ _ _. Unit {0} };
 
-    fn start(&mut self, out: &mut Outbox) -> Answer {
+    fn start(&mut self, out: &mut Outbox, _: CallPermit) -> Answer {
         self.messages = 0;
         self.tell_of(START, out);
         Answer::Handled
     }
 
-    fn receive(&mut self, message: &Message, out: &mut Outbox) -> Answer {
+    fn receive(&mut self, message: &Message, out: &mut Outbox, _: CallPermit) -> Answer {
         self.messages = self.messages.wrapping_add(1);
         self.tell_of(RECEIVE, out);
         match *message {
@@ -73,7 +73,7 @@ impl Actor for Counting {
         }
     }
 
-    fn restart(&mut self, cause: Cause, out: &mut Outbox) -> Answer {
+    fn restart(&mut self, cause: Cause, out: &mut Outbox, _: CallPermit) -> Answer {
         self.messages = 0;
         self.tell_of(RESTART, out);
         match cause {
@@ -82,7 +82,7 @@ impl Actor for Counting {
         }
     }
 
-    fn stop(&mut self, out: &mut Outbox) {
+    fn stop(&mut self, out: &mut Outbox, _: CallPermit) {
         self.tell_of(STOP, out);
     }
 

@@ -1,10 +1,12 @@
 //! The rule of `Failed`: supervision (`SupervisorStrategy.handleFailure`).
 ghost use Rattle.std.specs.Prelude.{◌≡◌, ◌<◌, ◌≤◌, ◌+◌, ◌*◌, ◌^◌, ◌++◌, [], IsTrue, length, if◌then◌else◌};
 ghost use Rattle.std.specs.List.{flat_map};
+ghost use Rattle.mb_msg.specs.declared.id.ActorId.{ActorId};
 ghost use Rattle.mb_journal.specs.Acts.{restart_for};
 ghost use Rattle.mb_journal.specs.Supervision.{directive_of as decided};
 ghost use Rattle.mb_supervision.specs.ActorIdentity.{identity_of};
-ghost use Rattle.mb_supervision.specs.Rows.{supervised};
+ghost use Rattle.mb_supervision.specs.RetryCounts.{retry_count_of};
+ghost use Rattle.mb_supervision.specs.Rows.{counted_now, supervised};
 
 use crate::act_queue::{ActQueue, Task};
 use crate::cell_state::CellState;
@@ -22,7 +24,9 @@ impl CellState {
         requires ready { IsTrue self.old.is_ready }
         requires carried_out { self.old.acts ≡ [] }
         requires below_bound { self.old.count < 2 ^ 60 }
-        ensures { self.new ≡ supervised (identity_of place.now 0) child cause number self.old }
+        requires few_requests { (y : ActorId) → retry_count_of self.old.retries y < 2 ^ 60 }
+        ensures state { self.new ≡ supervised (identity_of place.now 0) child cause number self.new.retries self.old }
+        ensures counted { (λ (y : ActorId). retry_count_of self.new.retries y) ≡ counted_now (identity_of place.now 0) self.old child cause }
     {
         forget(&mut self.aside, number);
         self.ready = false;

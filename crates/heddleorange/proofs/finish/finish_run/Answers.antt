@@ -8,7 +8,7 @@ pub returns-in-Ok-clause-story : goal.returns-in-Ok-clause-story
 returns-in-Ok-clause-story g c = λ plan orders right ran.
     (let end = c.in-Ok.ensures in
     story g.K.Behaviours.gives plan ran.first ran.begun orders c.args.built right ran.system ran.ends ran.sent g.K.Behaviours.after
-    c.in-Ok.report end.whole.0 end.whole.2.0 ran.log_kept end.whole.1 end.whole.2.1 end.whole.2.2 end.seen.0 end.seen.1 end.home)
+    c.in-Ok.report end.whole.0 end.whole.2.0 ran.log_kept ran.runs end.whole.1 end.whole.2.1 end.whole.2.2 end.seen.0 end.seen.1 end.home)
 
 pub without_report-requires : goal.without_report-requires
 without_report-requires g c =

@@ -66,3 +66,6 @@ returns-clause-turns g c = c.run_planned_in_order.ensures.turns
 
 pub returns-clause-stretches : goal.returns-clause-stretches
 returns-clause-stretches g c = c.run_planned_in_order.ensures.stretches
+
+pub returns-clause-covers : goal.returns-clause-covers
+returns-clause-covers g c = c.run_planned_in_order.ensures.covers

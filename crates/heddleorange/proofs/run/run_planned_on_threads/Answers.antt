@@ -26,14 +26,14 @@ pub returns-clause-story : goal.returns-clause-story
 returns-clause-story g c =
     let begun = c.in_ok-built.ensures in let went = c.in_default.ensures in let gives = g.K.Behaviours.gives in
     let plan = c.args.plan in let orders = orders_of c.args.sends.now in let now = c.run_together.new.built in
-    let ran = has-run gives plan orders c.in_ok-built.built now begun.begun went.system went.ends went.sent went.log_kept in
+    let ran = has-run gives plan orders c.in_ok-built.built now begun.begun went.system went.ends went.sent went.log_kept went.runs in
     storied g.K.Behaviours.after gives plan orders now ran c.finish_run.result begun.right.1 c.finish_run.ensures.story
 
 pub returns-clause-refused : goal.returns-clause-refused
 returns-clause-refused g c =
     let begun = c.in_ok-built.ensures in let went = c.in_default.ensures in let gives = g.K.Behaviours.gives in
     let plan = c.args.plan in let orders = orders_of c.args.sends.now in let now = c.run_together.new.built in
-    let ran = has-run gives plan orders c.in_ok-built.built now begun.begun went.system went.ends went.sent went.log_kept in
+    let ran = has-run gives plan orders c.in_ok-built.built now begun.begun went.system went.ends went.sent went.log_kept went.runs in
     unstoried g.K.Behaviours.after gives plan orders now ran (length c.args.actors.items) c.finish_run.result begun.right
     c.finish_run.ensures.refused
 

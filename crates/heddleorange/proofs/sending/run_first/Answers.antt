@@ -1,7 +1,9 @@
 use Rattle.std.proofs.lemmas.List.Elements.{All-set}
 use Rattle.mb_dispatch.specs.Faults.{BreaksQuietRun}
+use Rattle.mb_gate.specs.Accessors.{pass_view}
+use Rattle.mb_gate.specs.Untouched.{origin_of}
 use Rattle.mb_system.specs.Members.{IsEndOf}
-use Rattle.heddleorange.proofs.Sent.{err-weaker, first-number, found-nothing, on-all, see-on}
+use Rattle.heddleorange.proofs.Sent.{err-weaker, first-number, found-nothing, ok-gives, on-all, ran-on, see-on}
 use Rattle.heddleorange.proofs.Stretches.{first-extends, stretches-of}
 use Rattle.heddleorange.proofs.Turns.{made-turns, ok-weaker}
 use Rattle.heddleorange.proofs.sending.run_first.Goals as goal
@@ -29,17 +31,24 @@ returns-clause-log_kept g c =
 
 pub returns-clause-fault : goal.returns-clause-fault
 returns-clause-fault g c =
-    err-weaker (BreaksQuietRun g.K.Behaviours.gives c.args.built.now.system c.run_quietly.new.end) _ c.run_quietly.result
-    (λ e broken. (c.run_quietly.new.end, broken)) c.run_quietly.ensures.fault
+    err-weaker (BreaksQuietRun g.K.Behaviours.gives c.args.built.now.system (pass_view c.index_mut.result.now.registrar.pass) c.run_quietly.new.end) _ c.run_quietly.result
+    (λ e broken. (pass_view c.index_mut.result.now.registrar.pass, c.run_quietly.new.end, broken)) c.run_quietly.ensures.fault
 
 pub returns-clause-turns : goal.returns-clause-turns
 returns-clause-turns g c =
-    ok-weaker _ _ c.run_quietly.result (λ turns made. made-turns g.K.Behaviours.gives c.args.built.now.system _ turns.items _ made) c.run_quietly.ensures.runs
+    ok-weaker _ _ c.run_quietly.result (λ turns made. made-turns g.K.Behaviours.gives (origin_of c.args.built.now.system.gates) c.args.built.now.system.throughput _ turns.items _ made) c.run_quietly.ensures.runs
 
 pub returns-clause-stretches : goal.returns-clause-stretches
 returns-clause-stretches g c =
     let built = c.args.built.now in let end = c.run_quietly.new.end in
     ok-weaker _ _ c.run_quietly.result
     (λ turns made report extends.
-    stretches-of g.K.Behaviours.gives built.system report _ turns.items _ made
+    stretches-of g.K.Behaviours.gives (origin_of built.system.gates) built.system.throughput report _ turns.items _ made
     (first-extends report built.ends.items end c.requires.not_empty extends)) c.run_quietly.ensures.runs
+
+pub returns-clause-runs : goal.returns-clause-runs
+returns-clause-runs g c =
+    let built = c.args.built.now in let origin = origin_of built.system.gates in let throughput = built.system.throughput in
+    ok-gives _ _ c.run_quietly.result
+    (λ turns made. ran-on g.K.Behaviours.gives origin throughput c.index_mut.result.now c.run_quietly.new.end built.ends.items c.requires.not_empty
+    c.index_mut.ensures.value (record { turns = turns.items; made = made })) c.run_quietly.ensures.runs

@@ -31,3 +31,6 @@ returns-clause-together g c =
     (subst (λ v. HaveSent gates orders old.senders.items v.items) (sym ran.senders) (subst (HaveSent gates orders old.senders.items) (sym items) sent))
     ran.same_gates
     (subst (λ v. All (λ s. IsSenderOf gates s.inner) v.items) (sym ran.senders) (subst (All (λ s. IsSenderOf gates s.inner)) (sym items) went.same_gates)))
+
+pub returns-clause-runs : goal.returns-clause-runs
+returns-clause-runs g c = c.run_first.ensures.runs

@@ -36,3 +36,6 @@ returns-clause-turns g c = c.run_first.ensures.turns
 
 pub returns-clause-stretches : goal.returns-clause-stretches
 returns-clause-stretches g c = c.run_first.ensures.stretches
+
+pub returns-clause-runs : goal.returns-clause-runs
+returns-clause-runs g c = c.run_first.ensures.runs

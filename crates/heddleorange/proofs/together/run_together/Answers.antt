@@ -1,8 +1,11 @@
 use Rattle.std.proofs.Common.{◌≡◌, inl, inr, ◌∙◌, ap, length, map, refl, sym, subst}
 use Rattle.std.proofs.lemmas.List.{with_items_is}
 use Rattle.std.specs.Vec.{with_items}
+use Rattle.mb_gate.specs.Accessors.{pass_view}
+use Rattle.mb_gate.specs.Untouched.{origin_of}
 use Rattle.mb_system.specs.Members.{AreEndsOf}
 use Rattle.mb_dispatch.specs.Jobs.{AreDone, AreJobsOf, jobs_senders}
+use Rattle.mb_dispatch.proofs.Runs.{no-run}
 use Rattle.mb_dispatch.proofs.Together.{run-again}
 use Rattle.heddleorange.specs.Sent.{BreaksOff, HaveSent}
 use Rattle.heddleorange.proofs.Jobs.{broke-off, jobs-ours, jobs-sent, sender_in, sends_in, some-one}
@@ -22,14 +25,18 @@ returns-in_err-run-clause-fault g c =
     let sends : map sends_in c.deref_mut-2.result.now ≡ orders =
     ap (map sends_in) c.deref_mut-2.ensures.value ∙ c.in-Ok.ensures.sends in
     err-of (BreaksOff gives built.system orders) c.from_residual.result c.in_err-run.field-0.0 c.from_residual.ensures.1
-    (broke-off gives built.system c.run.new.ends c.deref_mut-2.result.now orders sends c.run.new.jobs c.in_err-run.field-0.0
+    (broke-off gives built.system c.deref_mut.result.now c.run.new.ends c.deref_mut-2.result.now orders sends c.run.new.jobs c.in_err-run.field-0.0
     c.in_err-run.ensures.fault)
 
 pub returns-in_default-clause-fault : goal.returns-in_default-clause-fault
-returns-in_default-clause-fault g c = inr (some-one c.args.built.now.ends.items c.requires.not_empty, inl refl)
+returns-in_default-clause-fault g c =
+    let built = c.args.built.now in let end = some-one built.ends.items c.requires.not_empty in let knew = pass_view end.registrar.pass in
+    inr (knew, end, inl (refl, no-run g.K.Behaviours.gives (origin_of built.system.gates) built.system.throughput knew))
 
 pub returns-in_default-senders_of-clause-fault : goal.returns-in_default-senders_of-clause-fault
-returns-in_default-senders_of-clause-fault g c = inr (some-one c.args.built.now.ends.items c.requires.not_empty, inl refl)
+returns-in_default-senders_of-clause-fault g c =
+    let built = c.args.built.now in let end = some-one built.ends.items c.requires.not_empty in let knew = pass_view end.registrar.pass in
+    inr (knew, end, inl (refl, no-run g.K.Behaviours.gives (origin_of built.system.gates) built.system.throughput knew))
 
 pub returns-clause-sent : goal.returns-clause-sent
 returns-clause-sent g c =

@@ -5,7 +5,7 @@ use Rattle.mb_gate.specs.Accessors.{actors_of, pass_view, pass_id}
 use Rattle.mb_gate.specs.Rule.{IsPart}
 use Rattle.std.specs.Global.{Box}
 use Rattle.std.specs.Prelude.{Option}
-use Rattle.mb_gate.specs.Untouched.{Origin}
+use Rattle.mb_gate.specs.Untouched.{Origin, origin_of}
 use Rattle.mb_home.specs.Contents.{Contents}
 use Rattle.mb_home.specs.Fresh.{IsFreshClaim}
 use Rattle.mb_mailbox.specs.declared.turn.Turn.{Turn}
@@ -15,7 +15,7 @@ use Rattle.mb_system.proofs.Saw.{saw-then}
 use Rattle.mb_system.specs.OnlyLooks.{OnlyLooks}
 use Rattle.mb_dispatch.specs.Faults.{BreaksQuietRun, BreaksWork}
 use Rattle.mb_dispatch.specs.Found.{FoundPoolEmpty}
-use Rattle.mb_dispatch.proofs.Breaking.{breaks-retry}
+use Rattle.mb_dispatch.proofs.Breaking.{breaks-after, breaks-retry}
 use Rattle.mb_system.proofs.RunErrors.{on-error}
 use Rattle.mb_dispatch.specs.Runs.{MadeRuns, RanMailbox}
 use Rattle.mb_dispatch.proofs.Runs.{runs-looks, runs-more}
@@ -28,7 +28,7 @@ loop-init g c =
       did.number,
       did.log_kept,
       did.discharged,
-      subst (λ turns. MadeRuns g.K.Behaviours.gives c.args.system.now (pass_view c.args.end.now.registrar.pass) turns
+      subst (λ turns. MadeRuns g.K.Behaviours.gives (origin_of c.args.system.now.gates) c.args.system.now.throughput (pass_view c.args.end.now.registrar.pass) turns
           (pass_view c.register_all.new.self.registrar.pass))
           (sym {A = List Turn} c.new-turns.ensures.items) did.looks,
     )
@@ -45,10 +45,10 @@ loop-preserved-in-Some-take g c =
       discharged-still actors between new
           (discharged-still actors old between c.loop.invariant.3 (obligations-same actors old between (ap pass_view same.0) same.1))
           (obligations-left actors between new did.leaves),
-      subst (λ turns. MadeRuns gives system first.view turns new.view)
+      subst (λ turns. MadeRuns gives (origin_of system.gates) system.throughput first.view turns new.view)
           (sym {A = List Turn} (◌∙◌ {A = List Turn} c.push_reserved.ensures.items (ap {A = List Turn} {B = List Turn} (λ turns. turns ++ turn ∷ []) c.reserve.ensures.items)))
-          (runs-more gives system first.view old.view new.view c.loop.turns.items turn c.loop.invariant.4
-          (subst (λ p. RanMailbox gives system (pass_view p) new.view turn) same.0 c.in_ok-run_one-in-Some-take.ensures.ran)),
+          (runs-more gives (origin_of system.gates) system.throughput first.view old.view new.view c.loop.turns.items turn c.loop.invariant.4
+          (subst (λ p. RanMailbox gives (origin_of system.gates) system.throughput (pass_view p) new.view turn) same.0 c.in_ok-run_one-in-Some-take.ensures.ran)),
     )
 
 pub loop-preserved : goal.loop-preserved
@@ -62,8 +62,8 @@ loop-preserved g c =
       discharged-still actors between new
           (discharged-still actors old between c.loop.invariant.3 (obligations-same actors old between (ap pass_view same.0) same.1))
           did.obligations,
-      subst (λ turns. MadeRuns gives system first.view turns new.view) (sym {A = List Turn} c.reserve.ensures.items)
-          (runs-looks gives system first.view old.view new.view c.loop.turns.items c.loop.invariant.4
+      subst (λ turns. MadeRuns gives (origin_of system.gates) system.throughput first.view turns new.view) (sym {A = List Turn} c.reserve.ensures.items)
+          (runs-looks gives (origin_of system.gates) system.throughput first.view old.view new.view c.loop.turns.items c.loop.invariant.4
           (subst (λ p. OnlyLooks (pass_view p) new.view) same.0 did.looks)),
     )
 
@@ -101,8 +101,8 @@ returns-then-is_empty-clause-obligations g c =
 pub returns-then-is_empty-clause-runs : goal.returns-then-is_empty-clause-runs
 returns-then-is_empty-clause-runs g c =
     let gives = g.K.Behaviours.gives in let system = c.args.system.now in let first = pass_view c.args.end.now.registrar.pass in
-    subst (λ turns. MadeRuns gives system first turns (pass_view c.take.new.self.registrar.pass)) (sym {A = List Turn} c.reserve.ensures.items)
-    (subst (λ p. MadeRuns gives system first c.loop.turns.items (pass_view p)) (sym c.take.ensures.same.0) c.loop.invariant.4)
+    subst (λ turns. MadeRuns gives (origin_of system.gates) system.throughput first turns (pass_view c.take.new.self.registrar.pass)) (sym {A = List Turn} c.reserve.ensures.items)
+    (subst (λ p. MadeRuns gives (origin_of system.gates) system.throughput first c.loop.turns.items (pass_view p)) (sym c.take.ensures.same.0) c.loop.invariant.4)
 
 pub returns-then-is_err-clause-runs : goal.returns-then-is_err-clause-runs
 returns-then-is_err-clause-runs g c = tt
@@ -155,20 +155,27 @@ pub returns-then-is_err-clause-log_kept : goal.returns-then-is_err-clause-log_ke
 returns-then-is_err-clause-log_kept g c = c.loop.invariant.2
 
 pub returns-then-is_err-clause-fault : goal.returns-then-is_err-clause-fault
-returns-then-is_err-clause-fault g c = inl refl
+returns-then-is_err-clause-fault g c = inl (refl, record { turns = c.loop.turns.items; made = c.loop.invariant.4 })
 
 pub returns-in_err-run_one-in-Some-take-clause-fault : goal.returns-in_err-run_one-in-Some-take-clause-fault
 returns-in_err-run_one-in-Some-take-clause-fault g c =
-    on-error c.from_residual.result (BreaksQuietRun g.K.Behaviours.gives c.args.system.now c.run_one.new.end) _ c.from_residual.ensures.1
-    (inr c.in_err-run_one-in-Some-take.ensures.fault)
+    let gives = g.K.Behaviours.gives in let system = c.args.system.now in let new = c.run_one.new.end in
+    let start = pass_view c.args.end.now.registrar.pass in let old = pass_view c.loop.end.registrar.pass in
+    on-error c.from_residual.result (BreaksQuietRun gives system start new) _ c.from_residual.ensures.1
+    (inr (breaks-after gives system start old new c.in_err-run_one-in-Some-take.field-0.0 (record { turns = c.loop.turns.items; made = c.loop.invariant.4 })
+    (subst (λ p. BreaksWork gives system (pass_view p) new c.in_err-run_one-in-Some-take.field-0.0) c.take.ensures.same.0 c.in_err-run_one-in-Some-take.ensures.fault)))
 
 pub returns-in_err-retry_refused-in-None-take-clause-fault : goal.returns-in_err-retry_refused-in-None-take-clause-fault
 returns-in_err-retry_refused-in-None-take-clause-fault g c =
     let gives = g.K.Behaviours.gives in let system = c.args.system.now in let end = c.retry_refused.new.self in
     let retried = c.retry_refused.ensures in let left = c.from_residual-in_err-retry_refused-in-None-take in
-    on-error left.result (BreaksQuietRun gives system end) _ left.ensures.1
-    (inr (subst (λ r. IfErr r (BreaksWork gives system end)) c.in_err-retry_refused-in-None-take.was
-    (breaks-retry gives system end (end_caller c.take.new.self.registrar).account _ c.retry_refused.result retried.stops retried.refused)))
+    let start = pass_view c.args.end.now.registrar.pass in let old = pass_view c.loop.end.registrar.pass in let new = pass_view end.registrar.pass in
+    let made = runs-looks gives (origin_of system.gates) system.throughput start old new c.loop.turns.items c.loop.invariant.4
+    (subst (λ p. OnlyLooks (pass_view p) new) c.take.ensures.same.0 retried.looks) in
+    on-error left.result (BreaksQuietRun gives system start end) _ left.ensures.1
+    (inr (subst (λ r. IfErr r (BreaksWork gives system start end)) c.in_err-retry_refused-in-None-take.was
+    (breaks-retry gives system start end (end_caller c.take.new.self.registrar).account _ c.retry_refused.result retried.stops retried.refused
+    (record { turns = c.loop.turns.items; made = made }))))
 
 pub returns-in_err-run_one-in-Some-take-clause-same_gates : goal.returns-in_err-run_one-in-Some-take-clause-same_gates
 returns-in_err-run_one-in-Some-take-clause-same_gates g c = c.run_one.ensures.same_gates

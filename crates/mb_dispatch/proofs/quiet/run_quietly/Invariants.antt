@@ -1,6 +1,7 @@
 use Rattle.std.proofs.Common.{◌≡◌}
 use Rattle.mb_gate.specs.Accessors.{actors_of, pass_view}
 use Rattle.mb_gate.specs.Rule.{IsPart}
+use Rattle.mb_gate.specs.Untouched.{origin_of}
 use Rattle.mb_system.specs.Obligations.{AreDischargedOrOwed}
 use Rattle.mb_system.specs.Members.{IsEndOf, end_caller}
 use Rattle.mb_dispatch.specs.Runs.{MadeRuns}
@@ -10,4 +11,4 @@ abbrev pub invariant-loop : goal.invariant-loop
 invariant-loop g l =
     IsEndOf l.system.gates l.end.registrar × (l.end.number ≡ l.fn.end.number)
     × IsPart (pass_view l.fn.end.registrar.pass).log (pass_view l.end.registrar.pass).log × AreDischargedOrOwed (actors_of l.system.gates) (end_caller l.end.registrar)
-    × MadeRuns g.K.Behaviours.gives l.system (pass_view l.fn.end.registrar.pass) l.turns.items (pass_view l.end.registrar.pass)
+    × MadeRuns g.K.Behaviours.gives (origin_of l.system.gates) l.system.throughput (pass_view l.fn.end.registrar.pass) l.turns.items (pass_view l.end.registrar.pass)

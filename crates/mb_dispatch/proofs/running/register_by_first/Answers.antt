@@ -2,6 +2,7 @@ use Rattle.std.proofs.Common.{refl}
 use Rattle.mb_gate.specs.Accessors.{actors_of, pass_view}
 use Rattle.mb_system.specs.Members.{end_caller}
 use Rattle.mb_system.proofs.Obligations.{obligations-left, obligations-same}
+use Rattle.mb_system.proofs.Looking.{only-none}
 use Rattle.mb_system.proofs.Saw.{saw-same}
 use Rattle.mb_dispatch.proofs.Firsts.{first-discharged}
 use Rattle.mb_dispatch.proofs.Sides.{first_changed, zip_first}
@@ -26,3 +27,8 @@ returns-in-Some-clause-obligations g c =
 pub returns-in-Some-clause-discharged : goal.returns-in-Some-clause-discharged
 returns-in-Some-clause-discharged g c =
     first-discharged c.args.system.now.gates c.args.ends.now c.register_all.new.self c.register_all.ensures.discharged
+
+pub returns-in-Some-clause-looks : goal.returns-in-Some-clause-looks
+returns-in-Some-clause-looks g c =
+    zip_first _ (λ x. only-none (pass_view x.registrar.pass)) c.args.ends.now c.in-Some.first.now c.register_all.new.self c.in-Some.ensures.item.1
+    c.register_all.ensures.looks

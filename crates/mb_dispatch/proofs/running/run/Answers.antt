@@ -5,7 +5,7 @@ use Rattle.mb_system.specs.Members.{end_caller}
 use Rattle.mb_system.proofs.Crossing.{end_send, passed_send, passed_sync, system_sync}
 use Rattle.mb_system.proofs.Obligations.{obligations-then}
 use Rattle.mb_system.proofs.Saw.{saw-then}
-use Rattle.mb_dispatch.proofs.Breaking.{breaks-run}
+use Rattle.mb_dispatch.proofs.Breaking.{breaks-run, runs-or-broke-then, worked-then}
 use Rattle.mb_dispatch.proofs.Crossing.{job_send}
 use Rattle.mb_dispatch.proofs.Sides.{all_after, as_many_after, ok_first, ok_rest, same_after, zip_then}
 use Rattle.mb_dispatch.proofs.Firsts.{first-settled}
@@ -51,7 +51,21 @@ returns-clause-done g c =
 pub returns-clause-fault : goal.returns-clause-fault
 returns-clause-fault g c =
     let of = c.both_in_parallel-of_jobs.result in let did = c.both_in_parallel-of_jobs.ensures in
-    breaks-run g.K.Behaviours.gives c.args.system.now _ _ _ _ of.1 of.0 c.first_error.result c.first_error.ensures did.done.1 did.fails.1 did.fails.0
+    breaks-run g.K.Behaviours.gives c.args.system.now _ _ _ _ _ of.1 of.0 c.first_error.result c.register_by_first.ensures.looks c.first_error.ensures
+    did.done.1 did.fails.1 did.fails.0
+
+pub returns-clause-runs : goal.returns-clause-runs
+returns-clause-runs g c =
+    zip_then _ _ _ (λ x y z looks kept. runs-or-broke-then g.K.Behaviours.gives c.args.system.now x y z looks kept.4) _ _ _ c.register_by_first.ensures.looks
+    c.both_in_parallel-of_jobs.ensures.keeps.1
+
+pub returns-clause-ran : goal.returns-clause-ran
+returns-clause-ran g c =
+    let of = c.both_in_parallel-of_jobs.result in
+    ok_first _ of.1 of.0 c.first_error.result c.first_error.ensures
+    (on_ok_weaker _
+    (zip_then _ _ _ (λ x y z looks worked. (worked-then g.K.Behaviours.gives c.args.system.now x y z looks worked).2) _ _ _ c.register_by_first.ensures.looks)
+    c.both_in_parallel-of_jobs.ensures.done.1)
 
 pub returns-clause-log_kept : goal.returns-clause-log_kept
 returns-clause-log_kept g c =

@@ -3,7 +3,7 @@ use Rattle.mb_gate.specs.Accessors.{pass_view, pass_id, actors_of}
 use Rattle.mb_gate.specs.Rule.{IsPart}
 use Rattle.std.specs.Global.{Box}
 use Rattle.std.specs.Prelude.{Option}
-use Rattle.mb_gate.specs.Untouched.{Origin}
+use Rattle.mb_gate.specs.Untouched.{Origin, origin_of}
 use Rattle.mb_home.specs.Contents.{Contents}
 use Rattle.mb_home.specs.Fresh.{IsFreshClaim}
 use Rattle.mb_gate.specs.View.{obligation_to}
@@ -11,6 +11,10 @@ use Rattle.mb_register.specs.Owed.{is_owed}
 use Rattle.mb_system.proofs.Saw.{saw-same}
 use Rattle.mb_system.specs.Members.{end_caller}
 use Rattle.mb_system.proofs.Obligations.{obligations-left, obligations-same, obligations-then}
+use Rattle.mb_system.proofs.RunErrors.{on-error}
+use Rattle.mb_dispatch.specs.Faults.{BreaksWork}
+use Rattle.mb_dispatch.specs.Runs.{OnlyRuns, RanMailbox}
+use Rattle.mb_dispatch.proofs.Runs.{no-run, one-run}
 use Rattle.mb_dispatch.specs.Found.{FoundPoolEmpty}
 use Rattle.mb_dispatch.proofs.working.is_over.Goals as goal
 
@@ -94,3 +98,23 @@ returns-in_err-run_one-clause-log_kept g c =
 
 pub returns-in-Some-take-clause-fault : goal.returns-in-Some-take-clause-fault
 returns-in-Some-take-clause-fault g c = tt
+
+pub returns-then-is_over-clause-ran : goal.returns-then-is_over-clause-ran
+returns-then-is_over-clause-ran g c =
+    let gives = g.K.Behaviours.gives in let origin = origin_of c.args.system.now.gates in let throughput = c.args.system.now.throughput in
+    let start = pass_view c.args.end.now.registrar.pass in
+    subst (λ p. OnlyRuns gives origin throughput start (pass_view p)) (sym (c.take.ensures.same.0 ∙ c.loop.invariant.3)) (no-run gives origin throughput start)
+
+pub returns-in-Some-take-clause-ran : goal.returns-in-Some-take-clause-ran
+returns-in-Some-take-clause-ran g c =
+    let gives = g.K.Behaviours.gives in let origin = origin_of c.args.system.now.gates in let throughput = c.args.system.now.throughput in
+    let new = pass_view c.run_one.new.end.registrar.pass in
+    one-run gives origin throughput (pass_view c.args.end.now.registrar.pass) new c.in_ok-run_one.field-0
+    (subst (λ p. RanMailbox gives origin throughput (pass_view p) new c.in_ok-run_one.field-0) (c.take.ensures.same.0 ∙ c.loop.invariant.3)
+    c.in_ok-run_one.ensures.ran)
+
+pub returns-in_err-run_one-clause-fault : goal.returns-in_err-run_one-clause-fault
+returns-in_err-run_one-clause-fault g c =
+    let gives = g.K.Behaviours.gives in let system = c.args.system.now in let new = c.run_one.new.end in
+    on-error c.from_residual.result (BreaksWork gives system (pass_view c.args.end.now.registrar.pass) new) _ c.from_residual.ensures.1
+    (subst (λ p. BreaksWork gives system (pass_view p) new c.in_err-run_one.field-0.0) (c.take.ensures.same.0 ∙ c.loop.invariant.3) c.in_err-run_one.ensures.fault)

@@ -1,5 +1,6 @@
 use Rattle.std.proofs.Common.{◌∙◌, Err, ap}
 use Rattle.std.proofs.lemmas.Result.{IfOk-from_err}
+use Rattle.mb_gate.specs.Accessors.{pass_view}
 use Rattle.mb_system.specs.RunErrors.{of_ready}
 use Rattle.mb_dispatch.specs.Faults.{BreaksWork}
 use Rattle.mb_dispatch.proofs.Breaking.{breaks-work, came-short, came-to-limit, full-of-ready, ready-is-known, short-of-ready}
@@ -8,12 +9,12 @@ use Rattle.mb_dispatch.proofs.working.run_one.Goals as goal
 
 pub returns-in_err-turn-clause-fault : goal.returns-in_err-turn-clause-fault
 returns-in_err-turn-clause-fault g c =
-    let error = c.in_err-turn.field-0.0 in let end = c.run_mailbox.new.end in
-    on-error c.from_residual.result (BreaksWork g.K.Behaviours.gives c.args.system.now end) (of_ready error) c.from_residual.ensures.1
-    (breaks-work g.K.Behaviours.gives c.args.system.now end (of_ready error)
-    (λ full. came-to-limit _ _ _ _ _ c.requires.untouched c.run_mailbox.result c.run_mailbox.ensures.ran
+    let error = c.in_err-turn.field-0.0 in let end = c.run_mailbox.new.end in let before = pass_view c.args.end.now.registrar.pass in
+    on-error c.from_residual.result (BreaksWork g.K.Behaviours.gives c.args.system.now before end) (of_ready error) c.from_residual.ensures.1
+    (breaks-work g.K.Behaviours.gives c.args.system.now before end (of_ready error)
+    (λ full. came-to-limit _ _ before _ _ c.requires.untouched c.run_mailbox.result c.run_mailbox.ensures.ran
     (c.in_err-turn.was ∙ ap Err (full-of-ready error full)))
-    (λ short. came-short _ _ _ _ _ c.requires.untouched (c.run_mailbox.ensures.out_of_memory (c.in_err-turn.was ∙ ap Err (short-of-ready error short))))
+    (λ short. came-short _ _ before _ _ c.requires.untouched (c.run_mailbox.ensures.out_of_memory (c.in_err-turn.was ∙ ap Err (short-of-ready error short))))
     (ready-is-known error))
 
 pub run_mailbox-requires-clause-same_gates : goal.run_mailbox-requires-clause-same_gates

@@ -17,3 +17,6 @@ returns-clause-log_kept g c = c.work_on-outcome.ensures.log_kept
 
 pub returns-clause-fault : goal.returns-clause-fault
 returns-clause-fault g c = c.work_on-outcome.ensures.fault
+
+pub returns-clause-ran : goal.returns-clause-ran
+returns-clause-ran g c = c.work_on-outcome.ensures.ran

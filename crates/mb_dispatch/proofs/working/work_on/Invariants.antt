@@ -1,8 +1,10 @@
 use Rattle.std.proofs.Common.{◌≡◌}
 use Rattle.mb_gate.specs.Accessors.{actors_of, pass_view}
 use Rattle.mb_gate.specs.Rule.{IsPart}
+use Rattle.mb_gate.specs.Untouched.{origin_of}
 use Rattle.mb_system.specs.Obligations.{KeepsObligations}
 use Rattle.mb_system.specs.Members.{IsEndOf, end_caller}
+use Rattle.mb_dispatch.specs.Runs.{OnlyRuns}
 use Rattle.mb_dispatch.proofs.working.work_on.Given as goal
 
 abbrev pub invariant-loop : goal.invariant-loop
@@ -10,3 +12,4 @@ invariant-loop g l =
     IsEndOf l.system.gates l.end.registrar × (l.end.number ≡ l.fn.end.number)
     × IsPart (pass_view l.fn.end.registrar.pass).log (pass_view l.end.registrar.pass).log
     × KeepsObligations (actors_of l.system.gates) (end_caller l.fn.end.registrar) (end_caller l.end.registrar)
+    × OnlyRuns g.K.Behaviours.gives (origin_of l.system.gates) l.system.throughput (pass_view l.fn.end.registrar.pass) (pass_view l.end.registrar.pass)

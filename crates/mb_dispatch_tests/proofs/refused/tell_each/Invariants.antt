@@ -2,5 +2,5 @@ use denote.Shadow.{shadow}
 use denote.Text.{Utf8}
 use Rattle.mb_dispatch_tests.proofs.refused.tell_each.Given as goal
 
-abbrev pub invariant-loop-body : goal.invariant-loop-body
-invariant-loop-body g l = shadow (Utf8 l.due)
+abbrev pub invariant-loop-payload : goal.invariant-loop-payload
+invariant-loop-payload g l = shadow (Utf8 l.due)

@@ -2,7 +2,7 @@ use Rattle.std.proofs.Common.{◌≡◌, ℕ, List, [], refl, sym, ap, ◌∙◌
 use Rattle.std.specs.Global.{Box}
 use Rattle.mb_status.specs.Mailbox.{Mailbox}
 use Rattle.mb_gate.specs.Lists.{IsNumberedFrom}
-use Rattle.mb_gate.specs.Accessors.{held_actor, pass_view, given_to}
+use Rattle.mb_gate.specs.Accessors.{claim_view, drained_by, held_actor, pass_view, given_to}
 use Rattle.mb_gate.specs.Untouched.{origin_of}
 use Rattle.mb_gate.specs.View.{Observation, View, given_after}
 use Rattle.mb_cell.specs.CellView.{CellView}
@@ -17,7 +17,7 @@ use Rattle.mb_mailbox.proofs.BacklogLemmas.{backlog-closed, keeps-then}
 use Rattle.mb_register.proofs.CallerLemmas.{further-then}
 use Rattle.mb_mailbox.proofs.CleanLemmas.{keeps-ended, running-end, was-ended}
 use Rattle.mb_mailbox.proofs.EmptiedLemmas.{finds-then, ok-so, takes-same, takes-then}
-use Rattle.mb_mailbox.proofs.RunningSteps.{running-kept}
+use Rattle.mb_mailbox.proofs.RunningSteps.{ended-among, running-kept}
 use Rattle.mb_mailbox.proofs.TellingLemmas.{running-own, keeps-home, settled-here}
 use Rattle.mb_mailbox.proofs.RecordedLemmas.{alike-still, alike-then}
 use Rattle.mb_mailbox.proofs.RunSendsLemmas.{sends-like}
@@ -38,7 +38,7 @@ pub drop_systems-requires-clause-running : goal.drop_systems-requires-clause-run
 drop_systems-requires-clause-running g c =
     let did = c.sys_close-listed.ensures in
     running-end c.args.claim.now c.sys_close-listed.new.claim did.same_gates did.same did.taken did.recorded c.sys_close-listed.result did.given did.known
-    did.gave g.K.Behaviours.gives (origin_of c.args.gates.now) (pass_view c.args.registrar.now.pass).log c.requires.running
+    did.gave did.drained g.K.Behaviours.gives (origin_of c.args.gates.now) (pass_view c.args.registrar.now.pass).log c.requires.running
 
 -- what the home knows that the list gave before it was ended
 pub keep-requires-clause-continues : goal.keep-requires-clause-continues
@@ -66,13 +66,16 @@ drop_systems-requires-2-clause-running g c =
     (record (run_state mid) { home = new })) (sym cell)
     (running-kept g.K.Behaviours.gives (origin_of c.args.gates.now) (pass_view c.drop_systems.new.registrar.pass).log (run_state mid)
     mid.home.value.cell.acts new c.sys_close-listed.result r kept
-    (settled-here g.K.Behaviours.gives (held_actor mid) mid.home.value new r.number cell c.keep.ensures.settled) c.sys_close-listed.ensures.named)
+    (settled-here g.K.Behaviours.gives (held_actor mid) mid.home.value new r.number cell c.keep.ensures.settled)
+    (ended-among (drained_by mid) (held_actor c.args.claim.now) c.sys_close-listed.result (claim_view mid).log (claim_view c.args.claim.now).log
+    (c.drop_systems.ensures.log ∙ ap (λ (v : View). v.log) c.sys_close-listed.ensures.known) r.logged)
+    c.sys_close-listed.ensures.named)
 
 pub clean_envelopes-requires-clause-ended : goal.clean_envelopes-requires-clause-ended
 clean_envelopes-requires-clause-ended g c =
     let did = c.sys_close-listed.ensures in
     let first = c.sys_close-listed.new.claim in
-    let w = was-ended c.args.claim.now first did.same_gates did.same did.taken did.recorded c.sys_close-listed.result did.given did.known did.gave in
+    let w = was-ended c.args.claim.now first did.same_gates did.same did.taken did.recorded c.sys_close-listed.result did.given did.known did.gave did.drained in
     let actor = c.drop_systems-2.ensures.same.same.actor ∙ c.drop_systems.ensures.same.same.actor in
     let log = c.drop_systems-2.ensures.log ∙ c.drop_systems.ensures.log in
     subst (λ (x : ℕ × List Observation). WasEnded x.0 x.1) (λ i. (sym actor i, sym log i)) w
@@ -113,7 +116,7 @@ returns-clause-same g c =
     let cell = ap (λ (x : Contents). x.cell) c.keep.ensures.kept ∙ ap (λ (x : Contents). x.cell) c.deref_mut.ensures.value in
     let take = ap (λ (x : Contents). x.take) c.keep.ensures.kept ∙ ap (λ (x : Contents). x.take) c.deref_mut.ensures.value in
     keeps-then _ _ _
-    (keeps-ended c.args.claim.now first did.same_gates did.same did.taken did.recorded c.sys_close-listed.result did.given did.known did.gave)
+    (keeps-ended c.args.claim.now first did.same_gates did.same did.taken did.recorded c.sys_close-listed.result did.given did.known did.gave did.drained)
     (keeps-then _ _ _ c.drop_systems.ensures.same
     (keeps-then _ _ _ (keeps-home (run_state mid) c.keep.new.self cell take)
     (keeps-then _ _ _ c.drop_systems-2.ensures.same c.clean_envelopes.ensures.same)))

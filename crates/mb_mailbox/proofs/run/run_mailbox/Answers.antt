@@ -5,8 +5,11 @@ use Rattle.mb_journal.specs.Identity.{Identity}
 use Rattle.mb_journal.specs.Life.{closed}
 use Rattle.mb_journal.specs.Run.{IsReason}
 use Rattle.mb_journal.specs.Run.Stopped.{NoRoom}
-use Rattle.mb_gate.specs.Accessors.{pass_view, claim_view, held_actor, actors_of}
+use Rattle.mb_gate.specs.Accessors.{pass_view, claim_view, drained_by, held_actor, actors_of}
+use Rattle.mb_gate.specs.Rule.{IsAmong}
 use Rattle.mb_gate.specs.View.{View}
+use Rattle.mb_ghost.proofs.SeenLemmas.{each_append}
+use Rattle.mb_home.specs.AtHome.{system_entries}
 use Rattle.mb_gate.specs.Untouched.{origin_of}
 use Rattle.mb_register.specs.Views.{LooksAfter}
 use Rattle.mb_register.specs.Caller.{IsDischargedOrOwed, caller_of}
@@ -59,6 +62,12 @@ release-requires-clause-count g c = c.run_claim-outcome.ensures.in_run.backlog.c
 
 pub release-requires-clause-known_closed : goal.release-requires-clause-known_closed
 release-requires-clause-known_closed g c = c.run_claim-outcome.ensures.in_run.running.known_closed
+
+pub release-requires-clause-drained : goal.release-requires-clause-drained
+release-requires-clause-drained g c =
+    let last = c.run_claim-outcome.new.claim in
+    let r = c.run_claim-outcome.ensures.in_run.running in
+    each_append (λ m. IsAmong m (drained_by last)) (system_entries last.home.value.cell.journal) last.home.value.rest r.entered r.left
 
 pub release-requires-clause-told : goal.release-requires-clause-told
 release-requires-clause-told g c = home-told _ _ _ c.run_claim-outcome.new.claim c.run_claim-outcome.ensures.in_run.running

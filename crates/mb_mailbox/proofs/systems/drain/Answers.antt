@@ -29,7 +29,7 @@ keep-requires-clause-continues g c =
     let did = c.sys_drain-drained.ensures in
     subst (λ (x : Contents). IsNumberedFrom (given_of x) c.sys_drain-drained.result) (sym c.deref_mut.ensures.value)
     (drained-from c.args.claim.now c.sys_drain-drained.new.claim did.same_gates did.same did.taken did.recorded c.sys_drain-drained.result did.given
-    did.known did.gave (record c.sys_drain-drained.new.claim.home.value { rest = c.sys_drain-drained.result }) refl c.requires.backlog.count
+    did.known did.gave did.drained (record c.sys_drain-drained.new.claim.home.value { rest = c.sys_drain-drained.result }) refl c.requires.backlog.count
     did.numbers)
 
 pub keep-requires-clause-settled : goal.keep-requires-clause-settled
@@ -47,7 +47,7 @@ returns-clause-running g c =
     let kept = subst (λ (x : Contents). c.keep.new.self ≡ record x { rest = c.sys_drain-drained.result }) c.deref_mut.ensures.value
     c.keep.ensures.kept in
     λ seen r. running-drain c.args.claim.now c.sys_drain-drained.new.claim did.same_gates did.same did.taken did.recorded c.sys_drain-drained.result
-    did.given did.known did.gave c.keep.new.self kept g.K.Behaviours.gives (origin_of c.args.gates.now) seen c.requires.carried_out
+    did.given did.known did.gave did.drained c.keep.new.self kept g.K.Behaviours.gives (origin_of c.args.gates.now) seen c.requires.carried_out
     c.keep.ensures.settled did.named r
 
 pub returns-clause-backlog : goal.returns-clause-backlog
@@ -56,7 +56,7 @@ returns-clause-backlog g c =
     let kept = subst (λ (x : Contents). c.keep.new.self ≡ record x { rest = c.sys_drain-drained.result }) c.deref_mut.ensures.value
     c.keep.ensures.kept in
     backlog-drained c.args.claim.now c.sys_drain-drained.new.claim did.same_gates did.same did.taken did.recorded c.sys_drain-drained.result did.given
-    did.known did.gave c.keep.new.self kept c.requires.no_backlog c.requires.not_closed c.requires.backlog.count
+    did.known did.gave did.drained c.keep.new.self kept c.requires.no_backlog c.requires.not_closed c.requires.backlog.count
 
 pub returns-clause-left : goal.returns-clause-left
 returns-clause-left g c =
@@ -69,7 +69,7 @@ returns-clause-same g c =
     let kept = subst (λ (x : Contents). c.keep.new.self ≡ record x { rest = c.sys_drain-drained.result }) c.deref_mut.ensures.value
     c.keep.ensures.kept in
     keeps-drained c.args.claim.now c.sys_drain-drained.new.claim did.same_gates did.same did.taken did.recorded c.sys_drain-drained.result did.given
-    did.known did.gave c.keep.new.self kept
+    did.known did.gave did.drained c.keep.new.self kept
 
 pub returns-clause-not_empty : goal.returns-clause-not_empty
 returns-clause-not_empty g c =
@@ -91,7 +91,7 @@ returns-then-is_empty-clause-running g c =
     let before = subst (λ (l : List Act). AgreesWithJournal (g.K.Behaviours.gives old.home.value.cell.who.this.0) l old.home.value)
     (sym c.requires.carried_out) own in
     let settled = subst (λ (x : Contents). AgreesWithJournal (g.K.Behaviours.gives x.cell.who.this.0) x.cell.acts x) (sym here) before in
-    λ seen r. running-drain old mid did.same_gates did.same did.taken did.recorded c.sys_drain-drained.result did.given did.known did.gave mid.home.value kept
+    λ seen r. running-drain old mid did.same_gates did.same did.taken did.recorded c.sys_drain-drained.result did.given did.known did.gave did.drained mid.home.value kept
     g.K.Behaviours.gives (origin_of c.args.gates.now) seen c.requires.carried_out settled did.named r
 
 pub returns-then-is_empty-clause-backlog : goal.returns-then-is_empty-clause-backlog
@@ -102,7 +102,7 @@ returns-then-is_empty-clause-backlog g c =
     let none = c.is_empty.ensures.0 c.if-is_empty.true in
     let here = ap (λ (b : Box Contents). b.value) did.same.1 in
     let kept = none-kept mid.home.value c.sys_drain-drained.result (ap (λ (x : Contents). x.rest) here ∙ c.requires.no_backlog.no_rest) none in
-    backlog-drained old mid did.same_gates did.same did.taken did.recorded c.sys_drain-drained.result did.given did.known did.gave mid.home.value kept
+    backlog-drained old mid did.same_gates did.same did.taken did.recorded c.sys_drain-drained.result did.given did.known did.gave did.drained mid.home.value kept
     c.requires.no_backlog c.requires.not_closed c.requires.backlog.count
 
 pub returns-then-is_empty-clause-left : goal.returns-then-is_empty-clause-left
@@ -116,7 +116,7 @@ returns-then-is_empty-clause-same g c =
     let none = c.is_empty.ensures.0 c.if-is_empty.true in
     let here = ap (λ (b : Box Contents). b.value) did.same.1 in
     let kept = none-kept mid.home.value c.sys_drain-drained.result (ap (λ (x : Contents). x.rest) here ∙ c.requires.no_backlog.no_rest) none in
-    keeps-drained old mid did.same_gates did.same did.taken did.recorded c.sys_drain-drained.result did.given did.known did.gave mid.home.value kept
+    keeps-drained old mid did.same_gates did.same did.taken did.recorded c.sys_drain-drained.result did.given did.known did.gave did.drained mid.home.value kept
 
 pub returns-then-is_empty-clause-drained : goal.returns-then-is_empty-clause-drained
 returns-then-is_empty-clause-drained g c =
@@ -126,7 +126,7 @@ returns-then-is_empty-clause-drained g c =
     let none = c.is_empty.ensures.0 c.if-is_empty.true in
     let here = ap (λ (b : Box Contents). b.value) did.same.1 in
     let kept = none-kept mid.home.value c.sys_drain-drained.result (ap (λ (x : Contents). x.rest) here ∙ c.requires.no_backlog.no_rest) none in
-    λ _. is-drained old mid did.same_gates did.same did.taken did.recorded c.sys_drain-drained.result did.given did.known did.gave mid.home.value kept
+    λ _. is-drained old mid did.same_gates did.same did.taken did.recorded c.sys_drain-drained.result did.given did.known did.gave did.drained mid.home.value kept
     c.requires.no_backlog none
 
 -- ---- the mailbox is as it was
@@ -159,7 +159,7 @@ returns-clause-due g c =
     let kept = subst (λ (x : Contents). c.keep.new.self ≡ record x { rest = c.sys_drain-drained.result }) c.deref_mut.ensures.value
     c.keep.ensures.kept in
     due-drained c.args.claim.now c.sys_drain-drained.new.claim did.same_gates did.same did.taken did.recorded c.sys_drain-drained.result did.given
-    did.known did.gave c.keep.new.self kept c.requires.no_backlog.no_rest c.requires.not_closed
+    did.known did.gave did.drained c.keep.new.self kept c.requires.no_backlog.no_rest c.requires.not_closed
 
 pub returns-then-is_empty-clause-due : goal.returns-then-is_empty-clause-due
 returns-then-is_empty-clause-due g c =
@@ -169,5 +169,5 @@ returns-then-is_empty-clause-due g c =
     let none = c.is_empty.ensures.0 c.if-is_empty.true in
     let here = ap (λ (b : Box Contents). b.value) did.same.1 in
     let kept = none-kept mid.home.value c.sys_drain-drained.result (ap (λ (x : Contents). x.rest) here ∙ c.requires.no_backlog.no_rest) none in
-    due-drained old mid did.same_gates did.same did.taken did.recorded c.sys_drain-drained.result did.given did.known did.gave mid.home.value kept
+    due-drained old mid did.same_gates did.same did.taken did.recorded c.sys_drain-drained.result did.given did.known did.gave did.drained mid.home.value kept
     c.requires.no_backlog.no_rest c.requires.not_closed

@@ -8,16 +8,14 @@ use Rattle.mb_journal.specs.Acts.{Act}
 use Rattle.mb_gate.specs.NamedActors.{NamesBelow}
 use Rattle.mb_gate.specs.Accessors.{actors_of}
 use Rattle.mb_gate.specs.Untouched.{origin_of}
-use Rattle.mb_gate.specs.View.{View}
 use Rattle.mb_home.specs.Contents.{Contents}
 use Rattle.mb_home.specs.AgreesWithJournal.{AgreesWithJournal}
 use Rattle.mb_home.specs.Steps.{HasNext, HasNoBacklog}
-use Rattle.mb_mailbox.specs.RunState.{RunState, run_state}
-use Rattle.mb_mailbox.specs.Running.{IsRunning, BacklogAgrees, KeepsJournal}
+use Rattle.mb_mailbox.specs.RunState.{run_state}
 use Rattle.mb_mailbox.proofs.BacklogLemmas.{keeps-same}
 use Rattle.mb_mailbox.proofs.DrainingLemmas.{none-kept, keeps-drained, due-drained, backlog-drained, is-drained, running-drain}
 use Rattle.mb_mailbox.proofs.EmptiedLemmas.{cleared-open, cleared-same}
-use Rattle.mb_mailbox.proofs.RunStateLemmas.{hold-same}
+use Rattle.mb_mailbox.proofs.LookLemmas.{keeps-looked, running-on, backlog-looked, due-looked}
 use Rattle.mb_mailbox.proofs.TellingLemmas.{running-own}
 use Rattle.mb_mailbox.proofs.RunSendsLemmas.{due-none}
 use Rattle.mb_mailbox.proofs.systems.has_no_system_work.Goals as goal
@@ -56,7 +54,7 @@ returns-then-sys_is_drained-clause-running g c =
     let before = subst (λ (l : List Act). AgreesWithJournal (g.K.Behaviours.gives old.home.value.cell.who.this.0) l old.home.value)
     (sym c.requires.carried_out) own in
     let settled = subst (λ (x : Contents). AgreesWithJournal (g.K.Behaviours.gives x.cell.who.this.0) x.cell.acts x) (sym here) before in
-    λ seen r. running-drain old mid did.same_gates did.same did.taken did.recorded [] (did.given hit) (did.known hit) (did.gave hit) mid.home.value kept
+    λ seen r. running-drain old mid did.same_gates did.same did.taken did.recorded [] (did.given hit) (did.known hit) (did.gave hit) (did.drained hit) mid.home.value kept
     g.K.Behaviours.gives (origin_of c.args.gates.now) seen c.requires.carried_out settled
     (All-nil (λ (m : ℕ × SysMsg). NamesBelow (actors_of c.args.gates.now) m.1)) r
 
@@ -68,7 +66,7 @@ returns-then-sys_is_drained-clause-backlog g c =
     let no_backlog = subst (λ b. MatchBool b (HasNext old.home.value) (HasNoBacklog old.home.value)) c.if-has_next.false at_home in
     let here = ap (λ (b : Box Contents). b.value) did.same.1 in
     let kept = none-kept mid.home.value [] (ap (λ (x : Contents). x.rest) here ∙ no_backlog.no_rest) refl in
-    backlog-drained old mid did.same_gates did.same did.taken did.recorded [] (did.given hit) (did.known hit) (did.gave hit) mid.home.value kept
+    backlog-drained old mid did.same_gates did.same did.taken did.recorded [] (did.given hit) (did.known hit) (did.gave hit) (did.drained hit) mid.home.value kept
     no_backlog (sym (c.closed.ensures ∙ ap (λ (m : Mailbox). m.closed) c.status.ensures) ∙ c.if-closed.false) c.requires.backlog.count
 
 pub returns-then-sys_is_drained-clause-left : goal.returns-then-sys_is_drained-clause-left
@@ -83,7 +81,7 @@ returns-then-sys_is_drained-clause-same g c =
     let no_backlog = subst (λ b. MatchBool b (HasNext old.home.value) (HasNoBacklog old.home.value)) c.if-has_next.false at_home in
     let here = ap (λ (b : Box Contents). b.value) did.same.1 in
     let kept = none-kept mid.home.value [] (ap (λ (x : Contents). x.rest) here ∙ no_backlog.no_rest) refl in
-    keeps-drained old mid did.same_gates did.same did.taken did.recorded [] (did.given hit) (did.known hit) (did.gave hit) mid.home.value kept
+    keeps-drained old mid did.same_gates did.same did.taken did.recorded [] (did.given hit) (did.known hit) (did.gave hit) (did.drained hit) mid.home.value kept
 
 pub returns-then-sys_is_drained-clause-drained : goal.returns-then-sys_is_drained-clause-drained
 returns-then-sys_is_drained-clause-drained g c =
@@ -93,7 +91,7 @@ returns-then-sys_is_drained-clause-drained g c =
     let no_backlog = subst (λ b. MatchBool b (HasNext old.home.value) (HasNoBacklog old.home.value)) c.if-has_next.false at_home in
     let here = ap (λ (b : Box Contents). b.value) did.same.1 in
     let kept = none-kept mid.home.value [] (ap (λ (x : Contents). x.rest) here ∙ no_backlog.no_rest) refl in
-    λ _. is-drained old mid did.same_gates did.same did.taken did.recorded [] (did.given hit) (did.known hit) (did.gave hit) mid.home.value kept no_backlog refl
+    λ _. is-drained old mid did.same_gates did.same did.taken did.recorded [] (did.given hit) (did.known hit) (did.gave hit) (did.drained hit) mid.home.value kept no_backlog refl
 
 pub returns-then-sys_is_drained-clause-cleared : goal.returns-then-sys_is_drained-clause-cleared
 returns-then-sys_is_drained-clause-cleared g c =
@@ -105,19 +103,15 @@ returns-then-sys_is_drained-clause-cleared g c =
 
 pub returns-clause-running : goal.returns-clause-running
 returns-clause-running g c =
-    let did = c.sys_is_drained.ensures in let kept = did.unchanged c.if-sys_is_drained.false in
+    let did = c.sys_is_drained.ensures in let no = c.if-sys_is_drained.false in
     let old = c.args.claim.now in let mid = c.sys_is_drained.new.claim in
-    let as_before : run_state mid ≡ run_state old =
-    hold-same old mid did.same_gates did.same.1 did.same.0 did.taken did.recorded kept.0 kept.1 kept.2 in
-    λ seen r. subst (λ (h : RunState). IsRunning g.K.Behaviours.gives (origin_of c.args.gates.now) [] seen h) (sym as_before) r
+    λ seen r. running-on old mid did.same_gates did.same (did.looked no) (did.unchanged no) g.K.Behaviours.gives (origin_of c.args.gates.now) seen r
 
 pub returns-clause-backlog : goal.returns-clause-backlog
 returns-clause-backlog g c =
-    let did = c.sys_is_drained.ensures in let kept = did.unchanged c.if-sys_is_drained.false in
+    let did = c.sys_is_drained.ensures in let no = c.if-sys_is_drained.false in
     let old = c.args.claim.now in let mid = c.sys_is_drained.new.claim in
-    let as_before : run_state mid ≡ run_state old =
-    hold-same old mid did.same_gates did.same.1 did.same.0 did.taken did.recorded kept.0 kept.1 kept.2 in
-    subst (λ (h : RunState). BacklogAgrees h) (sym as_before) c.requires.backlog
+    backlog-looked old mid did.same_gates did.same (did.looked no) (did.unchanged no) c.requires.backlog
 
 pub returns-clause-left : goal.returns-clause-left
 returns-clause-left g c =
@@ -125,11 +119,9 @@ returns-clause-left g c =
 
 pub returns-clause-same : goal.returns-clause-same
 returns-clause-same g c =
-    let did = c.sys_is_drained.ensures in let kept = did.unchanged c.if-sys_is_drained.false in
+    let did = c.sys_is_drained.ensures in let no = c.if-sys_is_drained.false in
     let old = c.args.claim.now in let mid = c.sys_is_drained.new.claim in
-    let as_before : run_state mid ≡ run_state old =
-    hold-same old mid did.same_gates did.same.1 did.same.0 did.taken did.recorded kept.0 kept.1 kept.2 in
-    subst (λ (h : RunState). KeepsJournal (run_state old) h) (sym as_before) (keeps-same (run_state old))
+    keeps-looked old mid did.same_gates did.same (did.looked no) (did.unchanged no)
 
 pub returns-clause-cleared : goal.returns-clause-cleared
 returns-clause-cleared g c =
@@ -159,12 +151,11 @@ returns-then-sys_is_drained-clause-due g c =
     let no_backlog = subst (λ b. MatchBool b (HasNext old.home.value) (HasNoBacklog old.home.value)) c.if-has_next.false at_home in
     let here = ap (λ (b : Box Contents). b.value) did.same.1 in
     let kept = none-kept mid.home.value [] (ap (λ (x : Contents). x.rest) here ∙ no_backlog.no_rest) refl in
-    due-drained old mid did.same_gates did.same did.taken did.recorded [] (did.given hit) (did.known hit) (did.gave hit) mid.home.value kept
+    due-drained old mid did.same_gates did.same did.taken did.recorded [] (did.given hit) (did.known hit) (did.gave hit) (did.drained hit) mid.home.value kept
     no_backlog.no_rest (sym (c.closed.ensures ∙ ap (λ (m : Mailbox). m.closed) c.status.ensures) ∙ c.if-closed.false)
 
 pub returns-clause-due : goal.returns-clause-due
 returns-clause-due g c =
-    let did = c.sys_is_drained.ensures in
-    due-none (run_state c.args.claim.now) (run_state c.sys_is_drained.new.claim) did.recorded
-    (ap (λ (v : View). v.log) (did.unchanged c.if-sys_is_drained.false).0) (ap (λ (b : Box Contents). b.value.rest) did.same.1)
-    (λ shut. ap (λ (m : Mailbox). m.closed) did.same.0 ∙ shut)
+    let did = c.sys_is_drained.ensures in let no = c.if-sys_is_drained.false in
+    let old = c.args.claim.now in let mid = c.sys_is_drained.new.claim in
+    due-looked old mid did.same_gates did.same (did.looked no) (did.unchanged no)

@@ -1,9 +1,10 @@
 use Rattle.std.proofs.Common.{refl, sym, ap}
 use Rattle.mb_status.specs.Mailbox.{word_of}
 use Rattle.mb_gate.specs.Claims.{held_in}
-use Rattle.mb_gate.specs.Accessors.{pass_view, claim_view, held_actor, status_of, gave_last, taken_with, closed_with, recorded_by}
+use Rattle.mb_gate.specs.Accessors.{pass_view, claim_view, held_actor, status_of, gave_last, taken_with, closed_with, drained_by, recorded_by}
 use Rattle.mb_gate.specs.View.{View, taking_in}
-use Rattle.mb_register.proofs.AtHome.{extends-same, shut-same, told-nothing, rest-open}
+use Rattle.mb_register.proofs.AtHome.{extends-same, shut-same, drained-same, told-nothing, rest-open}
+use Rattle.mb_register.proofs.Joining.{owes-back}
 use Rattle.mb_register.proofs.Views.{looks-back}
 use Rattle.mb_register.proofs.ClaimCounts.{claims-back}
 use Rattle.mb_register.proofs.untouched.give_home.Goals as goal
@@ -21,6 +22,11 @@ release-requires-clause-known_closed g c =
     let claim = c.args.claim in
     shut-same (g.H.MailboxState.facts claim.home).closed_to (closed_with claim) (taking_in (claim_view claim) (pass_view c.args.pass.now))
     (ap (λ (v : View). (held_in v).closed_to) c.requires.untouched.known)
+
+pub release-requires-clause-drained : goal.release-requires-clause-drained
+release-requires-clause-drained g c =
+    let claim = c.args.claim in
+    drained-same (g.H.MailboxState.facts claim.home).drained (drained_by claim) (ap (λ (v : View). (held_in v).drained) c.requires.untouched.known)
 
 pub release-requires-clause-told : goal.release-requires-clause-told
 release-requires-clause-told g c =
@@ -40,7 +46,7 @@ returns-clause-looks g c =
     let home = claim.home in
     looks-back (held_actor claim) (g.H.MailboxState.facts home).journal (g.H.MailboxState.facts home).journal (g.H.MailboxState.facts home).closed_to (word_of
     (status_of claim))
-    (gave_last claim) (g.H.MailboxState.facts home).given (held_actor claim) (pass_view c.args.pass.now) (claim_view claim)
+    (gave_last claim) (g.H.MailboxState.facts home).given (g.H.MailboxState.facts home).drained (held_actor claim) (pass_view c.args.pass.now) (claim_view claim)
     (pass_view c.release.new.pass) refl
     c.requires.untouched.known c.release.ensures.known
 
@@ -50,6 +56,12 @@ returns-clause-claims g c =
     let home = claim.home in
     claims-back (held_actor claim) (g.H.MailboxState.facts home).journal (g.H.MailboxState.facts home).journal (g.H.MailboxState.facts home).closed_to (word_of
     (status_of claim))
-    (gave_last claim) (g.H.MailboxState.facts home).given (pass_view c.args.pass.now) (claim_view claim)
+    (gave_last claim) (g.H.MailboxState.facts home).given (g.H.MailboxState.facts home).drained (pass_view c.args.pass.now) (claim_view claim)
     (pass_view c.release.new.pass) c.requires.untouched.known
     c.release.ensures.known
+
+pub returns-clause-owes : goal.returns-clause-owes
+returns-clause-owes g c =
+    let claim = c.args.claim in
+    owes-back (held_actor claim) (g.H.MailboxState.facts claim.home).journal (taking_in (claim_view claim) (pass_view c.args.pass.now))
+    (pass_view c.release.new.pass) c.release.ensures.known

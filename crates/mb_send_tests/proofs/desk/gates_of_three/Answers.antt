@@ -8,6 +8,7 @@ new-requires-clause-fresh c first at actor home there = record {
   of_actor = tt;
   none_given = refl;
   none_closed = refl;
+  none_drained = refl;
   possible = subst (λ (m : Mailbox). IsTrue (is_possible m)) (sym home.idle) refl;
   free = record { open_yet = ap (λ (m : Mailbox). m.closed) home.idle; free = ap (λ (m : Mailbox). m.scheduled) home.idle };
   rest = tt;

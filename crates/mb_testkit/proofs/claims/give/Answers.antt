@@ -1,7 +1,7 @@
 use Rattle.mb_gate.specs.Accessors.{pass_view, claim_view}
 use Rattle.mb_gate.specs.Untouched.{origin_of}
 use Rattle.mb_gate.specs.View.{taking_in}
-use Rattle.mb_testkit.proofs.Given.{count, extends, rest, shut, told}
+use Rattle.mb_testkit.proofs.Given.{count, drained, extends, rest, shut, told}
 use Rattle.mb_testkit.proofs.claims.give.Goals as goal
 
 pub release-requires-clause-extends : goal.release-requires-clause-extends
@@ -19,6 +19,11 @@ release-requires-clause-known_closed g c =
     shut g.H.MailboxState.is_of g.H.MailboxState.facts
     (origin_of c.args.gates.now) c.args.claim c.requires.untouched
     (taking_in (claim_view c.args.claim) (pass_view c.args.pass.now))
+
+pub release-requires-clause-drained : goal.release-requires-clause-drained
+release-requires-clause-drained g c =
+    drained g.H.MailboxState.is_of g.H.MailboxState.facts
+    (origin_of c.args.gates.now) c.args.claim c.requires.untouched
 
 pub release-requires-clause-told : goal.release-requires-clause-told
 release-requires-clause-told g c =

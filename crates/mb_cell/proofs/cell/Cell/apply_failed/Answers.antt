@@ -1,4 +1,5 @@
-use Rattle.std.proofs.Common.{◌≡◌, [], true, false, sym, subst}
+use Rattle.std.proofs.Common.{◌≡◌, ℕ, [], true, false, ap, sym, subst}
+use Rattle.mb_msg.specs.declared.id.ActorId.{ActorId}
 use Rattle.mb_msg.specs.declared.system.SysMsg.TheVariants as system
 use Rattle.mb_actor.specs.ActorList.{has}
 use Rattle.mb_actor.specs.declared.phase.Phase.TheVariants.{Fresh}
@@ -8,6 +9,7 @@ use Rattle.mb_supervision.specs.ActorIdentity.{identity_of}
 use Rattle.mb_cell.specs.CellView.{CellView}
 use Rattle.mb_cell.proofs.CellLaws.{count-small}
 use Rattle.mb_cell.proofs.FailedRow.{failed-row}
+use Rattle.mb_cell.proofs.RetryLaws.{retries-small}
 use Rattle.mb_cell.proofs.SilentRow as silent
 use Rattle.mb_cell.proofs.SilentRow.{IsSilentRow}
 use Rattle.mb_cell.proofs.cell.Cell.apply_failed.Given as given
@@ -15,6 +17,9 @@ use Rattle.mb_cell.proofs.cell.Cell.apply_failed.Goals as goal
 
 pub supervise-requires-clause-below_bound : goal.supervise-requires-clause-below_bound
 supervise-requires-clause-below_bound g c = count-small _ _ _ _ _ c.self.invariant.0
+
+pub supervise-requires-clause-few_requests : goal.supervise-requires-clause-few_requests
+supervise-requires-clause-few_requests g c = retries-small _ _ _ _ _ c.self.invariant.0
 
 row : (g : given.Over) (c : goal.After-push_system g) →
     IsSilentRow (identity_of c.self.inside.place c.self.inside.journal.limit) c.self.inside.journal.entries c.args.number
@@ -26,7 +31,8 @@ row g c =
     (subst (λ (s : CellView). phase_is (phase s.who s.journal) Fresh ≡ false) (sym c.self.view_is) c.requires.not_fresh)
     c.args.child c.args.cause
     (subst (λ (s : CellView). has (children s.who s.journal) c.args.child ≡ true) (sym c.self.view_is) c.requires.of_child)
-    c.supervise.new.self c.supervise.ensures
+    c.supervise.new.self c.supervise.ensures.state
+    (λ y. ap (λ (f : ActorId → ℕ). f y) c.supervise.ensures.counted)
 
 pub invariant_of-self : goal.invariant_of-self
 invariant_of-self g c =

@@ -14,7 +14,7 @@ store-requires g c =
       search rules,
       idles_closed_allowed (g.H.MailboxState.is_of (first_home c.args.self.now)) g.H.MailboxState.facts _ _ _ _ c.args.actor.0 _ (let k =
           c.args.self.now.keyed in let t = c.requires.present in omega arith) _ r.home c.word_index-flag.ensures r.has r.of r.carried r.of_actor r.extends
-          r.count r.known_closed
+          r.count r.known_closed r.drained
           (r.word ∙ closed_word c.args.status closed) (sym (r.fold ∙ closed_word (idle c.args.status) closed)) (r.rest (inl closed)) r.share,
     )
 
@@ -27,7 +27,7 @@ store-requires-2 g c =
       search rules,
       idles_allowed (g.H.MailboxState.is_of (first_home c.args.self.now)) g.H.MailboxState.facts _ _ _ _ c.args.actor.0 _ (let k =
           c.args.self.now.keyed in let t = c.requires.present in omega arith) _ r.home _ c.word_index-index.ensures r.has r.of r.carried r.of_actor
-          r.extends r.count r.known_closed
+          r.extends r.count r.known_closed r.drained
           (λ two. r.word ∙ (idle_two c.args.status unshut (ap (λ k. k % 4) (sym r.word) ∙ two) ∙ ap (λ k. k + 2) is))
           (λ one. let no = one_closed c.args.status (sym r.word ∙ one) in absurd (cc)) (subst (λ n. IsTrue (is_valid n)) (sym
           c.word.ensures.word) (valid_word c.idle.result c.word.ensures.possible))

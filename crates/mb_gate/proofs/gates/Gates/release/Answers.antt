@@ -22,6 +22,7 @@ idle-requires-clause-ready g c =
       fold = c.requires.fold;
       count = c.requires.count;
       known_closed = c.requires.known_closed;
+      drained = c.requires.drained;
       rest = c.requires.rest;
       share = some_left _ _ c.args.pass.now.shares;
     }

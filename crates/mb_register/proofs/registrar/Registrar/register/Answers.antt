@@ -1,5 +1,6 @@
 use Rattle.std.proofs.Common.{[], ◌++◌, refl, inl}
 use Rattle.mb_gate.specs.Accessors.{pass_view}
+use Rattle.mb_register.proofs.Joining.{joins-none}
 use Rattle.mb_register.proofs.Views.{looks-then}
 use Rattle.mb_register.proofs.ClaimCounts.{hands-after}
 use Rattle.mb_register.proofs.Dues.{due-later, got-none, got-handed}
@@ -29,3 +30,9 @@ returns-clause-due g c =
     got-handed hint id _ _ a b d c.register_due.result
     (due-later a b d (looks.looks ++ []) hint id looks.log (c.is_due.ensures.due c.if-not-is_due.false))
     c.is_due.ensures.claims.got c.register_due.ensures.handed
+
+pub returns-then-not-is_due-clause-owes : goal.returns-then-not-is_due-clause-owes
+returns-then-not-is_due-clause-owes g c = joins-none _ _ (pass_view c.is_due.new.pass) refl
+
+pub returns-clause-owes : goal.returns-clause-owes
+returns-clause-owes g c = c.register_due.ensures.owes

@@ -1,7 +1,9 @@
 use Rattle.std.proofs.Common.{◌∙◌, ℕ, [], ◌∷◌, refl, subst, ap, inl, inr}
 use Rattle.mb_gate.specs.Accessors.{pass_view, held_actor}
 use Rattle.mb_gate.specs.declared.claim.Claim.{Claim}
+use Rattle.mb_register.specs.Registering.{OwesALook}
 use Rattle.mb_register.specs.Views.{GotAndGaveBack, LooksAfter}
+use Rattle.mb_register.proofs.Joining.{joins-none, joins-one}
 use Rattle.mb_register.proofs.Views.{looks-then}
 use Rattle.mb_register.proofs.ClaimCounts.{claims-then}
 use Rattle.mb_register.proofs.registrar.Registrar.register_due.Goals as goal
@@ -62,3 +64,15 @@ returns-in-Err-clause-handed g c =
       claims-then (id ∷ []) [] [] (id ∷ []) a b d c.in-Some.ensures.claims
           (subst (λ (n : ℕ). GotAndGaveBack [] (n ∷ []) b d) here c.give_home.ensures.claims),
     )
+
+pub returns-in_default-clause-owes : goal.returns-in_default-clause-owes
+returns-in_default-clause-owes g c = joins-none _ _ (pass_view c.take_due.new.pass) refl
+
+pub returns-in-Ok-clause-owes : goal.returns-in-Ok-clause-owes
+returns-in-Ok-clause-owes g c = joins-none _ _ (pass_view c.take_due.new.pass) refl
+
+pub returns-in-Err-clause-owes : goal.returns-in-Err-clause-owes
+returns-in-Err-clause-owes g c =
+    let here = ap (λ (k : Claim _). held_actor k) c.in-Err.ensures.pushed.0 ∙ c.in-Some.ensures.claim.0 in
+    joins-one c.args.id.0 _ _ (pass_view c.give_home.new.pass) c.insert.ensures
+    (subst (λ n. OwesALook n (pass_view c.give_home.new.pass)) here c.give_home.ensures.owes)

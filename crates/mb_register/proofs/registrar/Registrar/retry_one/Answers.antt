@@ -2,6 +2,7 @@ use Rattle.std.proofs.Common.{◌∙◌, sym, refl}
 use Rattle.mb_gate.specs.Accessors.{pass_view}
 use Rattle.mb_register.proofs.ClaimCounts.{loses-none, loses-aside, loses-handed}
 use Rattle.mb_register.proofs.Dues.{got-none}
+use Rattle.mb_register.proofs.Joining.{joined-owed}
 use Rattle.mb_register.proofs.Retries.{refused-none, refused-one, taken-out}
 use Rattle.mb_register.proofs.registrar.Registrar.retry_one.Goals as goal
 
@@ -33,3 +34,9 @@ returns-then-contains-clause-due g c = c.register.ensures.due
 
 pub returns-clause-due : goal.returns-clause-due
 returns-clause-due g c = c.register.ensures.due
+
+pub returns-then-contains-clause-owes : goal.returns-then-contains-clause-owes
+returns-then-contains-clause-owes g c =
+    let id = c.args.id.0 in
+    joined-owed _ _ (pass_view c.register.new.self.pass) id c.register.ensures.owes (taken-out id _ _ (c.remove.ensures id c.requires.present.1))
+    (sym c.contains-2.ensures ∙ c.if-contains.true)

@@ -1,9 +1,11 @@
-use Rattle.std.proofs.Common.{◌<◌, ap, ◌∙◌, arith, refl, false, [], ◌∷◌, ◌++◌}
+use Rattle.std.proofs.Common.{◌<◌, ap, sym, subst, ◌∙◌, arith, refl, [], ◌∷◌, ◌++◌}
 use Rattle.mb_gate.specs.Accessors.{pass_view}
 use Rattle.mb_register.specs.declared.hint.Hint.TheVariants as hint
 use Rattle.mb_register.specs.declared.registrar.Registrar.{Registrar}
+use Rattle.mb_register.specs.Registering.{OwesALook}
 use Rattle.mb_register.proofs.ClaimCounts.{loses-none, loses-then}
 use Rattle.mb_register.proofs.Dues.{got-none, got-then}
+use Rattle.mb_register.proofs.Joining.{on-failed}
 use Rattle.mb_register.proofs.Retries.{kept-below, kept-on, looked-on, on-failure, discharged-next, discharged-none, stops}
 use Rattle.mb_register.proofs.registrar.Registrar.retry_refused.Goals as goal
 
@@ -77,3 +79,10 @@ returns-in_err-retry_one-clause-due g c =
     let old = c.args.self.now in let mid = c.loop-number.self in let now = c.retry_one.new.self in
     let at = c.loop-number.invariant in let discharged = c.retry_one.ensures in
     got-then hint.None (pass_view old.pass) (pass_view mid.pass) (pass_view now.pass) _ _ at.2.looks.log discharged.looks.log at.5 discharged.due
+
+pub returns-in_err-retry_one-clause-owes : goal.returns-in_err-retry_one-clause-owes
+returns-in_err-retry_one-clause-owes g c =
+    let now = c.retry_one.new.self in
+    let failed = c.in_err-retry_one.ensures in let one = failed.refused in
+    on-failed _ _ c.from_residual.result c.from_residual.ensures.1
+    (one.0, one.2 ∙ ap (λ l. l ++ one.0 ∷ []) c.loop-number.invariant.3, subst (λ n. OwesALook n (pass_view now.pass)) (sym one.1) failed.owes)

@@ -1,5 +1,6 @@
 use Rattle.std.proofs.Common.{◌≡◌, ◌∙◌, ◌+◌, ◌-◌, ◌<◌, ◌++◌, [], ◌∷◌, ℕ, suc, List}
 use Rattle.std.proofs.Common.{length, true, Some, None, refl, subst, sym, ap, slice_set, arith}
+use Rattle.mb_msg.specs.Payload.{body_of}
 use Rattle.mb_msg.specs.declared.id.SenderId.{SenderId}
 use Rattle.std.proofs.lemmas.Option.{slice_get_read}
 use Rattle.mb_msg.specs.declared.envelope.Envelope.{Envelope}
@@ -29,7 +30,7 @@ returns-in-Ok-clause-sent g c =
     let old = c.index_mut.result.now in
     let lt : id - 1 < length items = omega (arith, c.requires.all, c.requires.present.0, c.requires.present.1) in
     let a = pass_view c.args.self.now.registrar.pass in let b = pass_view c.note_sent.new.pass in let d = pass_view c.register.new.self.pass in
-    let body = c.args.body in let to = c.args.ticket.to in
+    let body = body_of c.args.payload in let to = c.args.ticket.to in
     let made = c.next-envelope.ensures ∙ (λ i. envelope_of (c.ready.ensures.same.0 i) to (c.ready.ensures.same.1 i) body) in
     record {
       pass = old;
@@ -50,7 +51,7 @@ returns-in-Err-clause-sent g c =
     let lt : id - 1 < length items = omega (arith, c.requires.all, c.requires.present.0, c.requires.present.1) in
     let a = pass_view c.args.self.now.registrar.pass in let b = pass_view c.note_sent.new.pass in
     let d = pass_view c.note_unsent.new.pass in let e = pass_view c.register-in-Err.new.self.pass in
-    let body = c.args.body in let to = c.args.ticket.to in
+    let body = body_of c.args.payload in let to = c.args.ticket.to in
     let made = c.next-envelope.ensures ∙ (λ i. envelope_of (c.ready.ensures.same.0 i) to (c.ready.ensures.same.1 i) body) in
     record {
       pass = old;

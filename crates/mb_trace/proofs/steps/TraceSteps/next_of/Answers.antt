@@ -32,7 +32,7 @@ invariant_of-self c =
     let old = c.index_mut.result.now in
     let journal = journal-at trace.report.now.actors.items n c.index.result.now among c.index.ensures in
     let script = c.rules_of-rules.ensures.script in
-    let are = c.rules_of-rules.ensures.rules (c.deref.ensures.value ∙ kept.founders_are) in
+    let are = c.rules_of-rules.ensures.rules (c.deref.ensures.value ∙ kept.prepared_are) in
     let here = subst (λ (x : JournalCursor). IsIn trace n x) (sym c.index_mut.ensures.value) (kept.each n old within) in
     are-moved trace _ _ n c.pass.new.self kept within
     (at-all trace n _ _ c.pass.new.self script journal
@@ -48,7 +48,7 @@ returns-clause-found c =
     let old = c.index_mut.result.now in
     let journal = journal-at trace.report.now.actors.items n c.index.result.now among c.index.ensures in
     let script = c.rules_of-rules.ensures.script in
-    let are = c.rules_of-rules.ensures.rules (c.deref.ensures.value ∙ kept.founders_are) in
+    let are = c.rules_of-rules.ensures.rules (c.deref.ensures.value ∙ kept.prepared_are) in
     let here = subst (λ (x : JournalCursor). IsIn trace n x) (sym c.index_mut.ensures.value) (kept.each n old within) in
     let found = found-in c.pass.result trace n old.next _ _ script journal
     (c.pass.ensures.found (who_in trace.plan.now n) are (at-own trace n _ _ old script journal here)) in
@@ -67,7 +67,7 @@ returns-clause-left c =
     let old = c.index_mut.result.now in
     let journal = journal-at trace.report.now.actors.items n c.index.result.now among c.index.ensures in
     let script = c.rules_of-rules.ensures.script in
-    let are = c.rules_of-rules.ensures.rules (c.deref.ensures.value ∙ kept.founders_are) in
+    let are = c.rules_of-rules.ensures.rules (c.deref.ensures.value ∙ kept.prepared_are) in
     let here = subst (λ (x : JournalCursor). IsIn trace n x) (sym c.index_mut.ensures.value) (kept.each n old within) in
     let found = found-in c.pass.result trace n old.next _ _ script journal
     (c.pass.ensures.found (who_in trace.plan.now n) are (at-own trace n _ _ old script journal here)) in

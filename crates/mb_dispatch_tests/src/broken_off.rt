@@ -1,0 +1,42 @@
+//! What is left of the actors of a system whose run was broken off.
+use crate::system_driver::SystemDriver;
+use crate::test_system::TestSystem;
+use mb_msg::{ActorId, Payload};
+use mb_shutdown::UnfinishedActor;
+use mb_testkit::{ADD, COUNTER, PLAIN, TestCase};
+use std::alloc::{AllocError, Global};
+use std::sync::Wait;
+
+/// There is room for the start and one message.
+const SHORT: TestCase<'static> = TestCase {
+    journal_limit: 2,
+    parts: &[COUNTER],
+    ..PLAIN
+};
+
+/// The actors of a system in which the journal has no room for the second message.
+fn broken_off<R: Wait>(rt: &R, alloc: Global) -> Result<Vec<Option<UnfinishedActor>>, AllocError> {
+    let mut system = TestSystem::new(rt, alloc, &SHORT)?;
+    for value in 1..3 {
+        let _told = system.tell(rt, ActorId(1), Payload::User { kind: ADD, value });
+    }
+    let _run = system.run_quietly(rt);
+    system.unfinished(rt)
+}
+
+/// How many entries the journal of the actor of this number has, if it is there.
+fn entries(actors: &[Option<UnfinishedActor>], number: usize) -> Option<usize> {
+    match actors.get(number) {
+        Some(Some(actor)) => Some(actor.journal.len()),
+        _ => None,
+    }
+}
+
+#[test]
+fn a_full_journal_is_there(rt: HostRuntime) -> Result<(), AllocError> {
+    let actors = broken_off(&rt, rt.alloc())?;
+    assert_eq!(rt; actors.len(), 2);
+    assert_eq!(rt; entries(&actors, 0), Some(1));
+    assert_eq!(rt; entries(&actors, 1), Some(2));
+    Ok(())
+}

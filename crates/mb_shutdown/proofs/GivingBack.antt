@@ -1,0 +1,58 @@
+-- What is taken over as a run that was broken off ends, and what is shown of its actors.
+use Rattle.std.proofs.Common.{◌≡◌, ℕ, List, [], ◌∷◌, ◌++◌, refl, sym, ap, ◌∙◌, subst}
+use Rattle.std.specs.List.{AllZip}
+use Rattle.std.specs.Global.{Box}
+use Rattle.std.proofs.lemmas.List.Elements.{All-cons, All-nil, All-push}
+use Rattle.mb_gate.specs.Accessors.{gates_id, pass_view, pass_id}
+use Rattle.mb_gate.specs.Rule.{IsPart}
+use Rattle.mb_gate.specs.View.{View, Saw, idling, taking_in, taking_over}
+use Rattle.mb_journal.specs.Entry.{Entry}
+use Rattle.mb_gate.specs.declared.gates.Gates.{Gates}
+use Rattle.mb_gate.specs.declared.pass.Pass.{Pass}
+use Rattle.mb_home.specs.Contents.{Contents}
+use Rattle.mb_system.specs.declared.end.WorkerEnd.{WorkerEnd}
+use Rattle.mb_shutdown.proofs.Gathered.{HasEnds, next-came, seen_by_end}
+use Rattle.mb_shutdown.proofs.Parts.{part-back, part-front, part-trans, seen-by}
+
+module _ {A K : Type 0} where
+  -- the pass of the first end, which saw all that the end had seen
+  pub back-first : (gates : Gates (Box Contents)) (ends rest : List (WorkerEnd A K)) (e : WorkerEnd A K) (pass : Pass (Box Contents))
+      → e ∷ rest ≡ ends → pass_id pass ≡ gates_id gates → IsPart (seen_by_end e) (pass_view pass).log → HasEnds gates ends [] rest pass
+  back-first gates ends rest e pass are ours part = record {
+    same_gates = ours;
+    first = e;
+    are = are;
+    seen = All-cons (λ (w : WorkerEnd A K). IsPart (seen_by_end w) (pass_view pass).log) e [] part
+        (All-nil (λ (w : WorkerEnd A K). IsPart (seen_by_end w) (pass_view pass).log));
+  }
+
+  -- it takes over the pass of one more, which saw all that this end had seen
+  pub back-more : (gates : Gates (Box Contents)) (ends came left rest : List (WorkerEnd A K)) (e : WorkerEnd A K)
+      (old new other : Pass (Box Contents)) → HasEnds gates ends came left old → left ≡ e ∷ rest → IsPart (seen_by_end e) (pass_view other).log
+      → pass_id new ≡ pass_id old → pass_view new ≡ taking_over (pass_view old) (pass_view other) → HasEnds gates ends (came ++ e ∷ []) rest new
+  back-more gates ends came left rest e old new other has next part same knows =
+      let log : (pass_view new).log ≡ (pass_view other).log ++ (pass_view old).log = ap (λ (v : View). v.log) knows in
+      record {
+        same_gates = same ∙ has.same_gates;
+        first = has.first;
+        are = next-came (has.first ∷ came) e rest ends (ap (λ l. (has.first ∷ came) ++ l) (sym next) ∙ has.are);
+        seen = All-push (λ (w : WorkerEnd A K). IsPart (seen_by_end w) (pass_view new).log) (has.first ∷ came) e
+            (seen-by seen_by_end (has.first ∷ came) (pass_view old).log (pass_view new).log
+            (subst (IsPart (pass_view old).log) (sym log) (part-back (pass_view other).log (pass_view old).log)) has.seen)
+            (part-trans (seen_by_end e) (pass_view other).log (pass_view new).log part
+            (subst (IsPart (pass_view other).log) (sym log) (part-front (pass_view other).log (pass_view old).log)));
+      }
+
+-- one more of each of two lists
+pub zip-push : {X Y : Type 0} (R : X → Y → Type 0) (xs : List X) (ys : List Y) (x : X) (y : Y) → AllZip R xs ys → R x y
+    → AllZip R (xs ++ x ∷ []) (ys ++ y ∷ [])
+zip-push R [] [] x y all one = (one, tt)
+zip-push R [] (z ∷ ys) x y all one = absurd all
+zip-push R (w ∷ xs) [] x y all one = absurd all
+zip-push R (w ∷ xs) (z ∷ ys) x y all one = (all.0, zip-push R xs ys x y all.1 one)
+
+-- what was seen before a claim went back is seen then
+pub released-part : (actor : ℕ) (journal : List Entry) (claim old new : View) → new ≡ idling actor journal (taking_in claim old) → IsPart old.log new.log
+released-part actor journal claim old new is =
+    subst (IsPart old.log) (sym (ap (λ (v : View). v.log) is))
+    (record { before = Saw actor journal ∷ []; after = claim.log; joined = refl })

@@ -1,0 +1,41 @@
+use Rattle.std.proofs.Common.{◌∙◌, ap, subst}
+use Rattle.mb_gate.specs.Accessors.{claim_view, closed_with, drained_by, held_actor, pass_id, pass_view, recorded_by, status_of, taken_with}
+use Rattle.mb_gate.specs.Claims.{held_in}
+use Rattle.mb_gate.specs.Rule.{IsPart}
+use Rattle.mb_gate.specs.View.{View, taking_in}
+use Rattle.mb_home.specs.AtHome.{facts_of}
+use Rattle.mb_register.proofs.AtHome.{drained-same, shut-same, told-nothing}
+use Rattle.mb_shutdown.proofs.GivingBack.{released-part}
+use Rattle.mb_shutdown.proofs.Parts.{part-same, part-trans}
+use Rattle.mb_shutdown.proofs.unfinished.give_back.Goals as goal
+
+pub loop-init : goal.loop-init
+loop-init g c = (c.requires.same_gates, part-same _)
+
+pub release-requires-clause-known_closed : goal.release-requires-clause-known_closed
+release-requires-clause-known_closed g c =
+    let claim = c.in-Some-take.claim in
+    shut-same (facts_of claim.home.value).closed_to (closed_with claim) (taking_in (claim_view claim) (pass_view c.take.new.self.registrar.pass))
+    (ap (λ (v : View). (held_in v).closed_to) c.in-Some-take.ensures.untouched.known)
+
+pub release-requires-clause-drained : goal.release-requires-clause-drained
+release-requires-clause-drained g c =
+    let claim = c.in-Some-take.claim in
+    drained-same (facts_of claim.home.value).drained (drained_by claim) (ap (λ (v : View). (held_in v).drained) c.in-Some-take.ensures.untouched.known)
+
+pub release-requires-clause-told : goal.release-requires-clause-told
+release-requires-clause-told g c =
+    let claim = c.in-Some-take.claim in
+    told-nothing claim.home.value.cell.who (held_actor claim) (status_of claim).closed (facts_of claim.home.value).journal (taken_with claim)
+    (recorded_by claim) (ap (λ (v : View). (held_in v).journal) c.in-Some-take.ensures.untouched.known) c.in-Some-take.ensures.untouched.recorded
+
+pub loop-preserved : goal.loop-preserved
+loop-preserved g c =
+    let claim = c.in-Some-take.claim in let same = c.take.ensures.same in let ours = c.loop.invariant.0 in
+    let first = (pass_view c.args.end.registrar.pass).log in let now = (pass_view c.release.new.pass).log in (
+      (c.release.ensures.same_gates ∙ ap pass_id same.0 ∙ ours.0, same.2 ∙ ours.1, ours.2),
+      part-trans first (pass_view c.loop.end.registrar.pass).log now c.loop.invariant.1
+          (subst (λ p. IsPart (pass_view p).log now) same.0
+          (released-part (held_actor claim) (facts_of claim.home.value).journal (claim_view claim) (pass_view c.take.new.self.registrar.pass)
+          (pass_view c.release.new.pass) c.release.ensures.known)),
+    )

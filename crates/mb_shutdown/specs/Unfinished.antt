@@ -1,0 +1,43 @@
+-- What is left of the actors of a run that was broken off (this project's own profile: Akka shows nothing of such a run).
+use Rattle.std.specs.Prelude.{◌≡◌, ℕ, List, All, Option, Some, None}
+use Rattle.std.specs.List.{AllZip}
+use Rattle.mb_actor.specs.Behaviour.{Moment, Reply}
+use Rattle.mb_cell.specs.CellView.{CellView}
+use Rattle.mb_gate.specs.Accessors.{actors_of, first_home, pass_view}
+use Rattle.mb_gate.specs.Rule.{IsPart}
+use Rattle.mb_gate.specs.View.{View}
+use Rattle.mb_home.specs.Contents.{Contents}
+use Rattle.mb_journal.specs.Aside.{aside}
+use Rattle.mb_journal.specs.Life.{phase}
+use Rattle.mb_journal.specs.Suspension.{count}
+use Rattle.mb_shutdown.specs.Homes.{AreHomes, BoxedHome}
+use Rattle.mb_shutdown.specs.declared.unfinished.UnfinishedActor.{UnfinishedActor}
+use Rattle.mb_system.specs.declared.built.Built.{Built}
+use Rattle.mb_system.specs.declared.end.WorkerEnd.{WorkerEnd}
+
+-- It shows the journal of this cell, and what this journal says of the actor.
+pub record ShowsCellNow (cell : CellView) (a : UnfinishedActor) : Type 0 where
+  pub phase_is : a.phase ≡ phase cell.who cell.journal
+  pub count_is : a.count ≡ count cell.who cell.journal
+  pub journal_is : a.journal.entries ≡ cell.journal
+  pub aside_is : a.aside.items ≡ aside cell.who cell.journal
+
+-- The home came back, and its cell is shown; or it did not come back, and nothing is shown.
+abbrev pub ShowsHome : Option BoxedHome → Option UnfinishedActor → Type 0
+ShowsHome (Some left) (Some a) = ShowsCellNow left.home.value.cell a
+ShowsHome (Some left) None = ⊥
+ShowsHome None (Some a) = ⊥
+ShowsHome None None = Unit {0}
+
+-- What gates with this first home gave back of so many actors is shown, by what was known at the end.
+pub record ShowsHomes (gives : ℕ → Moment → Reply → Type 0) (first : Contents) (actors : ℕ) (view : View) (shown : List (Option UnfinishedActor))
+    : Type 0 where
+  pub all : List (Option BoxedHome)
+  pub left : AreHomes gives first actors view all
+  pub shows : AllZip ShowsHome all shown
+
+-- It shows what the gates of this system gave back of each actor. All that its ends saw was known then.
+pub record AreUnfinished {A K : Type 0} (gives : ℕ → Moment → Reply → Type 0) (built : Built A K) (shown : List (Option UnfinishedActor)) : Type 0 where
+  pub view : View
+  pub seen : All (λ (e : WorkerEnd A K). IsPart (pass_view e.registrar.pass).log view.log) built.ends.items
+  pub homes : ShowsHomes gives (first_home built.system.gates).value (actors_of built.system.gates) view shown
