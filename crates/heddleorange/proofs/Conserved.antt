@@ -35,7 +35,7 @@ use Rattle.heddleorange.specs.NoReport.{IsRight}
 use Rattle.heddleorange.specs.Reading.{entries_in, entries_of, journal_of, state_in, state_of}
 use Rattle.heddleorange.specs.States.{ShowsStates}
 use Rattle.heddleorange.specs.WholeRun.{IsReportOfRun, after_at, gives_at, gives_of}
-use Rattle.heddleorange.specs.declared.error.Error.{Error}
+use Rattle.heddleorange.specs.declared.failed_run.FailedRun.{FailedRun}
 
 split : {X : Type 0} (xs : List X) (n : ℕ) → length xs ≡ n + 1 → (x : X) × (rest : List X) × (xs ≡ x ∷ rest)
 split [] n many = absurd (omega (arith, many))
@@ -190,7 +190,7 @@ module _ {A : Type 0} (after : A → List Message → ℤ) (gives : A → Moment
 
 -- and so of a call that gives the report
 pub conserved-of : {A : Type 0} (after : A → List Message → ℤ) (gives : A → Moment → Reply → Type 0) (worth : Message → ℤ)
-    (holdings : List (Option Holding)) (actors : List A) (plan : Plan) (orders : List (List Order)) (result : Result Report Error)
+    (holdings : List (Option Holding)) (actors : List A) (plan : Plan) (orders : List (List Order)) (result : Result Report FailedRun)
     → ((x : ActorId) → worth (Terminated x) ≡ pos 0) → AllConserve after gives worth holdings actors
     → IfOk result (IsReportOfRun (after_at actors after) (gives_at actors gives) plan orders) → OnOk result (IsRight plan (length actors) orders)
     → IfOk result (IsConserved worth holdings orders)

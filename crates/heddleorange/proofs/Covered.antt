@@ -1,14 +1,14 @@
 -- What entries a journal has, turn after turn.
-use Rattle.std.proofs.Common.{◌≡◌, ◌+◌, ◌-◌, ◌<◌, ◌≤◌, ℕ, List, [], ◌∷◌, ◌++◌, ap, arith, drop, length, reverse, subst, sym, take, get_or, ◌∙◌, Some}
-use Rattle.std.specs.Prelude.{◌↔◌, slice_get}
-use Rattle.std.proofs.Math.ListN.{drop_of_length-le}
-use Rattle.std.proofs.lemmas.List.{get_or-drop, length-drop, length-reverse, take_more}
-use Rattle.std.proofs.lemmas.Option.{get_or_from_slice_get, slice_get_within}
+use Rattle.std.proofs.Common.{◌≡◌, ◌+◌, ◌≤◌, List, [], ◌∷◌, ◌++◌, ap, append_assoc, arith, drop, length, refl, reverse, subst, sym, take, ◌∙◌}
+use Rattle.std.proofs.Math.Seq.{drop-append_seam, take-append_seam}
+use Rattle.std.proofs.lemmas.List.{append-nil, length-append, length-reverse, nil_from_length, reverse-append}
+use Rattle.mb_gate.specs.Rule.{Extends}
+use Rattle.mb_ghost.specs.Summed.{total}
 use Rattle.mb_journal.specs.Entry.{Entry}
 use Rattle.mb_journal.specs.Entry.Entry.{Dropped, Handled, System}
 use Rattle.mb_mailbox.specs.Ran.{systems_in}
 use Rattle.mb_mailbox.specs.declared.turn.Turn.{Turn}
-use Rattle.heddleorange.specs.Turns.{AreOfTurns, IsOfTurns, turns_of}
+use Rattle.heddleorange.specs.Turns.{AreOfTurn, AreOfTurns, entry_count}
 
 -- ---- how many entries are of system messages
 
@@ -18,33 +18,63 @@ systems-append (System number m outcome ∷ xs) ys = let rest = systems-append x
 systems-append (Handled envelope reading outcome ∷ xs) ys = systems-append xs ys
 systems-append (Dropped envelope ∷ xs) ys = systems-append xs ys
 
--- one entry more
-pub systems-next : (all : List Entry) (from i : ℕ) (e : Entry) → from ≤ i → slice_get all i ≡ Some e
-    → systems_in (take (i + 1 - from) (drop from all)) ≡ systems_in (take (i - from) (drop from all)) + systems_in (e ∷ [])
-systems-next all from i e ordered here =
-    let within : i < length all = slice_get_within all i e here in
-    let long : length (drop from all) ≡ length all - from = length-drop from all in
-    let more = take_more (drop from all) (i - from) e (omega (arith, within, long, ordered)) in
-    let same : get_or (drop from all) (i - from) e ≡ e =
-    get_or-drop from all (i - from) e ∙ ap (λ k. get_or all k e) (omega (arith, ordered)) ∙ get_or_from_slice_get all i e e here in
-    ap (λ k. systems_in (take k (drop from all))) (omega (arith, ordered)) ∙ ap systems_in more
-    ∙ systems-append (take (i - from) (drop from all)) (get_or (drop from all) (i - from) e ∷ [])
-    ∙ ap (λ x. systems_in (take (i - from) (drop from all)) + systems_in (x ∷ [])) same
+-- as many from either end
+systems-reverse : (xs : List Entry) → systems_in (reverse xs) ≡ systems_in xs
+systems-reverse [] = refl
+systems-reverse (x ∷ xs) =
+    let split = ap systems_in (reverse-append (x ∷ []) xs) ∙ systems-append (reverse xs) (x ∷ []) in
+    let both : systems_in (x ∷ xs) ≡ systems_in (x ∷ []) + systems_in xs = systems-append (x ∷ []) xs in
+    let rest = systems-reverse xs in omega (arith, split, both, rest)
 
 -- ---- the turns of one actor
 
--- no turn is left
-pub at-end : (turns : List Turn) (actor i next : ℕ) (journal : List Entry) → length turns ≤ i → next ≤ length journal
-    → (IsOfTurns turns actor journal ↔ AreOfTurns (turns_of actor (drop i turns)) (drop next (reverse journal)))
-    → (IsOfTurns turns actor journal ↔ (next ≡ length journal))
-at-end turns actor i next journal past within so_far =
-    let none : drop i turns ≡ [] = drop_of_length-le turns past in
-    let long : length (reverse journal) ≡ length journal = length-reverse journal in (
-      λ is.
-          let empty : drop next (reverse journal) ≡ [] =
-          subst (λ ts. AreOfTurns (turns_of actor ts) (drop next (reverse journal))) none (so_far.0 is) in
-          let left = sym (length-drop next (reverse journal)) ∙ ap length empty in omega (arith, left, long, within),
-      λ all.
-          so_far.1 (subst (λ ts. AreOfTurns (turns_of actor ts) (drop next (reverse journal))) (sym none)
-          (drop_of_length-le (reverse journal) (omega (arith, all, long)))),
+-- Each of these turns added its entries to a journal, from one that goes on from the first to one from which the last goes on.
+abbrev pub WereAdded : List Entry → List Turn → List Entry → Type 0
+WereAdded from [] to = Extends to from
+WereAdded from (turn ∷ turns) to = (before : List Entry) × (entries : List Entry) × Extends before from × AreOfTurn turn entries
+    × WereAdded (entries ++ before) turns to
+
+-- the last has at least the entries of the turns beside those of the first
+at-least : (from : List Entry) (turns : List Turn) (to : List Entry) → WereAdded from turns to → length from + total entry_count turns ≤ length to
+at-least from [] to added = let long = ap length added.joined ∙ length-append added.newer from in omega (arith, long)
+at-least from (turn ∷ turns) to added =
+    let rest = at-least (added.1 ++ added.0) turns to added.4 in let more = length-append added.1 added.0 in
+    let gap = ap length added.2.joined ∙ length-append added.2.newer from in let own = added.3.0 in omega (arith, rest, more, gap, own)
+
+-- one turn more
+of-turns : (turn : Turn) (turns : List Turn) (entries newer : List Entry) → AreOfTurn turn entries → AreOfTurns turns (reverse newer)
+    → AreOfTurns (turn ∷ turns) (reverse (newer ++ entries))
+of-turns turn turns entries newer own others =
+    let turned : reverse (newer ++ entries) ≡ reverse entries ++ reverse newer = reverse-append newer entries in
+    let long : length (reverse entries) ≡ entry_count turn = length-reverse entries ∙ own.0 in
+    let first : take (entry_count turn) (reverse (newer ++ entries)) ≡ reverse entries =
+    (λ i. take (sym long i) (turned i)) ∙ take-append_seam (reverse entries) (reverse newer) in
+    let last : drop (entry_count turn) (reverse (newer ++ entries)) ≡ reverse newer =
+    (λ i. drop (sym long i) (turned i)) ∙ drop-append_seam (reverse entries) (reverse newer) in (
+      subst (AreOfTurn turn) (sym first) (long, systems-reverse entries ∙ own.1),
+      subst (AreOfTurns turns) (sym last) others,
     )
+
+-- if it has no more than these, it has the entries of the turns and no others
+of-added : (from : List Entry) (turns : List Turn) (to : List Entry) → WereAdded from turns to → length from + total entry_count turns ≡ length to
+    → (newer : List Entry) × (to ≡ newer ++ from) × AreOfTurns turns (reverse newer)
+of-added from [] to added all =
+    let long = ap length added.joined ∙ length-append added.newer from in
+    let none : added.newer ≡ [] = nil_from_length added.newer (omega (arith, long, all)) in (added.newer, added.joined, ap reverse none)
+of-added from (turn ∷ turns) to added all =
+    let before = added.0 in let entries = added.1 in let extends = added.2 in
+    let rest = at-least (entries ++ before) turns to added.4 in let more = length-append entries before in
+    let gap = ap length extends.joined ∙ length-append extends.newer from in let own = added.3.0 in
+    let none : extends.newer ≡ [] = nil_from_length extends.newer (omega (arith, rest, more, gap, own, all)) in
+    let same : before ≡ from = extends.joined ∙ ap (λ l. l ++ from) none in
+    let short = ap length none in
+    let after = of-added (entries ++ before) turns to added.4 (omega (arith, more, gap, own, all, short)) in (
+      after.0 ++ entries,
+      after.1 ∙ ap (λ l. after.0 ++ (entries ++ l)) same ∙ sym (append_assoc after.0 entries from),
+      of-turns turn turns entries after.0 added.3 after.2,
+    )
+
+pub of-all-added : (turns : List Turn) (to : List Entry) → WereAdded [] turns to → total entry_count turns ≡ length to → AreOfTurns turns (reverse to)
+of-all-added turns to added all =
+    let are = of-added [] turns to added (omega (arith, all)) in
+    subst (λ l. AreOfTurns turns (reverse l)) (sym (are.1 ∙ append-nil are.0)) are.2

@@ -1,23 +1,22 @@
 -- What the story of a run says to whoever reads its report.
-use Rattle.std.proofs.Common.{◌≡◌, ◌<◌, ℕ, suc, ◌+◌, ℤ, List, [], length, map, refl, sym, ap, ◌∙◌, subst, Some, None, arith, if◌then◌else◌, Bool}
+use Rattle.std.proofs.Common.{◌≡◌, ℕ, suc, ◌+◌, ℤ, List, length, sym, ap, ◌∙◌, Some, None, arith, if◌then◌else◌, Bool}
 use Rattle.std.specs.Prelude.{Err, IfOk, Ok, OnOk, Option, Result, slice_get}
 use Rattle.mb_actor.specs.Behaviour.{Moment, Reply}
 use Rattle.mb_actor.specs.declared.message.Message.{Message}
 use Rattle.mb_build.specs.Planned.{actors_in}
 use Rattle.mb_home.specs.Directory.{DirectoryEntry}
 use Rattle.mb_journal.specs.Entry.{Entry}
-use Rattle.mb_journal.specs.Identity.{Identity, is_guardian}
+use Rattle.mb_journal.specs.Identity.{Identity}
 use Rattle.mb_journal.specs.Incarnation.{messages}
 use Rattle.mb_msg.specs.declared.order.Order.{Order}
 use Rattle.mb_msg.specs.declared.plan.Plan.{Plan}
-use Rattle.mb_report.specs.declared.report.ActorReport.{ActorReport}
 use Rattle.mb_report.specs.declared.report.Report.{Report}
 use Rattle.mb_shutdown.proofs.Lists.{mapped-to, there, within}
 use Rattle.heddleorange.specs.NoReport.{IsRight}
-use Rattle.heddleorange.specs.Reading.{entries_in, entries_of, journal_of, state_in, state_of}
+use Rattle.heddleorange.specs.Reading.{entries_in, entries_of, journal_of, state_of}
 use Rattle.heddleorange.specs.States.{ShowsStates}
 use Rattle.heddleorange.specs.WholeRun.{IsReportOfRun, after_at, after_of}
-use Rattle.heddleorange.specs.declared.error.Error.{Error}
+use Rattle.heddleorange.specs.declared.failed_run.FailedRun.{FailedRun}
 use Rattle.heddleorange.proofs.Identified.{actor-at}
 use Rattle.heddleorange.proofs.Ledger.{line-count}
 
@@ -46,12 +45,12 @@ module _ {A : Type 0} (actors : List A) (after : A → List Message → ℤ) (gi
                 ∙ ap (λ (j : List Entry). Some (after actor (messages who j))) (sym entries),
           )
 
-    pub all-lines : (result : Result Report Error) → IfOk result (IsReportOfRun (after_at actors after) gives plan orders)
+    pub all-lines : (result : Result Report FailedRun) → IfOk result (IsReportOfRun (after_at actors after) gives plan orders)
         → OnOk result (IsRight plan (length actors) orders) → IfOk result (λ (report : Report). length report.actors.items ≡ length actors + 1)
     all-lines (Ok report) story right = lines report right story
     all-lines (Err error) story right = story
 
-    pub all-states : (result : Result Report Error) → IfOk result (IsReportOfRun (after_at actors after) gives plan orders)
+    pub all-states : (result : Result Report FailedRun) → IfOk result (IsReportOfRun (after_at actors after) gives plan orders)
         → OnOk result (IsRight plan (length actors) orders) → IfOk result (ShowsStates after actors plan)
     all-states (Ok report) story right = states report right story
     all-states (Err error) story right = story

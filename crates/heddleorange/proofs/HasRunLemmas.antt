@@ -1,6 +1,6 @@
 -- A system of a plan that has run is all there, and has its story or a reason why there is none.
 use Rattle.std.proofs.Common.{◌≡◌, ℕ, ℤ, List, length, subst}
-use Rattle.std.specs.Prelude.{All, Err, IfErr, IfOk, Ok, Result}
+use Rattle.std.specs.Prelude.{Err, IfErr, IfOk, Ok, Result}
 use Rattle.mb_actor.specs.Behaviour.{Moment, Reply}
 use Rattle.mb_actor.specs.declared.message.Message.{Message}
 use Rattle.mb_gate.specs.Untouched.{origin_of}
@@ -16,7 +16,7 @@ use Rattle.heddleorange.specs.NoReport.{IsErrorOfRun, IsRight}
 use Rattle.heddleorange.specs.Sent.{HaveSent}
 use Rattle.heddleorange.specs.WholeRun.{IsReportOfRun}
 use Rattle.heddleorange.specs.Workers.{AllOnlyRuns}
-use Rattle.heddleorange.specs.declared.error.Error.{Error}
+use Rattle.heddleorange.specs.declared.failed_run.FailedRun.{FailedRun}
 use Rattle.heddleorange.proofs.WholeRun.{no-end-missing, no-sender-missing}
 
 module _ {A K : Type 0} (gives : ℕ → Moment → Reply → Type 0) (plan : Plan) (orders : List (List Order)) (first now : Built A K)
@@ -41,13 +41,13 @@ module _ {A K : Type 0} (gives : ℕ → Moment → Reply → Type 0) (plan : Pl
 
 module _ {A K : Type 0} (after : ℕ → List Message → ℤ) (gives : ℕ → Moment → Reply → Type 0) (plan : Plan) (orders : List (List Order))
     (now : Built A K) (ran : HasRun gives plan orders now) where
-  pub storied : (result : Result Report Error) → length orders ≡ plan.senders
+  pub storied : (result : Result Report FailedRun) → length orders ≡ plan.senders
       → IfOk result (λ report. (p : Plan) (os : List (List Order)) → length os ≡ p.senders → HasRun gives p os now → IsReportOfRun after gives p os report)
       → IfOk result (IsReportOfRun after gives plan orders)
   storied (Ok report) right all = all plan orders right ran
   storied (Err error) right all = all
 
-  pub unstoried : (actors : ℕ) (result : Result Report Error) → IsRight plan actors orders
+  pub unstoried : (actors : ℕ) (result : Result Report FailedRun) → IsRight plan actors orders
       → IfErr result (λ error. (p : Plan) (n : ℕ) (os : List (List Order)) → IsRight p n os → HasRun gives p os now → IsErrorOfRun gives p n os error)
       → IfErr result (IsErrorOfRun gives plan actors orders)
   unstoried actors (Ok report) right all = all

@@ -1,12 +1,12 @@
 -- The jobs of senders, before a run and after.
 use Rattle.std.proofs.Common.{◌≡◌, inl, inr, ℕ, zero, suc, ◌+◌, ◌<◌, List, [], ◌∷◌, ◌++◌, length, map, get_or, refl, sym, ap, ◌∙◌, subst, arith, Some}
 use Rattle.std.proofs.Common.{length-append, take, Vec}
-use Rattle.std.specs.Prelude.{◌≢◌, All, slice_get}
+use Rattle.std.specs.Prelude.{◌≢◌, All, Contains, slice_get}
 use Rattle.std.specs.List.{AllZip}
 use Rattle.std.specs.Global.{Box, Global}
 use Rattle.std.proofs.lemmas.List.{map-append, take_more}
 use Rattle.std.proofs.lemmas.List.Elements.{All-map}
-use Rattle.std.proofs.lemmas.Option.{none-some, same_Some}
+use Rattle.std.proofs.lemmas.Option.{get_or_from_slice_get, none-some, same_Some, slice_get_within}
 use Rattle.mb_actor.specs.Behaviour.{Moment, Reply}
 use Rattle.mb_gate.specs.declared.gates.Gates.{Gates}
 use Rattle.mb_home.specs.Contents.{Contents}
@@ -26,9 +26,9 @@ use Rattle.mb_shutdown.proofs.Lists.{from-mapped, length-mapped, mapped}
 use Rattle.heddleorange.specs.Sent.{BreaksOff, HasSentAndRetried, HaveSent}
 
 -- one of some
-pub some-one : {X : Type 0} (xs : List X) → xs ≢ [] → X
+pub some-one : {X : Type 0} (xs : List X) → xs ≢ [] → (x : X) × Contains xs x
 some-one [] some = absurd (some refl)
-some-one (x ∷ xs) some = x
+some-one (x ∷ xs) some = (x, (0, omega arith, refl))
 
 -- a place before one more, and what is left, is within
 pub place-left : {X : Type 0} (before rest all : List X) (x : X) → before ++ x ∷ rest ≡ all → length before < length all
@@ -56,11 +56,16 @@ module _ {X Y : Type 0} (R : X → Y → Type 0) where
 module _ {X : Type 0} where
   -- the first place at which something holds
   first-zip-of : (Done Fails : X → X → Type 0) (xs ys : List X) → FirstZip Done Fails xs ys
-      → (place : ℕ) × (x : X) × (slice_get xs place ≡ Some x) × (y : X) × Fails x y
+      → (place : ℕ) × (x : X) × (slice_get xs place ≡ Some x) × (y : X) × (slice_get ys place ≡ Some y) × Fails x y
   first-zip-of Done Fails [] ys failed = absurd failed
   first-zip-of Done Fails (x ∷ xs) [] failed = absurd failed
-  first-zip-of Done Fails (x ∷ xs) (y ∷ ys) (inl here) = (0, x, refl, y, here)
-  first-zip-of Done Fails (x ∷ xs) (y ∷ ys) (inr there) = let one = first-zip-of Done Fails xs ys there.1 in (suc one.0, one.1, one.2, one.3, one.4)
+  first-zip-of Done Fails (x ∷ xs) (y ∷ ys) (inl here) = (0, x, refl, y, refl, here)
+  first-zip-of Done Fails (x ∷ xs) (y ∷ ys) (inr there) =
+      let one = first-zip-of Done Fails xs ys there.1 in (suc one.0, one.1, one.2, one.3, one.4, one.5)
+
+  -- what stands at a place is one of all
+  placed-there : (xs : List X) (place : ℕ) (x : X) → slice_get xs place ≡ Some x → Contains xs x
+  placed-there xs place x is = (place, slice_get_within xs place x is, get_or_from_slice_get xs place x x is)
 
 abbrev pub items_of : Vec Order Global → List Order
 items_of v = v.items
@@ -130,9 +135,11 @@ module _ {A K : Type 0} where
   -- why a run of these jobs is broken off, in the words of the orders
   module _ (gives : ℕ → Moment → Reply → Type 0) (system : System A K) (old ends : List (WorkerEnd A K)) (jobs : List (Job A K)) (orders : List (List Order))
       (sends : map sends_in jobs ≡ orders) where
-    pub broke-off : (after : List (Job A K)) (error : RunError) → BreaksRun gives system old ends jobs after error → BreaksOff gives system orders error
-    broke-off after error (inl by_end) = let one = first-zip-of _ _ old ends by_end in inr (pass_view one.1.registrar.pass, one.3, inr one.4)
+    pub broke-off : (after : List (Job A K)) (error : RunError) → BreaksRun gives system old ends jobs after error
+        → BreaksOff gives system ends orders error
+    broke-off after error (inl by_end) = let one = first-zip-of _ _ old ends by_end in
+        inr (pass_view one.1.registrar.pass, one.3, placed-there ends one.0 one.3 one.4, inr one.5)
     broke-off after error (inr by_job) =
         let one = first-zip-of _ _ jobs after by_job.1 in
         let sent = ap (λ l. slice_get l one.0) (sym sends) ∙ mapped sends_in jobs one.0 one.1 one.2 in
-        inl (one.0, sends_in one.1, sent, one.4)
+        inl (one.0, sends_in one.1, sent, one.5)

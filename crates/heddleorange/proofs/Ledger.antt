@@ -1,5 +1,5 @@
 -- The ledger of a run, from its story.
-use Rattle.std.proofs.Common.{◌≡◌, ◌⊎◌, inl, inr, ◌==◌, ℕ, zero, suc, ◌+◌, ◌-◌, ◌<◌, ◌≤◌, ℤ, Bool, true, false, List, [], ◌∷◌, ◌++◌, length, map, refl, sym, ap, ◌∙◌, subst}
+use Rattle.std.proofs.Common.{◌≡◌, ℕ, zero, suc, ◌+◌, ◌-◌, ◌<◌, ◌≤◌, ℤ, Bool, true, false, List, [], ◌∷◌, ◌++◌, length, refl, sym, ap, ◌∙◌, subst}
 use Rattle.std.proofs.Common.{arith, Some, None, Option}
 use Rattle.std.specs.Prelude.{All, Err, IfOk, Ok, OnOk, Result, if◌then◌else◌, nat_lt, slice_get, sum_by}
 use Rattle.std.proofs.lemmas.Bool.Decides.{nat_tests}
@@ -28,10 +28,10 @@ use Rattle.mb_report.specs.declared.report.Report.{Report}
 use Rattle.mb_report.specs.declared.report.SenderReport.{SenderReport}
 use Rattle.mb_shutdown.proofs.Lists.{mapped-to, there, within}
 use Rattle.mb_shutdown.specs.CompleteReport.{fates_in, sender_number}
-use Rattle.heddleorange.specs.Ledger.{AddsUp, all_begun, all_cleaned, all_left, all_refused, all_sent, numbered_from, ordered_from, told_by}
+use Rattle.heddleorange.specs.Ledger.{AddsUp, all_sent, numbered_from, ordered_from, told_by}
 use Rattle.heddleorange.specs.NoReport.{IsRight}
 use Rattle.heddleorange.specs.WholeRun.{IsReportOfRun}
-use Rattle.heddleorange.specs.declared.error.Error.{Error}
+use Rattle.heddleorange.specs.declared.failed_run.FailedRun.{FailedRun}
 use Rattle.heddleorange.proofs.Identified.{actor-at, as-planned}
 use Rattle.heddleorange.proofs.Recipients.{Goes, dead-too, numbered-goes, of-place, orders-there, told-goes, told-there}
 use Rattle.heddleorange.proofs.Sums.{in-parts, sum-flat, sum-plus, sum-same, total, total-list, total-plus, total-same, total-split, total-swap}
@@ -298,7 +298,7 @@ module _ (after : ℕ → List Message → ℤ) (gives : ℕ → Moment → Repl
 
 -- and so of a call that gives the report
 pub ledger-of : (after : ℕ → List Message → ℤ) (gives : ℕ → Moment → Reply → Type 0) (plan : Plan) (actors : ℕ) (orders : List (List Order))
-    (result : Result Report Error) → IfOk result (IsReportOfRun after gives plan orders) → OnOk result (IsRight plan actors orders)
+    (result : Result Report FailedRun) → IfOk result (IsReportOfRun after gives plan orders) → OnOk result (IsRight plan actors orders)
     → IfOk result (AddsUp plan orders)
 ledger-of after gives plan actors orders (Ok report) story right = adds-up after gives plan actors orders report right story
 ledger-of after gives plan actors orders (Err error) story right = story

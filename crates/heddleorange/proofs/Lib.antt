@@ -1,6 +1,7 @@
 pub mod Sent
 pub mod Chosen
 pub mod WholeRun
+pub mod Remains
 pub mod NoReport
 pub mod Breaking
 pub mod Jobs
@@ -24,3 +25,5 @@ pub mod InTurn
 pub mod QuietReport
 pub mod Turns
 pub mod Stretches
+pub mod Unchanged
+pub mod Covering

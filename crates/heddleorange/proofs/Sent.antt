@@ -1,7 +1,7 @@
 -- Senders that carry out their orders, one after another.
 use Rattle.std.proofs.Common.{◌≡◌, ◌⊎◌, inl, inr, ℕ, zero, suc, ◌+◌, ◌-◌, ◌<◌, ◌≤◌, List, [], ◌∷◌, length, map, refl, sym, ap, ◌∙◌, subst, Some}
 use Rattle.std.proofs.Common.{arith, get_or, Vec}
-use Rattle.std.specs.Prelude.{◌≢◌, All, Err, IfErr, IfOk, IsErrAnd, Ok, OnOk, Result, slice_get, slice_set}
+use Rattle.std.specs.Prelude.{◌≢◌, All, Contains, Err, IfErr, IfOk, IsErrAnd, Ok, OnOk, Result, slice_get, slice_set}
 use Rattle.std.specs.Global.{Box, Global}
 use Rattle.std.proofs.lemmas.Bool.{cases_eq}
 use Rattle.std.proofs.lemmas.List.{length-set}
@@ -154,6 +154,20 @@ module _ {A K : Type 0} where
       → ends_numbers (slice_set ends 0 new) ≡ ends_numbers ends
   first-number old new [] some is same = absurd (some refl)
   first-number old new (x ∷ ends) some is same = ap (λ n. n ∷ ends_numbers ends) (same ∙ ap (λ (w : WorkerEnd A K). w.number) is)
+
+  -- it is one of the ends then
+  pub first-there : (new : WorkerEnd A K) (ends : List (WorkerEnd A K)) → ends ≢ [] → Contains (slice_set ends 0 new) new
+  first-there new [] some = absurd (some refl)
+  first-there new (x ∷ ends) some = (0, omega arith, refl)
+
+  -- where ends have the numbers of others that there are, there is one
+  pub some-left : (old new : List (WorkerEnd A K)) → old ≢ [] → ends_numbers new ≡ ends_numbers old → 0 < length new
+  some-left [] new some same = absurd (some refl)
+  some-left (x ∷ old) [] some same = let long = ap length same in absurd (omega (arith, long))
+  some-left (x ∷ old) (y ∷ new) some same = omega arith
+
+  pub some-still : (old new : List (WorkerEnd A K)) → old ≢ [] → ends_numbers new ≡ ends_numbers old → new ≢ []
+  some-still old new some same none = let long = some-left old new some same in let zero = ap length none in omega (arith, long, zero)
 
   -- an end that goes on from the first is put in its place
   see-same : (ends : List (WorkerEnd A K)) → StillSee ends ends

@@ -23,8 +23,9 @@ use Rattle.mb_mailbox.specs.declared.turn.Turn.{Turn}
 use Rattle.mb_report.specs.declared.report.ActorReport.{ActorReport}
 use Rattle.mb_report.specs.declared.report.Report.{Report}
 use Rattle.mb_shutdown.specs.Seen.{ReportExtends, ReportExtendsAll}
+use Rattle.mb_system.specs.OnlyLooks.{OnlyLooks}
 use Rattle.mb_system.specs.declared.end.WorkerEnd.{WorkerEnd}
-use Rattle.heddleorange.specs.Turns.{AreStretches, IsStretch}
+use Rattle.heddleorange.specs.Turns.{AreOfTurn, AreStretches, IsStretch}
 use Rattle.heddleorange.proofs.Covered.{systems-append}
 
 -- ---- the entries that a run added
@@ -69,7 +70,7 @@ blocks-add who from envelopes to (next_block n middle same e blocks none envelop
 
 -- ---- what was seen of them
 
-each-right : {X : Type 0} (P : X → Type 0) (xs ys : List X) → Each P (xs ++ ys) → Each P ys
+pub each-right : {X : Type 0} (P : X → Type 0) (xs ys : List X) → Each P (xs ++ ys) → Each P ys
 each-right P [] ys each = each
 each-right P (x ∷ xs) ys each = each-right P xs ys each.1
 
@@ -77,40 +78,51 @@ each-left : {X : Type 0} (P : X → Type 0) (xs ys : List X) → Each P (xs ++ y
 each-left P [] ys each = tt
 each-left P (x ∷ xs) ys each = (each.0, each-left P xs ys each.1)
 
-each-among : {X : Type 0} (P : X → Type 0) (x : X) (xs : List X) → IsAmong x xs → Each P xs → P x
+pub each-among : {X : Type 0} (P : X → Type 0) (x : X) (xs : List X) → IsAmong x xs → Each P xs → P x
 each-among P x xs among each = (each-right P among.before (x ∷ among.after) (subst (Each P) among.joined each)).0
 
-module _ (gives : ℕ → Moment → Reply → Type 0) (origin : Origin (Box Contents)) (throughput : ℕ) (P : Observation → Type 0) where
-  each-before : (old : View) (turns : List Turn) (new : View) → MadeRuns gives origin throughput old turns new → Each P new.log → Each P old.log
-  each-before old [] new made each = each-right P made.looks old.log (subst (Each P) made.log each)
-  each-before old (turn ∷ turns) new made each =
-      let after = each-before made.1 turns new made.4 each in
-      let over = made.3.left.taken_over in
-      let joined = each-right P over.own_log _ (subst (Each P) over.joined after) in
-      let before = each-left P made.0.log made.3.left.steps joined in
-      each-right P made.2.looks old.log (subst (Each P) made.2.log before)
+module _ (gives : ℕ → Moment → Reply → Type 0) (origin : Origin (Box Contents)) (throughput : ℕ) where
+  -- the entries that a run added
+  pub run-adds : (old new : View) (turn : Turn) → (ran : RanMailbox gives origin throughput old new turn)
+      → (entries : List Entry) × (ran.journal ≡ entries ++ ran.claim.home.value.cell.journal) × AreOfTurn turn entries
+  run-adds old new turn ran =
+      let claim = ran.claim in let before = claim.home.value.cell.journal in let left = ran.left in
+      let adds = blocks-add claim.home.value.cell.who before left.run.envelopes ran.journal left.run.blocks in
+      let both : systems_in ran.journal ≡ systems_in adds.entries + systems_in before = ap systems_in adds.is ∙ systems-append adds.entries before in
+      let said = left.system in let count = adds.count in let same = left.envelopes in
+      let systems : systems_in adds.entries ≡ turn.system = omega (arith, both, said) in
+      (adds.entries, adds.is, (omega (arith, count, same, systems), systems))
+
+  -- what holds of each that was seen after a run holds of each that was seen before it
+  pub each-before-run : (P : Observation → Type 0) (old before after : View) (turn : Turn) → OnlyLooks old before
+      → RanMailbox gives origin throughput before after turn → Each P after.log → Each P old.log
+  each-before-run P old before after turn looks ran each =
+      let over = ran.left.taken_over in
+      let joined = each-right P over.own_log _ (subst (Each P) over.joined each) in
+      each-right P looks.looks old.log (subst (Each P) looks.log (each-left P before.log ran.left.steps joined))
+
+  each-before : (P : Observation → Type 0) (old : View) (turns : List Turn) (new : View) → MadeRuns gives origin throughput old turns new
+      → Each P new.log → Each P old.log
+  each-before P old [] new made each = each-right P made.looks old.log (subst (Each P) made.log each)
+  each-before P old (turn ∷ turns) new made each =
+      each-before-run P old made.0 made.1 turn made.2 made.3 (each-before P made.1 turns new made.4 each)
 
 module _ (gives : ℕ → Moment → Reply → Type 0) (origin : Origin (Box Contents)) (throughput : ℕ) (report : Report) where
   -- the entries of a run of which the report tells
   stretch-of : (old new : View) (turn : Turn) → RanMailbox gives origin throughput old new turn → Each (ReportExtends report) new.log → (a : ActorReport)
       → slice_get report.actors.items turn.actor.0 ≡ Some a → IsStretch a.journal.entries turn
   stretch-of old new turn ran each a at =
-      let claim = ran.claim in
-      let before = claim.home.value.cell.journal in
-      let left = ran.left in
-      let seen = each-among (ReportExtends report) _ new.log left.seen each in
-      let extends = seen a (subst (λ n. slice_get report.actors.items n ≡ Some a) left.actor at) in
-      let adds = blocks-add claim.home.value.cell.who before left.run.envelopes ran.journal left.run.blocks in
-      let both : systems_in ran.journal ≡ systems_in adds.entries + systems_in before = ap systems_in adds.is ∙ systems-append adds.entries before in
-      let said = left.system in let count = adds.count in let same = left.envelopes in
-      let systems : systems_in adds.entries ≡ turn.system = omega (arith, both, said) in
+      let before = ran.claim.home.value.cell.journal in
+      let seen = each-among (ReportExtends report) _ new.log ran.left.seen each in
+      let extends = seen a (subst (λ n. slice_get report.actors.items n ≡ Some a) ran.left.actor at) in
+      let adds = run-adds gives origin throughput old new turn ran in
       record {
         newer = extends.newer;
-        entries = adds.entries;
+        entries = adds.0;
         older = before;
-        journal_is = extends.joined ∙ ap (λ l. extends.newer ++ l) adds.is ∙ sym (append_assoc extends.newer adds.entries before);
-        system = systems;
-        all = omega (arith, count, same, systems);
+        journal_is = extends.joined ∙ ap (λ l. extends.newer ++ l) adds.1 ∙ sym (append_assoc extends.newer adds.0 before);
+        system = adds.2.1;
+        all = adds.2.0;
       }
 
   pub stretches-of : (old : View) (turns : List Turn) (new : View) → MadeRuns gives origin throughput old turns new → Each (ReportExtends report) new.log

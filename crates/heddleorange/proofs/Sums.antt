@@ -1,5 +1,5 @@
 -- Sums over places, and sums of weights over lists.
-use Rattle.std.proofs.Common.{◌≡◌, ◌⊎◌, inl, inr, ◌==◌, ℕ, zero, suc, ◌+◌, ◌<◌, ◌≤◌, Bool, true, false, cond, List, [], ◌∷◌, ◌++◌, length, filter, refl, sym, ap, ◌∙◌}
+use Rattle.std.proofs.Common.{◌≡◌, ◌==◌, ℕ, zero, suc, ◌+◌, ◌<◌, ◌≤◌, Bool, true, false, cond, List, [], ◌∷◌, length, filter, refl, sym, ap, ◌∙◌}
 use Rattle.std.proofs.Common.{arith, Some, count_by}
 use Rattle.std.specs.Prelude.{All, nat_lt, slice_get, sum_by}
 use Rattle.std.specs.List.{flat_map}

@@ -1,6 +1,6 @@
 -- What the runs of mailboxes that an end made are in the words of the plan.
-use Rattle.std.proofs.Common.{◌≡◌, ◌+◌, ◌<◌, ◌≤◌, ℕ, List, [], ◌∷◌, Some, length, subst, sym, ◌∙◌}
-use Rattle.std.specs.Prelude.{All, Err, IfOk, Ok, Result, slice_get}
+use Rattle.std.proofs.Common.{◌≡◌, ◌+◌, ◌<◌, ◌≤◌, ℕ, List, [], ◌∷◌, length, subst, sym, ◌∙◌}
+use Rattle.std.specs.Prelude.{All, Err, IfOk, Ok, Result}
 use Rattle.std.specs.Global.{Box}
 use Rattle.std.proofs.lemmas.List.Elements.{All-cons, All-nil, All-weaker}
 use Rattle.mb_actor.specs.Behaviour.{Moment, Reply}
@@ -13,12 +13,11 @@ use Rattle.mb_home.specs.Contents.{Contents}
 use Rattle.mb_journal.specs.Run.{most_envelopes}
 use Rattle.mb_mailbox.specs.declared.turn.Turn.{Turn}
 use Rattle.mb_msg.specs.declared.plan.Plan.{Plan}
-use Rattle.mb_report.specs.declared.report.ActorReport.{ActorReport}
 use Rattle.mb_report.specs.declared.report.Report.{Report}
 use Rattle.mb_startup.proofs.Directories.{actors-there}
 use Rattle.mb_startup.specs.Begun.{IsBegun}
 use Rattle.mb_system.specs.declared.built.Built.{Built}
-use Rattle.heddleorange.specs.Turns.{AreTurnsOf, CoverJournals, IsOfTurns, IsTurnOf}
+use Rattle.heddleorange.specs.Turns.{AreTurnsOf, CoverJournals, HaveTheirTurns, IsTurnOf}
 
 -- each is of one of the actors, and began at most as many envelopes as the throughput says
 pub made-turns : (gives : ℕ → Moment → Reply → Type 0) (origin : Origin (Box Contents)) (throughput : ℕ) (old : View) (turns : List Turn) (new : View)
@@ -43,7 +42,7 @@ turns-of gives plan built begun turns are =
 
 -- they cover the journals of a report of this plan's actors, if each journal has the entries of its turns
 pub covers-of : (plan : Plan) (report : Report) (turns : List Turn) → length report.actors.items ≡ length plan.actors.items + 1 → AreTurnsOf plan turns
-    → ((actor : ℕ) (a : ActorReport) → slice_get report.actors.items actor ≡ Some a → IsOfTurns turns actor a.journal.entries) → CoverJournals report turns
+    → HaveTheirTurns report turns → CoverJournals report turns
 covers-of plan report turns many are all = record {
   known = All-weaker (IsTurnOf (length plan.actors.items + 1) plan.throughput) (λ (t : Turn). t.actor.0 < length report.actors.items)
       (λ t is. subst (λ n. t.actor.0 < n) (sym many) is.actor) turns are;

@@ -1,6 +1,7 @@
 pub mod Sent
 pub mod Workers
 pub mod WholeRun
+pub mod Remains
 pub mod NoReport
 pub mod HasRun
 pub mod Reading
@@ -11,3 +12,4 @@ pub mod Names
 pub mod RunHeadline
 pub mod Orders
 pub mod Turns
+pub mod Covering

@@ -1,5 +1,5 @@
 -- Why a whole run gave no report.
-use Rattle.std.specs.Prelude.{◌≡◌, ◌≢◌, ◌⊎◌, ℕ, ◌<◌, ◌≤◌, ◌==◌, nat_lt, Bool, true, false, ◌&&◌, ◌||◌, List, [], ◌∷◌, length}
+use Rattle.std.specs.Prelude.{◌≡◌, ◌≢◌, ◌⊎◌, ℕ, ◌<◌, ◌==◌, nat_lt, Bool, true, false, ◌&&◌, ◌||◌, List, [], ◌∷◌, Option, length}
 use Rattle.std.specs.List.{list_any}
 use Rattle.mb_msg.specs.declared.id.ActorId.{ActorId}
 use Rattle.mb_actor.specs.Behaviour.{Moment, Reply}
@@ -12,12 +12,12 @@ use Rattle.mb_system.specs.declared.failure.RunError.TheVariants as Fault
 use Rattle.mb_msg.specs.declared.order.Order.{Order}
 use Rattle.mb_msg.specs.declared.order.OrderKind.{OrderKind}
 use Rattle.mb_msg.specs.declared.order.OrderKind.TheVariants.{Stop, Tell}
-use Rattle.mb_shutdown.specs.NotFinished.{DoesNotAgree, HasWorkLeft}
-use Rattle.mb_shutdown.specs.declared.ending.FinishError.{FinishError}
-use Rattle.mb_shutdown.specs.declared.ending.FinishError.TheVariants as end
-use Rattle.mb_dispatch.specs.FullJournal.{HasFullJournal}
+use Rattle.mb_shutdown.specs.NotFinished.{DoesNotAgree}
+use Rattle.mb_shutdown.specs.declared.unfinished.UnfinishedActor.{UnfinishedActor}
+use Rattle.heddleorange.specs.Remains.{AreRemains, HasWorkAmong, IsLackOf, ShowFull}
 use Rattle.heddleorange.specs.declared.error.Error.{Error}
-use Rattle.heddleorange.specs.declared.error.Error.TheVariants.{BadPlan, Sends, NoMemory, Run, NotQuiet, Mismatch, NameTaken, Turns}
+use Rattle.heddleorange.specs.declared.error.Error.TheVariants.{BadPlan, Sends, NoMemory, Run, NotQuiet, Mismatch, NameTaken}
+use Rattle.heddleorange.specs.declared.failed_run.FailedRun.{FailedRun}
 
 -- This can go to none of so many actors, of which the first has number 1: an envelope goes to one of them, a Terminate also to the guardian.
 abbrev pub is_for_nobody : ℕ → ActorId → OrderKind → Bool
@@ -50,35 +50,25 @@ IsUnfit plan actors orders NoMemory = ⊥
 IsUnfit plan actors orders (NotQuiet id) = ⊥
 IsUnfit plan actors orders (Mismatch what) = ⊥
 IsUnfit plan actors orders (NameTaken id) = ⊥
-IsUnfit plan actors orders (Turns id) = ⊥
 
--- The error of a whole run for this reason of a system that did not end. A system to which all ends and senders come back has none that speaks of a
--- missing one.
-abbrev pub IsErrorFor : {A K : Type 0} → FinishError A K → Error → Type 0
-IsErrorFor (end.MissingEnd number back) error = ⊥
-IsErrorFor (end.MissingSender number back) error = ⊥
-IsErrorFor (end.NotQuiet id back) error = error ≡ NotQuiet id
-IsErrorFor (end.NoMemory back) error = error ≡ NoMemory
-IsErrorFor (end.Mismatch what) error = error ≡ Mismatch what
+-- Why the run gave no report, and what is left of its actors. Nothing is done, as above, and nothing is left; or the plan and the orders are right, and
+-- memory was refused, the journal of an actor that is left is at its limit, an actor that is left was found to have something to run still, this very
+-- mismatch was found and nothing is left, or nothing came back of this actor.
+abbrev pub HasFailedFor : (ℕ → Moment → Reply → Type 0) → Plan → ℕ → List (List Order) → List (Option UnfinishedActor) → Error → Type 0
+HasFailedFor gives plan actors orders shown (BadPlan reason) = ((rest : List PlanError) × (reasons plan actors ≡ reason ∷ rest)) × (shown ≡ [])
+HasFailedFor gives plan actors orders shown Sends = (reasons plan actors ≡ []) × (length orders ≢ plan.senders) × (shown ≡ [])
+HasFailedFor gives plan actors orders shown (Run Fault.NoSuchActor) =
+    (reasons plan actors ≡ []) × (length orders ≡ plan.senders) × (has_one_for_nobody actors orders ≡ true) × (shown ≡ [])
+HasFailedFor gives plan actors orders shown (Run Fault.NoMemory) = IsRight plan actors orders × AreRemains gives plan shown
+HasFailedFor gives plan actors orders shown (Run Fault.JournalFull) =
+    IsRight plan actors orders × AreRemains gives plan shown × ShowFull plan.journal_limit shown
+HasFailedFor gives plan actors orders shown NoMemory = IsRight plan actors orders × ((shown ≡ []) ⊎ AreRemains gives plan shown)
+HasFailedFor gives plan actors orders shown (NotQuiet id) =
+    IsRight plan actors orders × (id.0 < length (actors_in plan)) × HasWorkAmong gives plan shown id.0
+HasFailedFor gives plan actors orders shown (Mismatch what) = IsRight plan actors orders × (of_whom what < length (actors_in plan))
+    × ((DoesNotAgree gives plan what × (shown ≡ [])) ⊎ (AreRemains gives plan shown × IsLackOf shown what))
+HasFailedFor gives plan actors orders shown (NameTaken id) = ⊥
 
--- Nothing is done, as above; or the plan and the orders are right, and memory was refused, the run was broken off since an actor of the plan met a
--- journal at its limit, an actor was found to have something to run still, or this very mismatch was found.
-abbrev pub IsErrorOfRun : (ℕ → Moment → Reply → Type 0) → Plan → ℕ → List (List Order) → Error → Type 0
-IsErrorOfRun gives plan actors orders (BadPlan reason) = (rest : List PlanError) × (reasons plan actors ≡ reason ∷ rest)
-IsErrorOfRun gives plan actors orders Sends = (reasons plan actors ≡ []) × (length orders ≢ plan.senders)
-IsErrorOfRun gives plan actors orders (Run Fault.NoSuchActor) =
-    (reasons plan actors ≡ []) × (length orders ≡ plan.senders) × (has_one_for_nobody actors orders ≡ true)
-IsErrorOfRun gives plan actors orders (Run Fault.NoMemory) = IsRight plan actors orders
-IsErrorOfRun gives plan actors orders (Run Fault.JournalFull) = IsRight plan actors orders × HasFullJournal gives plan
-IsErrorOfRun gives plan actors orders NoMemory = IsRight plan actors orders
-IsErrorOfRun gives plan actors orders (NotQuiet id) = IsRight plan actors orders × (id.0 < length (actors_in plan)) × HasWorkLeft plan id.0
-IsErrorOfRun gives plan actors orders (Mismatch what) = IsRight plan actors orders × (of_whom what < length (actors_in plan))
-    × DoesNotAgree gives plan what
-IsErrorOfRun gives plan actors orders (NameTaken id) = ⊥
-IsErrorOfRun gives plan actors orders (Turns id) = ⊥
-
--- The error of a run that answers its turns: as above; or the plan and the orders are right, and at the end the journal of this actor was found not to
--- have the entries of its turns.
-abbrev pub IsErrorInOrder : (ℕ → Moment → Reply → Type 0) → Plan → ℕ → List (List Order) → Error → Type 0
-IsErrorInOrder gives plan actors orders error =
-    IsErrorOfRun gives plan actors orders error ⊎ ((id : ActorId) × (error ≡ Turns id) × IsRight plan actors orders × (id.0 ≤ actors))
+-- The failure of a whole run.
+abbrev pub IsErrorOfRun : (ℕ → Moment → Reply → Type 0) → Plan → ℕ → List (List Order) → FailedRun → Type 0
+IsErrorOfRun gives plan actors orders failed = HasFailedFor gives plan actors orders failed.actors.items failed.error

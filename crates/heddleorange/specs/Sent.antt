@@ -1,5 +1,5 @@
 -- All that the senders were to send, and the run after it.
-use Rattle.std.specs.Prelude.{◌≡◌, ◌⊎◌, ℕ, List, ◌∷◌, All, Some, length, slice_get}
+use Rattle.std.specs.Prelude.{◌≡◌, ◌⊎◌, ℕ, List, ◌∷◌, All, Contains, Some, length, slice_get}
 use Rattle.std.specs.Global.{Box}
 use Rattle.mb_actor.specs.Behaviour.{Moment, Reply}
 use Rattle.mb_gate.specs.Accessors.{actors_of}
@@ -46,6 +46,7 @@ module _ {A K : Type 0} where
     pub settled : HasNoObligationTo (actors_of gates) (end_caller first.registrar)
     pub empty : All (WasEmpty (IsFreshClaim gives)) (ports_of first.registrar.run_queue.end)
 
-  -- Sending is broken off for this reason, or the run of an end of this system is.
-  abbrev pub BreaksOff : (ℕ → Moment → Reply → Type 0) → System A K → List (List Order) → RunError → Type 0
-  BreaksOff gives system orders error = BreaksOne system.gates orders error ⊎ ((start : View) × (end : WorkerEnd A K) × BreaksQuietRun gives system start end error)
+  -- Sending is broken off for this reason, or the run of one of these ends of the system is.
+  abbrev pub BreaksOff : (ℕ → Moment → Reply → Type 0) → System A K → List (WorkerEnd A K) → List (List Order) → RunError → Type 0
+  BreaksOff gives system ends orders error = BreaksOne system.gates orders error
+      ⊎ ((start : View) × (end : WorkerEnd A K) × Contains ends end × BreaksQuietRun gives system start end error)

@@ -54,7 +54,12 @@ AreOfTurns (turn ∷ turns) entries = AreOfTurn turn (take (entry_count turn) en
 abbrev pub IsOfTurns : List Turn → ℕ → List Entry → Type 0
 IsOfTurns turns actor journal = AreOfTurns (turns_of actor turns) (reverse journal)
 
+-- The journal of each actor of the report has the entries of its turns.
+abbrev pub HaveTheirTurns : Report → List Turn → Type 0
+HaveTheirTurns report turns =
+    (actor : ℕ) (a : ActorReport) → slice_get report.actors.items actor ≡ Some a → IsOfTurns turns actor a.journal.entries
+
 -- Each turn is of an actor of the report, and the journal of each actor has the entries of its turns and no others, turn after turn.
 pub record CoverJournals (report : Report) (turns : List Turn) : Type 0 where
   pub known : All (λ (t : Turn). t.actor.0 < length report.actors.items) turns
-  pub all : (actor : ℕ) (a : ActorReport) → slice_get report.actors.items actor ≡ Some a → IsOfTurns turns actor a.journal.entries
+  pub all : HaveTheirTurns report turns

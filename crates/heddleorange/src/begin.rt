@@ -6,9 +6,10 @@ ghost use Rattle.mb_build.specs.Reasons.{reasons};
 ghost use Rattle.mb_startup.specs.Begun.{IsBegun};
 ghost use Rattle.heddleorange.specs.NoReport.{IsErrorOfRun, IsRight, IsUnfit, has_nobody, has_one_for_nobody};
 ghost use Rattle.heddleorange.specs.Orders.{is_from_nobody, lists_of};
-ghost use Rattle.heddleorange.specs.declared.error.Error.TheVariants.{NoMemory};
+ghost use Rattle.heddleorange.specs.Remains.{IsWithoutMemory};
 
 use crate::error::Error;
+use crate::failed_run::FailedRun;
 use mb_actor::{Actor, Behaviours};
 use mb_build::check_plan;
 use mb_msg::{ActorId, Order, OrderKind, Plan, SenderOrder};
@@ -24,13 +25,15 @@ pub(crate) fn begin<A: Actor, K: Behaviours, R: Wait>(
     plan: Plan,
     actors: Vec<A>,
     sends: &[Vec<Order>],
-) -> Result<Built<A, K>, Error>
+) -> Result<Built<A, K>, FailedRun>
     requires behaved { BehaveAsPlanned A.content A.after A.gives K.after K.gives 1 actors.items }
     ensures begun { IfOk result (IsBegun K.gives plan) }
     ensures right { OnOk result (IsRight plan (length actors.items) (map (λ orders. orders.items) sends.now)) }
     ensures refused { IfErr result (IsErrorOfRun K.gives plan (length actors.items) (map (λ orders. orders.items) sends.now)) }
 {
-    check(&plan, actors.len(), sends)?;
+    if let Err(error) = check(&plan, actors.len(), sends) {
+        return Err(FailedRun::without_actors(alloc, error));
+    }
     build_checked::<A, K, R>(rt, alloc, plan, actors)
 }
 
@@ -41,13 +44,15 @@ pub(crate) fn begin_in_order<A: Actor, K: Behaviours, R: Wait>(
     plan: Plan,
     actors: Vec<A>,
     sends: &[SenderOrder],
-) -> Result<Built<A, K>, Error>
+) -> Result<Built<A, K>, FailedRun>
     requires behaved { BehaveAsPlanned A.content A.after A.gives K.after K.gives 1 actors.items }
     ensures begun { IfOk result (IsBegun K.gives plan) }
     ensures right { OnOk result (IsRight plan (length actors.items) (lists_of plan.senders sends.now)) }
     ensures refused { IfErr result (IsErrorOfRun K.gives plan (length actors.items) (lists_of plan.senders sends.now)) }
 {
-    check_in_order(&plan, actors.len(), sends)?;
+    if let Err(error) = check_in_order(&plan, actors.len(), sends) {
+        return Err(FailedRun::without_actors(alloc, error));
+    }
     build_checked::<A, K, R>(rt, alloc, plan, actors)
 }
 
@@ -57,15 +62,15 @@ fn build_checked<A: Actor, K: Behaviours, R: Wait>(
     alloc: Global,
     plan: Plan,
     actors: Vec<A>,
-) -> Result<Built<A, K>, Error>
+) -> Result<Built<A, K>, FailedRun>
     requires behaved { BehaveAsPlanned A.content A.after A.gives K.after K.gives 1 actors.items }
     requires right { reasons plan (length actors.items) ≡ [] }
     ensures begun { IfOk result (IsBegun K.gives plan) }
-    ensures refused { IfErr result (λ error. error ≡ NoMemory) }
+    ensures refused { IfErr result IsWithoutMemory }
 {
     match build::<A, K, R>(rt, alloc, plan, actors) {
         Ok(built) => Ok(built),
-        Err(BuildError::NoMemory) => Err(Error::NoMemory),
+        Err(BuildError::NoMemory) => Err(FailedRun::without_actors(alloc, Error::NoMemory)),
         Err(BuildError::BadPlan(_, _, _)) => unreachable!(),
     }
 }

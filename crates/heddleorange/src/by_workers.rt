@@ -11,7 +11,7 @@ ghost use Rattle.heddleorange.specs.RunHeadline.{RunHeadline};
 ghost use Rattle.heddleorange.specs.States.{ShowsStates};
 ghost use Rattle.heddleorange.specs.WholeRun.{IsReportOfRun, after_at, gives_at};
 
-use crate::error::Error;
+use crate::failed_run::FailedRun;
 use crate::planned_system::PlannedSystem;
 use mb_actor::Actor;
 use mb_msg::Order;
@@ -28,7 +28,7 @@ impl<A: Actor + Send> PlannedSystem<A> {
         rt: &R,
         alloc: Global,
         sends: &[Vec<Order>],
-    ) -> Result<Report, Error>
+    ) -> Result<Report, FailedRun>
         requires unused { All (λ actor. A.content actor ≡ A.after actor []) self.actors.items }
         ensures story { IfOk result (IsReportOfRun (after_at self.actors.items A.after) (gives_at self.actors.items A.gives) self.plan
             (map (λ orders. orders.items) sends.now)) }

@@ -11,7 +11,7 @@ ghost use Rattle.heddleorange.specs.Conservation.{IsConserved, worth_of};
 ghost use Rattle.heddleorange.specs.Ledger.{AddsUp, all_begun, all_cleaned, all_left, all_refused, all_sent};
 ghost use Rattle.heddleorange.specs.NoReport.{IsRight};
 ghost use Rattle.heddleorange.specs.WholeRun.{IsReportOfRun, after_at, gives_at};
-ghost use Rattle.heddleorange.specs.declared.error.Error.{Error};
+ghost use Rattle.heddleorange.specs.declared.failed_run.FailedRun.{FailedRun};
 
 use mb_actor::Actor;
 
@@ -29,7 +29,7 @@ pub fn what_is_sent_adds_up()
 /// what the senders outside sent. A notice that an actor has ended is worth nothing.
 pub fn a_run_conserves_what_its_actors_conserve<A: Actor>()
     ensures { (worth : Message → ℤ) (holdings : List (Option Holding)) (actors : List A) (plan : Plan) (orders : List (List Order))
-        (result : Outcome Report Error) → ((ended : Id) → worth (Terminated ended) ≡ pos 0)
+        (result : Outcome Report FailedRun) → ((ended : Id) → worth (Terminated ended) ≡ pos 0)
         → AllConserve A.after A.gives worth holdings actors
         → IfOk result (IsReportOfRun (after_at actors A.after) (gives_at actors A.gives) plan orders)
         → OnOk result (IsRight plan (length actors) orders) → IfOk result (IsConserved worth holdings orders) }

@@ -18,24 +18,21 @@ pub enum Error {
     /// not have. Nothing was done.
     #[error("there are not as many lists of orders as senders")]
     Sends,
-    /// Memory was refused as the system was built, or as it was to end. The system is dropped, with all that it did.
+    /// Memory was refused as the system was built, as it was to end, or as what is left of its actors was to be shown.
     #[error("memory was refused")]
     NoMemory,
     /// `NoSuchActor`: an order that is to be carried out goes to an actor that does not exist, or sends the guardian an envelope.
     /// Nothing was done. `JournalFull`: the run was broken off, since the journal of an actor has as many entries as the plan
-    /// allows; `NoMemory`: since memory was refused. The system is dropped then, with all that it did.
+    /// allows; `NoMemory`: since memory was refused.
     #[error("not run, or not to its end: {0:?}")]
     Run(RunError),
     /// This actor has something to run still.
     #[error("an actor has something to run still: {0:?}")]
     NotQuiet(ActorId),
-    /// At the end, the parts of the system did not agree.
+    /// At the end, the parts of the system did not agree. Or the run was broken off at a full journal, and this actor, whose journal
+    /// it may be, did not come back.
     #[error("at the end, the parts of the system did not agree: {0:?}")]
     Mismatch(Mismatch),
-    /// The journal of this actor does not have the entries of its turns, turn after turn, or has others. A run on one thread checks
-    /// this at its end. No fault of plan, orders or actors leads to it, and it is not proved that it never comes.
-    #[error("the turns do not have the entries of an actor's journal: {0:?}")]
-    Turns(ActorId),
     /// The actor with this number has the name under which another was to be added. Nothing was added.
     #[error("an actor has this name already: {0:?}")]
     NameTaken(ActorId),

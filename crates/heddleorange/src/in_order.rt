@@ -1,20 +1,18 @@
 //! A whole run on one thread, where the orders of all senders stand in one row.
-ghost use Rattle.std.specs.Prelude.{◌≡◌, ◌+◌, ℕ, [], All, IfErr, IfOk, OnOk, Some, length, slice_get};
+ghost use Rattle.std.specs.Prelude.{◌≡◌, ◌+◌, [], All, IfErr, IfOk, OnOk, length};
 ghost use Rattle.mb_build.specs.BehavesAsPlanned.{BehaveAsPlanned};
 ghost use Rattle.heddleorange.specs.Ledger.{AddsUp};
-ghost use Rattle.mb_msg.specs.declared.id.ActorId.{ActorId as Id};
-ghost use Rattle.mb_report.specs.declared.report.ActorReport.{ActorReport as ReportOf};
-ghost use Rattle.heddleorange.specs.declared.error.Error.TheVariants.{Turns};
-ghost use Rattle.heddleorange.specs.NoReport.{IsErrorInOrder, IsRight};
+ghost use Rattle.heddleorange.specs.NoReport.{IsErrorOfRun, IsRight};
 ghost use Rattle.heddleorange.specs.Orders.{lists_of};
 ghost use Rattle.heddleorange.specs.RunHeadline.{RunHeadline};
 ghost use Rattle.heddleorange.specs.States.{ShowsStates};
-ghost use Rattle.heddleorange.specs.Turns.{AreStretches, AreTurnsOf, CoverJournals, IsOfTurns};
+ghost use Rattle.heddleorange.specs.Turns.{AreStretches, AreTurnsOf, CoverJournals};
 ghost use Rattle.heddleorange.specs.WholeRun.{IsReportOfRun, after_at, gives_at};
 
 use crate::begin::begin_in_order;
-use crate::coverage::first_uncovered;
+use crate::broken_off::broken_off;
 use crate::error::Error;
+use crate::failed_run::FailedRun;
 use crate::finish::finish_run;
 use crate::sending::send_in_order_and_run;
 use mb_actor::{Actor, Behaviours};
@@ -37,21 +35,21 @@ pub struct QuietRun {
 /// `run_here`, where the orders of all senders stand in one row: they are sent in that order, each by its sender, before anything
 /// runs. What each run of a mailbox did is answered too.
 ///
-/// At the end it checks that the journals have the entries of the turns and no others, turn after turn, and else answers `Turns`. The
-/// first sender has number 0. It answers `Sends` where an order is from a sender that the plan does not have; nothing was done
-/// then. (This project's own profile: in Akka whoever has a reference sends.)
+/// The journals have the entries of the turns and no others, turn after turn. The first sender has number 0. It answers `Sends`
+/// where an order is from a sender that the plan does not have; nothing was done then. (This project's own profile: in Akka
+/// whoever has a reference sends.)
 pub fn run_in_order<A: Actor, R: Wait>(
     rt: &R,
     alloc: Global,
     plan: Plan,
     actors: Vec<A>,
     sends: &[SenderOrder],
-) -> Result<QuietRun, Error>
+) -> Result<QuietRun, FailedRun>
     requires unused { All (λ actor. A.content actor ≡ A.after actor []) actors.items }
     ensures story { IfOk result (λ run. IsReportOfRun (after_at actors.items A.after) (gives_at actors.items A.gives) plan
         (lists_of plan.senders sends.now) run.report) }
     ensures right { OnOk result (IsRight plan (length actors.items) (lists_of plan.senders sends.now)) }
-    ensures refused { IfErr result (IsErrorInOrder (gives_at actors.items A.gives) plan (length actors.items) (lists_of plan.senders sends.now)) }
+    ensures refused { IfErr result (IsErrorOfRun (gives_at actors.items A.gives) plan (length actors.items) (lists_of plan.senders sends.now)) }
     ensures states { IfOk result (λ run. ShowsStates A.after actors.items plan run.report) }
     ensures lines { IfOk result (λ run. length run.report.actors.items ≡ length actors.items + 1) }
     ensures headline { IfOk result (λ run. RunHeadline plan (lists_of plan.senders sends.now) run.report) }
@@ -70,35 +68,23 @@ fn run_planned_in_order<A: Actor, K: Behaviours, R: Wait>(
     plan: Plan,
     actors: Vec<A>,
     sends: &[SenderOrder],
-) -> Result<QuietRun, Error>
+) -> Result<QuietRun, FailedRun>
     requires behaved { BehaveAsPlanned A.content A.after A.gives K.after K.gives 1 actors.items }
     ensures story { IfOk result (λ run. IsReportOfRun K.after K.gives plan (lists_of plan.senders sends.now) run.report) }
     ensures right { OnOk result (IsRight plan (length actors.items) (lists_of plan.senders sends.now)) }
-    ensures refused { IfErr result (IsErrorInOrder K.gives plan (length actors.items) (lists_of plan.senders sends.now)) }
+    ensures refused { IfErr result (IsErrorOfRun K.gives plan (length actors.items) (lists_of plan.senders sends.now)) }
     ensures turns { IfOk result (λ run. AreTurnsOf plan run.turns.items) }
     ensures stretches { IfOk result (λ run. AreStretches run.report run.turns.items) }
     ensures covers { IfOk result (λ run. CoverJournals run.report run.turns.items) }
 {
+    let limit = plan.journal_limit;
     let mut built = begin_in_order::<A, K, R>(rt, alloc, plan, actors, sends)?;
     let turns = match send_in_order_and_run(rt, &mut built, sends) {
         Ok(turns) => turns,
-        Err(error) => return Err(Error::Run(error)),
+        Err(error) => return Err(broken_off(rt, built, error, limit)),
     };
     match finish_run(rt, built) {
-        Ok(report) => covered(report, turns),
+        Ok(report) => Ok(QuietRun { report, turns }),
         Err(error) => Err(error),
-    }
-}
-
-// The run with this report and these turns, if the journals have the entries of the turns.
-fn covered(report: Report, turns: Vec<Turn>) -> Result<QuietRun, Error>
-    ensures run { IfOk result (λ run. (run.report ≡ report) × (run.turns ≡ turns)
-        × ((actor : ℕ) (a : ReportOf) → slice_get report.actors.items actor ≡ Some a → IsOfTurns turns.items actor a.journal.entries)) }
-    ensures refused { IfErr result (λ error. (id : Id) × (a : ReportOf) × (error ≡ Turns id) × (slice_get report.actors.items id.0 ≡ Some a)
-        × (IsOfTurns turns.items id.0 a.journal.entries → ⊥)) }
-{
-    match first_uncovered(&report.actors, &turns) {
-        Some(id) => Err(Error::Turns(id)),
-        None => Ok(QuietRun { report, turns }),
     }
 }

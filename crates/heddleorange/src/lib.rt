@@ -5,14 +5,15 @@
 //! same of the report, of the very actors that were handed in: the whole story of the run, and what follows from it for whoever
 //! reads a report, by `state`, `handled`, `dead_letters` and `journal`. `PlannedSystem::run` is one of the first two, by the
 //! number of workers; it says too that a quantity is conserved that the actors conserve, as money. Where there is no report,
-//! `Error` says why. To drive a system by hand, use `mb_dispatch`.
+//! `FailedRun` says why, and shows what is left of the actors. To drive a system by hand, use `mb_dispatch`.
 #![tactic(auto)]
 
 mod begin;
+mod broken_off;
 mod by_workers;
 mod conservation;
-mod coverage;
 mod error;
+mod failed_run;
 mod finish;
 mod in_order;
 mod laws;
@@ -25,6 +26,7 @@ mod together;
 
 pub use conservation::{a_run_conserves_what_its_actors_conserve, what_is_sent_adds_up};
 pub use error::Error;
+pub use failed_run::FailedRun;
 pub use in_order::{QuietRun, run_in_order};
 pub use laws::{an_actor_without_a_restart_has_handled_all, what_actors_send_is_asked_for};
 pub use mb_actor::{Actor, Answer, CallPermit, Effect, Message, Outbox, OutboxError, Phase};
@@ -37,7 +39,7 @@ pub use mb_msg::{
     Why,
 };
 pub use mb_report::{ActorReport, Report, SenderReport, report_text};
-pub use mb_shutdown::Mismatch;
+pub use mb_shutdown::{Mismatch, UnfinishedActor};
 pub use mb_system::RunError;
 pub use names::Names;
 pub use planned_system::{PlannedSystem, SETTINGS, Settings};

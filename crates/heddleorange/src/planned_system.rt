@@ -12,6 +12,7 @@ ghost use Rattle.heddleorange.specs.States.{ShowsStates};
 ghost use Rattle.heddleorange.specs.WholeRun.{IsReportOfRun, after_at, gives_at};
 
 use crate::error::Error;
+use crate::failed_run::FailedRun;
 use crate::names::Names;
 use crate::run::{run_here, run_on_threads};
 use mb_actor::Actor;
@@ -201,7 +202,7 @@ impl<A: Actor> PlannedSystem<A> {
         rt: &R,
         alloc: Global,
         sends: &[Vec<Order>],
-    ) -> Result<Report, Error>
+    ) -> Result<Report, FailedRun>
         requires unused { All (λ actor. A.content actor ≡ A.after actor []) self.actors.items }
         ensures story { IfOk result (IsReportOfRun (after_at self.actors.items A.after) (gives_at self.actors.items A.gives) self.plan
             (map (λ orders. orders.items) sends.now)) }
@@ -229,7 +230,7 @@ impl<A: Actor + Send> PlannedSystem<A> {
         rt: &R,
         alloc: Global,
         sends: &[Vec<Order>],
-    ) -> Result<Report, Error>
+    ) -> Result<Report, FailedRun>
         requires unused { All (λ actor. A.content actor ≡ A.after actor []) self.actors.items }
         ensures story { IfOk result (IsReportOfRun (after_at self.actors.items A.after) (gives_at self.actors.items A.gives) self.plan
             (map (λ orders. orders.items) sends.now)) }

@@ -8,7 +8,8 @@ ghost use Rattle.heddleorange.specs.States.{ShowsStates};
 ghost use Rattle.heddleorange.specs.WholeRun.{IsReportOfRun, after_at, gives_at};
 
 use crate::begin::begin;
-use crate::error::Error;
+use crate::broken_off::broken_off;
+use crate::failed_run::FailedRun;
 use crate::finish::finish_run;
 use crate::sending::send_and_run;
 use crate::together::run_together;
@@ -25,15 +26,15 @@ use std::thread::Threads;
 ///
 /// The actors come in the order of their numbers, from 1 on; 0 is the guardian's, to which no envelope can be sent. They are of
 /// one type, which may be `Box<dyn Actor + Send>`. There is one list of orders for each sender of the plan, an empty one for a
-/// sender that sends nothing. After an error everything is dropped. (This project's own profile: in Akka each part of it is a
-/// call of its own.)
+/// sender that sends nothing. After an error what is left of the actors is shown, where there is any. (This project's own profile:
+/// in Akka each part of it is a call of its own.)
 pub fn run_here<A: Actor, R: Wait>(
     rt: &R,
     alloc: Global,
     plan: Plan,
     actors: Vec<A>,
     sends: &[Vec<Order>],
-) -> Result<Report, Error>
+) -> Result<Report, FailedRun>
     requires unused { All (λ actor. A.content actor ≡ A.after actor []) actors.items }
     ensures story { IfOk result (IsReportOfRun (after_at actors.items A.after) (gives_at actors.items A.gives) plan
         (map (λ orders. orders.items) sends.now)) }
@@ -55,7 +56,7 @@ pub fn run_on_threads<A: Actor + Send, R: Threads + Wait + Sync>(
     plan: Plan,
     actors: Vec<A>,
     sends: &[Vec<Order>],
-) -> Result<Report, Error>
+) -> Result<Report, FailedRun>
     requires unused { All (λ actor. A.content actor ≡ A.after actor []) actors.items }
     ensures story { IfOk result (IsReportOfRun (after_at actors.items A.after) (gives_at actors.items A.gives) plan
         (map (λ orders. orders.items) sends.now)) }
@@ -76,15 +77,16 @@ fn run_planned<A: Actor, K: Behaviours, R: Wait>(
     plan: Plan,
     actors: Vec<A>,
     sends: &[Vec<Order>],
-) -> Result<Report, Error>
+) -> Result<Report, FailedRun>
     requires behaved { BehaveAsPlanned A.content A.after A.gives K.after K.gives 1 actors.items }
     ensures story { IfOk result (IsReportOfRun K.after K.gives plan (map (λ orders. orders.items) sends.now)) }
     ensures right { OnOk result (IsRight plan (length actors.items) (map (λ orders. orders.items) sends.now)) }
     ensures refused { IfErr result (IsErrorOfRun K.gives plan (length actors.items) (map (λ orders. orders.items) sends.now)) }
 {
+    let limit = plan.journal_limit;
     let mut built = begin::<A, K, R>(rt, alloc, plan, actors, sends)?;
     if let Err(error) = send_and_run(rt, &mut built, sends) {
-        return Err(Error::Run(error));
+        return Err(broken_off(rt, built, error, limit));
     }
     finish_run(rt, built)
 }
@@ -96,15 +98,16 @@ fn run_planned_on_threads<A: Actor + Send, K: Behaviours + Send, R: Threads + Wa
     plan: Plan,
     actors: Vec<A>,
     sends: &[Vec<Order>],
-) -> Result<Report, Error>
+) -> Result<Report, FailedRun>
     requires behaved { BehaveAsPlanned A.content A.after A.gives K.after K.gives 1 actors.items }
     ensures story { IfOk result (IsReportOfRun K.after K.gives plan (map (λ orders. orders.items) sends.now)) }
     ensures right { OnOk result (IsRight plan (length actors.items) (map (λ orders. orders.items) sends.now)) }
     ensures refused { IfErr result (IsErrorOfRun K.gives plan (length actors.items) (map (λ orders. orders.items) sends.now)) }
 {
+    let limit = plan.journal_limit;
     let mut built = begin::<A, K, R>(rt, alloc, plan, actors, sends)?;
     if let Err(error) = run_together(rt, alloc, &mut built, sends) {
-        return Err(Error::Run(error));
+        return Err(broken_off(rt, built, error, limit));
     }
     finish_run(rt, built)
 }

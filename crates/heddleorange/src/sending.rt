@@ -1,5 +1,5 @@
 //! Sending all that is to be sent, and running what that leaves to run.
-ghost use Rattle.std.specs.Prelude.{◌≡◌, ◌≢◌, ◌<◌, [], All, IfErr, IfOk, OnOk, length, map};
+ghost use Rattle.std.specs.Prelude.{◌≡◌, ◌≢◌, ◌<◌, [], All, Contains, IfErr, IfOk, OnOk, length, map};
 ghost use Rattle.mb_gate.specs.Accessors.{actors_of, pass_view};
 ghost use Rattle.mb_gate.specs.Untouched.{origin_of};
 ghost use Rattle.mb_gate.specs.View.{View};
@@ -10,6 +10,7 @@ ghost use Rattle.mb_dispatch.specs.Faults.{BreaksSending, BreaksQuietRun};
 ghost use Rattle.mb_system.specs.Members.{AreEndsOf, IsSenderOf, StillSee, ends_numbers};
 ghost use Rattle.mb_system.specs.Obligations.{OwesNobody};
 ghost use Rattle.mb_system.specs.declared.end.WorkerEnd.{WorkerEnd as EndOf};
+ghost use Rattle.heddleorange.specs.Covering.{AreAllTurns};
 ghost use Rattle.heddleorange.specs.Orders.{lists_of};
 ghost use Rattle.heddleorange.specs.Sent.{BreaksOff, BreaksOne, FoundNothing, HasSentAndRetried, HaveSent};
 ghost use Rattle.heddleorange.specs.Turns.{AreStretches, IsTurnOf};
@@ -36,14 +37,15 @@ pub(crate) fn send_and_run<A: Actor, K: Behaviours, R: Wait>(
     requires same_count { length built.old.senders.items ≡ length sends.now }
     ensures system { built.new.system ≡ built.old.system }
     ensures together { OnOk result (BelongsTogether built.new) }
-    ensures ends { OnOk result (ends_numbers built.new.ends.items ≡ ends_numbers built.old.ends.items) }
+    ensures ends { ends_numbers built.new.ends.items ≡ ends_numbers built.old.ends.items }
+    ensures same_gates { AreEndsOf built.old.system.gates built.new.ends.items }
     ensures sent { OnOk result (HaveSent built.old.system.gates (map (λ orders. orders.items) sends.now) built.old.senders.items
         built.new.senders.items) }
     ensures log_kept { OnOk result (StillSee built.old.ends.items built.new.ends.items) }
     ensures runs { OnOk result (AllOnlyRuns K.gives (origin_of built.old.system.gates) built.old.system.throughput built.old.ends.items
         built.new.ends.items) }
     ensures found_nothing { OnOk result (FoundNothing K.gives built.old.system.gates built.new.ends.items) }
-    ensures fault { IfErr result (BreaksOff K.gives built.old.system (map (λ orders. orders.items) sends.now)) }
+    ensures fault { IfErr result (BreaksOff K.gives built.old.system built.new.ends.items (map (λ orders. orders.items) sends.now)) }
 {
     send_each(rt, &built.system, &mut built.senders, sends)?;
     run_first(rt, built)
@@ -61,7 +63,8 @@ pub(crate) fn send_in_order_and_run<A: Actor, K: Behaviours, R: Wait>(
     requires from { All (λ send. send.from < length built.old.senders.items) sends.now }
     ensures system { built.new.system ≡ built.old.system }
     ensures together { OnOk result (BelongsTogether built.new) }
-    ensures ends { OnOk result (ends_numbers built.new.ends.items ≡ ends_numbers built.old.ends.items) }
+    ensures ends { ends_numbers built.new.ends.items ≡ ends_numbers built.old.ends.items }
+    ensures same_gates { AreEndsOf built.old.system.gates built.new.ends.items }
     ensures sent { OnOk result (HaveSent built.old.system.gates (lists_of (length built.old.senders.items) sends.now) built.old.senders.items
         built.new.senders.items) }
     ensures log_kept { OnOk result (StillSee built.old.ends.items built.new.ends.items) }
@@ -71,7 +74,8 @@ pub(crate) fn send_in_order_and_run<A: Actor, K: Behaviours, R: Wait>(
     ensures turns { IfOk result (λ turns. All (IsTurnOf (actors_of built.old.system.gates) built.old.system.throughput) turns.items) }
     ensures stretches { IfOk result (λ turns. (report : ReportOf) → All (λ e. ReportExtendsAll report (pass_view e.registrar.pass)) built.new.ends.items
         → AreStretches report turns.items) }
-    ensures fault { IfErr result (BreaksOff K.gives built.old.system (lists_of (length built.old.senders.items) sends.now)) }
+    ensures covers { IfOk result (λ turns. AreAllTurns built.old built.new turns.items) }
+    ensures fault { IfErr result (BreaksOff K.gives built.old.system built.new.ends.items (lists_of (length built.old.senders.items) sends.now)) }
 {
     send_in_order(rt, &built.system, &mut built.senders, sends)?;
     run_first(rt, built)
@@ -95,7 +99,9 @@ fn run_first<A: Actor, K: Behaviours, R: Wait>(
     ensures turns { IfOk result (λ turns. All (IsTurnOf (actors_of built.old.system.gates) built.old.system.throughput) turns.items) }
     ensures stretches { IfOk result (λ turns. (report : ReportOf) → All (λ e. ReportExtendsAll report (pass_view e.registrar.pass)) built.new.ends.items
         → AreStretches report turns.items) }
-    ensures fault { IfErr result (λ error. (start : View) × (end : EndOf A K) × BreaksQuietRun K.gives built.old.system start end error) }
+    ensures covers { IfOk result (λ turns. AreAllTurns built.old built.new turns.items) }
+    ensures fault { IfErr result (λ error. (start : View) × (end : EndOf A K) × Contains built.new.ends.items end
+        × BreaksQuietRun K.gives built.old.system start end error) }
 {
     run_quietly(rt, &built.system, &mut built.ends[0])
 }

@@ -2,7 +2,7 @@
 ghost use Rattle.std.specs.Prelude.{◌≡◌, ◌≢◌, [], IfErr, IfOk, OnOk, length, map};
 ghost use Rattle.mb_gate.specs.Untouched.{origin_of};
 ghost use Rattle.mb_system.specs.Belonging.{BelongsTogether};
-ghost use Rattle.mb_system.specs.Members.{StillSee, ends_numbers};
+ghost use Rattle.mb_system.specs.Members.{AreEndsOf, StillSee, ends_numbers};
 ghost use Rattle.heddleorange.specs.Sent.{BreaksOff, HaveSent};
 ghost use Rattle.heddleorange.specs.Workers.{AllOnlyRuns};
 
@@ -31,13 +31,14 @@ pub(crate) fn run_together<A: Actor + Send, K: Behaviours + Send, R: Threads + W
     requires same_count { length built.old.senders.items ≡ length sends.now }
     ensures system { built.new.system ≡ built.old.system }
     ensures together { OnOk result (BelongsTogether built.new) }
-    ensures ends { OnOk result (ends_numbers built.new.ends.items ≡ ends_numbers built.old.ends.items) }
+    ensures ends { ends_numbers built.new.ends.items ≡ ends_numbers built.old.ends.items }
+    ensures same_gates { AreEndsOf built.old.system.gates built.new.ends.items }
     ensures sent { OnOk result (HaveSent built.old.system.gates (map (λ orders. orders.items) sends.now) built.old.senders.items
         built.new.senders.items) }
     ensures log_kept { OnOk result (StillSee built.old.ends.items built.new.ends.items) }
     ensures runs { OnOk result (AllOnlyRuns K.gives (origin_of built.old.system.gates) built.old.system.throughput built.old.ends.items
         built.new.ends.items) }
-    ensures fault { IfErr result (BreaksOff K.gives built.old.system (map (λ orders. orders.items) sends.now)) }
+    ensures fault { IfErr result (BreaksOff K.gives built.old.system built.new.ends.items (map (λ orders. orders.items) sends.now)) }
 {
     let senders = mem::replace(&mut built.senders, Vec::new(alloc));
     let Ok(mut jobs) = jobs_of(alloc, senders, sends) else {

@@ -85,6 +85,7 @@ module _ (gives : ℕ → Moment → Reply → Type 0) where
           settled = settled;
           named = subst NamesActors (sym is) (names-first actors number who t sends h.value.room directory planned);
         };
+        not_run = ap (λ (c : Contents). c.cell.journal) is;
         none_given = ap given_of is ∙ ap (λ n. (n + 0 + 0) % 2 ^ 64) none-yet;
         none_closed = ap (λ (c : Contents). closed_receivers c.dead) is;
         none_drained = ap drained_of is;

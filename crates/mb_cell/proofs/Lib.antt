@@ -1,4 +1,5 @@
 pub mod AsideRow
+pub mod ByNewestLaw
 pub mod CallingRow
 pub mod CellLaws
 pub mod CreateRow
@@ -7,6 +8,7 @@ pub mod DiedRow
 pub mod DispatchLemmas
 pub mod EndRow
 pub mod EndingRow
+pub mod EnvelopeNewest
 pub mod FailedRow
 pub mod FrontLemmas
 pub mod GuardianLemmas
@@ -17,6 +19,7 @@ pub mod NumberLemmas
 pub mod OpenLaws
 pub mod QuietEnvelope
 pub mod QuietRows
+pub mod ReceiverLemmas
 pub mod RecreateRow
 pub mod ResumeRow
 pub mod RetryLaws
@@ -25,4 +28,5 @@ pub mod RunLaws
 pub mod SilentRow
 pub mod StartLemmas
 pub mod SuspendRow
+pub mod UnappliedLaw
 pub mod WatchRow

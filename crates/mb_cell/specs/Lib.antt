@@ -1,4 +1,5 @@
 pub mod Agrees
+pub mod ByNewest
 pub mod MayHandle
 pub mod Nothing
 pub mod CellView

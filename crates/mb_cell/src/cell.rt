@@ -1,6 +1,6 @@
 //! The cell: what it holds and what it shows.
 ghost use Rattle.std.specs.Prelude.{◌≡◌, ◌≢◌, ◌↔◌, ◌<◌, ◌≤◌, [], ◌++◌, length, map, option_to_list, true, false};
-ghost use Rattle.std.specs.Prelude.{IsTrue, IsSome, IsOk, IsErrOf, OnOk, OnErr, IfNone, IfSome, MatchOption, not, is_some};
+ghost use Rattle.std.specs.Prelude.{IsTrue, IsSome, IsOk, IsErrOf, OnOk, OnErr, IfNone, IfSome, MatchOption, not, is_some, filter, if◌then◌else◌};
 ghost use Rattle.std.specs.List.{All};
 ghost use Rattle.mb_msg.specs.Limits.{most_actors};
 ghost use Rattle.mb_actor.specs.Behaviour.{AllowsSame};
@@ -8,7 +8,8 @@ ghost use Rattle.mb_journal.specs.Aside.{aside as aside_of, next_front as front_
 ghost use Rattle.mb_journal.specs.Identity.{is_guardian};
 ghost use Rattle.mb_journal.specs.Incarnation.{messages};
 ghost use Rattle.mb_journal.specs.Lawful.{IsLawful};
-ghost use Rattle.mb_journal.specs.Life.{phase as phase_of};
+ghost use Rattle.mb_journal.specs.Life.{closed, phase as phase_of};
+ghost use Rattle.mb_journal.specs.Remaining.{all_set_aside, was_applied};
 ghost use Rattle.mb_journal.specs.Suspension.{count as count_of};
 ghost use Rattle.mb_supervision.specs.ActQueue.{act_of};
 
@@ -197,9 +198,12 @@ impl<A: Actor, K: Behaviours> Cell<A, K> {
         &self.journal
     }
 
-    /// What is set aside, the earliest first, each with its number.
+    /// What is set aside, the earliest first, each with its number: unless the actor ended, what some entry sets aside
+    /// and no entry applies.
     pub fn aside(&self) -> &[(u64, SysMsg)]
-        ensures { result.now ≡ aside_of self.now.who self.now.journal }
+        ensures value { result.now ≡ aside_of self.now.who self.now.journal }
+        ensures unapplied { result.now ≡ (if closed self.now.who self.now.journal then []
+            else filter (λ m. not (was_applied self.now.journal m.0)) (all_set_aside self.now.journal)) }
     {
         self.cell_state.aside()
     }

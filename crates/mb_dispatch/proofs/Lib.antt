@@ -1,10 +1,10 @@
 pub mod Sending
 pub mod Sides
+pub mod Ended
 pub mod Firsts
 pub mod Breaking
 pub mod Crossing
 pub mod Alike
 pub mod Together
 pub mod There
-pub mod FullJournal
 pub mod Runs

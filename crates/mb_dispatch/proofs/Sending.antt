@@ -23,7 +23,8 @@ use Rattle.mb_status.specs.Mailbox.{word_of}
 use Rattle.mb_register.specs.Owed.{is_owed}
 use Rattle.mb_core.specs.Actor.{nothing}
 use Rattle.mb_register.specs.Sending.{counts}
-use Rattle.mb_register.specs.Views.{Does}
+use Rattle.mb_register.specs.Views.{Does, GivesBackUnchanged}
+use Rattle.mb_register.proofs.Unchanged.{unchanged-none, unchanged-then}
 use Rattle.mb_register.proofs.Views.{looks-read}
 use Rattle.mb_queue.specs.Passes.{SendPassView}
 use Rattle.mb_send.specs.Answers.{FollowsLook, IsTold, Stops}
@@ -67,7 +68,16 @@ over-more n xs =
 module _ {A K : Type 0} where
   -- nothing was to be sent
   pub sent-none : (s : Sender A K) → HasSent [] s s
-  sent-none s = record { by = refl; more = []; posted = sym (append-nil s.inner.send_log.posted); accepted_are = refl; system_sent = refl; log_kept = saw-same _ }
+  sent-none s = record {
+    by = refl;
+    more = [];
+    posted = sym (append-nil s.inner.send_log.posted);
+    accepted_are = refl;
+    system_sent = refl;
+    log_kept = saw-same _;
+    share = refl;
+    gives_back = unchanged-none _ _ refl;
+  }
 
   -- first this was sent, and then that
   pub sent-then : (xs ys : List Order) (a b c : Sender A K) → HasSent xs a b → HasSent ys b c → HasSent (xs ++ ys) a c
@@ -81,6 +91,8 @@ module _ {A K : Type 0} where
         ∙ ap (λ l. l ++ addressed_system (pass_view a.inner.registrar.pass).sent_system)
         (sym (reverse-append (terminates_of xs) (terminates_of ys)) ∙ ap reverse (sym (terminates-append xs ys)));
     log_kept = saw-then _ _ _ p.log_kept q.log_kept;
+    share = q.share ∙ p.share;
+    gives_back = unchanged-then _ _ _ p.gives_back q.gives_back;
   }
 
   -- other orders that come to the same were sent
@@ -92,6 +104,8 @@ module _ {A K : Type 0} where
     accepted_are = p.accepted_are ∙ envelopes;
     system_sent = p.system_sent ∙ ap (λ l. reverse l ++ addressed_system (pass_view a.inner.registrar.pass).sent_system) terminates;
     log_kept = p.log_kept;
+    share = p.share;
+    gives_back = p.gives_back;
   }
 
   -- an order that says so was sent no time
@@ -106,34 +120,44 @@ module _ {A K : Type 0} where
       (over-more n (envelopes_of_one to what)) (over-more n (terminates_of_one to what))
       (sent-then (order_for to what n ∷ []) (order_for to what 1 ∷ []) a b c before more)
 
-  -- it sent no envelope and no system message since
+  -- it sent no envelope and no system message since, kept its share, and gave each cell back as it was taken
   pub sent-still : (xs : List Order) (a b c : Sender A K) → c.inner.send_log ≡ b.inner.send_log
       → (pass_view c.inner.registrar.pass).sent_system ≡ (pass_view b.inner.registrar.pass).sent_system
-      → IsPart (pass_view b.inner.registrar.pass).log (pass_view c.inner.registrar.pass).log → HasSent xs a b → HasSent xs a c
-  sent-still xs a b c send_log same saw p = record {
+      → IsPart (pass_view b.inner.registrar.pass).log (pass_view c.inner.registrar.pass).log
+      → (pass_view c.inner.registrar.pass).share ≡ (pass_view b.inner.registrar.pass).share
+      → GivesBackUnchanged (pass_view b.inner.registrar.pass) (pass_view c.inner.registrar.pass) → HasSent xs a b → HasSent xs a c
+  sent-still xs a b c send_log same saw share gives_back p = record {
     by = ap (λ k. k.by) send_log ∙ p.by;
     more = p.more;
     posted = ap (λ k. k.posted) send_log ∙ p.posted;
     accepted_are = p.accepted_are;
     system_sent = ap addressed_system same ∙ p.system_sent;
     log_kept = saw-then _ _ _ p.log_kept saw;
+    share = share ∙ p.share;
+    gives_back = unchanged-then _ _ _ p.gives_back gives_back;
   }
 
--- it sees still what it saw, and owes the others what it did
+-- it sees still what it saw, owes the others what it did, has the share that it had, and gave each cell back as it was taken
 pub record GoesOnAt (id : ℕ) (old new : View) : Type 0 where
   pub log_kept : IsPart old.log new.log
   pub others : (other : ℕ) → other ≢ id → obligation_to other new ≡ obligation_to other old
+  pub share : new.share ≡ old.share
+  pub gives_back : GivesBackUnchanged old new
 
 does-at : (id : ℕ) (did : List Observation) (sent : List SentSystem) (old new : View) → Does id did sent old new → GoesOnAt id old new
 does-at id did sent old new does = record {
   log_kept = saw-more (does.looks ++ did) old.log new.log does.log;
   others = does.others;
+  share = does.share;
+  gives_back = does.gives_back;
 }
 
 then-at : (id : ℕ) (a b c : View) → GoesOnAt id a b → GoesOnAt id b c → GoesOnAt id a c
 then-at id a b c p q = record {
   log_kept = saw-then a.log b.log c.log p.log_kept q.log_kept;
   others = λ other ne. q.others other ne ∙ p.others other ne;
+  share = q.share ∙ p.share;
+  gives_back = unchanged-then a b c p.gives_back q.gives_back;
 }
 
 -- an envelope was sent by a tell
@@ -178,6 +202,8 @@ module _ {A K : Type 0} where
         accepted_are = refl;
         system_sent = ap addressed_system one.1;
         log_kept = one.2.log_kept;
+        share = one.2.share;
+        gives_back = one.2.gives_back;
       }
 
 -- a Terminate was sent
@@ -196,6 +222,8 @@ module _ {A K : Type 0} where
     accepted_are = refl;
     system_sent = stop.0;
     log_kept = stop.1.log_kept;
+    share = stop.1.share;
+    gives_back = stop.1.gives_back;
   }
 
 -- a sender that looks at the receiver and still owes all looks that it owed forgets nothing

@@ -4,4 +4,3 @@ pub mod Found
 pub mod Jobs
 pub mod Faults
 pub mod Runs
-pub mod FullJournal

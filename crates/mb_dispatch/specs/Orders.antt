@@ -14,6 +14,7 @@ use Rattle.mb_msg.specs.declared.order.OrderKind.TheVariants.{Tell, Stop}
 use Rattle.mb_gate.specs.Accessors.{pass_view}
 use Rattle.mb_gate.specs.Rule.{IsPart}
 use Rattle.mb_gate.specs.View.{SentSystem}
+use Rattle.mb_register.specs.Views.{GivesBackUnchanged}
 use Rattle.mb_system.specs.declared.sender.Sender.{Sender}
 
 -- the order to send this to that actor, so many times
@@ -56,7 +57,7 @@ addressed_system = map (λ (s : SentSystem). (s.to, s.message))
 module _ {A K : Type 0} where
   -- The sender was answered for the envelopes of these orders, in order, after all that it was answered for before, and for nothing else. It sent
   -- their Terminates, or found the list ended, in order, and sent no other system message; these stand newest first. It still knows what it saw
-  -- before.
+  -- before, kept its share, and gave each cell back as it was taken.
   pub record HasSent (orders : List Order) (old new : Sender A K) : Type 0 where
     pub by : new.inner.send_log.by ≡ old.inner.send_log.by
     pub more : List SentEnvelope
@@ -64,3 +65,5 @@ module _ {A K : Type 0} where
     pub accepted_are : addressed (accepted more) ≡ envelopes_of orders
     pub system_sent : addressed_system (pass_view new.inner.registrar.pass).sent_system ≡ reverse (terminates_of orders) ++ addressed_system (pass_view old.inner.registrar.pass).sent_system
     pub log_kept : IsPart (pass_view old.inner.registrar.pass).log (pass_view new.inner.registrar.pass).log
+    pub share : (pass_view new.inner.registrar.pass).share ≡ (pass_view old.inner.registrar.pass).share
+    pub gives_back : GivesBackUnchanged (pass_view old.inner.registrar.pass) (pass_view new.inner.registrar.pass)

@@ -3,7 +3,7 @@ ghost use Rattle.std.specs.Prelude.{◌≡◌, All, IfErr, MatchResult, OnOk};
 ghost use Rattle.std.specs.List.{AllZip};
 ghost use Rattle.std.specs.Thread.{IsSend, IsSync};
 ghost use Rattle.mb_system.specs.declared.failure.RunError.{RunError as Fault};
-ghost use Rattle.mb_dispatch.specs.Parallel.{FirstZip};
+ghost use Rattle.mb_dispatch.specs.Parallel.{FirstZip, HasEnded, HaveEnded};
 
 use mb_system::RunError;
 use std::sync::Wait;
@@ -31,6 +31,7 @@ pub trait Task<S> {
 /// Does each of these on a thread of its own. Where a thread is refused, another does its work after its own, in their order.
 ///
 /// It answers the first error in their order.
+#[cycle(tasks)]
 pub fn each_in_parallel<R: Threads + Wait + Sync, S: Sync, T: Task<S> + Send>(
     rt: &R,
     shared: &S,
@@ -44,22 +45,35 @@ pub fn each_in_parallel<R: Threads + Wait + Sync, S: Sync, T: Task<S> + Send>(
     let Some((task, others)) = tasks.split_first_mut() else {
         return Ok(());
     };
-    let (rest, first) = join_mut(
+    let (first, rest) = one_beside_others(rt, shared, task, others);
+    first_error(first, rest)
+}
+
+// Does this one on this thread, beside the others.
+#[cycle(tasks)]
+fn one_beside_others<R: Threads + Wait + Sync, S: Sync, T: Task<S> + Send>(
+    rt: &R,
+    shared: &S,
+    one: &mut T,
+    others: &mut [T],
+) -> (Result<(), RunError>, Result<(), RunError>)
+    requires one { T.ready shared.now one.old }
+    requires others { All (T.ready shared.now) others.old }
+    ensures one { HasEnded (T.keeps shared.now) (T.done shared.now) (T.fails shared.now) one.old one.new result.0 }
+    ensures others { HaveEnded (T.keeps shared.now) (T.done shared.now) (T.fails shared.now) others.old others.new result.1 }
+{
+    let (of_others, of_one) = join_mut(
         rt,
         &mut || -> Result<(), RunError>
             requires { IsSync R.row × IsSync S.row × IsSend T.row × All (T.ready shared.now) others.now }
-            ensures { AllZip (T.keeps shared.entry.now) others.entry.now others.exit.now
-                × OnOk result (AllZip (T.done shared.entry.now) others.entry.now others.exit.now)
-                × IfErr result (λ fault. FirstZip (T.done shared.entry.now) (λ old new. T.fails shared.entry.now old new fault) others.entry.now others.exit.now) }
+            ensures { HaveEnded (T.keeps shared.entry.now) (T.done shared.entry.now) (T.fails shared.entry.now) others.entry.now others.exit.now result }
         { each_in_parallel(rt, shared, others) },
         &mut || -> Result<(), RunError>
-            requires { T.ready shared.now task.now }
-            ensures { T.keeps shared.entry.now task.entry.now task.exit.now
-                × OnOk result (T.done shared.entry.now task.entry.now task.exit.now)
-                × IfErr result (λ fault. T.fails shared.entry.now task.entry.now task.exit.now fault) }
-        { task.perform(rt, shared) },
+            requires { T.ready shared.now one.now }
+            ensures { HasEnded (T.keeps shared.entry.now) (T.done shared.entry.now) (T.fails shared.entry.now) one.entry.now one.exit.now result }
+        { one.perform(rt, shared) },
     );
-    first_error(first, rest)
+    (of_one, of_others)
 }
 
 /// Does each of these beside each of those. Where a thread for those is refused, they come after these; none of these waits for
@@ -85,15 +99,11 @@ pub fn both_in_parallel<R: Threads + Wait + Sync, S: Sync, T: Task<S> + Send, U:
         rt,
         &mut || -> Result<(), RunError>
             requires { All (U.ready shared.now) those.now }
-            ensures { AllZip (U.keeps shared.entry.now) those.entry.now those.exit.now
-                × OnOk result (AllZip (U.done shared.entry.now) those.entry.now those.exit.now)
-                × IfErr result (λ fault. FirstZip (U.done shared.entry.now) (λ old new. U.fails shared.entry.now old new fault) those.entry.now those.exit.now) }
+            ensures { HaveEnded (U.keeps shared.entry.now) (U.done shared.entry.now) (U.fails shared.entry.now) those.entry.now those.exit.now result }
         { each_in_parallel(rt, shared, those) },
         &mut || -> Result<(), RunError>
             requires { All (T.ready shared.now) these.now }
-            ensures { AllZip (T.keeps shared.entry.now) these.entry.now these.exit.now
-                × OnOk result (AllZip (T.done shared.entry.now) these.entry.now these.exit.now)
-                × IfErr result (λ fault. FirstZip (T.done shared.entry.now) (λ old new. T.fails shared.entry.now old new fault) these.entry.now these.exit.now) }
+            ensures { HaveEnded (T.keeps shared.entry.now) (T.done shared.entry.now) (T.fails shared.entry.now) these.entry.now these.exit.now result }
         { each_in_parallel(rt, shared, these) },
     );
     (of_these, of_those)

@@ -2,7 +2,7 @@
 ghost use Rattle.std.specs.Prelude.{◌≡◌, [], All};
 
 use crate::seen::see;
-use crate::shown::outcome_text;
+use crate::shown::failed_text;
 use crate::together::Run;
 use heddleorange::run_here;
 use mb_actor::Actor;
@@ -37,5 +37,5 @@ pub fn text_alone<A: Actor, R: Wait>(
 {
     let (plan, orders) = plan_and_sends(alloc, story).ok()?;
     let outcome = run_here(rt, alloc, plan, actors, &orders);
-    outcome_text(alloc, outcome, story.parts.len())
+    failed_text(alloc, outcome, story.parts.len())
 }

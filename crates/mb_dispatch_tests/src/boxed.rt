@@ -34,7 +34,7 @@ fn run_both<R: Wait>(
     planned.add(ActorPlan::child_of(alloc, ActorId(0)), first)?;
     planned.add(ActorPlan::child_of(alloc, ActorId(0)), second)?;
     let sends = vec![in alloc; sends_of(alloc, SENDS)?]?;
-    planned.run_here(rt, alloc, &sends)
+    Ok(planned.run_here(rt, alloc, &sends)?)
 }
 
 #[test]

@@ -3,7 +3,7 @@ ghost use Rattle.std.specs.Prelude.{◌≡◌, All, IfOk, pos};
 
 use crate::seen::see;
 use heddleorange::{
-    Error, PlanError, PlannedSystem, SETTINGS, dead_letters, handled, journal, state,
+    Error, FailedRun, PlanError, PlannedSystem, SETTINGS, dead_letters, handled, journal, state,
 };
 use mb_msg::{ActorId, ActorPlan, Body, DeadLetter, Envelope, MailboxType, Order, SenderId, Why};
 use mb_report::Report;
@@ -159,11 +159,16 @@ fn read_letters<R: Abort>(rt: &R, report: &Report) {
     assert!(rt; dead_letters(report, id).is_none());
 }
 
+/// The report, or why there is none.
+fn report_of(outcome: Result<Report, FailedRun>) -> Result<Report, Error> {
+    Ok(outcome?)
+}
+
 #[test]
 fn a_planned_system_comes_to_what_is_due_on_one_thread(rt: HostRuntime) -> Result<(), Fail> {
     let sends = orders_of(rt.alloc(), SENDS)?;
     let planned = planned(rt.alloc(), PARTS)?;
-    let report = planned.run_here(&rt, rt.alloc(), &sends)?;
+    let report = report_of(planned.run_here(&rt, rt.alloc(), &sends))?;
     read(&rt, rt.alloc(), &report);
     Ok(())
 }
@@ -172,7 +177,7 @@ fn a_planned_system_comes_to_what_is_due_on_one_thread(rt: HostRuntime) -> Resul
 fn a_planned_system_comes_to_what_is_due_on_threads(rt: HostRuntime) -> Result<(), Fail> {
     let sends = orders_of(rt.alloc(), SENDS)?;
     let planned = planned(rt.alloc(), PARTS)?;
-    let report = planned.run_on_threads(&rt, rt.alloc(), &sends)?;
+    let report = report_of(planned.run_on_threads(&rt, rt.alloc(), &sends))?;
     read(&rt, rt.alloc(), &report);
     Ok(())
 }
@@ -196,7 +201,7 @@ fn a_planned_system_takes_sixty_three_actors(rt: HostRuntime) -> Result<(), Fail
     let one_more = add_counter(rt.alloc(), &mut planned);
     see_added(&rt, one_more, Err(Error::BadPlan(PlanError::Actors)));
     let sends = orders_of(rt.alloc(), &[tell!(63, ADD, 5)])?;
-    let report = planned.run_here(&rt, rt.alloc(), &sends)?;
+    let report = report_of(planned.run_here(&rt, rt.alloc(), &sends))?;
     see_state(&rt, &report, ActorId(63), Some(5));
     see_state(&rt, &report, ActorId(64), None);
     Ok(())

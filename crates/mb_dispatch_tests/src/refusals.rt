@@ -1,6 +1,8 @@
 //! Runs that are refused, or broken off: each error in which a whole run with ample memory was seen to end, on one thread and on
 //! threads.
-use heddleorange::{Error, PlanError, RunError, run_here, run_on_threads};
+use heddleorange::{
+    Error, FailedRun, PlanError, RunError, UnfinishedActor, run_here, run_on_threads,
+};
 use mb_msg::ActorId;
 use mb_report::Report;
 use mb_testkit::{
@@ -8,16 +10,19 @@ use mb_testkit::{
     tell, test_actors_of,
 };
 use std::alloc::{AllocError, Global};
+use std::process::Abort;
 use std::sync::Wait;
 use std::thread::Threads;
 
-/// A plan, the actors that are handed in for it, what each sender is to send, and why there is no report.
+/// A plan, the actors that are handed in for it, what each sender is to send, why there is no report, and how many entries the journal
+/// has of each actor that is left.
 #[derive(Clone, Copy)]
 struct Refusal {
     plan: TestCase<'static>,
     actors: &'static [TestActorPlan],
     sends: &'static [&'static [Order]],
     why: Error,
+    left: &'static [usize],
 }
 
 /// A right plan of one actor and of one sender.
@@ -32,6 +37,7 @@ const WITHOUT_ORDERS: Refusal = Refusal {
     actors: &[COUNTER],
     sends: &[],
     why: Error::Sends,
+    left: &[],
 };
 
 /// Its own child.
@@ -146,6 +152,7 @@ const BAD_ORDERS: &[Refusal] = &[
         },
         sends: &[&[tell!(1, ADD, 1), tell!(1, ADD, 2)]],
         why: Error::Run(RunError::JournalFull),
+        left: &[1, 2],
         ..WITHOUT_ORDERS
     },
 ];
@@ -159,36 +166,54 @@ fn lists_of(alloc: Global, sends: &[&[Order]]) -> Result<Vec<Vec<Order>>, AllocE
     Ok(lists)
 }
 
-fn run_alone<R: Wait>(rt: &R, alloc: Global, refusal: &Refusal) -> Result<Report, Error> {
+/// What came of a run, where there was memory for the test.
+type Outcome = Result<Result<Report, FailedRun>, AllocError>;
+
+fn run_alone<R: Wait>(rt: &R, alloc: Global, refusal: &Refusal) -> Outcome {
     let plan = plan_of(alloc, &refusal.plan)?;
     let actors = test_actors_of(alloc, refusal.actors)?;
     let sends = lists_of(alloc, refusal.sends)?;
-    run_here(rt, alloc, plan, actors, &sends)
+    Ok(run_here(rt, alloc, plan, actors, &sends))
 }
 
-fn run_together<R: Threads + Wait + Sync>(
-    rt: &R,
-    alloc: Global,
-    refusal: &Refusal,
-) -> Result<Report, Error> {
+fn run_together<R: Threads + Wait + Sync>(rt: &R, alloc: Global, refusal: &Refusal) -> Outcome {
     let plan = plan_of(alloc, &refusal.plan)?;
     let actors = test_actors_of(alloc, refusal.actors)?;
     let sends = lists_of(alloc, refusal.sends)?;
-    run_on_threads(rt, alloc, plan, actors, &sends)
+    Ok(run_on_threads(rt, alloc, plan, actors, &sends))
+}
+
+/// How many entries the journal of this actor has, if it is left.
+fn entries(actor: Option<&Option<UnfinishedActor>>) -> Option<usize> {
+    match actor {
+        Some(Some(actor)) => Some(actor.journal.len()),
+        _ => None,
+    }
+}
+
+/// The run has no report for the reason that is due, and what is left of its actors is as is due.
+fn see_refused<R: Abort>(rt: &R, refusal: &Refusal, outcome: Outcome) {
+    let Ok(Err(failed)) = outcome else {
+        assert!(rt; false, "it is not refused");
+        return;
+    };
+    assert_eq!(rt; failed.error, refusal.why);
+    assert_eq!(rt; failed.actors.len(), refusal.left.len());
+    for (number, due) in refusal.left.iter().enumerate() {
+        assert_eq!(rt; entries(failed.actors.get(number)), Some(*due));
+    }
 }
 
 #[test]
 fn a_run_on_one_thread_is_refused_for_its_first_reason(rt: HostRuntime) {
     for refusal in BAD_PLANS.iter().chain(BAD_ORDERS) {
-        let refused = run_alone(&rt, rt.alloc(), refusal).err();
-        assert_eq!(rt; refused, Some(refusal.why));
+        see_refused(&rt, refusal, run_alone(&rt, rt.alloc(), refusal));
     }
 }
 
 #[test]
 fn a_run_on_threads_is_refused_for_its_first_reason(rt: HostRuntime) {
     for refusal in BAD_PLANS.iter().chain(BAD_ORDERS) {
-        let refused = run_together(&rt, rt.alloc(), refusal).err();
-        assert_eq!(rt; refused, Some(refusal.why));
+        see_refused(&rt, refusal, run_together(&rt, rt.alloc(), refusal));
     }
 }

@@ -28,7 +28,7 @@ fn run_once<R: Wait>(rt: &R, alloc: Global, story: &TestCase<'_>) -> Result<Repo
     let plan = plan_of(alloc, story)?;
     let actors = test_actors_of(alloc, story.parts)?;
     let sends = orders(alloc)?;
-    run_here(rt, alloc, plan, actors, &sends)
+    Ok(run_here(rt, alloc, plan, actors, &sends)?)
 }
 
 /// The report of the run, which is made again where memory was refused.

@@ -1,5 +1,5 @@
 //! Answers of the dispatcher, and of whole runs, as texts.
-use heddleorange::Error;
+use heddleorange::{Error, FailedRun};
 use mb_dispatch::{Look, Put, RunError, SendError, Turn};
 use mb_report::Report;
 use mb_testkit::{add, text_of};
@@ -10,6 +10,18 @@ pub fn outcome_text(alloc: Global, outcome: Result<Report, Error>, count: usize)
     match outcome {
         Ok(report) => text_of(alloc, &report, count),
         Err(error) => format!(in alloc; "{error:?}").ok(),
+    }
+}
+
+/// The same of a whole run that shows what is left of its actors.
+pub fn failed_text(
+    alloc: Global,
+    outcome: Result<Report, FailedRun>,
+    count: usize,
+) -> Option<String> {
+    match outcome {
+        Ok(report) => text_of(alloc, &report, count),
+        Err(failed) => outcome_text(alloc, Err(failed.error), count),
     }
 }
 

@@ -2,7 +2,7 @@
 ghost use Rattle.std.specs.Prelude.{◌≡◌, [], All};
 
 use crate::seen::see;
-use crate::shown::outcome_text;
+use crate::shown::failed_text;
 use heddleorange::run_on_threads;
 use mb_actor::Actor;
 use mb_testkit::{TestCase, plan_and_sends, test_actors_of};
@@ -44,5 +44,5 @@ pub fn text_together<A: Actor + Send, R: Threads + Wait + Sync>(
 {
     let (plan, orders) = plan_and_sends(alloc, story).ok()?;
     let outcome = run_on_threads(rt, alloc, plan, actors, &orders);
-    outcome_text(alloc, outcome, story.parts.len())
+    failed_text(alloc, outcome, story.parts.len())
 }

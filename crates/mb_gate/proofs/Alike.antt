@@ -1,14 +1,15 @@
 -- Two ways to give a cell home tell the pass the same.
-use Rattle.std.proofs.Common.{◌≡◌, ◌≢◌, ⊎_elim, ℕ, Bool, true, false, ◌||◌, List, ◌∷◌, ◌++◌, sym, refl, ap, ◌∙◌, subst, None, arith}
+use Rattle.std.proofs.Common.{◌≡◌, ◌≢◌, ⊎_elim, ℕ, Bool, true, false, ◌||◌, List, ◌∷◌, ◌++◌, sym, refl, ap, ◌∙◌, subst, arith}
 use mathlib.Core.Logic.{dite}
 use native.Mathlib.Decide.{ℕ_discrete}
 use Rattle.mb_journal.specs.Entry.{Entry}
 use Rattle.mb_core.specs.declared.debt.WakeObligation.{WakeObligation}
 use Rattle.mb_ghost.specs.Summed.{total}
 use Rattle.mb_ghost.proofs.SummedLemmas.{total_append}
-use Rattle.mb_gate.specs.View.{View, Observation, Saw, obligation_to, either_obligation, idling, taking_in, taking_over}
+use Rattle.mb_gate.specs.View.{View, Observation, Saw, Release, obligation_to, either_obligation, taken_journal, idling, taking_in, taking_over}
 use Rattle.mb_gate.specs.Rule.{IsAmong}
 use Rattle.mb_gate.specs.Waiting.{counted_on, counted_off}
+use Rattle.mb_gate.specs.Releases.{taken_in_release, back_in_release}
 use Rattle.mb_gate.specs.Shown.{ReleasesAlike}
 use Rattle.mb_gate.proofs.Numbers.{among_first, among_more, among_left, among_right}
 use Rattle.mb_gate.proofs.OneNumber.{first_or_rest, among_either}
@@ -21,7 +22,7 @@ swapped s x a b is = ⊎_elim (λ e. subst (λ z. IsAmong z (x ∷ (b ++ a))) e 
     (λ rest. among_more s x (b ++ a) (⊎_elim (λ l. among_right s b a l) (λ r. among_left s b a r) (among_either s a b rest)))
     (first_or_rest s x (a ++ b) is)
 
-swapped_total : (f : Observation → ℕ) (x : Observation) (a b : List Observation) → total f (x ∷ (a ++ b)) ≡ total f (x ∷ (b ++ a))
+swapped_total : {A : Type 0} (f : A → ℕ) (x : A) (a b : List A) → total f (x ∷ (a ++ b)) ≡ total f (x ∷ (b ++ a))
 swapped_total f x a b = let one = total_append f a b in let other = total_append f b a in omega arith
 
 or_swapped : (a b : Bool) → (a || b) ≡ (b || a)
@@ -43,11 +44,11 @@ idled_here : (actor : ℕ) (journal : List Entry) (v : View) → obligation_to a
   message = true;
 }
 idled_here actor journal v = owes_here actor (record (obligation_to actor v) { system = true; message = true })
-    (record v { log = Saw actor journal ∷ v.log; claim = None; returned = actor ∷ v.returned })
+    v
 
 idled_else : (actor other : ℕ) (journal : List Entry) (v : View) → other ≢ actor → obligation_to other (idling actor journal v) ≡ obligation_to other v
 idled_else actor other journal v n = owes_else actor other (record (obligation_to actor v) { system = true; message = true })
-    (record v { log = Saw actor journal ∷ v.log; claim = None; returned = actor ∷ v.returned }) n
+    v n
 
 module _ (claim pass : View) (actor : ℕ) (journal : List Entry) where
   abbrev before : View
@@ -80,4 +81,8 @@ alike claim pass actor journal = record {
   off = λ a. swapped_total (counted_off a) (Saw actor journal) pass.log claim.log;
   sent_system = refl;
   owed = owed_by claim pass actor journal;
+  releases = λ a q. let r : Release = record { actor = actor; taken = taken_journal claim.claim; back = journal } in (
+    swapped_total (taken_in_release a q) r pass.releases claim.releases,
+    swapped_total (back_in_release a q) r pass.releases claim.releases,
+  );
 }

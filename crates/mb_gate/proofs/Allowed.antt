@@ -143,7 +143,8 @@ use Rattle.mb_gate.specs.TableSteps.{
   Idles,
 }
 use Rattle.mb_ghost.specs.Seen.{Each}
-use Rattle.mb_gate.specs.Claims.{IsKnownClosed}
+use Rattle.mb_gate.specs.Returned.{GoesOn}
+use Rattle.mb_gate.specs.Claims.{held_or, ClaimGoesOn, IsKnownClosed}
 use Rattle.mb_gate.proofs.Numbers.{length_numbered}
 use Rattle.mb_gate.proofs.Views.{drained_nothing}
 use Rattle.mb_gate.proofs.StatusSteps.{reads, is_home, is_held, schedules, writes, idles, idles_closed}
@@ -152,6 +153,7 @@ use Rattle.mb_gate.proofs.ListSteps.{is_shelved, is_lent, grips, enlists, unload
 use Rattle.mb_gate.proofs.Parting.{parts, takes_over, each_without, no_counts_on, no_counts_off, no_puts, vouches_without}
 use Rattle.mb_gate.specs.Waiting.{on_by, off_by}
 use Rattle.mb_gate.specs.PutIn.{put_by}
+use Rattle.mb_gate.specs.Releases.{taken_by, back_by}
 use Rattle.mb_gate.specs.ClaimCounts.{claims_got, claims_returned, IsOwnBalance, WasHeldBy}
 use Rattle.mb_gate.proofs.Whole.{own_balance, was_held}
 use Rattle.mb_gate.specs.Lists.{may_lock_list}
@@ -319,6 +321,21 @@ module _ {H : Type 0} (is_of : ℕ → H → Type 0) (facts : H → HomeFacts) w
         | Ended a given ↦ (λ h e. unshut (ended (h e).0))
       ]) k.seen
 
+  goes_on_from : (actor : ℕ) (x : Place) (v : View) → Knows actor x v → Each (GoesOn actor x.ghost.journal) v.log
+  goes_on_from actor x v k = each_weaker (ObservationHolds actor x) (GoesOn actor x.ghost.journal) v.log
+      (λ s. elim s as (λ z. ObservationHolds actor x z → GoesOn actor x.ghost.journal z) [
+        | Read a word ↦ (λ h. tt)
+        | Saw a j ↦ (λ h. h)
+        | Counted a n ↦ (λ h. h)
+        | Looked a b ↦ (λ h. h)
+        | Sent a n ↦ (λ h. h)
+        | Unsent a n ↦ (λ h. h)
+        | Took a n ↦ (λ h. h)
+        | Pushed a n m ↦ (λ h. tt)
+        | Drained a given ↦ (λ h. tt)
+        | Ended a given ↦ (λ h. tt)
+      ]) k.seen
+
   shown_by : (x : Place) (lent_to : Option (ℕ × Lent)) → ListPlace is_of facts x lent_to
       → has_work x.ghost ≡ shows_work (x.row Gate)
   shown_by x None k = sym (ap shows_work k.word ∙ marked false x.ghost.listed x.ghost.gave)
@@ -394,13 +411,23 @@ module _ {H : Type 0} (is_of : ℕ → H → Type 0) (facts : H → HomeFacts) w
               change),
         )))
 
-    told_idle : (home : H) (st : Step (Slot H)) (k : ℕ) → me.1 ≡ (slot_at actor 0, Home home) ∷ [] → IsIdleWord st actor k me.0 → Idles facts st me k
-        (idling actor (facts home).journal me.0, [])
-    told_idle home st k carried bit a other other_carried =
+    claim_goes_on : (c : Held) (x : Place) (vs : List View) → F n actor x vs → get_elem? vs id ≡ some me.0 → me.0.claim ≡ Some c → c.actor ≡ actor
+        → ClaimGoesOn actor me.0
+    claim_goes_on c x vs f at has of = subst (λ j. Each (GoesOn actor j) me.0.log)
+        (sym (ap (λ z. (held_or z).journal) has ∙ (is_held is_of facts n actor id x vs me.0 c f at has of).1.taken))
+        (goes_on_from actor x me.0 (f.seen id me.0 at))
+
+    told_idle : (home : H) (st : Step (Slot H)) (k : ℕ) → me.1 ≡ (slot_at actor 0, Home home) ∷ [] → IsIdleWord st actor k me.0 → ClaimGoesOn actor me.0
+        → Idles facts st me k (idling actor (facts home).journal me.0, [])
+    told_idle home st k carried bit further a other other_carried =
         let same : (slot_at actor 0, Home home) ≡ (slot_at a 0, Home other) = first_same _ _ (sym carried ∙ other_carried) in
         let where_is : slot_at actor 0 ≡ slot_at a 0 = ap (λ (z : ℕ × Slot H). z.0) same in
         let what : home ≡ other = home_same home other (ap (λ (z : ℕ × Slot H). z.1) same) in
-        let who : actor ≡ a = omega arith in ((λ z. (idling (who z) (facts (what z)).journal me.0, [])), subst (λ b. IsIdleWord st b k me.0) who bit)
+        let who : actor ≡ a = omega arith in (
+          (λ z. (idling (who z) (facts (what z)).journal me.0, [])),
+          subst (λ b. IsIdleWord st b k me.0) who bit,
+          subst (λ b. ClaimGoesOn b me.0) who further,
+        )
 
     pub idles_allowed : (c : Held) (home : H) (new : ℕ) → i ≡ word_at actor 8 → me.0.claim ≡ Some c → c.actor ≡ actor → me.1 ≡ (
       slot_at actor 0,
@@ -421,7 +448,7 @@ module _ {H : Type 0} (is_of : ℕ → H → Type 0) (facts : H → HomeFacts) w
           (λ _. ap (λ (h : Held). h.word) (some_same c' c (sym has' ∙ has)) ∙ bit (let h = (is_held is_of facts n actor id x vs me.0 c f at has of).1 in
               ⊎_elim (λ two. ap (λ k. k % 4) (sym h.word) ∙ two) (λ one. absurd (unshut (sym h.word ∙ one))) h.busy)),
           (λ flag. absurd (omega arith)),
-        )))))
+        )) (claim_goes_on c x vs f at has of))))
 
     pub idles_closed_allowed : (c : Held) (home : H) → i ≡ word_at actor 7 → me.0.claim ≡ Some c → c.actor ≡ actor → me.1 ≡ (
       slot_at actor 0,
@@ -439,7 +466,7 @@ module _ {H : Type 0} (is_of : ℕ → H → Type 0) (facts : H → HomeFacts) w
         (told_idle home (step slots (word_at actor 7) 1 0 none) 1 carried (λ c' has'. (
           (λ status. absurd (omega arith)),
           (λ _. ap (λ (h : Held). h.word) (some_same c' c (sym has' ∙ has)) ∙ closed),
-        )))))
+        )) (claim_goes_on c x vs f at has of))))
 
     pub sends_allowed : (g : ℕ → ℕ) (k : ℕ) → ((w : ℕ) → g w % 2 ^ 64 ≡ (w + k) % 2 ^ 64) → is_some_item me.0.share ≡ true → i ≡ word_at actor 0
         → Allows (Rule n) slots id me i g (CountsSent (step slots i k 0 none) me)
@@ -677,6 +704,7 @@ module _ {H : Type 0} (is_of : ℕ → H → Type 0) (facts : H → HomeFacts) w
           put = λ q. no_more (put_by a q v) _ (no_puts a q v.log);
           got = no_more (claims_got a v) 0 refl;
           back = no_more (claims_returned a v) 0 refl;
+          releases = λ q. (no_more (taken_by a q v) 0 refl, no_more (back_by a q v) 0 refl);
         })
         (λ e l r. record { fits = halves_fit e v.share l; amounts = halves_amount e v.share l })
         (λ a bare. absurd (no_share (halved v.share) (some_halved v.share share) bare)) (λ a bare. absurd (no_share (half_of v.share) (some_half
@@ -697,6 +725,7 @@ module _ {H : Type 0} (is_of : ℕ → H → Type 0) (facts : H → HomeFacts) w
           put = λ q. none_more (put_by a q v);
           got = none_more (claims_got a v);
           back = none_more (claims_returned a v);
+          releases = λ q. (none_more (taken_by a q v), none_more (back_by a q v));
         })
         (λ e l r. record {
           fits = halves_fit e v.share r;
@@ -716,9 +745,10 @@ module _ {H : Type 0} (is_of : ℕ → H → Type 0) (facts : H → HomeFacts) w
           put = λ q. none_more (put_by a q v);
           got = none_more (claims_got a v);
           back = none_more (claims_returned a v);
+          releases = λ q. (none_more (taken_by a q v), none_more (back_by a q v));
         })
         (λ e l r. record { fits = r; amounts = none_more (amount e v.share) })
-        (λ a bare. record { got = refl; back = refl; on = refl; rest = λ _. (refl, refl, λ q. refl) }) (λ a bare. absurd (no_share v.share share bare))
+        (λ a bare. record { got = refl; back = refl; releases = λ q. (refl, refl); on = refl; rest = λ _. (refl, refl, λ q. refl) }) (λ a bare. absurd (no_share v.share share bare))
         (λ b p. p) (λ a x k. record { seen = tt; sent_system = tt }) (λ a x k. record { seen = k.seen; sent_system = k.sent_system }))
 
     pub joins_allowed : (v : View) (other : ℕ) (w : View) → w.claim ≡ None → w.list ≡ None → is_some_item w.share ≡ true → Joins (Rule n) id v other

@@ -37,6 +37,7 @@ use Rattle.std.proofs.Common.{
 use mathlib.Core.Option.{some}
 use lib.ListN.{get_elem?}
 use Rattle.mb_msg.specs.declared.system.SysMsg.{SysMsg}
+use Rattle.mb_journal.specs.Entry.{Entry}
 use Rattle.mb_syslist.specs.MessageList.{MessageList, numbered}
 use Rattle.mb_gate.specs.HomeFacts.{HomeFacts}
 use Rattle.mb_gate.specs.declared.slot.Slot.TheVariants.{List as Listing}
@@ -51,6 +52,7 @@ use Rattle.mb_ghost.proofs.SharesLemmas.{shares_stay}
 use Rattle.mb_gate.specs.declared.slot.Slot.{Slot}
 use Rattle.mb_gate.specs.View.{View, Pushed, Held, Lent}
 use Rattle.mb_gate.specs.PutIn.{put_in, put_by, IsAllPut}
+use Rattle.mb_gate.specs.Releases.{taken_by, back_by, taken_in_release, back_in_release, ReleasesAddUp}
 use Rattle.mb_gate.specs.Rule.{
   Word,
   Status,
@@ -85,7 +87,7 @@ use Rattle.mb_gate.specs.Rule.{
 use Rattle.mb_gate.specs.Waiting.{counted_on, on_by, off_by, IsBalance}
 use Rattle.mb_gate.specs.Lists.{may_lock_list}
 use Rattle.mb_gate.specs.ClaimCounts.{times, claims_got, claims_returned, claims_out}
-use Rattle.mb_gate.proofs.Views.{SameAccount, Elsewhere}
+use Rattle.mb_gate.proofs.Views.{SameReleases, SameAccount, Elsewhere}
 
 -- a word that is written as it was leaves the row as it was
 same_word : (row : Word → ℕ) (name w : Word) → write word_offset row name (row name) w ≡ row w
@@ -179,6 +181,25 @@ puts_more actor pushed n m vs id v w at log last all q = sum_more (total (put_by
     id v w at) (ap (total (put_in actor q)) log ∙ ap (λ (b : Bool). (if b then q (n, m) else 0) + put_by actor q v) (eq-eqb actor actor refl)) (all q)
     (ap (total q) last ∙ total_append q (numbered 0 pushed) ((n, m) ∷ []))
 
+-- the releases add up still, where the one that changes gave back no cell
+pub still_released : (actor : ℕ) (journal : List Entry) (vs : List View) (id : ℕ) (v w : View) → get_elem? vs id ≡ some v → SameReleases actor v w
+    → ReleasesAddUp actor journal vs → ReleasesAddUp actor journal (set vs id w)
+still_released actor journal vs id v w at same all q = ap (λ n. n + q []) (total_stays (back_by actor q) vs id v w at (same q).1)
+    ∙ (all q ∙ ap (λ n. n + q journal) (sym (total_stays (taken_by actor q) vs id v w at (same q).0)))
+
+released_sum : (b b' t t' bv bw tv tw none old new : ℕ) → b' + bv ≡ b + bw → t' + tv ≡ t + tw → bw ≡ new + bv → tw ≡ old + tv → b + none ≡ t + old
+    → b' + none ≡ t' + new
+released_sum b b' t t' bv bw tv tw none old new backs takes back taken all = omega arith
+
+-- and where it gave it back with another journal
+pub releases_more : (actor : ℕ) (old new : List Entry) (vs : List View) (id : ℕ) (v w : View) → get_elem? vs id ≡ some v
+    → w.releases ≡ record { actor = actor; taken = old; back = new } ∷ v.releases → ReleasesAddUp actor old vs → ReleasesAddUp actor new (set vs id w)
+releases_more actor old new vs id v w at more all q = released_sum (total (back_by actor q) vs) (total (back_by actor q) (set vs id w)) (total (taken_by
+    actor q) vs) (total (taken_by actor q) (set vs id w)) (back_by actor q v) (back_by actor q w) (taken_by actor q v) (taken_by actor q w) (q []) (q
+    old) (q new) (total_set (back_by actor q) vs id v w at) (total_set (taken_by actor q) vs id v w at)
+    (ap (total (back_in_release actor q)) more ∙ ap (λ (b : Bool). (if b then q new else 0) + back_by actor q v) (eq-eqb actor actor refl))
+    (ap (total (taken_in_release actor q)) more ∙ ap (λ (b : Bool). (if b then q old else 0) + taken_by actor q v) (eq-eqb actor actor refl)) (all q)
+
 -- and what a seat without a share has, where the one that changes has no more
 pub still_bare : (actor : ℕ) (vs : List View) (id : ℕ) (v w : View) → get_elem? vs id ≡ some v → SameAccount actor v w
     → (claim_for actor w ≡ None → claim_for actor v ≡ None) → (list_for actor v ≡ None → list_for actor w ≡ None) → EachBare actor vs
@@ -188,18 +209,20 @@ still_bare actor vs id v w at same claim list bare = learns (λ (u : View). u.sh
     u) vs id w (λ u k. k) (λ none. let b = bare id v at (sym same.share ∙ none) in record {
       got = same.got ∙ b.got;
       back = same.back ∙ b.back;
+      releases = λ q. ((same.releases q).0 ∙ (b.releases q).0, (same.releases q).1 ∙ (b.releases q).1);
       on = same.on ∙ b.on;
       rest = λ c. (list (b.rest (claim c)).0, same.off ∙ (b.rest (claim c)).1, λ q. same.put q ∙ (b.rest (claim c)).2 q);
     }) bare
 
 -- a seat with a claim may have done more to its actor
 pub claimed_bare : (actor : ℕ) (vs : List View) (id : ℕ) (v w : View) (c : Held) → get_elem? vs id ≡ some v → claim_for actor w ≡ Some c → w.share ≡
-    v.share → claims_got actor w ≡ claims_got actor v → claims_returned actor w ≡ claims_returned actor v → on_by actor w ≡ on_by actor v → EachBare actor vs → EachBare
-    actor (set vs id w)
-claimed_bare actor vs id v w c at has share got back on bare = learns (λ (u : View). u.share ≡ [] → IsBare actor u) (λ (u : View). u.share ≡ [] →
+    v.share → claims_got actor w ≡ claims_got actor v → claims_returned actor w ≡ claims_returned actor v → SameReleases actor v w → on_by actor w ≡ on_by actor v
+    → EachBare actor vs → EachBare actor (set vs id w)
+claimed_bare actor vs id v w c at has share got back releases on bare = learns (λ (u : View). u.share ≡ [] → IsBare actor u) (λ (u : View). u.share ≡ [] →
     IsBare actor u) vs id w (λ u k. k) (λ none. let b = bare id v at (sym share ∙ none) in record {
       got = got ∙ b.got;
       back = back ∙ b.back;
+      releases = λ q. ((releases q).0 ∙ (b.releases q).0, (releases q).1 ∙ (b.releases q).1);
       on = on ∙ b.on;
       rest = λ n. absurd (some_none c (sym has ∙ n));
     }) bare
@@ -210,11 +233,12 @@ claimed_bare actor vs id v w c at has share got back on bare = learns (λ (u : V
 -- and so may one that has the list, which has a share or the claim
 pub lister_bare : (actor : ℕ) (vs : List View) (id : ℕ) (v w : View) (l : Lent) → get_elem? vs id ≡ some v → list_for actor v ≡ Some l → claim_for
     actor w ≡ claim_for actor v → w.share ≡ v.share → claims_got actor w ≡ claims_got actor v → claims_returned actor w ≡ claims_returned actor v
-    → on_by actor w ≡ on_by actor v → EachBare actor vs → EachBare actor (set vs id w)
-lister_bare actor vs id v w l at has claim share got back on bare = learns (λ (u : View). u.share ≡ [] → IsBare actor u) (λ (u : View). u.share ≡ []
+    → SameReleases actor v w → on_by actor w ≡ on_by actor v → EachBare actor vs → EachBare actor (set vs id w)
+lister_bare actor vs id v w l at has claim share got back releases on bare = learns (λ (u : View). u.share ≡ [] → IsBare actor u) (λ (u : View). u.share ≡ []
     → IsBare actor u) vs id w (λ u k. k) (λ none. let b = bare id v at (sym share ∙ none) in record {
       got = got ∙ b.got;
       back = back ∙ b.back;
+      releases = λ q. ((releases q).0 ∙ (b.releases q).0, (releases q).1 ∙ (b.releases q).1);
       on = on ∙ b.on;
       rest = λ n. absurd (none_some l (sym (b.rest (sym claim ∙ n)).0 ∙ has));
     }) bare
@@ -230,11 +254,12 @@ no_share share has none = false_true (sym (ap is_some_item none) ∙ has)
 
 -- and one that has a share or the claim may have the list
 pub gripper_bare : (actor : ℕ) (vs : List View) (id : ℕ) (v w : View) → get_elem? vs id ≡ some v → w.claim ≡ v.claim → w.log ≡ v.log → w.share ≡
-    v.share → (w.got ≡ v.got) × (w.returned ≡ v.returned) → may_lock_list actor v ≡ true → EachBare actor vs → EachBare actor (set vs id w)
-gripper_bare actor vs id v w at claim log share claims_balance may bare = learns (λ (u : View). u.share ≡ [] → IsBare actor u) (λ (u : View). u.share ≡ [] →
+    v.share → (w.got ≡ v.got) × (w.returned ≡ v.returned) → w.releases ≡ v.releases → may_lock_list actor v ≡ true → EachBare actor vs → EachBare actor (set vs id w)
+gripper_bare actor vs id v w at claim log share claims_balance releases may bare = learns (λ (u : View). u.share ≡ [] → IsBare actor u) (λ (u : View). u.share ≡ [] →
     IsBare actor u) vs id w (λ u k. k) (λ none. let b = bare id v at (sym share ∙ none) in record {
       got = ap (times actor) claims_balance.0 ∙ b.got;
       back = ap (times actor) claims_balance.1 ∙ b.back;
+      releases = λ q. (ap (total (taken_in_release actor q)) releases ∙ (b.releases q).0, ap (total (back_in_release actor q)) releases ∙ (b.releases q).1);
       on = ap (total (counted_on actor)) log ∙ b.on;
       rest = λ n. absurd (no_claim (ap (held_of actor) (sym claim) ∙ n) (sym share ∙ none));
     }) bare
@@ -317,6 +342,7 @@ module _ {H : Type 0} (is_of : ℕ → H → Type 0) (facts : H → HomeFacts) (
     listing = f.listing;
     named = f.named;
     put = still_put actor x.ghost.pushed vs id v w at account.put f.put;
+    releases = still_released actor x.ghost.journal vs id v w at account.releases f.releases;
     was_pushed = f.was_pushed;
     balance = still_balanced actor (x.row Waiting) vs id v w at account f.balance;
     claims_balance = still_claims actor x.ghost.holder x.ghost.holder vs id v w at account.got account.back refl f.claims_balance;

@@ -98,7 +98,7 @@ module _ {H : Type 0} (is_of : ℕ → H → Type 0) (facts : H → HomeFacts) (
     claim = refl;
     list = refl;
     debt = refl;
-    account = counts_no_more other (Read actor word) v (reading_held actor word v) refl (refl, refl, λ q. refl) refl refl refl;
+    account = counts_no_more other (Read actor word) v (reading_held actor word v) refl (refl, refl, λ q. refl) refl refl refl (λ q. (refl, refl));
     vouches = λ a. among_more (Read a 1) (Read actor word) v.log;
     knows = λ x k. record { seen = ((λ e _. absurd (apart (sym e))), k.seen); sent_system = k.sent_system };
   }
@@ -112,7 +112,7 @@ module _ {H : Type 0} (is_of : ℕ → H → Type 0) (facts : H → HomeFacts) (
     kept = x.ghost;
     is_able = tt;
     holds = load_here is_of facts n actor x (set vs id w) Status
-        (views_change is_of facts n actor x vs id v w at refl refl (counts_no_more actor (Read actor r) v w refl (refl, refl, λ q. refl) refl refl refl)
+        (views_change is_of facts n actor x vs id v w at refl refl (counts_no_more actor (Read actor r) v w refl (refl, refl, λ q. refl) refl refl refl (λ q. (refl, refl)))
         (λ _ p. p) (λ _ p. p) (λ k. record { seen = ((λ _ one. one), k.seen); sent_system = k.sent_system })
         (λ b. among_more (Read b 1) (Read actor r) v.log) f);
     others = λ a apart y g. elsewhere is_of facts n a y vs id v w at (reading_held_elsewhere actor a r v apart) g;

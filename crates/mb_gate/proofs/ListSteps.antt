@@ -104,7 +104,7 @@ use Rattle.mb_gate.proofs.Views.{
 }
 use Rattle.mb_gate.proofs.Numbers.{among_more, each_part, pushed_so, pushed_last, part_so, length_numbered}
 use Rattle.mb_gate.specs.Waiting.{on_by, off_by}
-use Rattle.mb_gate.proofs.Facts.{still_kept, still_balanced, same_balance, still_claims, still_held, still_put, puts_more, lister_bare, claimed_bare, gripper_bare, views_change, elsewhere, load_here}
+use Rattle.mb_gate.proofs.Facts.{still_kept, still_balanced, same_balance, still_claims, still_held, still_put, still_released, puts_more, lister_bare, claimed_bare, gripper_bare, views_change, elsewhere, load_here}
 use Rattle.mb_gate.proofs.StatusSteps.{is_held}
 
 none_more : (m : ℕ) → 0 + m ≡ m
@@ -188,13 +188,14 @@ module _ {H : Type 0} (is_of : ℕ → H → Type 0) (facts : H → HomeFacts) (
           listing = f.listing;
           named = f.named;
           put = still_put actor x.ghost.pushed vs id v w at (λ q. refl) f.put;
+          releases = still_released actor x.ghost.journal vs id v w at (λ q. (refl, refl)) f.releases;
           was_pushed = f.was_pushed;
-          balance = still_balanced actor (x.row Waiting) vs id v w at (record { on = refl; off = refl; put = λ q. refl; share = refl; got = refl; back = refl })
+          balance = still_balanced actor (x.row Waiting) vs id v w at (record { on = refl; off = refl; put = λ q. refl; share = refl; got = refl; back = refl; releases = λ q. (refl, refl) })
               f.balance;
           claims_balance = still_claims actor x.ghost.holder x.ghost.holder vs id v w at refl refl refl f.claims_balance;
           held = still_held actor (x.row Status) (x.row Status) vs id v w at refl (λ one. one) f.held;
           shares = shares_stay (λ (u : View). u.share) vs id v w at refl f.shares;
-          bare = gripper_bare actor vs id v w at refl refl refl (refl, refl) may f.bare;
+          bare = gripper_bare actor vs id v w at refl refl refl (refl, refl) refl may f.bare;
           was_seen_closed = λ b. still_owed (HasSeenClosed b) (IsAmong b x.ghost.closed_to) (IsAmong b x.ghost.closed_to) vs id v w at (λ d. d) (λ _ p. p)
               (f.was_seen_closed b);
           message = still_owed (HasMessageObligation actor) (MessageDue x) (MessageDue y) vs id v w at (λ d. d) (λ _ p. p) f.message;
@@ -207,7 +208,7 @@ module _ {H : Type 0} (is_of : ℕ → H → Type 0) (facts : H → HomeFacts) (
               claim = refl;
               list = lent_else a l (λ e. n (sym e)) ∙ sym (ap (lent_of a) bare);
               debt = refl;
-              account = record { on = refl; off = refl; put = λ q. refl; share = refl; got = refl; back = refl };
+              account = record { on = refl; off = refl; put = λ q. refl; share = refl; got = refl; back = refl; releases = λ q. (refl, refl) };
               vouches = λ b p. p;
               knows = λ _ s. record {
                 seen
@@ -271,12 +272,14 @@ module _ {H : Type 0} (is_of : ℕ → H → Type 0) (facts : H → HomeFacts) (
           named = All-push (NamesBelow actors) l.listed.messages m (subst (λ (z : MessageList). All (NamesBelow actors) z.messages) (sym h.1.taken)
               f.named) names;
           put = puts_more actor x.ghost.pushed (pushed l.listed) m vs id v w at refl (pushed_last x.ghost l.listed m h.1.taken f.listing) f.put;
+          releases = still_released actor x.ghost.journal vs id v w at (λ q. (refl, refl)) f.releases;
           was_pushed = pushed_on x y grows x.ghost.drained f.was_pushed;
           balance = same_balance actor (x.row Waiting) vs id v w at (none_more (on_by actor v)) (none_more (off_by actor v)) f.balance;
           claims_balance = still_claims actor x.ghost.holder x.ghost.holder vs id v w at refl refl refl f.claims_balance;
           held = still_held actor (x.row Status) (x.row Status) vs id v w at refl (λ one. one) f.held;
           shares = shares_stay (λ (u : View). u.share) vs id v w at refl f.shares;
-          bare = lister_bare actor vs id v w l at (ap (lent_of actor) has ∙ lent_here actor l of) refl refl refl refl (none_more (on_by actor v)) f.bare;
+          bare = lister_bare actor vs id v w l at (ap (lent_of actor) has ∙ lent_here actor l of) refl refl refl refl
+              (λ q. (refl, refl)) (none_more (on_by actor v)) f.bare;
           was_seen_closed = λ b. still_owed (HasSeenClosed b) (IsAmong b x.ghost.closed_to) (IsAmong b x.ghost.closed_to) vs id v w at (λ d. d)
               (λ _. among_more (Read b 1) (Pushed actor (pushed l.listed) m) v.log) (f.was_seen_closed b);
           message = still_owed (HasMessageObligation actor) (MessageDue x) (MessageDue y) vs id v w at (λ z. z) (λ _. subst (λ (z : WakeObligation). IsTrue
@@ -304,7 +307,7 @@ module _ {H : Type 0} (is_of : ℕ → H → Type 0) (facts : H → HomeFacts) (
               list = sym (ap (lent_of a) has ∙ lent_else a l (λ e. k (sym e ∙ of)));
               debt = owes_else actor a d u k;
               account = counts_no_more a (Pushed actor (pushed l.listed) m) v w refl
-                  (refl, refl, λ q. ap (λ (b : Bool). if b then q (pushed l.listed, m) else 0) (ne_eqb actor a (λ e. k (sym e)))) refl refl refl;
+                  (refl, refl, λ q. ap (λ (b : Bool). if b then q (pushed l.listed, m) else 0) (ne_eqb actor a (λ e. k (sym e)))) refl refl refl (λ q. (refl, refl));
               vouches = λ b. among_more (Read b 1) (Pushed actor (pushed l.listed) m) v.log;
               knows
                   = λ _ t. record { seen = ((λ e. absurd (k (sym e))), t.seen); sent_system = ((λ e. absurd (k (sym e))), t.sent_system) };
@@ -369,15 +372,16 @@ module _ {H : Type 0} (is_of : ℕ → H → Type 0) (facts : H → HomeFacts) (
                 let before = f.listing.counted in omega arith;
           };
           named = subst (All (NamesBelow actors)) (sym empty) (All-nil (NamesBelow actors));
-          put = still_put actor x.ghost.pushed vs id v w at (counts_no_more actor s v w refl (uncounted actor) refl refl refl).put f.put;
+          put = still_put actor x.ghost.pushed vs id v w at (counts_no_more actor s v w refl (uncounted actor) refl refl refl (λ q. (refl, refl))).put f.put;
+          releases = still_released actor x.ghost.journal vs id v w at (λ q. (refl, refl)) f.releases;
           was_pushed = each_append (WasPushed x.ghost) x.ghost.drained given f.was_pushed
               (each_part given (all_numbered x.ghost) (part_so x.ghost l.listed lent.1.taken f.listing));
-          balance = still_balanced actor (x.row Waiting) vs id v w at (counts_no_more actor s v w refl (uncounted actor) refl refl refl) f.balance;
+          balance = still_balanced actor (x.row Waiting) vs id v w at (counts_no_more actor s v w refl (uncounted actor) refl refl refl (λ q. (refl, refl))) f.balance;
           claims_balance = still_claims actor x.ghost.holder (Some (id, c')) vs id v w at refl refl (sym (ap claims_out h.0)) f.claims_balance;
           held = still_held actor (x.row Status) (x.row Status) vs id v w at refl (λ one. one) f.held;
           shares = shares_stay (λ (u : View). u.share) vs id v w at refl f.shares;
           bare = claimed_bare actor vs id v w c' at (ap (λ z. held_of actor (regiven given gave z)) has ∙ held_here actor c' of) refl refl refl
-              (counts_no_more actor s v w refl (uncounted actor) refl refl refl).on f.bare;
+              (λ q. (refl, refl)) (counts_no_more actor s v w refl (uncounted actor) refl refl refl (λ q. (refl, refl))).on f.bare;
           was_seen_closed = λ b. still_owed (HasSeenClosed b) (IsAmong b x.ghost.closed_to) (IsAmong b x.ghost.closed_to) vs id v w at (λ d. d)
               (λ _. among_more (Read b 1) s v.log) (f.was_seen_closed b);
           message = still_owed (HasMessageObligation actor) (MessageDue x) (MessageDue y) vs id v w at (λ z. z) (λ _ p. p) f.message;
@@ -393,7 +397,7 @@ module _ {H : Type 0} (is_of : ℕ → H → Type 0) (facts : H → HomeFacts) (
               c (λ e. i (sym e ∙ of))));
           list = sym (ap (lent_of a) keeps ∙ lent_else a l (λ e. i (sym e ∙ of_list)));
           debt = refl;
-          account = counts_no_more a s v w refl (uncounted a) refl refl refl;
+          account = counts_no_more a s v w refl (uncounted a) refl refl refl (λ q. (refl, refl));
           vouches = λ b. among_more (Read b 1) s v.log;
           knows = λ q t. record { seen = (so a q (λ e. absurd (i e)), t.seen); sent_system = t.sent_system };
         }) p;
@@ -410,7 +414,7 @@ module _ {H : Type 0} (is_of : ℕ → H → Type 0) (facts : H → HomeFacts) (
     kept = x.ghost;
     is_able = tt;
     holds = load_here is_of facts actors actor x (set vs id w) Gate (views_change is_of facts actors actor x vs id v w at refl
-        refl (record { on = refl; off = refl; put = λ q. refl; share = refl; got = refl; back = refl }) (λ _ p. p) (λ _ p. p) (λ k. record {
+        refl (record { on = refl; off = refl; put = λ q. refl; share = refl; got = refl; back = refl; releases = λ q. (refl, refl) }) (λ _ p. p) (λ _ p. p) (λ k. record {
           seen = k.seen;
           sent_system =
               ((λ _. ((λ _. shut), (λ e. absurd (cc)))), k.sent_system);
@@ -419,7 +423,7 @@ module _ {H : Type 0} (is_of : ℕ → H → Type 0) (facts : H → HomeFacts) (
       claim = refl;
       list = refl;
       debt = refl;
-      account = record { on = refl; off = refl; put = λ q. refl; share = refl; got = refl; back = refl };
+      account = record { on = refl; off = refl; put = λ q. refl; share = refl; got = refl; back = refl; releases = λ q. (refl, refl) };
       vouches = λ b p. p;
       knows = λ _ t.
           record { seen = t.seen; sent_system = ((λ e. absurd (n (sym e))), t.sent_system) };

@@ -65,6 +65,11 @@ module _ {A : Type 0} where
   pub each_among : (P : A → Type 0) (x : A) (l : List A) → Each P l → IsAmong x l → P x
   each_among P x l h a = each_after P x a.before a.after (subst (Each P) a.joined h)
 
+  -- what holds of each of two lists holds of each of the first
+  pub each_left : (P : A → Type 0) (l more : List A) → Each P (l ++ more) → Each P l
+  each_left P [] more h = tt
+  each_left P (x ∷ l) more h = (h.0, each_left P l more h.1)
+
 -- each item of a part stands in the list
 each_in : {A : Type 0} (p before after : List A) → Each (λ x. IsAmong x (before ++ (p ++ after))) p
 each_in [] before after = tt

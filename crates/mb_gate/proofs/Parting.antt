@@ -46,6 +46,7 @@ use Rattle.mb_ghost.specs.Shares.{FitsIn, amount}
 use Rattle.mb_ghost.proofs.SharesLemmas.{splits_shares, joins_shares}
 use Rattle.mb_gate.specs.HomeFacts.{HomeFacts}
 use Rattle.mb_gate.specs.PutIn.{put_in, put_by}
+use Rattle.mb_gate.specs.Releases.{taken_in_release, back_in_release, taken_by, back_by}
 use Rattle.mb_gate.specs.ClaimCounts.{claims_got, claims_returned, claims_out}
 use Rattle.mb_gate.proofs.Facts.{no_share}
 use Rattle.atomic_table.proofs.Lists.{set_else}
@@ -136,6 +137,11 @@ pub same_balance : (actor n : ℕ) (vs ws : List View) → total (on_by actor) w
     vs → IsBalance actor n vs → IsBalance actor n ws
 same_balance actor n vs ws on off b = ap (λ k. (n + k) % 2 ^ 64) off ∙ (b ∙ sym (ap (λ k. k % 2 ^ 64) on))
 
+pub same_releases : (actor : ℕ) (journal : List Entry) (measure : List Entry → ℕ) (vs ws : List View) → total (taken_by actor measure) ws ≡ total
+    (taken_by actor measure) vs → total (back_by actor measure) ws ≡ total (back_by actor measure) vs → total (back_by actor measure) vs + measure [] ≡ total
+    (taken_by actor measure) vs + measure journal → total (back_by actor measure) ws + measure [] ≡ total (taken_by actor measure) ws + measure journal
+same_releases actor journal measure vs ws taken back all = ap (λ n. n + measure []) back ∙ (all ∙ ap (λ n. n + measure journal) (sym taken))
+
 both_logs : {A : Type 0} (f : A → ℕ) (a b : List A) → total f (a ++ b) + 0 ≡ total f b + total f a
 both_logs f a b = let e = total_append f a b in omega arith
 
@@ -150,6 +156,8 @@ pub record SharesAccount (actor : ℕ) (v left right : View) : Type 0 where
   pub put : (measure : ℕ × SysMsg → ℕ) → put_by actor measure left + put_by actor measure right ≡ put_by actor measure v
   pub got : claims_got actor left + claims_got actor right ≡ claims_got actor v
   pub back : claims_returned actor left + claims_returned actor right ≡ claims_returned actor v
+  pub releases : (measure : List Entry → ℕ) → (taken_by actor measure left + taken_by actor measure right ≡ taken_by actor measure v)
+      × (back_by actor measure left + back_by actor measure right ≡ back_by actor measure v)
 
 -- and what share one had they have
 pub record SharesShare (v left right : View) (e : ℕ) : Type 0 where
@@ -242,6 +250,9 @@ module _ {H : Type 0} (is_of : ℕ → H → Type 0) (facts : H → HomeFacts) (
         listing = f.listing;
         named = f.named;
         put = λ q. total_splits (put_by actor q) vs id v left right at ((account actor).put q) ∙ f.put q;
+        releases = λ q. same_releases actor x.ghost.journal q vs (set vs id left ++ right ∷ [])
+            (total_splits (taken_by actor q) vs id v left right at ((account actor).releases q).0)
+            (total_splits (back_by actor q) vs id v left right at ((account actor).releases q).1) (f.releases q);
         was_pushed = f.was_pushed;
         balance = same_balance actor (x.row Waiting) vs (set vs id left ++ right ∷ []) (total_splits (on_by actor) vs id v left right at (account
             actor).on) (total_splits (off_by actor) vs id v left right at (account actor).off) f.balance;
@@ -277,6 +288,9 @@ module _ {H : Type 0} (is_of : ℕ → H → Type 0) (facts : H → HomeFacts) (
         listing = f.listing;
         named = f.named;
         put = λ q. total_joins (put_by actor q) vs id other v w both blank at there (both_logs (put_in actor q) w.log v.log) ∙ f.put q;
+        releases = λ q. same_releases actor x.ghost.journal q vs (set (set vs id both) other blank)
+            (total_joins (taken_by actor q) vs id other v w both blank at there (both_logs (taken_in_release actor q) w.releases v.releases))
+            (total_joins (back_by actor q) vs id other v w both blank at there (both_logs (back_in_release actor q) w.releases v.releases)) (f.releases q);
         was_pushed = f.was_pushed;
         balance = same_balance actor (x.row Waiting) vs (set (set vs id both) other blank)
             (total_joins (on_by actor) vs id other v w both blank at there (both_logs (counted_on actor) w.log v.log))
@@ -288,7 +302,7 @@ module _ {H : Type 0} (is_of : ℕ → H → Type 0) (facts : H → HomeFacts) (
             (both_logs (λ a. if a == actor then 1 else 0) w.got v.got))) (f.held one);
         shares = joins_shares (λ (u : View). u.share) vs id other v w both blank at apart there refl refl f.shares;
         bare = joins_seen (λ (u : View). u.share ≡ [] → IsBare actor u) vs id other both blank (λ none. absurd (no_share (w.share ++ v.share)
-            (some_left w.share v.share sharer) none)) (λ _. record { got = refl; back = refl; on = refl; rest = λ _. (refl, refl, λ q. refl) }) f.bare;
+            (some_left w.share v.share sharer) none)) (λ _. record { got = refl; back = refl; releases = λ q. (refl, refl); on = refl; rest = λ _. (refl, refl, λ q. refl) }) f.bare;
         was_seen_closed = λ b. joins_owed (HasSeenClosed b) (IsAmong b x.ghost.closed_to) vs id other v w both blank at apart there
             (λ p. among_right (Read b 1) w.log v.log p) (λ p. among_left (Read b 1) w.log v.log p) (f.was_seen_closed b);
         message = joins_owed (HasMessageObligation actor) (MessageDue x) vs id other v w both blank at apart there

@@ -80,7 +80,8 @@ use Rattle.mb_gate.specs.Rule.{
   is_some_item,
 }
 use Rattle.mb_gate.specs.Returned.{IsTakenOut, IsKept, IsReturned, AreReturned}
-use Rattle.mb_gate.proofs.Whole.{is_out, is_back, own_put}
+use Rattle.mb_gate.specs.Releases.{taken_by}
+use Rattle.mb_gate.proofs.Whole.{is_out, is_back, own_put, own_releases}
 use Rattle.mb_gate.proofs.ListSteps.{is_shelved, gate_even}
 use Rattle.mb_gate.proofs.Shows.{shows_closed}
 
@@ -232,6 +233,16 @@ module _ {H : Type 0} (is_of : ℕ → H → Type 0) (facts : H → HomeFacts) w
         let home : k.home ≡ left.home = home_same k.home left.home (some-injective _ _ (sym (same (slot_at actor 0) (Home k.home) k.present) ∙ t.1)) in
         subst (λ (h : H). Each (WasPushed here.ghost) (facts h).drained) home (subst (Each (WasPushed here.ghost)) (sym k.drained) f.was_pushed)
 
+    -- its journal is the one that the rule keeps
+    says_journal : (left : ReturnedActor H) → IsTakenOut ws xs actor (Some left) → here.ghost.journal ≡ (facts left.home).journal
+    says_journal left t =
+        let f = r.each actor inside in
+        let status = found (word_at actor 8) t.0.status t.0.status_is in
+        let flag = found (word_at actor 7) t.0.flag t.0.flag_is in
+        let k = at_home actor here here.ghost.holder f.cell (⊎_elim (λ z. inl (ap (λ w. w % 4) status ∙ z)) (λ o. inr (flag ∙ o)) t.0.cell) in
+        let home : k.home ≡ left.home = home_same k.home left.home (some-injective _ _ (sym (same (slot_at actor 0) (Home k.home) k.present) ∙ t.1)) in
+        sym k.fold ∙ ap (λ (h : H). (facts h).journal) home
+
     none_left : IsTakenOut ws xs actor None → IsReturned is_of facts actor here v None
     none_left t = let f = r.each actor inside in cases here.ghost.holder here.ghost.lent_to f.cell f.list_place
       where
@@ -280,4 +291,6 @@ module _ {H : Type 0} (is_of : ℕ → H → Type 0) (facts : H → HomeFacts) w
     pushed = λ a left inside at. says_drained n v id ws xs final.0 final.1.0 final.1.1 final.2 final.4 a inside left (each a (Some left) at);
     put = λ whole a left inside at. own_put is_of facts n a _ final.0.views id v (final.1.0.each a inside) final.1.1 whole
         (none_holds n v id ws xs final.0 final.1.0 final.1.1 final.2 final.4 a inside left (each a (Some left) at));
+    releases = λ whole a left inside at q. own_releases is_of facts n a _ final.0.views id v (final.1.0.each a inside) final.1.1 whole q
+        ∙ ap (λ j. taken_by a q v + q j) (says_journal n v id ws xs final.0 final.1.0 final.1.1 final.2 final.4 a inside left (each a (Some left) at));
   }

@@ -172,6 +172,7 @@ module _ {H : Type 0} (is_of : ℕ → H → Type 0) (facts : H → HomeFacts) w
           listing = record { given = []; joined = refl; counted = refl };
           named = All-nil (NamesBelow n);
           put = λ q. refl;
+          releases = λ q. ap (λ j. 0 + q j) (sym (b.1.tale ∙ f.not_run));
           was_pushed = tt;
           balance = ap (λ k. (k + total (off_by a) (alone ∷ [])) % 2 ^ 64) b.1.waiting;
           claims_balance = refl;

@@ -50,7 +50,7 @@ use Rattle.mb_ghost.proofs.SeenLemmas.{learns, each_weaker}
 use Rattle.mb_gate.specs.HomeFacts.{HomeFacts}
 use Rattle.mb_gate.specs.declared.slot.Slot.{Slot}
 use Rattle.mb_gate.specs.declared.slot.Slot.TheVariants.{Home}
-use Rattle.mb_gate.specs.View.{View, Read, Saw, rewritten, Held, obligation_to, reading, taking, writing, idling}
+use Rattle.mb_gate.specs.View.{View, Read, Saw, rewritten, Held, obligation_to, reading, taking, writing, taken_journal, idling}
 use Rattle.mb_gate.specs.Rule.{
   Word,
   Waiting,
@@ -104,6 +104,8 @@ use Rattle.mb_gate.proofs.Facts.{
   still_claims,
   still_held,
   still_put,
+  still_released,
+  releases_more,
   now_held,
   claims_more,
   claims_less,
@@ -139,7 +141,7 @@ module _ {H : Type 0} (is_of : ℕ → H → Type 0) (facts : H → HomeFacts) (
     is_able = tt;
     holds = load_here is_of facts actors actor x (set vs id (reading actor r v)) Status
         (views_change is_of facts actors actor x vs id v (reading actor r v) at refl refl
-        (counts_no_more actor (Read actor r) v (reading actor r v) refl (refl, refl, λ q. refl) refl refl refl)
+        (counts_no_more actor (Read actor r) v (reading actor r v) refl (refl, refl, λ q. refl) refl refl refl (λ q. (refl, refl)))
         (λ due owed. subst (λ (d : WakeObligation). IsTrue (d.message || d.sending)) (sym (owes_here actor (after_reading (mailbox_of r) (obligation_to actor v))
         v)) (reading_pays_message r (obligation_to actor v) due.0 owed))
         (λ due owed. subst (λ (d : WakeObligation). IsTrue d.system) (sym (owes_here actor (after_reading (mailbox_of r) (obligation_to actor v)) v))
@@ -227,6 +229,7 @@ module _ {H : Type 0} (is_of : ℕ → H → Type 0) (facts : H → HomeFacts) (
           listing = f.listing;
           named = f.named;
           put = still_put actor x.ghost.pushed vs id v w at (λ q. refl) f.put;
+          releases = still_released actor x.ghost.journal vs id v w at (λ q. (refl, refl)) f.releases;
           was_pushed = f.was_pushed;
           balance = same_balance actor (x.row Waiting) vs id v w at refl refl f.balance;
           claims_balance = claims_more actor x.ghost.holder (id, c) vs id v w at (times_here actor v.got) refl (ap claims_out h.0) f.claims_balance;
@@ -286,12 +289,13 @@ module _ {H : Type 0} (is_of : ℕ → H → Type 0) (facts : H → HomeFacts) (
           listing = f.listing;
           named = f.named;
           put = still_put actor x.ghost.pushed vs id v w at (λ q. refl) f.put;
+          releases = still_released actor x.ghost.journal vs id v w at (λ q. (refl, refl)) f.releases;
           was_pushed = f.was_pushed;
           balance = same_balance actor (x.row Waiting) vs id v w at refl refl f.balance;
           claims_balance = still_claims actor x.ghost.holder (Some (id, d)) vs id v w at refl refl (sym (ap claims_out h.0)) f.claims_balance;
           held = now_held actor new x.ghost.holder vs id v w at refl (ap claims_out h.0) f.claims_balance;
           shares = shares_stay (λ (u : View). u.share) vs id v w at refl f.shares;
-          bare = claimed_bare actor vs id v w d at (ap (λ z. held_of actor (rewritten new z)) has ∙ held_here actor d of) refl refl refl refl f.bare;
+          bare = claimed_bare actor vs id v w d at (ap (λ z. held_of actor (rewritten new z)) has ∙ held_here actor d of) refl refl refl (λ q. (refl, refl)) refl f.bare;
           was_seen_closed = λ b. still_owed (HasSeenClosed b) (IsAmong b x.ghost.closed_to) (IsAmong b x.ghost.closed_to) vs id v w at (λ d. d) (λ _ p. p)
               (f.was_seen_closed b);
           message = λ due. absurd (let z : new ≡ 0 = due.0 in ⊎_elim (λ b. omega arith) (λ b. omega arith) busy);
@@ -367,6 +371,8 @@ module _ {H : Type 0} (is_of : ℕ → H → Type 0) (facts : H → HomeFacts) (
           listing = f.listing;
           named = f.named;
           put = still_put actor x.ghost.pushed vs id v w at (λ q. none_more (put_by actor q v)) f.put;
+          releases = releases_more actor x.ghost.journal j vs id v w at (ap (λ z. record { actor = actor; taken = z; back = j } ∷ v.releases)
+              (ap taken_journal has ∙ h.1.taken)) f.releases;
           was_pushed = pushed_home x c (facts home).drained h.1.drained gave f.was_pushed;
           balance = same_balance actor (x.row Waiting) vs id v w at (none_more (on_by actor v)) (none_more (off_by actor v)) f.balance;
           claims_balance = claims_less actor x.ghost.holder vs id v w at refl (times_here actor v.returned) (ap claims_out h.0) f.claims_balance;
@@ -375,9 +381,8 @@ module _ {H : Type 0} (is_of : ℕ → H → Type 0) (facts : H → HomeFacts) (
           bare = sharer_bare actor vs id w share f.bare;
           was_seen_closed = vouches_home actor j v c x.ghost.closed_to (facts home).closed_to vs id at h.1.known_closed known f.was_seen_closed;
           message = pays (HasMessageObligation actor) (MessageDue y) vs id v w at (subst (λ (d : WakeObligation). IsTrue (d.message || d.sending)) (sym (owes_here
-              actor debt (record v { log = Saw actor j ∷ v.log; claim = None; returned = actor ∷ v.returned }))) refl);
-          system = pays (HasSystemObligation actor) (SystemDue y) vs id v w at (subst (λ (d : WakeObligation). IsTrue d.system) (sym (owes_here actor debt (record v
-              { log = Saw actor j ∷ v.log; claim = None; returned = actor ∷ v.returned }))) refl);
+              actor debt v)) refl);
+          system = pays (HasSystemObligation actor) (SystemDue y) vs id v w at (subst (λ (d : WakeObligation). IsTrue d.system) (sym (owes_here actor debt v)) refl);
           seen = let k = goes_on actor x y v grows (f.seen id v at) in
               learns (Knows actor x) (Knows actor y) vs id w (λ u. goes_on actor x y u grows) (record {
                 seen = (
@@ -437,6 +442,8 @@ module _ {H : Type 0} (is_of : ℕ → H → Type 0) (facts : H → HomeFacts) (
           listing = f.listing;
           named = f.named;
           put = still_put actor x.ghost.pushed vs id v w at (λ q. none_more (put_by actor q v)) f.put;
+          releases = releases_more actor x.ghost.journal j vs id v w at (ap (λ z. record { actor = actor; taken = z; back = j } ∷ v.releases)
+              (ap taken_journal has ∙ h.1.taken)) f.releases;
           was_pushed = pushed_home x c (facts home).drained h.1.drained gave f.was_pushed;
           balance = same_balance actor (x.row Waiting) vs id v w at (none_more (on_by actor v)) (none_more (off_by actor v)) f.balance;
           claims_balance = claims_less actor x.ghost.holder vs id v w at refl (times_here actor v.returned) (ap claims_out h.0) f.claims_balance;
@@ -445,9 +452,8 @@ module _ {H : Type 0} (is_of : ℕ → H → Type 0) (facts : H → HomeFacts) (
           bare = sharer_bare actor vs id w share f.bare;
           was_seen_closed = vouches_home actor j v c x.ghost.closed_to (facts home).closed_to vs id at h.1.known_closed known f.was_seen_closed;
           message = pays (HasMessageObligation actor) (MessageDue y) vs id v w at (subst (λ (d : WakeObligation). IsTrue (d.message || d.sending)) (sym (owes_here
-              actor debt (record v { log = Saw actor j ∷ v.log; claim = None; returned = actor ∷ v.returned }))) refl);
-          system = pays (HasSystemObligation actor) (SystemDue y) vs id v w at (subst (λ (d : WakeObligation). IsTrue d.system) (sym (owes_here actor debt (record v
-              { log = Saw actor j ∷ v.log; claim = None; returned = actor ∷ v.returned }))) refl);
+              actor debt v)) refl);
+          system = pays (HasSystemObligation actor) (SystemDue y) vs id v w at (subst (λ (d : WakeObligation). IsTrue d.system) (sym (owes_here actor debt v)) refl);
           seen = let k = goes_on actor x y v grows (f.seen id v at) in
               learns (Knows actor x) (Knows actor y) vs id w (λ u. goes_on actor x y u grows) (record {
                 seen = (

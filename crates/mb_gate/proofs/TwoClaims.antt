@@ -55,6 +55,7 @@ use Rattle.mb_gate.specs.declared.slot.Slot.{Slot}
 use Rattle.mb_gate.specs.View.{View, Held, blank}
 use Rattle.mb_gate.specs.Waiting.{on_by, off_by}
 use Rattle.mb_gate.specs.PutIn.{put_by}
+use Rattle.mb_gate.specs.Releases.{taken_by, back_by}
 use Rattle.mb_gate.specs.ClaimCounts.{claims_got, claims_returned, claims_out}
 use Rattle.mb_gate.specs.TwoClaims.{moved_out, moved_in, twice_claimed}
 use Rattle.mb_gate.specs.Rule.{
@@ -79,7 +80,7 @@ use Rattle.mb_gate.specs.Rule.{
   Fact,
 }
 use Rattle.mb_gate.proofs.Facts.{still_kept, still_shelved}
-use Rattle.mb_gate.proofs.Parting.{same_balance}
+use Rattle.mb_gate.proofs.Parting.{same_balance, same_releases}
 use Rattle.mb_gate.proofs.StatusSteps.{is_held}
 use Rattle.mb_gate.proofs.Views.{extends_self, grown, goes_on}
 
@@ -170,6 +171,9 @@ module _ {H : Type 0} (is_of : ℕ → H → Type 0) (facts : H → HomeFacts) (
         listing = f.listing;
         named = f.named;
         put = λ q. total_splits (put_by actor q) vs id v blank v at (none_more (put_by actor q v)) ∙ f.put q;
+        releases = λ q. same_releases actor x.ghost.journal q vs (set vs id blank ++ v ∷ [])
+            (total_splits (taken_by actor q) vs id v blank v at (none_more (taken_by actor q v)))
+            (total_splits (back_by actor q) vs id v blank v at (none_more (back_by actor q v))) (f.releases q);
         was_pushed = f.was_pushed;
         balance = same_balance actor (x.row Waiting) vs (set vs id blank ++ v ∷ []) (total_splits (on_by actor) vs id v blank v at (none_more (on_by actor v)))
             (total_splits (off_by actor) vs id v blank v at (none_more (off_by actor v))) f.balance;
@@ -178,7 +182,7 @@ module _ {H : Type 0} (is_of : ℕ → H → Type 0) (facts : H → HomeFacts) (
             ∙ ap (λ k. total (claims_returned actor) vs + k) (reseated_out id (length vs) x.ghost.holder)));
         held = λ one. subst (λ k. 0 < k) (sym (total_splits (claims_got actor) vs id v blank v at (none_more (claims_got actor v)))) (f.held one);
         shares = splits_shares (λ (u : View). u.share) vs id v blank v at (λ e l r. (r, none_more (amount e v.share))) f.shares;
-        bare = splits_seen (λ (u : View). u.share ≡ [] → IsBare actor u) vs id blank v (λ _. record { got = refl; back = refl; on = refl; rest = λ _. (refl, refl, λ q. refl) })
+        bare = splits_seen (λ (u : View). u.share ≡ [] → IsBare actor u) vs id blank v (λ _. record { got = refl; back = refl; releases = λ q. (refl, refl); on = refl; rest = λ _. (refl, refl, λ q. refl) })
             (f.bare id v at) f.bare;
         was_seen_closed = λ b. splits_owed (HasSeenClosed b) (IsAmong b x.ghost.closed_to) vs id v blank v at (λ p. inr p) (f.was_seen_closed b);
         message = splits_owed (HasMessageObligation actor) (MessageDue x) vs id v blank v at (λ p. inr p) f.message;

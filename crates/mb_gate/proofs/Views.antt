@@ -59,6 +59,7 @@ use Rattle.mb_gate.specs.View.{
   Ended,
   Held,
   Lent,
+  Release,
   SentSystem,
   obligation_to,
   with_obligation,
@@ -67,6 +68,7 @@ use Rattle.mb_gate.specs.View.{
   taking,
   rewritten,
   writing,
+  taken_journal,
   idling,
   counting,
   looking,
@@ -75,6 +77,7 @@ use Rattle.mb_gate.specs.View.{
 }
 use Rattle.mb_gate.specs.Waiting.{counted_on, counted_off, on_by, off_by}
 use Rattle.mb_gate.specs.PutIn.{put_in, put_by}
+use Rattle.mb_gate.specs.Releases.{taken_in_release, back_in_release, taken_by, back_by}
 use Rattle.mb_gate.specs.ClaimCounts.{times, claims_got, claims_returned}
 use Rattle.mb_gate.specs.Rule.{
   Word,
@@ -137,6 +140,11 @@ drained_nothing actor c v has no_list gave small i = record v { log = Drained ac
     same : v.claim ≡ regiven [] false v.claim
     same = has ∙ ((λ k. Some (record c { gave = gave k; given = fits k; drained = sym (append-nil c.drained) k })) ∙ sym (ap (regiven [] false) has))
 
+-- w gave this actor's cell back as v did
+abbrev pub SameReleases : ℕ → View → View → Type 0
+SameReleases actor v w = (measure : List Entry → ℕ) → (taken_by actor measure w ≡ taken_by actor measure v) × (back_by actor measure w ≡ back_by actor
+    measure v)
+
 -- w did of this actor what v did, and has the same share
 pub record SameAccount (actor : ℕ) (v w : View) : Type 0 where
   pub on : on_by actor w ≡ on_by actor v
@@ -145,6 +153,7 @@ pub record SameAccount (actor : ℕ) (v w : View) : Type 0 where
   pub share : w.share ≡ v.share
   pub got : claims_got actor w ≡ claims_got actor v
   pub back : claims_returned actor w ≡ claims_returned actor v
+  pub releases : SameReleases actor v w
 
 -- the observation counts nothing of this actor, and put nothing into its list
 abbrev pub CountsNothing : ℕ → Observation → Type 0
@@ -154,14 +163,15 @@ none_more : (m n : ℕ) → m ≡ 0 → m + n ≡ n
 none_more m n none = omega arith
 
 pub counts_no_more : (actor : ℕ) (s : Observation) (v w : View) → w.log ≡ s ∷ v.log → CountsNothing actor s → w.share ≡ v.share → claims_got actor w ≡ claims_got
-    actor v → claims_returned actor w ≡ claims_returned actor v → SameAccount actor v w
-counts_no_more actor s v w is none share got back = record {
+    actor v → claims_returned actor w ≡ claims_returned actor v → SameReleases actor v w → SameAccount actor v w
+counts_no_more actor s v w is none share got back releases = record {
   on = ap (total (counted_on actor)) is ∙ none_more (counted_on actor s) (on_by actor v) none.0;
   off = ap (total (counted_off actor)) is ∙ none_more (counted_off actor s) (off_by actor v) none.1;
   put = λ q. ap (total (put_in actor q)) is ∙ none_more (put_in actor q s) (put_by actor q v) (none.2 q);
   share = share;
   got = got;
   back = back;
+  releases = releases;
 }
 
 -- one more of an actor is none of another
@@ -171,6 +181,15 @@ times_else actor other actors n = none_more (if actor == other then 1 else 0) (t
 
 pub times_here : (actor : ℕ) (actors : List ℕ) → times actor (actor ∷ actors) ≡ 1 + times actor actors
 times_here actor actors = ap (λ (b : Bool). (if b then 1 else 0) + times actor actors) (eq-eqb actor actor refl)
+
+-- a cell given back of an actor is none of another
+released_else : (actor other : ℕ) (j : List Entry) (v : View) → other ≢ actor → SameReleases other v (idling actor j v)
+released_else actor other j v n q =
+    let r : Release = record { actor = actor; taken = taken_journal v.claim; back = j } in
+    let another : (actor == other) ≡ false = ne_eqb actor other (λ e. n (sym e)) in (
+      none_more (taken_in_release other q r) (taken_by other q v) (ap (λ (b : Bool). if b then q r.taken else 0) another),
+      none_more (back_in_release other q r) (back_by other q v) (ap (λ (b : Bool). if b then q j else 0) another),
+    )
 
 -- Towards this actor, w is as v: of its cell, its list and what is owed; what it has seen is so where what v has seen is; and it has seen
 -- closed whom v has.
@@ -192,7 +211,7 @@ module _ {H : Type 0} where
     claim = refl;
     list = refl;
     debt = refl;
-    account = counts_no_more other s v (seeing s v) refl none refl refl refl;
+    account = counts_no_more other s v (seeing s v) refl none refl refl refl (λ q. (refl, refl));
     vouches = λ a. among_more (Read a 1) s v.log;
     knows = λ x k. record {
       seen = (so other x, k.seen);
@@ -207,7 +226,7 @@ module _ {H : Type 0} where
     claim = refl;
     list = refl;
     debt = owes_else actor other d v n;
-    account = counts_no_more other s v (with_obligation actor d (seeing s v)) refl none refl refl refl;
+    account = counts_no_more other s v (with_obligation actor d (seeing s v)) refl none refl refl refl (λ q. (refl, refl));
     vouches = λ a. among_more (Read a 1) s v.log;
     knows = λ x k. record {
       seen =
@@ -221,7 +240,8 @@ module _ {H : Type 0} where
     claim = refl;
     list = refl;
     debt = owes_else actor other (after_reading (mailbox_of word) (obligation_to actor v)) v n;
-    account = counts_no_more other (Read actor word) v (reading actor word v) refl (refl, refl, λ q. refl) refl refl refl;
+    account = counts_no_more other (Read actor word) v (reading actor word v) refl (refl, refl, λ q. refl) refl refl refl
+        (λ q. (refl, refl));
     vouches = λ a. among_more (Read a 1) (Read actor word) v.log;
     knows = λ x k. record { seen = ((λ e _. absurd (n (sym e))), k.seen); sent_system = k.sent_system };
   }
@@ -235,7 +255,7 @@ module _ {H : Type 0} where
         (held_of other) bare);
     list = refl;
     debt = owes_else actor other nothing v n;
-    account = record { on = refl; off = refl; put = λ q. refl; share = refl; got = times_else actor other v.got n; back = refl };
+    account = record { on = refl; off = refl; put = λ q. refl; share = refl; got = times_else actor other v.got n; back = refl; releases = λ q. (refl, refl) };
     vouches = λ a k. k;
     knows = λ x k. record { seen = k.seen; sent_system = k.sent_system };
   }
@@ -247,7 +267,7 @@ module _ {H : Type 0} where
         other) has ∙ held_else other c (λ e. n (sym e ∙ of))));
     list = refl;
     debt = refl;
-    account = record { on = refl; off = refl; put = λ q. refl; share = refl; got = refl; back = refl };
+    account = record { on = refl; off = refl; put = λ q. refl; share = refl; got = refl; back = refl; releases = λ q. (refl, refl) };
     vouches = λ a k. k;
     knows = λ x k. record { seen = k.seen; sent_system = k.sent_system };
   }
@@ -258,7 +278,8 @@ module _ {H : Type 0} where
     claim = sym (ap (held_of other) has ∙ held_else other c (λ e. n (sym e ∙ of)));
     list = refl;
     debt = owes_else actor other (record (obligation_to actor v) { system = true; message = true }) v n;
-    account = counts_no_more other (Saw actor j) v (idling actor j v) refl (refl, refl, λ q. refl) refl refl (times_else actor other v.returned n);
+    account = counts_no_more other (Saw actor j) v (idling actor j v) refl (refl, refl, λ q. refl) refl refl (times_else actor other v.returned n)
+        (released_else actor other j v n);
     vouches = λ a. among_more (Read a 1) (Saw actor j) v.log;
     knows = λ x k. record { seen = ((λ e. absurd (n (sym e))), k.seen); sent_system = k.sent_system };
   }

@@ -99,7 +99,7 @@ use Rattle.mb_gate.proofs.Views.{
   goes_on,
 }
 use Rattle.mb_gate.proofs.Numbers.{among_more}
-use Rattle.mb_gate.proofs.Facts.{still_kept, still_shelved, still_claims, still_held, still_put, claimed_bare, sharer_bare, views_change, elsewhere, load_here}
+use Rattle.mb_gate.proofs.Facts.{still_kept, still_shelved, still_claims, still_held, still_put, still_released, claimed_bare, sharer_bare, views_change, elsewhere, load_here}
 use Rattle.mb_gate.proofs.StatusSteps.{is_held}
 use Rattle.std.proofs.lemmas.Bool.{eqb-true}
 
@@ -178,6 +178,7 @@ module _ {H : Type 0} (is_of : ℕ → H → Type 0) (facts : H → HomeFacts) (
           listing = f.listing;
           named = f.named;
           put = still_put actor x.ghost.pushed vs id v w at (λ q. none_in (put_in actor q s) (put_by actor q v) (unput q)) f.put;
+          releases = still_released actor x.ghost.journal vs id v w at (λ q. (refl, refl)) f.releases;
           was_pushed = f.was_pushed;
           balance = balance;
           claims_balance = still_claims actor x.ghost.holder x.ghost.holder vs id v w at refl refl refl f.claims_balance;
@@ -251,12 +252,14 @@ module _ {H : Type 0} (is_of : ℕ → H → Type 0) (facts : H → HomeFacts) (
           listing = f.listing;
           named = f.named;
           put = still_put actor x.ghost.pushed vs id v w at (λ q. none_more (put_by actor q v)) f.put;
+          releases = still_released actor x.ghost.journal vs id v w at (λ q. (refl, refl)) f.releases;
           was_pushed = f.was_pushed;
           balance = balances_less actor k vs id v w at (x.row Waiting) n f.balance s refl refl refl less;
           claims_balance = still_claims actor x.ghost.holder x.ghost.holder vs id v w at refl refl refl f.claims_balance;
           held = still_held actor (x.row Status) (x.row Status) vs id v w at refl (λ one. one) f.held;
           shares = shares_stay (λ (u : View). u.share) vs id v w at refl f.shares;
-          bare = claimed_bare actor vs id v w c at (ap (held_of actor) has ∙ held_here actor c of) refl refl refl (none_more (on_by actor v)) f.bare;
+          bare = claimed_bare actor vs id v w c at (ap (held_of actor) has ∙ held_here actor c of) refl refl refl
+              (λ q. (refl, refl)) (none_more (on_by actor v)) f.bare;
           was_seen_closed = λ b. still_owed (HasSeenClosed b) (IsAmong b x.ghost.closed_to) (IsAmong b x.ghost.closed_to) vs id v w at (λ d. d)
               (λ _. among_more (Read b 1) s v.log) (f.was_seen_closed b);
           message = λ due. absurd (let z = due.0 in ⊎_elim (λ b. omega arith) (λ b. omega arith) h.1.busy);
@@ -286,7 +289,7 @@ module _ {H : Type 0} (is_of : ℕ → H → Type 0) (facts : H → HomeFacts) (
     is_able = tt;
     holds = load_here is_of facts actors actor x (set vs id w) name
         (views_change is_of facts actors actor x vs id v w at refl refl (counts_no_more actor s v w refl
-        (none actor) refl refl refl)
+        (none actor) refl refl refl (λ q. (refl, refl)))
         (λ due p. subst (λ (z : WakeObligation). IsTrue (z.message || z.sending)) (sym (owes_here actor d v)) (message due p))
         (λ due p. subst (λ (z : WakeObligation). IsTrue z.system) (sym (owes_here actor d v)) (system due p))
         (λ k. record { seen = (so actor x, k.seen); sent_system = k.sent_system }) (λ b. among_more (Read b 1) s v.log) f);
@@ -306,7 +309,7 @@ module _ {H : Type 0} (is_of : ℕ → H → Type 0) (facts : H → HomeFacts) (
     kept = x.ghost;
     is_able = tt;
     holds = load_here is_of facts actors actor x (set vs id w) name (views_change is_of facts actors actor x vs id v w at refl
-        refl (counts_no_more actor s v w refl (none actor) refl refl refl) (λ _ p. p) (λ _ p. p) (λ k. record {
+        refl (counts_no_more actor s v w refl (none actor) refl refl refl (λ q. (refl, refl))) (λ _ p. p) (λ _ p. p) (λ k. record {
           seen =
               (so actor x, k.seen);
           sent_system = k.sent_system;
@@ -324,13 +327,13 @@ module _ {H : Type 0} (is_of : ℕ → H → Type 0) (facts : H → HomeFacts) (
     kept = x.ghost;
     is_able = tt;
     holds = load_here is_of facts actors actor x (set vs id v) name (views_change is_of facts actors actor x vs id v v at refl
-        refl (record { on = refl; off = refl; put = λ q. refl; share = refl; got = refl; back = refl }) (λ _ p. p) (λ _ p. p)
+        refl (record { on = refl; off = refl; put = λ q. refl; share = refl; got = refl; back = refl; releases = λ q. (refl, refl) }) (λ _ p. p) (λ _ p. p)
         (λ k. record { seen = k.seen; sent_system = k.sent_system }) (λ b p. p) f);
     others = λ a n y g. elsewhere is_of facts actors a y vs id v v at (record {
       claim = refl;
       list = refl;
       debt = refl;
-      account = record { on = refl; off = refl; put = λ q. refl; share = refl; got = refl; back = refl };
+      account = record { on = refl; off = refl; put = λ q. refl; share = refl; got = refl; back = refl; releases = λ q. (refl, refl) };
       vouches = λ b p. p;
       knows = λ _ k.
           record { seen = k.seen; sent_system = k.sent_system };

@@ -15,8 +15,10 @@ use Rattle.mb_gate.specs.declared.slot.Slot.{Slot}
 use Rattle.mb_gate.specs.View.{View, Held, Lent}
 use Rattle.mb_msg.specs.declared.system.SysMsg.{SysMsg}
 use Rattle.mb_syslist.specs.MessageList.{numbered}
+use Rattle.mb_journal.specs.Entry.{Entry}
 use Rattle.mb_ghost.specs.Summed.{total}
 use Rattle.mb_gate.specs.PutIn.{put_by}
+use Rattle.mb_gate.specs.Releases.{taken_by, back_by}
 use Rattle.mb_gate.specs.Waiting.{on_by, off_by}
 use Rattle.mb_gate.specs.ClaimCounts.{claims_got, claims_returned, claims_out, IsOwnBalance}
 use Rattle.mb_gate.specs.Rule.{Word, Status, Waiting, SlotName, Ghost, IsBare, lent_of, claim_for, list_for, Fact}
@@ -90,6 +92,13 @@ module _ {H : Type 0} (is_of : ℕ → H → Type 0) (facts : H → HomeFacts) (
   pub own_put : x.ghost.holder ≡ None → (measure : ℕ × SysMsg → ℕ) → put_by actor measure v ≡ total measure (numbered 0 x.ghost.pushed)
   own_put free q =
       sym (total_alone (put_by actor q) vs id v at (λ p u other there. ((others_bare p u other there).rest (unclaimed free p u there)).2 q)) ∙ f.put q
+
+  -- and the journal is what came of an empty one in the seat's own releases
+  pub own_releases : (measure : List Entry → ℕ) → back_by actor measure v + measure [] ≡ taken_by actor measure v + measure x.ghost.journal
+  own_releases q =
+      let back = total_alone (back_by actor q) vs id v at (λ p u other there. ((others_bare p u other there).releases q).1) in
+      let taken = total_alone (taken_by actor q) vs id v at (λ p u other there. ((others_bare p u other there).releases q).0) in
+      ap (λ k. k + q []) (sym back) ∙ (f.releases q ∙ ap (λ k. k + q x.ghost.journal) taken)
 
   -- a closed actor was held by a claim that the seat itself got
   pub was_held : x.row Status ≡ 1 → 0 < claims_got actor v

@@ -11,6 +11,7 @@ use Rattle.mb_gate.specs.declared.slot.Slot.{Slot}
 use Rattle.mb_gate.specs.declared.slot.Slot.TheVariants.{Home}
 use Rattle.mb_gate.specs.View.{View, Held, blank, idling}
 use Rattle.mb_gate.specs.Rule.{Extends, IsAmong, HasSeenClosed, is_some_item}
+use Rattle.mb_gate.specs.Returned.{GoesOn}
 
 -- No claim: the value that stands where a view has none.
 abbrev pub nobody : Held
@@ -24,6 +25,10 @@ held_or (Some c) = c
 -- The claim that a view has.
 abbrev pub held_in : View → Held
 held_in v = held_or v.claim
+
+-- The journal with which the view's claim was taken goes on from each that the view has seen of the actor.
+abbrev pub ClaimGoesOn : ℕ → View → Type 0
+ClaimGoesOn actor v = Each (GoesOn actor (held_in v).journal) v.log
 
 -- The status word says that a worker holds the actor, or that its mailbox is closed.
 abbrev pub is_busy : ℕ → Bool
@@ -69,6 +74,7 @@ module _ {H : Type 0} (is_of : ℕ → H → Type 0) (facts : H → HomeFacts) w
     pub rest : (status.closed ≡ true) ⊎ ((held_in me.0).gave ≡ false) → (facts home).no_backlog
     pub share : is_some_item me.0.share ≡ true
 
--- the cell that the seat carried went home
+-- the cell that the seat carried went home, which was taken with a journal that goes on from all that the seat has seen
 abbrev pub Idled : {H : Type 0} → (H → HomeFacts) → ℕ → Me (Slot H) View → Me (Slot H) View → Type 0
-Idled {H} facts actor m m' = (home : H) → m.1 ≡ (slot_at actor 0, Home home) ∷ [] → m' ≡ (idling actor (facts home).journal m.0, [])
+Idled {H} facts actor m m' = (home : H) → m.1 ≡ (slot_at actor 0, Home home) ∷ []
+    → (m' ≡ (idling actor (facts home).journal m.0, [])) × ClaimGoesOn actor m.0

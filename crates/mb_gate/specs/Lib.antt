@@ -2,6 +2,7 @@ pub mod HomeFacts
 pub mod View
 pub mod Waiting
 pub mod PutIn
+pub mod Releases
 pub mod ClaimCounts
 pub mod NamedActors
 pub mod Untouched

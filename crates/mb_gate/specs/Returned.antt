@@ -1,5 +1,5 @@
 -- What the gates give back of each actor at their end (this project's own profile).
-use Rattle.std.specs.Prelude.{◌≡◌, ◌≢◌, ◌⊎◌, ℕ, ◌+◌, ◌%◌, ◌<◌, Bool, false, List, length, Option, Some, None, slice_get, slice_set}
+use Rattle.std.specs.Prelude.{◌≡◌, ◌≢◌, ◌⊎◌, ℕ, ◌+◌, ◌%◌, ◌<◌, Bool, false, List, [], length, Option, Some, None, slice_get, slice_set}
 use mathlib.Core.Option.{some}
 use lib.ListN.{get_elem?}
 use Rattle.atomic_table.specs.Table.{State}
@@ -17,6 +17,7 @@ use Rattle.mb_gate.specs.declared.returned_actor.ReturnedActor.{ReturnedActor}
 use Rattle.mb_gate.specs.View.{View, Observation, Read, Saw, Counted, Looked, Sent, Unsent, Took, Pushed, Drained, Ended}
 use Rattle.mb_gate.specs.ClaimCounts.{claims_got, claims_returned}
 use Rattle.mb_gate.specs.PutIn.{put_by}
+use Rattle.mb_gate.specs.Releases.{back_by, taken_by}
 use Rattle.mb_ghost.specs.Summed.{total}
 use Rattle.mb_msg.specs.declared.system.SysMsg.{SysMsg}
 use Rattle.mb_gate.specs.Rule.{Word, Status, word_offset, SlotName, slot_offset, Ghost, Extends, IsAmong, WasPushed, all_numbered, Fact, is_some_item}
@@ -58,6 +59,19 @@ IsKept actor journal word (Took a n) = Unit {0}
 IsKept actor journal word (Pushed a n m) = Unit {0}
 IsKept actor journal word (Drained a given) = Unit {0}
 
+-- This observation holds of an actor of which a claim was taken with this journal: it goes on from each journal that was seen of the actor.
+abbrev pub GoesOn : ℕ → List Entry → Observation → Type 0
+GoesOn actor journal (Saw a before) = a ≡ actor → Extends journal before
+GoesOn actor journal (Read a seen) = Unit {0}
+GoesOn actor journal (Ended a given) = Unit {0}
+GoesOn actor journal (Counted a n) = Unit {0}
+GoesOn actor journal (Looked a has_work) = Unit {0}
+GoesOn actor journal (Sent a n) = Unit {0}
+GoesOn actor journal (Unsent a n) = Unit {0}
+GoesOn actor journal (Took a n) = Unit {0}
+GoesOn actor journal (Pushed a n m) = Unit {0}
+GoesOn actor journal (Drained a given) = Unit {0}
+
 module _ {H : Type 0} (is_of : ℕ → H → Type 0) (facts : H → HomeFacts) where
   -- What is left of an actor whose words and slots these are: its home, which is its own; its word is the one of its journal, which goes
   -- on from all that was seen; how many its list gave, which the home knows, and whether any message is listed still; and unless the actor
@@ -73,7 +87,8 @@ module _ {H : Type 0} (is_of : ℕ → H → Type 0) (facts : H → HomeFacts) w
   -- of each actor, in a last state of the table that meets the rule, in which the pass has this view; and each actor of which a home that
   -- is left says that it is closed is closed; and each message of which it says that its list gave it was put into this list, under this
   -- number. A pass that has taken in all others knows which actors have no home left: those of which a claim was got that was not given
-  -- back. What it logs as put into the list of an actor whose home is left is all that was ever put into it.
+  -- back. What it logs as put into the list of an actor whose home is left is all that was ever put into it, and that home's journal is what came of
+  -- an empty one in its releases.
   pub record AreReturned (actors : ℕ) (v : View) (all : List (Option (ReturnedActor H))) : Type 0 where
     pub state : State (Slot H) View
     pub rule : Ruled word_offset slot_offset actors (Fact is_of facts actors) state
@@ -92,3 +107,6 @@ module _ {H : Type 0} (is_of : ℕ → H → Type 0) (facts : H → HomeFacts) w
     pub put : IsWhole v.share → (actor : ℕ) (left : ReturnedActor H) → actor < actors → slice_get all actor ≡ Some (Some left)
         → (measure : ℕ × SysMsg → ℕ)
         → put_by actor measure v ≡ total measure (all_numbered (spot_of word_offset slot_offset state rule.ghosts actor).ghost)
+    pub releases : IsWhole v.share → (actor : ℕ) (left : ReturnedActor H) → actor < actors → slice_get all actor ≡ Some (Some left)
+        → (measure : List Entry → ℕ)
+        → back_by actor measure v + measure [] ≡ taken_by actor measure v + measure (facts left.home).journal

@@ -39,6 +39,7 @@ use Rattle.mb_ghost.specs.Summed.{total}
 use Rattle.mb_ghost.specs.Shares.{AreShares}
 use Rattle.mb_gate.specs.Waiting.{on_by, off_by, IsBalance}
 use Rattle.mb_gate.specs.PutIn.{put_by, IsAllPut}
+use Rattle.mb_gate.specs.Releases.{taken_by, back_by, ReleasesAddUp}
 use Rattle.mb_gate.specs.ClaimCounts.{claims_got, claims_returned, claims_out}
 use Rattle.mb_gate.specs.NamedActors.{NamesBelow}
 use Rattle.mb_gate.specs.declared.slot.Slot.{Slot}
@@ -115,11 +116,12 @@ claim_for actor v = held_of actor v.claim
 abbrev pub list_for : ℕ → View → Option Lent
 list_for actor v = lent_of actor v.list
 
--- What a seat without a share of the whole has of the actor: it got no claim, gave none back, and counted nothing as sent; and unless it has the
--- claim, it has not the list, counted nothing off, and put nothing into the list.
+-- What a seat without a share of the whole has of the actor: it got no claim, gave none and no cell back, and counted nothing as sent; and unless it
+-- has the claim, it has not the list, counted nothing off, and put nothing into the list.
 pub record IsBare (actor : ℕ) (v : View) : Type 0 where
   pub got : claims_got actor v ≡ 0
   pub back : claims_returned actor v ≡ 0
+  pub releases : (measure : List Entry → ℕ) → (taken_by actor measure v ≡ 0) × (back_by actor measure v ≡ 0)
   pub on : on_by actor v ≡ 0
   pub rest : claim_for actor v ≡ None → (list_for actor v ≡ None) × (off_by actor v ≡ 0)
       × ((measure : ℕ × SysMsg → ℕ) → put_by actor measure v ≡ 0)
@@ -262,7 +264,8 @@ module _ {H : Type 0} (is_of : ℕ → H → Type 0) (facts : H → HomeFacts) w
   ListPlace x (Some k) = IsListOut x k.1
 
   -- All that holds of one actor among so many: who has its cell, who has its list, how many are counted as waiting, what is owed and what
-  -- was seen; who is closed was held; what is listed names actors alone; what was put into the list is what all seats log so; each message that its home says its list gave was put into the list,
+  -- was seen; who is closed was held; what is listed names actors alone; what was put into the list is what all seats log so; the
+  -- journal is what came of an empty one in the releases of all seats; each message that its home says its list gave was put into the list,
   -- under this number; and of each actor that its home says is closed some seat has seen it.
   pub record Fact (actors actor : ℕ) (x : Spot Word SlotName (Slot H) Ghost) (vs : List View) : Type 0 where
     pub valid : IsTrue (is_valid (x.row Status))
@@ -274,6 +277,7 @@ module _ {H : Type 0} (is_of : ℕ → H → Type 0) (facts : H → HomeFacts) w
     pub listing : IsListing x.ghost.pushed x.ghost.listed
     pub named : All (NamesBelow actors) x.ghost.listed.messages
     pub put : IsAllPut actor x.ghost.pushed vs
+    pub releases : ReleasesAddUp actor x.ghost.journal vs
     pub was_pushed : Each (WasPushed x.ghost) x.ghost.drained
     pub balance : IsBalance actor (x.row Waiting) vs
     pub claims_balance : ClaimsBalance actor x.ghost.holder vs

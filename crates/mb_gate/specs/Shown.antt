@@ -20,6 +20,7 @@ use Rattle.mb_gate.specs.declared.slot.Slot.TheVariants.{Home}
 use Rattle.mb_gate.specs.View.{View, Observation, Pushed, Drained, Ended, Held, obligation_to, alone, copied, halving, idling, taking_in, taking_over}
 use Rattle.mb_gate.specs.Waiting.{on_by, off_by, IsBalance}
 use Rattle.mb_gate.specs.ClaimCounts.{claims_got}
+use Rattle.mb_gate.specs.Releases.{taken_by, back_by}
 use Rattle.mb_gate.specs.Returned.{IsKept}
 use Rattle.mb_gate.specs.Rule.{Word, Status, Waiting, word_offset, SlotName, CellSlot, slot_offset, Ghost, IsAmong, claim_for, Fact}
 
@@ -116,13 +117,16 @@ ShowsNumbers {H} is_of facts =
     some w → IsAmong (Pushed actor number put) v.log → IsAmong (Drained actor all) w.log ⊎ IsAmong (Ended actor all) w.log → IsAmong (number, given)
     all → put ≡ given
 
--- Two views know the same: they made the same observations, in whatever order, and counted, sent and owe the same.
+-- Two views know the same: they made the same observations, in whatever order, and counted, sent and owe the same; and they took and gave back the same
+-- journals.
 pub record KnowsTheSame (v w : View) : Type 0 where
   pub seen : (s : Observation) → IsAmong s v.log ↔ IsAmong s w.log
   pub on : (actor : ℕ) → on_by actor v ≡ on_by actor w
   pub off : (actor : ℕ) → off_by actor v ≡ off_by actor w
   pub sent_system : v.sent_system ≡ w.sent_system
   pub owed : (actor : ℕ) → obligation_to actor v ≡ obligation_to actor w
+  pub releases : (actor : ℕ) (measure : List Entry → ℕ)
+      → (taken_by actor measure v ≡ taken_by actor measure w) × (back_by actor measure v ≡ back_by actor measure w)
 
 -- It makes no difference whether a claim's seat takes in the pass before it gives the cell home, or the pass takes over afterwards what the claim's
 -- seat knew.

@@ -36,10 +36,11 @@ module _ {H : Type 0} where
   homes_in (Note m ∷ slots) = homes_in slots
   homes_in (First f ∷ slots) = homes_in slots
 
-  -- a home with which the gates may begin at this actor: its own, neither closed nor scheduled, that knows of no message given and of no
+  -- a home with which the gates may begin at this actor: its own, with an empty journal, neither closed nor scheduled, that knows of no message given and of no
   -- actor closed, and with nothing left beside its cell
   pub record IsFresh (is_of : ℕ → H → Type 0) (facts : H → HomeFacts) (actor : ℕ) (h : H) : Type 0 where
     pub of_actor : is_of actor h
+    pub not_run : (facts h).journal ≡ []
     pub none_given : (facts h).given ≡ 0
     pub none_closed : (facts h).closed_to ≡ []
     pub none_drained : (facts h).drained ≡ []

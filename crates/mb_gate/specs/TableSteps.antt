@@ -48,6 +48,7 @@ use Rattle.mb_gate.specs.ClaimCounts.{IsOwnBalance, WasHeldBy}
 use Rattle.mb_gate.specs.NamedActors.{NamesBelow}
 use Rattle.mb_gate.specs.Rule.{Extends, is_some_item, gate_word}
 use Rattle.mb_gate.specs.ListWord.{shows_work}
+use Rattle.mb_gate.specs.Claims.{ClaimGoesOn}
 
 -- This observation allows that the actor is taken with this journal: it was not seen closed, its list was not ended, and the journal extends each
 -- that was seen.
@@ -199,7 +200,7 @@ module _ {H : Type 0} (is_of : H → ℕ → H → Type 0) (facts : H → HomeFa
       → (found ≡ st.first → Won (is_of first.value.value) facts actor found m m')
       × (found ≢ st.first → HasRead actor found m m')
 
--- the cell was given home
+-- the cell was given home, which was taken with a journal that goes on from all that the seat has seen
 abbrev pub Idles : {H : Type 0} → (H → HomeFacts) → Step (Slot H) → Me (Slot H) View → ℕ → Me (Slot H) View → Type 0
 Idles {H} facts st m n m' = (actor : ℕ) (home : H) → m.1 ≡ (slot_at actor 0, Home home) ∷ []
-    → (m' ≡ (idling actor (facts home).journal m.0, [])) × IsIdleWord st actor n m.0
+    → (m' ≡ (idling actor (facts home).journal m.0, [])) × IsIdleWord st actor n m.0 × ClaimGoesOn actor m.0

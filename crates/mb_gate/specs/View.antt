@@ -50,9 +50,15 @@ pub record SentSystem : Type 0 where
   pub message : SysMsg
   pub was_ended : Bool
 
+-- A cell that was given back: whose it is, the journal with which it was taken, and the one with which it came back.
+pub record Release : Type 0 where
+  pub actor : ℕ
+  pub taken : List Entry
+  pub back : List Entry
+
 -- What a seat knows: what it saw and did, the newest first; what it owes, by actor, of which the newest counts; which system messages it sent, the
--- newest first; the claim and the list that it has, if any; its share of the one whole of all passes; and the actors of which it got a claim and of
--- which it gave one back, the newest first.
+-- newest first; the claim and the list that it has, if any; its share of the one whole of all passes; the actors of which it got a claim and of which it
+-- gave one back, the newest first; and each cell that it gave back, the newest first.
 pub record View : Type 0 where
   pub log : List Observation
   pub obligations : List (ℕ × WakeObligation)
@@ -62,6 +68,7 @@ pub record View : Type 0 where
   pub share : List ℕ
   pub got : List ℕ
   pub returned : List ℕ
+  pub releases : List Release
 
 -- What is owed to the actor by this list, of which the newest entry counts.
 abbrev pub obligation_of : ℕ → List (ℕ × WakeObligation) → WakeObligation
@@ -74,7 +81,7 @@ obligation_to actor v = obligation_of actor v.obligations
 
 -- The view of a seat that knows nothing and owes nothing.
 abbrev pub blank : View
-blank = record { log = []; obligations = []; sent_system = []; claim = None; list = None; share = []; got = []; returned = [] }
+blank = record { log = []; obligations = []; sent_system = []; claim = None; list = None; share = []; got = []; returned = []; releases = [] }
 
 -- The view of the first pass, beside which there is no other.
 abbrev pub alone : View
@@ -135,7 +142,7 @@ without_counts (s ∷ log) = s ∷ without_counts log
 
 -- What a second pass knows and owes, with a half of a part of the share.
 abbrev pub copied : View → View
-copied v = record v { log = without_counts v.log; share = half_of v.share; got = []; returned = [] }
+copied v = record v { log = without_counts v.log; share = half_of v.share; got = []; returned = []; releases = [] }
 
 -- What a pass knows that is split off another and knows nothing, with a half of a part of the share.
 abbrev pub split_off : View → View
@@ -154,11 +161,21 @@ rewritten word (Some c) = Some (record c { word = word })
 abbrev pub writing : ℕ → View → View
 writing word v = record v { claim = rewritten word v.claim }
 
+-- The journal with which this claim was taken; none where there is no claim.
+abbrev pub taken_journal : Option Held → List Entry
+taken_journal None = []
+taken_journal (Some c) = c.journal
+
 -- The view after it gave the cell home with this journal.
 abbrev pub idling : ℕ → List Entry → View → View
 idling actor journal v =
     with_obligation actor (record (obligation_to actor v) { system = true; message = true })
-    (record v { log = Saw actor journal ∷ v.log; claim = None; returned = actor ∷ v.returned })
+    (record v {
+      log = Saw actor journal ∷ v.log;
+      claim = None;
+      returned = actor ∷ v.returned;
+      releases = record { actor = actor; taken = taken_journal v.claim; back = journal } ∷ v.releases;
+    })
 
 -- The view after it counted so many envelopes as waiting, before they are queued.
 abbrev pub sending : ℕ → ℕ → View → View
@@ -200,6 +217,7 @@ taking_over v w = record v {
   share = w.share ++ v.share;
   got = w.got ++ v.got;
   returned = w.returned ++ v.returned;
+  releases = w.releases ++ v.releases;
 }
 
 -- The view of a claim's seat that takes in a whole pass: what the pass has seen and sent, and what it owes.

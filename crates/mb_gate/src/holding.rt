@@ -5,6 +5,7 @@ ghost use Rattle.mb_ghost.specs.Layout.{slot_at};
 ghost use Rattle.mb_gate.specs.View.{idling, taking_in, writing};
 ghost use Rattle.mb_gate.specs.TableSteps.{IsHolderChange};
 ghost use Rattle.mb_gate.specs.Claims.{is_busy, IsReadyToRelease, Idled, IsKnownClosed};
+ghost use Rattle.mb_gate.specs.Returned.{GoesOn};
 ghost use Rattle.mb_gate.specs.Rule.{Extends, IsAmong, is_some_item};
 ghost use Rattle.mb_gate.specs.SentSystem.{HasSentDueSince};
 ghost use Rattle.mb_ghost.specs.Seen.{Each};
@@ -108,7 +109,8 @@ impl<H: MailboxState> Gates<H> {
     /// journal; it knows how many messages the list gave, and each that it says the list gave is one that the list gave; each
     /// actor that it says is closed is known to be; the new journal entries have had their system messages sent; and, unless
     /// the actor is open and its last drain gave something, nothing is left beside the cell. Afterwards the pass has seen the
-    /// journal, and owes the actor a look at both its queues.
+    /// journal, and owes the actor a look at both its queues. The journal that was taken goes on from each that the pass had
+    /// seen of the actor.
     pub fn release(&self, claim: Claim<H>, pass: &mut Pass<H>)
         requires same_gates { (claim_id claim ≡ gates_id self.now) × (pass_id pass.old ≡ gates_id self.now) }
         requires present { held_actor claim < actors_of self.now }
@@ -124,6 +126,7 @@ impl<H: MailboxState> Gates<H> {
         requires rest { ((status_of claim).closed ≡ true) ⊎ (gave_last claim ≡ false) → (H.facts claim.home).no_backlog }
         ensures same_gates { pass_id pass.new ≡ pass_id pass.old }
         ensures known { pass_view pass.new ≡ idling (held_actor claim) (H.facts claim.home).journal (taking_in (claim_view claim) (pass_view pass.old)) }
+        ensures goes_on { Each (GoesOn (held_actor claim) (taken_with claim)) (pass_view pass.old).log }
     {
         let Claim {
             home,

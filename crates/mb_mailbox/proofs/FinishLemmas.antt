@@ -1,7 +1,7 @@
 -- What the last step of a run needs, and what it leaves.
 use Rattle.std.proofs.Common.{◌≡◌, ◌≢◌, ◌⊎◌, inl, inr, ℕ, ◌+◌, ◌≤◌, ◌==◌, Bool, true, false, ◌||◌, List, [], ◌∷◌, ◌++◌}
 use Rattle.std.proofs.Common.{refl, sym, ap, ◌∙◌, subst, append_assoc, append-nil, length, arith}
-use Rattle.std.specs.Prelude.{MatchBool, if◌then◌else◌, reverse}
+use Rattle.std.specs.Prelude.{MatchBool, Option, Some, None, if◌then◌else◌, reverse}
 use Rattle.std.specs.Global.{Box}
 use Rattle.mb_status.specs.Mailbox.{Mailbox, word_of, idle}
 use Rattle.mb_msg.specs.declared.envelope.Envelope.{Envelope}
@@ -17,11 +17,15 @@ use Rattle.mb_ghost.specs.Summed.{total}
 use Rattle.mb_journal.specs.Fates.{begun}
 use Rattle.mb_gate.specs.declared.claim.Claim.{Claim}
 use Rattle.mb_gate.specs.Accessors.{held_actor, claim_view, recorded_by, status_of, taken_with, gave_last}
+use Rattle.mb_gate.specs.Claims.{held_in, held_or}
+use Rattle.mb_gate.specs.Returned.{GoesOn}
 use Rattle.mb_gate.specs.SentSystem.{HasSentDueSince}
+use Rattle.mb_ghost.specs.Seen.{Each}
 use Rattle.mb_ghost.proofs.SeenLemmas.{each_append}
 use Rattle.mb_gate.specs.Rule.{Extends, IsAmong, IsPart}
 use Rattle.mb_gate.specs.Untouched.{Origin}
-use Rattle.mb_gate.specs.View.{View, Observation, Saw, obligation_to, obligation_of, added_obligations, either_obligation, idling, taking_in}
+use Rattle.mb_gate.specs.View.{View, Observation, Saw, Held, obligation_to, obligation_of, added_obligations, either_obligation}
+use Rattle.mb_gate.specs.View.{idling, taking_in, taken_journal}
 use Rattle.mb_gate.specs.Waiting.{counted_off}
 use Rattle.mb_core.specs.Actor.{nothing}
 use Rattle.mb_gate.proofs.Numbers.{among_first, among_right}
@@ -38,7 +42,7 @@ use Rattle.mb_mailbox.specs.OnlyDrained.{TakesOnlyDrained}
 use Rattle.mb_mailbox.specs.Emptied.{FindsNoMore, IsCleared}
 use Rattle.mb_mailbox.specs.RunState.{RunState, run_state}
 use Rattle.mb_mailbox.specs.RunSends.{IsSentByRun, given_by}
-use Rattle.mb_mailbox.specs.Ran.{LastTakeFoundNone, LastTakeHadRoom, EndsDrained, EndsEmpty, HadRoom, CountsRun, LeavesRun, systems_in, taken_of}
+use Rattle.mb_mailbox.specs.Ran.{LastTakeFoundNone, LastTakeHadRoom, EndsDrained, EndsEmpty, GivesBackOne, HadRoom, CountsRun, LeavesRun, systems_in, taken_of}
 use Rattle.mb_mailbox.specs.Recorded.{GrowAlike}
 use Rattle.mb_mailbox.specs.Running.{IsRunning, BacklogAgrees, SameRun}
 use Rattle.mb_register.proofs.CallerLemmas.{account-then}
@@ -50,6 +54,7 @@ use Rattle.mb_register.proofs.SendingLemmas.{looks-send-none, sends-append}
 use Rattle.mb_mailbox.proofs.RecordedLemmas.{looks-give-none}
 use Rattle.mb_mailbox.proofs.RunSendsLemmas.{given-append}
 use Rattle.mb_mailbox.proofs.RunningMoves.{status-at}
+use Rattle.mb_mailbox.proofs.RunningSteps.{each-right}
 use Rattle.mb_mailbox.proofs.SentDueLemmas.{told-all}
 
 -- ---- the claim may be given back
@@ -97,6 +102,14 @@ added-none : (other : ℕ) (ds : List (ℕ × WakeObligation)) → obligation_of
 added-none other [] = refl
 added-none other (d ∷ ds) = λ i. if d.0 == other then either-none d.1 i else added-none other ds i
 
+taken-held : (c : Option Held) → taken_journal c ≡ (held_or c).journal
+taken-held None = refl
+taken-held (Some c) = refl
+
+-- what holds of all that a caller knows held of all that it knew
+pub each-before : {H : Type 0} (P : Observation → Type 0) (a b : Caller H) → CallerAdvances a b → Each P b.view.log → Each P a.view.log
+each-before P a b g all = each-right P g.more a.view.log (subst (Each P) g.log all)
+
 module _ (actor : ℕ) (journal : List Entry) (v w mid : View) (obligations : v.obligations ≡ []) (known : mid ≡ idling actor journal (taking_in v w)) where
   log-released : mid.log ≡ Saw actor journal ∷ (w.log ++ v.log)
   log-released = ap (λ (x : View). x.log) known
@@ -136,6 +149,24 @@ module _ (actor : ℕ) (journal : List Entry) (v w mid : View) (obligations : v.
           ∙ ap (λ l. (looks.looks ++ []) ++ Saw actor journal ∷ l) (append_assoc g.more a.view.log v.log)
           ∙ sym (append_assoc (looks.looks ++ []) (Saw actor journal ∷ g.more) (a.view.log ++ v.log));
     }
+
+    -- the cell went back, and before and after it cells whose claims the run queue refused
+    pub gives-back : {H : Type 0} (a b : Caller H) → b.view ≡ w → CallerAdvances a b → v.releases ≡ [] →
+        GivesBackOne (record { actor = actor; taken = (held_in v).journal; back = journal }) a.view new
+    gives-back a b here g none_released = record {
+      earlier = g.gives_back.more;
+      earlier_unchanged = g.gives_back.unchanged;
+      later = looks.gives_back.more;
+      later_unchanged = looks.gives_back.unchanged;
+      releases =
+          looks.gives_back.releases
+          ∙ ap (λ l. looks.gives_back.more ++ l)
+          (ap (λ (x : View). x.releases) known ∙ (λ i. record { actor = actor; taken = taken-held v.claim i; back = journal } ∷ before i));
+    }
+      where
+        before : w.releases ++ v.releases ≡ g.gives_back.more ++ a.view.releases
+        before =
+            ap (λ l. w.releases ++ l) none_released ∙ append-nil w.releases ∙ sym (ap (λ (x : View). x.releases) here) ∙ g.gives_back.releases
 
     known-still : (more old : List Observation) → w.log ≡ more ++ old → IsPart old new.log
     known-still more old is = record {
@@ -200,6 +231,8 @@ pub leaves-run : (throughput : ℕ) (first last : Claim (Box Contents)) (old pas
     IsReason last.home.value.cell.who throughput turn.envelopes last.home.value.cell.journal stopped →
     EndsDrained (held_actor last) (claim_view last).log stopped → LastTakeHadRoom last.home.value.cell.who last.home.value.cell.journal stopped →
     TakesOnlyDrained (held_actor last) (claim_view last).log → IsAmong (Saw (held_actor last) last.home.value.cell.journal) pass.log →
+    Each (GoesOn (held_actor last) (taken_with last)) old.log → pass.share ≡ old.share →
+    GivesBackOne (record { actor = held_actor last; taken = taken_with last; back = last.home.value.cell.journal }) old pass →
     TakesOver old pass (claim_view last).log → (w : View) → GrowAlike (recorded_by first) old (recorded_by last) w →
     pass.sent_system ≡ w.sent_system → given_by pass.log ≡ given_by (claim_view last).log ++ given_by w.log →
     recorded_by first ≡ [] →
@@ -210,7 +243,7 @@ pub leaves-run : (throughput : ℕ) (first last : Claim (Box Contents)) (old pas
     (closed last.home.value.cell.who last.home.value.cell.journal ≡ false → last.home.value.cleaned ≡ []) →
     (EndsEmpty stopped (closed first.home.value.cell.who last.home.value.cell.journal) → FindsNoMore first.home.value.take last.home.value.take) →
     LeavesRun throughput first old pass last.home.value.cell.journal turn stopped
-leaves-run throughput first last old pass turn stopped taken same t few reason ends room only_drained saw part w sends kept given unsent told fresh at_first at_last keeps empty =
+leaves-run throughput first last old pass turn stopped taken same t few reason ends room only_drained saw goes_on share gives_back part w sends kept given unsent told fresh at_first at_last keeps empty =
     let before : (run_state last).before ≡ first.home.value.cell.journal = same.before ∙ taken in
     let journal = last.home.value.cell.journal in
     let blocks : AreBlocks first.home.value.cell.who first.home.value.cell.journal turn.envelopes journal =
@@ -234,6 +267,10 @@ leaves-run throughput first last old pass turn stopped taken same t few reason e
       envelopes = refl;
       system = ap (λ j. turn.system + systems_in j) (sym before) ∙ t.system;
       seen = subst (λ n. IsAmong (Saw n journal) pass.log) same.actor saw;
+      goes_on = subst (λ (x : ℕ × List Entry). Each (GoesOn x.0 x.1) old.log) (λ i. (same.actor i, before i)) goes_on;
+      share = share;
+      gives_back = subst (λ (x : ℕ × List Entry). GivesBackOne (record { actor = x.0; taken = x.1; back = journal }) old pass)
+          (λ i. (same.actor i, before i)) gives_back;
       steps = (claim_view last).log;
       taken_over = part;
       told = recorded_by last;

@@ -51,6 +51,7 @@ module _ (gives : ℕ → Moment → Reply → Type 0) (origin : Origin (Box Con
       log = [];
       obligations = [];
       share = [];
+      releases = [];
     }
 
     hold-fresh : run_state c ≡ fresh_hold
@@ -68,6 +69,7 @@ module _ (gives : ℕ → Moment → Reply → Type 0) (origin : Origin (Box Con
       log = (u.known i).log;
       obligations = (u.known i).obligations;
       share = (u.known i).share;
+      releases = (u.known i).releases;
     }
 
     pub taken-fresh : taken_with c ≡ c.home.value.cell.journal
@@ -111,6 +113,7 @@ module _ (gives : ℕ → Moment → Reply → Type 0) (origin : Origin (Box Con
           only_drained = tt;
           owes_nothing = refl;
           bare = refl;
+          none_released = refl;
         })
 
     pub backlog-fresh : BacklogAgrees (run_state c)

@@ -28,6 +28,7 @@ module _ (c new : Claim (Box Contents)) (ours : (claim_id new ≡ claim_id c) ×
     log = (known i).log;
     obligations = (known i).obligations;
     share = (known i).share;
+    releases = (known i).releases;
   }
 
   -- an envelope was counted as taken
@@ -47,6 +48,7 @@ module _ (c new : Claim (Box Contents)) (ours : (claim_id new ≡ claim_id c) ×
     log = (known i).log;
     obligations = (known i).obligations;
     share = (known i).share;
+    releases = (known i).releases;
   }
 
   -- the status word was loaded
@@ -66,6 +68,7 @@ module _ (c new : Claim (Box Contents)) (ours : (claim_id new ≡ claim_id c) ×
     log = (known i).log;
     obligations = (known i).obligations;
     share = (known i).share;
+    releases = (known i).releases;
   }
 
   -- the gate of the actor's list was read, and showed work
@@ -85,6 +88,7 @@ module _ (c new : Claim (Box Contents)) (ours : (claim_id new ≡ claim_id c) ×
     log = (known i).log;
     obligations = (known i).obligations;
     share = (known i).share;
+    releases = (known i).releases;
   }
 
   module _ (status : status_of new ≡ status_of c) (taken : (taken_with new ≡ taken_with c) × (closed_with new ≡ closed_with c))
@@ -112,6 +116,7 @@ module _ (c new : Claim (Box Contents)) (ours : (claim_id new ≡ claim_id c) ×
       log = (known i).log;
       obligations = (known i).obligations;
       share = (known i).share;
+      releases = (known i).releases;
     }
 
     -- it was ended
@@ -135,6 +140,7 @@ module _ (c new : Claim (Box Contents)) (ours : (claim_id new ≡ claim_id c) ×
       log = (known i).log;
       obligations = (known i).obligations;
       share = (known i).share;
+      releases = (known i).releases;
     }
 
 -- a system message was sent in the run
@@ -154,4 +160,5 @@ hold-recorded c new sent_system r = λ i. record {
   log = (r.known i).log;
   obligations = (r.known i).obligations;
   share = (r.known i).share;
+  releases = (r.known i).releases;
 }

@@ -68,6 +68,7 @@ module _ (gives : ℕ → Moment → Reply → Type 0) (origin : Origin (Box Con
     only_drained = r.only_drained;
     owes_nothing = r.owes_nothing;
     bare = r.bare;
+    none_released = r.none_released;
   }
 
   pub running-applied : AppliesNext h.home new → LeadsOn h.home new → AgreesWithJournal (gives h.actor) new.cell.acts new →

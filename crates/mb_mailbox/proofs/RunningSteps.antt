@@ -55,7 +55,7 @@ logged-more drained logged result all =
     (each_weaker (λ m. IsAmong m drained) (λ m. IsAmong m (drained ++ result)) logged (λ m. among_left m drained result) all)
     (given-among drained result)
 
-each-right : {A : Type 0} (P : A → Type 0) (a b : List A) → Each P (a ++ b) → Each P b
+pub each-right : {A : Type 0} (P : A → Type 0) (a b : List A) → Each P (a ++ b) → Each P b
 each-right P [] b all = all
 each-right P (x ∷ a) b all = each-right P a b all.1
 
@@ -90,6 +90,7 @@ module _ (gives : ℕ → Moment → Reply → Type 0) (origin : Origin (Box Con
     only_drained = r.only_drained;
     owes_nothing = r.owes_nothing;
     bare = r.bare;
+    none_released = r.none_released;
   }
 
   module _ (seen : List Observation) (h : RunState) where
@@ -120,6 +121,7 @@ module _ (gives : ℕ → Moment → Reply → Type 0) (origin : Origin (Box Con
       only_drained = r.only_drained;
       owes_nothing = r.owes_nothing;
       bare = r.bare;
+      none_released = r.none_released;
     }
 
     -- the same acts are left, and the same is dead and beside the cell
@@ -190,6 +192,7 @@ module _ (gives : ℕ → Moment → Reply → Type 0) (origin : Origin (Box Con
       only_drained = r.only_drained;
       owes_nothing = r.owes_nothing;
       bare = r.bare;
+      none_released = r.none_released;
     }
 
     pub running-suspend : (rest : List Act) → IsRunning gives origin (SuspendSelf ∷ rest) seen h →
@@ -244,6 +247,7 @@ module _ (gives : ℕ → Moment → Reply → Type 0) (origin : Origin (Box Con
       only_drained = r.only_drained;
       owes_nothing = r.owes_nothing;
       bare = r.bare;
+      none_released = r.none_released;
     }
 
     module _ (rest : List Act) (to : ActorId) (message : SysMsg) (r : IsRunning gives origin (Sys to message ∷ rest) seen h) where
@@ -312,6 +316,7 @@ module _ (gives : ℕ → Moment → Reply → Type 0) (origin : Origin (Box Con
       only_drained = only_drained;
       owes_nothing = r.owes_nothing;
       bare = r.bare;
+      none_released = r.none_released;
     }
 
     pub running-drained : (pending : List Act) (gave : Bool) (given : ℕ) (result : List (ℕ × SysMsg)) → IsRunning gives origin pending seen h →

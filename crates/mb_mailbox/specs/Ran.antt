@@ -16,12 +16,15 @@ use Rattle.mb_journal.specs.Fates.{begun}
 use Rattle.mb_ghost.specs.Summed.{total}
 use Rattle.mb_gate.specs.declared.claim.Claim.{Claim}
 use Rattle.mb_gate.specs.Accessors.{held_actor}
+use Rattle.mb_gate.specs.Returned.{GoesOn}
+use Rattle.mb_ghost.specs.Seen.{Each}
 use Rattle.mb_gate.specs.Rule.{IsAmong}
-use Rattle.mb_gate.specs.View.{View, Observation, SentSystem, Saw, Took}
+use Rattle.mb_gate.specs.View.{View, Observation, Release, SentSystem, Saw, Took}
 use Rattle.mb_gate.specs.Waiting.{counted_off}
 use Rattle.mb_home.specs.Contents.{Contents}
 use Rattle.mb_mailbox.specs.declared.turn.Turn.{Turn}
 use Rattle.mb_register.specs.Caller.{TakesOver}
+use Rattle.mb_register.specs.Views.{IsUnchanged}
 use Rattle.mb_mailbox.specs.Loaded.{loaded_words, BeginsAt}
 use Rattle.mb_mailbox.specs.OnlyDrained.{DrainedLast, LoadedLast, TakesOnlyDrained}
 use Rattle.mb_mailbox.specs.Emptied.{FindsNoMore, IsEmptied}
@@ -132,14 +135,23 @@ EndsEmpty (NoEnvelope word) ended = Unit {0}
 EndsEmpty AtClosing ended = Unit {0}
 EndsEmpty NoRoom ended = ⊥
 
+-- It gave this cell back, and before and after that only cells with the journals with which they were taken.
+pub record GivesBackOne (own : Release) (old new : View) : Type 0 where
+  pub earlier : List Release
+  pub earlier_unchanged : Each IsUnchanged earlier
+  pub later : List Release
+  pub later_unchanged : Each IsUnchanged later
+  pub releases : new.releases ≡ later ++ own ∷ (earlier ++ old.releases)
+
 -- The claim's actor ran from the journal with which the claim was taken to this one, which the pass has seen. The result names the actor and counts
--- the entries of either kind. The pass took over the steps of the claim's seat. Among them each that took an envelope, if it was not cleaned up, came
--- right after a load of a status word that was open and not suspended, when no system message was left to be drained. The envelopes of the new entries
--- were begun at these words, one at each. The steps count as many envelopes as taken as were begun and cleaned up. None is cleaned up unless the actor
--- ended. If the run stopped since no envelope was there, or the actor ended and there was room for all, these are all envelopes that the takes gave,
--- and the last take found none; in the first case the journal has room for one more. The system messages that the pass sent are those that the new
--- entries have to send, each that found its list ended answered at once, and, if the actor ended, the answers to what was dropped then; and no others.
--- What the pass knows that lists gave went on by what the actor's list gave in these steps.
+-- the entries of either kind. The journal with which the claim was taken goes on from each that the pass had seen of the actor. The pass kept its
+-- share, and gave the cell back with the new journal, and each other cell as it was taken. It took over the steps of the claim's seat. Among them each
+-- that took an envelope, if it was not cleaned up, came right after a load of a status word that was open and not suspended, when no system message was
+-- left to be drained. The envelopes of the new entries were begun at these words, one at each. The steps count as many envelopes as taken as were begun
+-- and cleaned up. None is cleaned up unless the actor ended. If the run stopped since no envelope was there, or the actor ended and there was room for
+-- all, these are all envelopes that the takes gave, and the last take found none; in the first case the journal has room for one more. The system
+-- messages that the pass sent are those that the new entries have to send, each that found its list ended answered at once, and, if the actor ended, the
+-- answers to what was dropped then; and no others. What the pass knows that lists gave went on by what the actor's list gave in these steps.
 pub record LeavesRun (throughput : ℕ) (claim : Claim (Box Contents)) (old pass : View) (journal : List Entry) (turn : Turn) (stopped : Stopped)
     : Type 0 where
   pub run : IsRun claim.home.value.cell.who throughput claim.home.value.cell.journal journal stopped
@@ -147,6 +159,9 @@ pub record LeavesRun (throughput : ℕ) (claim : Claim (Box Contents)) (old pass
   pub envelopes : run.envelopes ≡ turn.envelopes
   pub system : turn.system + systems_in claim.home.value.cell.journal ≡ systems_in journal
   pub seen : IsAmong (Saw (held_actor claim) journal) pass.log
+  pub goes_on : Each (GoesOn (held_actor claim) claim.home.value.cell.journal) old.log
+  pub share : pass.share ≡ old.share
+  pub gives_back : GivesBackOne (record { actor = held_actor claim; taken = claim.home.value.cell.journal; back = journal }) old pass
   pub steps : List Observation
   pub taken_over : TakesOver old pass steps
   pub told : List SentSystem

@@ -8,13 +8,13 @@ use Rattle.mb_core.specs.declared.debt.WakeObligation.{WakeObligation}
 use Rattle.mb_journal.specs.Entry.{Entry}
 use Rattle.mb_gate.specs.declared.claim.Claim.{Claim}
 use Rattle.mb_gate.specs.Accessors.{claim_id, claim_view, held_actor, status_of, taken_with, closed_with, gave_last, given_to, drained_by, recorded_by}
-use Rattle.mb_gate.specs.View.{Observation, SentSystem}
+use Rattle.mb_gate.specs.View.{Observation, Release, SentSystem}
 use Rattle.mb_home.specs.Contents.{Contents}
 
 -- The gates that the claim is of; its actor; the status; what lies at the actor's home; the journal with which the claim was taken, and the actors of
 -- which the home said then that they are closed; whether the last drain gave something, and how many messages the list gave, modulo 2^64; which of
 -- these the home named when the claim was taken, and then those drained since; which system messages were sent for it, the earliest first; what its
--- own seat saw and did, the newest first; what that seat owes; and its share of the one whole of all passes.
+-- own seat saw and did, the newest first; what that seat owes; its share of the one whole of all passes; and each cell that it gave back.
 pub record RunState : Type 0 where
   pub gates : TableId
   pub actor : ℕ
@@ -29,6 +29,7 @@ pub record RunState : Type 0 where
   pub log : List Observation
   pub obligations : List (ℕ × WakeObligation)
   pub share : List ℕ
+  pub releases : List Release
 
 -- The state of a claim's run.
 abbrev pub run_state : Claim (Box Contents) → RunState
@@ -46,4 +47,5 @@ run_state claim = record {
   log = (claim_view claim).log;
   obligations = (claim_view claim).obligations;
   share = (claim_view claim).share;
+  releases = (claim_view claim).releases;
 }

@@ -1,5 +1,5 @@
 -- A scenario that was read can be run.
-use Rattle.std.proofs.Common.{◌≡◌, ℕ, ◌+◌, ◌<◌, ◌≤◌, ◌==◌, ◌&&◌, Bool, true, false, List, [], ◌∷◌, ◌++◌, length, map, max, refl, sym, ap, ◌∙◌, subst, arith, inl, inr}
+use Rattle.std.proofs.Common.{◌≡◌, ℕ, ◌+◌, ◌<◌, ◌≤◌, ◌==◌, ◌&&◌, Bool, true, false, List, [], ◌∷◌, ◌++◌, length, map, max, refl, sym, ap, ◌∙◌, subst, arith}
 use Rattle.std.proofs.Common.{codes, None}
 use Rattle.std.specs.Prelude.{◌||◌, All, nat_le, nat_lt}
 use Rattle.std.specs.List.{list_any}
@@ -33,10 +33,11 @@ use Rattle.mb_program.specs.Faults.{IsFaultOf}
 use Rattle.mb_streams.specs.declared.fault.RunFault.{RunFault}
 use Rattle.mb_streams.specs.declared.fault.RunFault.TheVariants as told
 use Rattle.mb_system.specs.declared.failure.RunError.TheVariants as Fault
-use Rattle.heddleorange.specs.NoReport.{IsErrorInOrder, IsErrorOfRun, IsRight, has_nobody, is_for_nobody}
+use Rattle.heddleorange.specs.NoReport.{HasFailedFor, IsErrorOfRun, IsRight, has_nobody, is_for_nobody}
 use Rattle.heddleorange.specs.Orders.{lists_of, orders_of}
 use Rattle.heddleorange.specs.declared.error.Error.{Error}
-use Rattle.heddleorange.specs.declared.error.Error.TheVariants.{BadPlan, Sends, NoMemory, Run, NotQuiet, Mismatch, NameTaken, Turns}
+use Rattle.heddleorange.specs.declared.error.Error.TheVariants.{BadPlan, Sends, NoMemory, Run, NotQuiet, Mismatch, NameTaken}
+use Rattle.heddleorange.specs.declared.failed_run.FailedRun.{FailedRun}
 use Rattle.heddleorange.proofs.InOrder.{for-nobody, length-lists, many-from}
 use Rattle.mb_scenario.proofs.Passed.{AreActorData, IsBoundData, IsReceived, IsSendData, length-items, passed, senders-right}
 
@@ -170,23 +171,21 @@ as-many-names text scenario names read named =
     ∙ sym (ap length (named ∙ ap (λ (s : ScenarioData). s.names) is))
 
 -- a fault tells of the error of a run whose plan and orders are right
-some-fault : (gives : ℕ → Moment → Reply → Type 0) (plan : Plan) (actors : ℕ) (orders : List (List Order)) (error : Error)
-    → IsRight plan actors orders → IsErrorOfRun gives plan actors orders error → (fault : RunFault) × IsFaultOf error fault
-some-fault gives plan actors orders (BadPlan reason) right is = let none = ap length (sym is.1 ∙ right.0) in absurd (omega (arith, none))
-some-fault gives plan actors orders Sends right is = absurd (is.1 right.1)
-some-fault gives plan actors orders NoMemory right is = (told.NoMemory, refl)
-some-fault gives plan actors orders (Run Fault.NoMemory) right is = (told.NoMemory, refl)
-some-fault gives plan actors orders (Run Fault.JournalFull) right is = (told.JournalFull, refl)
-some-fault gives plan actors orders (Run Fault.NoSuchActor) right is = absurd (cc (right.2, is.2))
-some-fault gives plan actors orders (NotQuiet id) right is = (told.NotQuiet id, refl)
-some-fault gives plan actors orders (Mismatch what) right is = (told.Mismatch, refl)
-some-fault gives plan actors orders (NameTaken id) right is = absurd is
-some-fault gives plan actors orders (Turns id) right is = absurd is
+some-fault : (gives : ℕ → Moment → Reply → Type 0) (plan : Plan) (actors : ℕ) (orders : List (List Order)) (failed : FailedRun)
+    (error : Error) → IsRight plan actors orders → HasFailedFor gives plan actors orders failed.actors.items error → (fault : RunFault) × IsFaultOf error fault
+some-fault gives plan actors orders failed (BadPlan reason) right is = let none = ap length (sym is.0.1 ∙ right.0) in absurd (omega (arith, none))
+some-fault gives plan actors orders failed Sends right is = absurd (is.1 right.1)
+some-fault gives plan actors orders failed NoMemory right is = (told.NoMemory, refl)
+some-fault gives plan actors orders failed (Run Fault.NoMemory) right is = (told.NoMemory, refl)
+some-fault gives plan actors orders failed (Run Fault.JournalFull) right is = (told.JournalFull, refl)
+some-fault gives plan actors orders failed (Run Fault.NoSuchActor) right is = absurd (cc (right.2, is.2))
+some-fault gives plan actors orders failed (NotQuiet id) right is = (told.NotQuiet id, refl)
+some-fault gives plan actors orders failed (Mismatch what) right is = (told.Mismatch, refl)
+some-fault gives plan actors orders failed (NameTaken id) right is = absurd is
 
-pub fault-in-order : (gives : ℕ → Moment → Reply → Type 0) (plan : Plan) (actors : ℕ) (orders : List (List Order)) (error : Error)
-    → IsRight plan actors orders → IsErrorInOrder gives plan actors orders error → (fault : RunFault) × IsFaultOf error fault
-fault-in-order gives plan actors orders error right (inl is) = some-fault gives plan actors orders error right is
-fault-in-order gives plan actors orders error right (inr is) = subst (λ e. (fault : RunFault) × IsFaultOf e fault) (sym is.1) (told.Mismatch, refl)
+pub fault-of-run : (gives : ℕ → Moment → Reply → Type 0) (plan : Plan) (actors : ℕ) (orders : List (List Order)) (failed : FailedRun)
+    → IsRight plan actors orders → IsErrorOfRun gives plan actors orders failed → (fault : RunFault) × IsFaultOf failed.error fault
+fault-of-run gives plan actors orders failed right is = some-fault gives plan actors orders failed failed.error right is
 
 -- the lists of all senders are those of the orders in a row
 pub lists-are : (senders : ℕ) (sends : List SenderOrder) (lists : List (List Order)) → length (lists_of senders sends) ≡ senders

@@ -2,7 +2,7 @@
 use Rattle.std.specs.Prelude.{◌≡◌}
 use Rattle.mb_system.specs.declared.failure.RunError.TheVariants as Fault
 use Rattle.heddleorange.specs.declared.error.Error.{Error}
-use Rattle.heddleorange.specs.declared.error.Error.TheVariants.{BadPlan, Sends, NoMemory, Run, NotQuiet, Mismatch, NameTaken, Turns}
+use Rattle.heddleorange.specs.declared.error.Error.TheVariants.{BadPlan, Sends, NoMemory, Run, NotQuiet, Mismatch, NameTaken}
 use Rattle.mb_streams.specs.declared.fault.RunFault.{RunFault}
 use Rattle.mb_streams.specs.declared.fault.RunFault.TheVariants as told
 
@@ -17,4 +17,3 @@ IsFaultOf (Run Fault.NoSuchActor) fault = ⊥
 IsFaultOf (NotQuiet id) fault = fault ≡ told.NotQuiet id
 IsFaultOf (Mismatch what) fault = fault ≡ told.Mismatch
 IsFaultOf (NameTaken id) fault = ⊥
-IsFaultOf (Turns id) fault = fault ≡ told.Mismatch

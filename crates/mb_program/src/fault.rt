@@ -14,7 +14,7 @@ pub(crate) fn fault_of(error: &Error) -> RunFault
         Error::NoMemory | Error::Run(RunError::NoMemory) => RunFault::NoMemory,
         Error::Run(RunError::JournalFull) => RunFault::JournalFull,
         Error::NotQuiet(id) => RunFault::NotQuiet(*id),
-        Error::Mismatch(_) | Error::Turns(_) => RunFault::Mismatch,
+        Error::Mismatch(_) => RunFault::Mismatch,
         Error::BadPlan(_)
         | Error::Sends
         | Error::NameTaken(_)

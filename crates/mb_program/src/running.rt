@@ -1,13 +1,13 @@
 //! A run, from the plan and its actors to the report.
-ghost use Rattle.std.specs.Prelude.{◌≡◌, ◌+◌, [], All, IfErr, IfOk, IfSome, false, is_some, length};
-ghost use Rattle.heddleorange.specs.NoReport.{IsErrorInOrder, IsErrorOfRun, IsRight};
+ghost use Rattle.std.specs.Prelude.{◌≡◌, ◌+◌, [], All, IfErr, IfOk, IfSome, is_some, length};
+ghost use Rattle.heddleorange.specs.NoReport.{IsErrorOfRun, IsRight};
 ghost use Rattle.heddleorange.specs.Orders.{lists_of};
 ghost use Rattle.heddleorange.specs.RunHeadline.{RunHeadline};
 ghost use Rattle.heddleorange.specs.Turns.{CoverJournals};
 ghost use Rattle.heddleorange.specs.WholeRun.{IsReportOfRun, after_at, gives_at};
 
 use crate::orders::lists_of;
-use heddleorange::{Error, QuietRun, Report, Turn, run_in_order, run_on_threads};
+use heddleorange::{Error, FailedRun, QuietRun, Report, Turn, run_in_order, run_on_threads};
 use mb_actor::Actor;
 use mb_msg::{Plan, SenderOrder};
 use std::alloc::Global;
@@ -27,7 +27,7 @@ pub struct FinishedRun {
 /// calling thread alone, after all was sent in the order of the text; of it the turns are answered too. Else each worker and each
 /// sender has a thread of its own.
 ///
-/// The errors are `NoMemory`, and `Run`, `NotQuiet`, `Mismatch` and, of a quiet run, `Turns` as `heddleorange` says of them.
+/// The errors are `NoMemory`, and `Run`, `NotQuiet` and `Mismatch` as `heddleorange` says of them.
 pub fn run<A: Actor + Send, R: Threads + Wait + Sync>(
     rt: &R,
     alloc: Global,
@@ -35,7 +35,7 @@ pub fn run<A: Actor + Send, R: Threads + Wait + Sync>(
     actors: Vec<A>,
     sends: &[SenderOrder],
     is_quiet: bool,
-) -> Result<FinishedRun, Error>
+) -> Result<FinishedRun, FailedRun>
     requires unused { All (λ actor. A.content actor ≡ A.after actor []) actors.items }
     requires right { IsRight plan (length actors.items) (lists_of plan.senders sends.now) }
     ensures ran { IfOk result (λ run. IsReportOfRun (after_at actors.items A.after) (gives_at actors.items A.gives) plan
@@ -44,9 +44,7 @@ pub fn run<A: Actor + Send, R: Threads + Wait + Sync>(
     ensures lines { IfOk result (λ run. length run.report.actors.items ≡ length actors.items + 1) }
     ensures turns { IfOk result (λ run. is_some run.turns ≡ is_quiet) }
     ensures covers { IfOk result (λ run. IfSome run.turns (λ turns. CoverJournals run.report turns.items)) }
-    ensures fault { IfErr result (IsErrorInOrder (gives_at actors.items A.gives) plan (length actors.items) (lists_of plan.senders sends.now)) }
-    ensures threads_fault { is_quiet ≡ false → IfErr result (IsErrorOfRun (gives_at actors.items A.gives) plan (length actors.items)
-        (lists_of plan.senders sends.now)) }
+    ensures fault { IfErr result (IsErrorOfRun (gives_at actors.items A.gives) plan (length actors.items) (lists_of plan.senders sends.now)) }
 {
     if is_quiet {
         let QuietRun { report, turns } = run_in_order(rt, alloc, plan, actors, sends)?;
@@ -55,7 +53,9 @@ pub fn run<A: Actor + Send, R: Threads + Wait + Sync>(
             turns: Some(turns),
         });
     }
-    let lists = lists_of(alloc, plan.senders, sends)?;
+    let Ok(lists) = lists_of(alloc, plan.senders, sends) else {
+        return Err(FailedRun::without_actors(alloc, Error::NoMemory));
+    };
     let report = run_on_threads(rt, alloc, plan, actors, &lists)?;
     Ok(FinishedRun {
         report,

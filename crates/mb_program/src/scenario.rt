@@ -38,6 +38,6 @@ pub fn run_scenario<R: Threads + Wait + Sync>(
     } = read(alloc, text)?;
     match run(rt, alloc, plan, scripts, &sends, quiet) {
         Ok(run) => Ok(ScenarioRun { names, run }),
-        Err(error) => Err(ProgramError::Run(fault_of(&error))),
+        Err(failed) => Err(ProgramError::Run(fault_of(&failed.error))),
     }
 }

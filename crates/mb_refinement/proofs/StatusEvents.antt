@@ -17,7 +17,7 @@ use Rattle.mb_gate.specs.HomeFacts.{HomeFacts}
 use Rattle.mb_gate.specs.declared.slot.Slot.{Slot}
 use Rattle.mb_gate.specs.declared.slot.Slot.TheVariants.{Home}
 use Rattle.mb_journal.specs.Entry.{Entry}
-use Rattle.mb_gate.specs.View.{View, Saw, Held, obligation_to, rewritten, reading, reading_held, writing, taking, idling}
+use Rattle.mb_gate.specs.View.{View, Held, obligation_to, rewritten, reading, reading_held, writing, taking, idling}
 use Rattle.mb_gate.specs.Rule.{
   Word,
   Status,
@@ -105,11 +105,7 @@ in_front g left rest = cases g.listed.closed
 
 -- who gives an actor back owes it a look at both its queues
 idle_owes : (actor : ℕ) (j : List Entry) (v : View) → obligation_to actor (idling actor j v) ≡ record (obligation_to actor v) { system = true; message = true }
-idle_owes actor j v = owes_here actor (record (obligation_to actor v) { system = true; message = true }) (record v {
-  log = Saw actor j ∷ v.log;
-  claim = None;
-  returned = actor ∷ v.returned;
-})
+idle_owes actor j v = owes_here actor (record (obligation_to actor v) { system = true; message = true }) v
 
 -- nothing is left in front of nothing
 pub none_left : (left rest : List SysMsg) → left ≡ [] → rest ≡ [] → left ++ rest ≡ []

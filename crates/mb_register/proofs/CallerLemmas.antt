@@ -13,6 +13,7 @@ use Rattle.mb_register.specs.Registering.{QueueAccount, WasRefused, IsRegistered
 use Rattle.mb_register.proofs.Bits.{same_or_other}
 use Rattle.mb_register.specs.Caller.{Caller, OwesForRefusals, TakesNothing, IsDischargedOrOwed, CallerAdvances}
 use Rattle.mb_register.proofs.SendingLemmas.{sends-append}
+use Rattle.mb_register.proofs.Unchanged.{unchanged-none, unchanged-then}
 
 -- it was owed a look before, or its claim was refused
 abbrev OwedOr : {H : Type 0} → QueueAccount H → List (Claim H) → ℕ → Type 0
@@ -76,6 +77,7 @@ module _ {H : Type 0} where
     account = account-none c.account;
     obligations = λ id. inr refl;
     share = refl;
+    gives_back = unchanged-none _ _ refl;
   }
 
   pub further-then : (a b c : Caller H) → CallerAdvances a b → CallerAdvances b c → CallerAdvances a c
@@ -87,6 +89,7 @@ module _ {H : Type 0} where
     account = account-then a.account b.account c.account p.account q.account;
     obligations = λ id. by_last id (q.obligations id);
     share = q.share ∙ p.share;
+    gives_back = unchanged-then a.view b.view c.view p.gives_back q.gives_back;
   }
     where
       by_first : (id : ℕ) → obligation_to id c.view ≡ obligation_to id b.view → IsDischargedOrOwed id b ⊎ (obligation_to id b.view ≡ obligation_to id a.view) →
@@ -109,4 +112,5 @@ module _ {H : Type 0} where
     account = subst (OwesForRefusals a.account) (sym account) (account-none a.account);
     obligations = λ id. inr (ap (obligation_to id) same);
     share = ap (λ (v : View). v.share) same;
+    gives_back = unchanged-none _ _ (ap (λ (v : View). v.releases) same);
   }

@@ -1,9 +1,9 @@
 -- Who joins the set of those that are owed a look is owed it by the view.
-use Rattle.std.proofs.Common.{Result, Ok, Err, IsErrAnd, ◌≡◌, ◌≢◌, ◌⊎◌, inl, inr, ℕ, ◌==◌, ◌||◌, true, false, List, ◌∷◌, None, sym, ap, ◌∙◌, subst, arith}
+use Rattle.std.proofs.Common.{Result, Ok, Err, IsErrAnd, ◌≡◌, ◌≢◌, ◌⊎◌, inl, inr, ℕ, ◌==◌, ◌||◌, true, false, List, sym, ap, ◌∙◌, subst, arith}
 use Rattle.std.specs.Prelude.{OnErr}
 use Rattle.std.proofs.lemmas.Bool.Decides.{nat_tests}
 use Rattle.mb_core.specs.declared.debt.WakeObligation.{WakeObligation}
-use Rattle.mb_gate.specs.View.{View, Saw, idling, obligation_to}
+use Rattle.mb_gate.specs.View.{View, idling, obligation_to}
 use Rattle.mb_journal.specs.Entry.{Entry}
 use Rattle.mb_register.specs.declared.owed.Owed.{Owed}
 use Rattle.mb_register.specs.Owed.{is_owed}
@@ -16,7 +16,7 @@ pub owes-back : (id : ℕ) (journal : List Entry) (before w : View) → w ≡ id
 owes-back id journal before w after =
     let d : WakeObligation = record (obligation_to id before) { system = true; message = true } in
     let now : obligation_to id w ≡ d = ap (obligation_to id) after
-    ∙ owes-same id d (record before { log = Saw id journal ∷ before.log; claim = None; returned = id ∷ before.returned }) in
+    ∙ owes-same id d before in
     (ap (λ (o : WakeObligation). o.system) now, ap (λ (o : WakeObligation). o.message) now)
 
 -- the set is as it was

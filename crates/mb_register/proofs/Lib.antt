@@ -1,3 +1,4 @@
+pub mod Unchanged
 pub mod Views
 pub mod ClaimCounts
 pub mod Dues

@@ -4,13 +4,14 @@ use Rattle.mb_ghost.specs.Seen.{Each}
 use Rattle.mb_ghost.proofs.SeenLemmas.{each_append, each_weaker}
 use Rattle.mb_gate.specs.View.{View, Observation, SentSystem, obligation_to}
 use Rattle.mb_gate.specs.View.{Read, Saw, Counted, Looked, Sent, Unsent, Took, Pushed, Drained, Ended}
-use Rattle.mb_register.specs.Views.{Does, IsLook}
+use Rattle.mb_register.specs.Views.{Does, GivesBackUnchanged, IsLook}
 use Rattle.mb_register.proofs.Bits.{same_or_other}
 use Rattle.mb_register.specs.Caller.{Caller, OwesForRefusals, TakesNothing, IsDischargedOrOwed, CallerAdvances}
 use Rattle.mb_register.specs.Sending.{SendsOpen}
 use Rattle.mb_register.proofs.SendingLemmas.{looks-send-none, sends-append}
+use Rattle.mb_register.proofs.Unchanged.{unchanged-then}
 
--- it saw more, has the share that it had, and owes every other actor what it owed before
+-- it saw more, has the share that it had, gave each cell back as it was taken, and owes every other actor what it owed before
 pub record Moves (id : ℕ) (old new : View) : Type 0 where
   pub more : List Observation
   pub took_none : Each TakesNothing more
@@ -18,6 +19,7 @@ pub record Moves (id : ℕ) (old new : View) : Type 0 where
   pub log : new.log ≡ more ++ old.log
   pub others : (other : ℕ) → other ≢ id → obligation_to other new ≡ obligation_to other old
   pub share : new.share ≡ old.share
+  pub gives_back : GivesBackUnchanged old new
 
 look-takes-none : (id : ℕ) (s : Observation) → IsLook id s → TakesNothing s
 look-takes-none id (Read a word) look = tt
@@ -43,6 +45,7 @@ moves-does id did told a b none sends d = record {
   log = d.log;
   others = d.others;
   share = d.share;
+  gives_back = d.gives_back;
 }
 
 pub moves-then : (id : ℕ) (a b c : View) → Moves id a b → Moves id b c → Moves id a c
@@ -53,6 +56,7 @@ moves-then id a b c p q = record {
   log = q.log ∙ ap (λ l. q.more ++ l) p.log ∙ sym (append_assoc q.more p.more a.log);
   others = λ other apart. q.others other apart ∙ p.others other apart;
   share = q.share ∙ p.share;
+  gives_back = unchanged-then a b c p.gives_back q.gives_back;
 }
 
 -- and what it owes to that actor it owes no more, or owes it a look
@@ -66,6 +70,7 @@ further-moves id a b m account discharged = record {
   account = account;
   obligations = λ other. by_actor other (same_or_other other id);
   share = m.share;
+  gives_back = m.gives_back;
 }
   where
     by_actor : (other : ℕ) → (other ≡ id) ⊎ (other ≢ id) → IsDischargedOrOwed other b ⊎ (obligation_to other b.view ≡ obligation_to other a.view)

@@ -13,6 +13,7 @@ use Rattle.mb_register.specs.Owed.{is_owed}
 use Rattle.mb_register.specs.Views.{LooksAfter, LooksAmong, IsLook}
 use Rattle.mb_register.specs.Registering.{QueueAccount, IsRegistered, StopsAt}
 use Rattle.mb_register.proofs.Bits.{same_or_other}
+use Rattle.mb_register.proofs.Unchanged.{unchanged-none, unchanged-then}
 
 true_or_false : (b : Bool) → (b ≡ true) ⊎ (b ≡ false)
 true_or_false true = inl refl
@@ -49,7 +50,15 @@ module _ {H : Type 0} (id : ℕ) (old new : QueueAccount H) where
 
 module _ (among : ℕ → Bool) where
   pub among-none : (v : View) → LooksAmong among v v
-  among-none v = record { looks = []; only = tt; log = refl; sent_system = refl; others = λ other out. refl; share = refl }
+  among-none v = record {
+    looks = [];
+    only = tt;
+    log = refl;
+    sent_system = refl;
+    others = λ other out. refl;
+    share = refl;
+    gives_back = unchanged-none v v refl;
+  }
 
   -- one more actor of the set
   among-then : (id : ℕ) (u v w : View) → among id ≡ true → LooksAmong among u v → LooksAfter id v w → LooksAmong among u w
@@ -62,6 +71,7 @@ module _ (among : ℕ → Bool) where
     sent_system = b.sent_system ∙ a.sent_system;
     others = λ other out. b.others other (λ same. never-both (among other) (ap among same ∙ in_set) out) ∙ a.others other out;
     share = b.share ∙ a.share;
+    gives_back = unchanged-then u v w a.gives_back b.gives_back;
   }
 
   -- an actor that is looked at only if it is in the set

@@ -8,6 +8,7 @@ use Rattle.mb_ghost.specs.Seen.{Each}
 use Rattle.mb_gate.specs.View.{View, Observation, SentSystem, obligation_to, reading}
 use Rattle.mb_gate.specs.View.{Read, Saw, Counted, Looked, Sent, Unsent, Took, Pushed, Drained, Ended, seeing}
 use Rattle.mb_register.specs.Views.{Does, IsLook}
+use Rattle.mb_register.proofs.Unchanged.{unchanged-none, unchanged-then}
 use Rattle.mb_register.proofs.Views.{owes-other}
 use Rattle.mb_register.specs.Sending.{CountedLast, ReadOpenLast, SendsOpen}
 
@@ -63,6 +64,7 @@ does-read id word did told a b c is d = record {
   others = λ other ne. d.others other ne ∙ ap (obligation_to other) is
       ∙ owes-other id (after_reading (mailbox_of word) (obligation_to id a)) (seeing (Read id word) a) other ne;
   share = d.share ∙ ap (λ (v : View). v.share) is;
+  gives_back = unchanged-then a b c (unchanged-none a b (ap (λ (v : View). v.releases) is)) d.gives_back;
 }
 
 -- the word of a status that is open says so

@@ -13,6 +13,7 @@ use Rattle.mb_gate.specs.Claims.{claimed}
 use Rattle.mb_gate.specs.View.{View, Observation, Saw, Sent, Unsent, Pushed, SentSystem, obligation_to, with_obligation, obligation_of, added_obligations, either_obligation}
 use Rattle.mb_gate.specs.View.{seeing, reading, winning, counting, looking, idling, taking_in, sending, unsending, enlisting, refusing}
 use Rattle.mb_register.specs.Views.{Does, IsLook, LooksAfter}
+use Rattle.mb_register.proofs.Unchanged.{unchanged-none, unchanged-then}
 
 module _ (id : ℕ) where
   pub owes-same : (d : WakeObligation) (v : View) → obligation_to id (with_obligation id d v) ≡ d
@@ -22,7 +23,15 @@ module _ (id : ℕ) where
   owes-other d v other ne = let apart : (id == other) ≡ false = grind (arith, nat_tests) in ap (λ b. if b then d else obligation_to other v) apart
 
   pub looks-none : (v : View) → LooksAfter id v v
-  looks-none v = record { looks = []; only = tt; log = refl; sent_system = refl; others = λ other ne. refl; share = refl }
+  looks-none v = record {
+    looks = [];
+    only = tt;
+    log = refl;
+    sent_system = refl;
+    others = λ other ne. refl;
+    share = refl;
+    gives_back = unchanged-none _ _ refl;
+  }
 
   -- something done, and then looks
   pub does-then : (did : List Observation) (told : List SentSystem) (u v w : View) → Does id did told u v → LooksAfter id v w → Does id did told u w
@@ -33,6 +42,7 @@ module _ (id : ℕ) where
     sent_system = b.sent_system ∙ a.sent_system;
     others = λ other ne. b.others other ne ∙ a.others other ne;
     share = b.share ∙ a.share;
+    gives_back = unchanged-then u v w a.gives_back b.gives_back;
   }
     where
       joined : (b.looks ++ []) ++ ((a.looks ++ did) ++ u.log) ≡ ((b.looks ++ a.looks) ++ did) ++ u.log
@@ -44,7 +54,15 @@ module _ (id : ℕ) where
   looks-then = does-then [] []
 
   pub looks-seeing : (s : Observation) (v : View) → IsLook id s → LooksAfter id v (seeing s v)
-  looks-seeing s v is = record { looks = s ∷ []; only = (is, tt); log = refl; sent_system = refl; others = λ other ne. refl; share = refl }
+  looks-seeing s v is = record {
+    looks = s ∷ [];
+    only = (is, tt);
+    log = refl;
+    sent_system = refl;
+    others = λ other ne. refl;
+    share = refl;
+    gives_back = unchanged-none _ _ refl;
+  }
 
   pub looks-reading : (word : ℕ) (v : View) → LooksAfter id v (reading id word v)
   looks-reading word v = record {
@@ -54,6 +72,7 @@ module _ (id : ℕ) where
     sent_system = refl;
     others = owes-other (after_reading (mailbox_of word) (obligation_to id v)) v;
     share = refl;
+    gives_back = unchanged-none _ _ refl;
   }
 
   looks-if : (b : Bool) (u v w : View) → LooksAfter id u v → LooksAfter id u w → LooksAfter id u (if b then v else w)
@@ -69,6 +88,7 @@ module _ (id : ℕ) where
         sent_system = refl;
         others = owes-other (record (obligation_to id v) { message = false }) v;
         share = refl;
+        gives_back = unchanged-none _ _ refl;
       })
       (looks-seeing _ v refl)
 
@@ -81,6 +101,7 @@ module _ (id : ℕ) where
     sent_system = refl;
     others = owes-other (record (obligation_to id v) { system = false }) v;
     share = refl;
+    gives_back = unchanged-none _ _ refl;
   }
 
   looks-winning : (v : View) → LooksAfter id v (winning id v)
@@ -91,6 +112,7 @@ module _ (id : ℕ) where
     sent_system = refl;
     others = owes-other nothing (record v { got = id ∷ v.got });
     share = refl;
+    gives_back = unchanged-none _ _ refl;
   }
 
   -- after a reading; after one and another; after one that was followed by a won exchange
@@ -116,6 +138,7 @@ module _ (id : ℕ) where
     sent_system = refl;
     others = owes-other (record (obligation_to id v) { sending = true }) v;
     share = refl;
+    gives_back = unchanged-none _ _ refl;
   })
 
   pub does-unsending : (u v w : View) → v ≡ sending id 1 u → w ≡ unsending id 1 v → Does id (Unsent id 1 ∷ Sent id 1 ∷ []) [] u w
@@ -126,6 +149,7 @@ module _ (id : ℕ) where
     sent_system = a.sent_system;
     others = λ other ne. owes-other (record (obligation_to id v) { message = true; sending = false }) v other ne ∙ a.others other ne;
     share = a.share;
+    gives_back = unchanged-then u v _ a.gives_back (unchanged-none _ _ refl);
   })
 
   -- a message was put into the list, or found it ended
@@ -139,13 +163,22 @@ module _ (id : ℕ) where
         sent_system = refl;
         others = owes-other (record (obligation_to id v) { system = true }) v;
         share = refl;
+        gives_back = unchanged-none _ _ refl;
       })
 
   pub does-refusing : (message : SysMsg) (v w : View) → w ≡ refusing id message v →
       Does id [] (record { to = id; message = message; was_ended = true } ∷ []) v w
   does-refusing message v w is =
       subst (Does id [] (record { to = id; message = message; was_ended = true } ∷ []) v) (sym is)
-      (record { looks = []; only = tt; log = refl; sent_system = refl; others = λ other ne. refl; share = refl })
+      (record {
+        looks = [];
+        only = tt;
+        log = refl;
+        sent_system = refl;
+        others = λ other ne. refl;
+        share = refl;
+        gives_back = unchanged-none _ _ refl;
+      })
 
 -- what is owed by a pass is as it was once a claim that owed nothing was put into its place
 or-false : (b : Bool) → (b || false) ≡ b
@@ -160,20 +193,21 @@ added-none other [] = refl
 added-none other (d ∷ ds) = λ i. if d.0 == other then either-none d.1 i else added-none other ds i
 
 -- a claim that was just taken is given back
-module _ (id : ℕ) (j before : List Entry) (shut : List ℕ) (word : ℕ) (gave : Bool) (given : ℕ) (drained : List (ℕ × SysMsg)) where
-  looks-idled : (v : View) → LooksAfter id v (idling id j (taking_in (claimed id before shut word gave given drained) v))
+module _ (id : ℕ) (j : List Entry) (shut : List ℕ) (word : ℕ) (gave : Bool) (given : ℕ) (drained : List (ℕ × SysMsg)) where
+  looks-idled : (v : View) → LooksAfter id v (idling id j (taking_in (claimed id j shut word gave given drained) v))
   looks-idled v = record {
     looks = Saw id j ∷ [];
     only = (refl, tt);
     log = ap (λ l. Saw id j ∷ l) (append-nil v.log);
     sent_system = refl;
-    others = λ other ne. owes-other id _ (taking_in (claimed id before shut word gave given drained) v) other ne ∙ added-none other v.obligations;
+    others = λ other ne. owes-other id _ (taking_in (claimed id j shut word gave given drained) v) other ne ∙ added-none other v.obligations;
     share = append-nil v.share;
+    gives_back = record {
+      more = record { actor = id; taken = j; back = j } ∷ [];
+      unchanged = (refl, tt);
+      releases = ap (λ l. record { actor = id; taken = j; back = j } ∷ l) (append-nil v.releases);
+    };
   }
 
-  pub looks-back : (actor : ℕ) (v c w : View) → actor ≡ id → c ≡ claimed actor before shut word gave given drained → w ≡ idling actor j (taking_in c v) →
-      LooksAfter id v w
-  looks-back actor v c w here is after =
-      subst (LooksAfter id v) (sym (after ∙ ap (λ (u : View). idling actor j (taking_in u v)) is
-      ∙ ap (λ a. idling a j (taking_in (claimed a before shut word gave given drained) v)) here))
-      (looks-idled v)
+  pub looks-back : (v c w : View) → c ≡ claimed id j shut word gave given drained → w ≡ idling id j (taking_in c v) → LooksAfter id v w
+  looks-back v c w is after = subst (LooksAfter id v) (sym (after ∙ ap (λ (u : View). idling id j (taking_in u v)) is)) (looks-idled v)

@@ -12,6 +12,7 @@ use Rattle.mb_gate.specs.Untouched.{Origin, origin_of}
 use Rattle.mb_register.specs.Owed.{is_owed}
 use Rattle.mb_register.specs.Registering.{QueueAccount}
 use Rattle.mb_register.specs.Sending.{SendsOpen}
+use Rattle.mb_register.specs.Views.{GivesBackUnchanged}
 
 -- What a caller's pass knows and owes, and its account with the run queue.
 pub record Caller (H : Type 0) : Type 0 where
@@ -63,8 +64,8 @@ module _ {H : Type 0} where
   abbrev pub IsDischargedOrOwed : ℕ → Caller H → Type 0
   IsDischargedOrOwed id caller = (obligation_to id caller.view ≡ nothing) ⊎ (is_owed caller.account.owed id ≡ true)
 
-  -- It saw more, took no envelope, sent only to actors that it read as open, and kept its share. To each actor it owes nothing, or the actor is in
-  -- its set, or it owes what it did before.
+  -- It saw more, took no envelope, sent only to actors that it read as open, kept its share, and gave each cell back as it was taken. To each actor it
+  -- owes nothing, or the actor is in its set, or it owes what it did before.
   pub record CallerAdvances (old new : Caller H) : Type 0 where
     pub more : List Observation
     pub took_none : Each TakesNothing more
@@ -73,6 +74,7 @@ module _ {H : Type 0} where
     pub account : OwesForRefusals old.account new.account
     pub obligations : (id : ℕ) → IsDischargedOrOwed id new ⊎ (obligation_to id new.view ≡ obligation_to id old.view)
     pub share : new.view.share ≡ old.view.share
+    pub gives_back : GivesBackUnchanged old.view new.view
 
   -- It still knows all that it knew, and kept its share. To each actor it owes nothing, or the actor is in its set, or it owes what it did before.
   pub record LeavesCaller (old new : Caller H) : Type 0 where

@@ -5,6 +5,8 @@ use Rattle.std.specs.Prelude.{All, slice_get}
 use Rattle.std.proofs.lemmas.Option.{same_Some}
 use Rattle.mb_msg.specs.declared.dead_letter.DeadLetter.{DeadLetter}
 use Rattle.mb_msg.specs.declared.envelope.Envelope.{Envelope}
+use Rattle.mb_msg.specs.declared.system.SysMsg.{SysMsg}
+use Rattle.mb_syslist.specs.MessageList.{numbered}
 use Rattle.mb_actor.specs.Behaviour.{Moment, Reply}
 use Rattle.mb_actor.specs.declared.message.Message.{Message}
 use Rattle.mb_actor.specs.declared.phase.Phase.TheVariants.{Ended as EndedPhase}
@@ -14,6 +16,7 @@ use Rattle.mb_gate.specs.Returned.{IsKept}
 use Rattle.mb_gate.specs.Rule.{Extends}
 use Rattle.mb_gate.specs.View.{View, Observation, Read, Saw, Counted, Looked, Sent, Unsent, Took, Pushed, Drained, Ended as EndedSight}
 use Rattle.mb_ghost.specs.Seen.{Each}
+use Rattle.mb_ghost.specs.Summed.{total}
 use Rattle.mb_home.specs.Contents.{Contents}
 use Rattle.mb_home.specs.Directory.{DirectoryEntry, queues_of as roll_queues}
 use Rattle.mb_report.specs.declared.report.ActorReport.{ActorReport}
@@ -32,8 +35,8 @@ use Rattle.mb_shutdown.proofs.Columns.{different}
 use Rattle.mb_shutdown.proofs.Gathering.{Gathered, gathered, numbers-rise}
 use Rattle.mb_shutdown.proofs.Lists.{alike, at-place, became, each-place, from-mapped, in-first, length-mapped, mapped, mapped-to, same-maps, there, within}
 use Rattle.mb_shutdown.proofs.Parties.{Party}
-use Rattle.mb_shutdown.proofs.Standing.{Stands, many-left, own_word, shut, stands}
-use Rattle.mb_shutdown.proofs.WholeLaw.{counts-given, whole}
+use Rattle.mb_shutdown.proofs.Standing.{Stands, many-left, own_word, shut, stands, stands-put}
+use Rattle.mb_shutdown.proofs.WholeLaw.{counts-given, counts-put, whole}
 
 module _ {A K : Type 0} (gives : ℕ → Moment → Reply → Type 0) (first : Contents) (n : ℕ) (v : View) (all : List (Option BoxedHome))
     (left : AreHomes gives first n v all) (ended : List (Ended A K)) (takes : List TakePassView) (rows : List (List SendPassView))
@@ -170,6 +173,17 @@ module _ {A K : Type 0} (gives : ℕ → Moment → Reply → Type 0) (first : C
           let one = shows.each i e.0 es.0 w a e.1 es.1 is found in
           ap length one.shows.left_is ∙ one.counted)
 
+      -- the report shows each home that came
+      home-shown : (id : ℕ) (l : BoxedHome) (a : ActorReport) → slice_get all id ≡ Some (Some l) → slice_get report.actors.items id ≡ Some a
+          → (slice_get lefts id ≡ Some l) × (es : List Envelope) × ShowsCell after (end_of l.home.value) es a
+      home-shown id l a is found =
+          let x = from-mapped (λ (x : BoxedHome). Some x) lefts id (Some l) (ap (λ y. slice_get y id) (sym apart.are) ∙ is) in
+          let here : slice_get lefts id ≡ Some l = x.1 ∙ x.2 in
+          let b = within lefts id l here in
+          let q = taken.same_count in let t = ap length apart.takes_are in let k = length-mapped (λ (l : BoxedHome). l.home.value.take) lefts in
+          let es = there envelopes id (omega (arith, b, q, t, k)) in
+          (here, es.0, (shown id l es.0 a here es.1 found).0)
+
       -- each home came, and all that its list gave is counted
       pub report-home : HomesReturned gives first n v report
       report-home = record {
@@ -178,24 +192,21 @@ module _ {A K : Type 0} (gives : ℕ → Moment → Reply → Type 0) (first : C
         came = λ id lt whole.
             let l = there lefts id (let m = many-lefts in omega (arith, lt, m)) in
             left.back whole id l.0 lt (mapped-to (λ (x : BoxedHome). Some x) lefts all id l.0 (sym apart.are) l.1);
+        journal = λ id l a is found. (home-shown id l a is found).2.journal_is;
         given = λ id l a is found.
-            let x = from-mapped (λ (x : BoxedHome). Some x) lefts id (Some l) (ap (λ y. slice_get y id) (sym apart.are) ∙ is) in
-            let here : slice_get lefts id ≡ Some l = x.1 ∙ x.2 in
-            let b = within lefts id l here in let m = many-lefts in
-            let q = taken.same_count in let t = ap length apart.takes_are in let k = length-mapped (λ (l : BoxedHome). l.home.value.take) lefts in
-            let es = there envelopes id (omega (arith, b, q, t, k)) in
-            let done = done-at id l here in (
+            let one = home-shown id l a is found in let b = within lefts id l one.0 in let m = many-lefts in let done = done-at id l one.0 in (
               done.1,
-              counts-given after gives first v.log id l (stands-at id l here) done es.0 a (shown id l es.0 a here es.1 found).0 l.given
+              counts-given after gives first v.log id l (stands-at id l one.0) done one.1 a one.2 l.given
                   (left.each id (Some l) (omega (arith, b, m)) is).5,
             );
-        cleaned = λ id l a is found.
-            let x = from-mapped (λ (x : BoxedHome). Some x) lefts id (Some l) (ap (λ y. slice_get y id) (sym apart.are) ∙ is) in
-            let here : slice_get lefts id ≡ Some l = x.1 ∙ x.2 in
-            let b = within lefts id l here in
-            let q = taken.same_count in let t = ap length apart.takes_are in let k = length-mapped (λ (l : BoxedHome). l.home.value.take) lefts in
-            let es = there envelopes id (omega (arith, b, q, t, k)) in
-            (shown id l es.0 a here es.1 found).0.cleaned_is;
+        put = λ id l a is found.
+            let one = home-shown id l a is found in let done = done-at id l one.0 in
+            let st = stands-put gives first n v all lefts left apart.are id l one.0 done.1 in
+            let counts = counts-put after gives first v.log id l st.0 done one.1 a one.2 in (
+              counts.0,
+              λ whole measure. st.1 whole measure ∙ ap (λ (pushed : List SysMsg). total measure (numbered 0 pushed)) (sym counts.1),
+            );
+        cleaned = λ id l a is found. (home-shown id l a is found).2.cleaned_is;
         dead = λ id l s is found.
             let x = from-mapped (λ (x : BoxedHome). Some x) lefts id (Some l) (ap (λ y. slice_get y id) (sym apart.are) ∙ is) in
             let here : slice_get lefts id ≡ Some l = x.1 ∙ x.2 in

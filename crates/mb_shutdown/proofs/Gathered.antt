@@ -16,6 +16,7 @@ use Rattle.mb_system.specs.declared.end.WorkerEnd.{WorkerEnd}
 use Rattle.mb_system.specs.declared.sender.Sender.{Sender}
 use Rattle.mb_shutdown.specs.Belonging.{brings, brought}
 use Rattle.mb_shutdown.proofs.Parts.{AllSeen, part-back, part-same, seen-by, seen-more}
+use Rattle.mb_shutdown.proofs.Sums.{HasAll, all-of-more, all-of-one}
 
 -- the rest of a list, after those that came and the next
 module _ {X : Type 0} where
@@ -28,6 +29,12 @@ module _ {X : Type 0} where
       of-next P came x rest (came ++ (x ∷ rest)) refl (All-tail P y (came ++ (x ∷ rest)) (All-same P (y ∷ came ++ (x ∷ rest)) all is each))
 
 module _ {A K : Type 0} where
+  abbrev pub view_of_end : WorkerEnd A K → View
+  view_of_end e = pass_view e.registrar.pass
+
+  abbrev pub view_of_sender : Sender A K → View
+  view_of_sender s = pass_view s.inner.registrar.pass
+
   abbrev pub seen_by_end : WorkerEnd A K → List Observation
   seen_by_end e = (pass_view e.registrar.pass).log
 
@@ -41,62 +48,80 @@ module _ {A K : Type 0} where
     pub are : (first ∷ came) ++ rest ≡ ends
     pub seen : AllSeen seen_by_end (first ∷ came) (pass_view pass).log
 
+  -- and it has all that these have
+  pub record HasJoined (gates : Gates (Box Contents)) (ends came rest : List (WorkerEnd A K)) (pass : Pass (Box Contents)) : Type 0 where
+    pub knows : HasEnds gates ends came rest pass
+    pub all : HasAll (map view_of_end (knows.first ∷ came)) (pass_view pass)
+
   pub ends-first : (gates : Gates (Box Contents)) (ends rest : List (WorkerEnd A K)) (e : WorkerEnd A K) (pass : Pass (Box Contents))
-      → e ∷ rest ≡ ends → pass ≡ e.registrar.pass → All (λ (w : WorkerEnd A K). IsEndOf gates w.registrar) ends → HasEnds gates ends [] rest pass
+      → e ∷ rest ≡ ends → pass ≡ e.registrar.pass → All (λ (w : WorkerEnd A K). IsEndOf gates w.registrar) ends → HasJoined gates ends [] rest pass
   ends-first gates ends rest e pass are is all =
       let one = of-next (λ (w : WorkerEnd A K). IsEndOf gates w.registrar) [] e rest ends are all in record {
-        same_gates = ap pass_id is ∙ one.0;
-        first = e;
-        are = are;
-        seen = All-cons (λ (w : WorkerEnd A K). IsPart (seen_by_end w) (pass_view pass).log) e []
-            (subst (λ (p : Pass (Box Contents)). IsPart (seen_by_end e) (pass_view p).log) (sym is) (part-same (seen_by_end e)))
-            (All-nil (λ (w : WorkerEnd A K). IsPart (seen_by_end w) (pass_view pass).log));
+        knows = record {
+          same_gates = ap pass_id is ∙ one.0;
+          first = e;
+          are = are;
+          seen = All-cons (λ (w : WorkerEnd A K). IsPart (seen_by_end w) (pass_view pass).log) e []
+              (subst (λ (p : Pass (Box Contents)). IsPart (seen_by_end e) (pass_view p).log) (sym is) (part-same (seen_by_end e)))
+              (All-nil (λ (w : WorkerEnd A K). IsPart (seen_by_end w) (pass_view pass).log));
+        };
+        all = subst (λ (p : Pass (Box Contents)). HasAll (view_of_end e ∷ []) (pass_view p)) (sym is) (all-of-one (view_of_end e));
       }
 
   pub end-ours : (gates : Gates (Box Contents)) (ends came left rest : List (WorkerEnd A K)) (e : WorkerEnd A K) (pass other : Pass (Box Contents))
-      → HasEnds gates ends came left pass → left ≡ e ∷ rest → other ≡ e.registrar.pass → All (λ (w : WorkerEnd A K). IsEndOf gates w.registrar) ends
+      → HasJoined gates ends came left pass → left ≡ e ∷ rest → other ≡ e.registrar.pass → All (λ (w : WorkerEnd A K). IsEndOf gates w.registrar) ends
       → pass_id other ≡ gates_id gates
   end-ours gates ends came left rest e pass other has next is all =
       ap pass_id is
-      ∙ (of-next (λ (w : WorkerEnd A K). IsEndOf gates w.registrar) (has.first ∷ came) e rest ends
-      (ap (λ l. (has.first ∷ came) ++ l) (sym next) ∙ has.are) all).0
+      ∙ (of-next (λ (w : WorkerEnd A K). IsEndOf gates w.registrar) (has.knows.first ∷ came) e rest ends
+      (ap (λ l. (has.knows.first ∷ came) ++ l) (sym next) ∙ has.knows.are) all).0
 
   pub ends-more : (gates : Gates (Box Contents)) (ends came left rest : List (WorkerEnd A K)) (e : WorkerEnd A K)
-      (old new other : Pass (Box Contents)) → HasEnds gates ends came left old → left ≡ e ∷ rest → other ≡ e.registrar.pass → pass_id new ≡ pass_id old
-      → pass_view new ≡ taking_over (pass_view old) (pass_view other) → HasEnds gates ends (came ++ e ∷ []) rest new
+      (old new other : Pass (Box Contents)) → HasJoined gates ends came left old → left ≡ e ∷ rest → other ≡ e.registrar.pass
+      → pass_id new ≡ pass_id old → pass_view new ≡ taking_over (pass_view old) (pass_view other) → HasJoined gates ends (came ++ e ∷ []) rest new
   ends-more gates ends came left rest e old new other has next is same knows =
+      let before = has.knows in
       let log : (pass_view new).log ≡ seen_by_end e ++ (pass_view old).log =
       ap (λ (v : View). v.log) knows ∙ ap (λ (p : Pass (Box Contents)). (pass_view p).log ++ (pass_view old).log) is in
       record {
-        same_gates = same ∙ has.same_gates;
-        first = has.first;
-        are = next-came (has.first ∷ came) e rest ends (ap (λ l. (has.first ∷ came) ++ l) (sym next) ∙ has.are);
-        seen = seen-more seen_by_end (has.first ∷ came) e (pass_view old).log (pass_view new).log log has.seen;
+        knows = record {
+          same_gates = same ∙ before.same_gates;
+          first = before.first;
+          are = next-came (before.first ∷ came) e rest ends (ap (λ l. (before.first ∷ came) ++ l) (sym next) ∙ before.are);
+          seen = seen-more seen_by_end (before.first ∷ came) e (pass_view old).log (pass_view new).log log before.seen;
+        };
+        all = subst (λ l. HasAll l (pass_view new)) (sym (map-append view_of_end (before.first ∷ came) (e ∷ [])))
+            (all-of-more (map view_of_end (before.first ∷ came)) (pass_view old) (view_of_end e) (pass_view new)
+            (knows ∙ ap (λ (p : Pass (Box Contents)). taking_over (pass_view old) (pass_view p)) is) has.all);
       }
 
   pub ends-all : (gates : Gates (Box Contents)) (ends came left : List (WorkerEnd A K)) (pass : Pass (Box Contents))
-      → HasEnds gates ends came left pass → left ≡ [] → AllSeen seen_by_end ends (pass_view pass).log
+      → HasJoined gates ends came left pass → left ≡ []
+      → AllSeen seen_by_end ends (pass_view pass).log × HasAll (map view_of_end ends) (pass_view pass)
   ends-all gates ends came left pass has none =
-      subst (λ l. AllSeen seen_by_end l (pass_view pass).log)
-      (sym (append-nil (has.first ∷ came)) ∙ ap (λ l. (has.first ∷ came) ++ l) (sym none) ∙ has.are) has.seen
+      subst (λ l. AllSeen seen_by_end l (pass_view pass).log × HasAll (map view_of_end l) (pass_view pass))
+      (sym (append-nil (has.knows.first ∷ came)) ∙ ap (λ l. (has.knows.first ∷ came) ++ l) (sym none) ∙ has.knows.are) (has.knows.seen, has.all)
 
-  -- the pass is of the gates, and knows what all ends and those senders that came have seen; these brought this
+  -- the pass is of the gates, knows what all ends and those senders that came have seen, and has all that they have; these brought this
   pub record HasSenders (gates : Gates (Box Contents)) (ends : List (WorkerEnd A K)) (senders came rest : List (Sender A K))
       (pass : Pass (Box Contents)) (outside : List FinishedSender) : Type 0 where
     pub same_gates : pass_id pass ≡ gates_id gates
     pub ends_seen : AllSeen seen_by_end ends (pass_view pass).log
     pub are : came ++ rest ≡ senders
     pub seen : AllSeen seen_by_sender came (pass_view pass).log
+    pub all : HasAll (map view_of_end ends ++ map view_of_sender came) (pass_view pass)
     pub shown : map brought outside ≡ map brings came
 
   pub senders-first : (gates : Gates (Box Contents)) (ends : List (WorkerEnd A K)) (senders rest : List (Sender A K)) (pass : Pass (Box Contents))
-      (outside : List FinishedSender) → pass_id pass ≡ gates_id gates → AllSeen seen_by_end ends (pass_view pass).log → rest ≡ senders → outside ≡ []
+      (outside : List FinishedSender) → pass_id pass ≡ gates_id gates
+      → AllSeen seen_by_end ends (pass_view pass).log × HasAll (map view_of_end ends) (pass_view pass) → rest ≡ senders → outside ≡ []
       → HasSenders gates ends senders [] rest pass outside
-  senders-first gates ends senders rest pass outside ours seen are none = record {
+  senders-first gates ends senders rest pass outside ours joined are none = record {
     same_gates = ours;
-    ends_seen = seen;
+    ends_seen = joined.0;
     are = are;
     seen = All-nil (λ (s : Sender A K). IsPart (seen_by_sender s) (pass_view pass).log);
+    all = subst (λ l. HasAll l (pass_view pass)) (sym (append-nil (map view_of_end ends))) joined.1;
     shown = ap (map brought) none;
   }
 
@@ -121,6 +146,11 @@ module _ {A K : Type 0} where
             (subst (IsPart (pass_view old).log) (sym log) (part-back (seen_by_sender s) (pass_view old).log)) has.ends_seen;
         are = next-came came s rest senders (ap (λ l. came ++ l) (sym next) ∙ has.are);
         seen = seen-more seen_by_sender came s (pass_view old).log (pass_view new).log log has.seen;
+        all = subst (λ l. HasAll l (pass_view new))
+            (append_assoc (map view_of_end ends) (map view_of_sender came) (view_of_sender s ∷ [])
+            ∙ ap (λ l. map view_of_end ends ++ l) (sym (map-append view_of_sender came (s ∷ []))))
+            (all-of-more (map view_of_end ends ++ map view_of_sender came) (pass_view old) (view_of_sender s) (pass_view new)
+            (knows ∙ ap (λ (p : Pass (Box Contents)). taking_over (pass_view old) (pass_view p)) is) has.all);
         shown = ap (map brought) more ∙ map-append brought outside (o ∷ [])
             ∙ (λ i. has.shown i ++ ((sends i).items, send_log i) ∷ []) ∙ sym (map-append brings came (s ∷ []));
       }

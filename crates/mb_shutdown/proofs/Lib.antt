@@ -17,6 +17,7 @@ pub mod LeftLemmas
 pub mod Lists
 pub mod Mismatches
 pub mod NotFinished
+pub mod OfAll
 pub mod Parties
 pub mod Parts
 pub mod Places
@@ -26,5 +27,6 @@ pub mod RestLemmas
 pub mod Rests
 pub mod Standing
 pub mod Steps
+pub mod Sums
 pub mod WholeLaw
 pub mod Wholly

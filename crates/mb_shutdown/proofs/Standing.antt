@@ -13,8 +13,11 @@ use Rattle.mb_journal.specs.Life.{closed}
 use Rattle.mb_journal.specs.Suspension.{count}
 use Rattle.mb_ghost.specs.Layout.{Spot, spot_of}
 use Rattle.mb_ghost.specs.Seen.{Each}
+use Rattle.mb_ghost.specs.Shares.{IsWhole}
+use Rattle.mb_ghost.specs.Summed.{total}
 use Rattle.mb_ghost.proofs.SeenLemmas.{each_weaker}
 use Rattle.mb_gate.specs.declared.slot.Slot.{Slot}
+use Rattle.mb_gate.specs.PutIn.{put_by}
 use Rattle.mb_gate.specs.Returned.{IsKept}
 use Rattle.mb_gate.specs.Rule.{Ghost, IsAmong, WasPushed, ObservationHolds, SlotName, Word, is_some_item, slot_offset, word_offset}
 use Rattle.mb_gate.specs.View.{View, Observation, Read, Saw, Counted, Looked, Sent, Unsent, Took, Pushed, Drained, Ended}
@@ -82,24 +85,32 @@ module _ (gives : ℕ → Moment → Reply → Type 0) (first : Contents) where
     abbrev spot : ℕ → Spot Word SlotName (Slot (Box Contents)) Ghost
     spot actor = spot_of word_offset slot_offset left.state left.rule.ghosts actor
 
-    pub stands : (actor : ℕ) (l : BoxedHome) → slice_get lefts actor ≡ Some l → l.listed ≡ false → Stands v.log actor l.home.value
-    stands actor l there none =
+    -- and if this pass is the only one, what was ever put into its list is what the pass put there
+    pub stands-put : (actor : ℕ) (l : BoxedHome) → slice_get lefts actor ≡ Some l → l.listed ≡ false
+        → (is : Stands v.log actor l.home.value)
+        × (IsWhole v.share → (measure : ℕ × SysMsg → ℕ) → put_by actor measure v ≡ total measure (numbered 0 is.pushed))
+    stands-put actor l there none =
         let lt = inside actor l there in
         let is = left.each actor (Some l) lt (at actor l there) in
         let fact = left.rule.each actor lt in
         let known = fact.seen left.seat v left.known in
         let empty : (spot actor).ghost.listed.messages ≡ [] = no-item (spot actor).ghost.listed.messages (sym is.4 ∙ none) in
         let all_given : (spot actor).ghost.pushed ≡ fact.listing.given
-        = fact.listing.joined ∙ ap (λ m. fact.listing.given ++ m) empty ∙ append-nil fact.listing.given in
-        record {
-          is_home_of = is.0;
-          kept = subst (λ w. Each (IsKept actor l.home.value.cell.journal w) v.log) is.1 is.2;
-          pushed = (spot actor).ghost.pushed;
-          known = each_weaker (ObservationHolds actor (spot actor)) (IsPutAmong actor (spot actor).ghost.pushed) v.log (so-put actor (spot actor)) known.seen;
-          entered = each-left (WasPushed (spot actor).ghost) (system_entries l.home.value.cell.journal) l.home.value.rest
-              (left.pushed actor l lt (at actor l there));
-          given = is.5 ∙ is.3 ∙ fact.listing.counted ∙ ap (λ (g : List SysMsg). length g % 2 ^ 64) (sym all_given);
-        }
+        = fact.listing.joined ∙ ap (λ m. fact.listing.given ++ m) empty ∙ append-nil fact.listing.given in (
+          record {
+            is_home_of = is.0;
+            kept = subst (λ w. Each (IsKept actor l.home.value.cell.journal w) v.log) is.1 is.2;
+            pushed = (spot actor).ghost.pushed;
+            known = each_weaker (ObservationHolds actor (spot actor)) (IsPutAmong actor (spot actor).ghost.pushed) v.log (so-put actor (spot actor)) known.seen;
+            entered = each-left (WasPushed (spot actor).ghost) (system_entries l.home.value.cell.journal) l.home.value.rest
+                (left.pushed actor l lt (at actor l there));
+            given = is.5 ∙ is.3 ∙ fact.listing.counted ∙ ap (λ (g : List SysMsg). length g % 2 ^ 64) (sym all_given);
+          },
+          λ whole measure. left.put whole actor l lt (at actor l there) measure,
+        )
+
+    pub stands : (actor : ℕ) (l : BoxedHome) → slice_get lefts actor ≡ Some l → l.listed ≡ false → Stands v.log actor l.home.value
+    stands actor l there none = (stands-put actor l there none).0
 
     -- an actor of which a home says that it is closed is closed
     pub shut : (actor other : ℕ) (l m : BoxedHome) → slice_get lefts actor ≡ Some l → slice_get lefts other ≡ Some m

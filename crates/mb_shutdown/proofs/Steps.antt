@@ -156,7 +156,7 @@ one-counted old new counts counts' id n grown longer many each = λ i m is.
 pub only-none : (v : View) → HasOnlyCounted v v
 only-none v = record { counts = []; log_is = refl; same = refl; owed = λ actor. inl refl }
 
-counting-same : (id waiting : ℕ) (v : View)
+pub counting-same : (id waiting : ℕ) (v : View)
     → counting id waiting v ≡ record v { log = (counting id waiting v).log; obligations = (counting id waiting v).obligations }
 counting-same id waiting v = by_test (waiting == 0)
   where

@@ -122,23 +122,30 @@ module _ (after : ℕ → List Message → ℤ) (gives : ℕ → Moment → Repl
         by_test true is = dead-at-end (gives id) [] h st.is_home_of.settled is
         by_test false is = st.is_home_of.settled.counted.aside ∙ none-at-end who h.cell.journal is
 
-    pub counts-all : CountsSystems log who a
-    counts-all = record {
-      pushed = st.pushed;
-      known = subst (λ n. Each (IsPutAmong n st.pushed) log) (sym st.is_home_of.number) st.known;
-      entered = subst (λ (j : List Entry). Each (λ m. IsAmong m (numbered 0 st.pushed)) (system_entries j)) back st.entered;
-      once = subst (λ (j : List Entry). (n : ℕ) → n < next_number j
-          → times n (applied_numbers j) + times n (numbers_in (ever_aside j)) ≡ 1) back (stands-once (gives id) [] h st.is_home_of.settled);
-      later = h.dropped;
-      all = sym st.given
-          ∙ ap (λ (r : List (ℕ × SysMsg)). (next_number h.cell.journal + h.dropped + length r) % 2 ^ 64) done.0.no_rest
-          ∙ ap (λ n. n % 2 ^ 64)
-          (let e : next_number h.cell.journal + h.dropped + 0 ≡ next_number h.cell.journal + h.dropped = omega arith in e)
-          ∙ ap (λ (j : List Entry). (next_number j + h.dropped) % 2 ^ 64) back;
-      open_has_none = λ is. st.is_home_of.settled.counted.none (ap (closed who) back ∙ is);
-      dead = shows.dead_is ∙ ap (λ n. (n + h.dropped) % 2 ^ 64) aside-is
-          ∙ ap (λ (j : List Entry). ((if closed who j then length (ever_aside j) else 0) + h.dropped) % 2 ^ 64) back;
-    }
+    -- the messages that are counted are those that were ever put into its list
+    pub counts-put : (counts : CountsSystems log who a) × (counts.pushed ≡ st.pushed)
+    counts-put = (
+      record {
+        pushed = st.pushed;
+        known = subst (λ n. Each (IsPutAmong n st.pushed) log) (sym st.is_home_of.number) st.known;
+        entered = subst (λ (j : List Entry). Each (λ m. IsAmong m (numbered 0 st.pushed)) (system_entries j)) back st.entered;
+        once = subst (λ (j : List Entry). (n : ℕ) → n < next_number j
+            → times n (applied_numbers j) + times n (numbers_in (ever_aside j)) ≡ 1) back (stands-once (gives id) [] h st.is_home_of.settled);
+        later = h.dropped;
+        all = sym st.given
+            ∙ ap (λ (r : List (ℕ × SysMsg)). (next_number h.cell.journal + h.dropped + length r) % 2 ^ 64) done.0.no_rest
+            ∙ ap (λ n. n % 2 ^ 64)
+            (let e : next_number h.cell.journal + h.dropped + 0 ≡ next_number h.cell.journal + h.dropped = omega arith in e)
+            ∙ ap (λ (j : List Entry). (next_number j + h.dropped) % 2 ^ 64) back;
+        open_has_none = λ is. st.is_home_of.settled.counted.none (ap (closed who) back ∙ is);
+        dead = shows.dead_is ∙ ap (λ n. (n + h.dropped) % 2 ^ 64) aside-is
+            ∙ ap (λ (j : List Entry). ((if closed who j then length (ever_aside j) else 0) + h.dropped) % 2 ^ 64) back;
+      },
+      refl,
+    )
+
+    counts-all : CountsSystems log who a
+    counts-all = counts-put.0
 
     pub counts-given : (given : ℕ) → given_of h ≡ given → CountsGiven who given a
     counts-given given is =

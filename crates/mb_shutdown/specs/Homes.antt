@@ -7,6 +7,7 @@ use Rattle.mb_journal.specs.Identity.{Identity}
 use Rattle.mb_journal.specs.Life.{closed}
 use Rattle.mb_gate.specs.Returned.{AreReturned}
 use Rattle.mb_gate.specs.ClaimCounts.{claims_got, claims_returned}
+use Rattle.mb_gate.specs.PutIn.{put_by}
 use Rattle.mb_gate.specs.View.{View}
 use Rattle.mb_gate.specs.declared.returned_actor.ReturnedActor.{ReturnedActor}
 use Rattle.mb_home.specs.AtHome.{IsHomeOf, facts_of}
@@ -16,6 +17,10 @@ use Rattle.mb_report.specs.declared.report.ActorReport.{ActorReport}
 use Rattle.mb_report.specs.declared.report.Report.{Report}
 use Rattle.mb_report.specs.declared.report.SenderReport.{SenderReport}
 use Rattle.mb_ghost.specs.Shares.{IsWhole}
+use Rattle.mb_ghost.specs.Summed.{total}
+use Rattle.mb_msg.specs.declared.system.SysMsg.{SysMsg}
+use Rattle.mb_syslist.specs.MessageList.{numbered}
+use Rattle.mb_shutdown.specs.CompleteReport.{CountsSystems}
 use Rattle.mb_shutdown.specs.Mismatched.{IsMismatch}
 use Rattle.mb_shutdown.specs.declared.mismatch.Mismatch.{Mismatch}
 use Rattle.mb_shutdown.specs.declared.mismatch.Mismatch.TheVariants.{Held, List as Listed, Waiting}
@@ -57,14 +62,20 @@ module _ (gives : ℕ → Moment → Reply → Type 0) (first : Contents) (actor
     pub why : IsMismatch all outside waiting what
     pub held : HasClaimOutIfHeld v what
 
-  -- Each home came back. The report counts all that each actor's list gave, shows as cleaned up what the home's clean-up took out, and as the actor's
-  -- dead letters those of the home.
+  -- Each home came back. The report shows each home's journal, counts all that each actor's list gave, shows as cleaned up what the home's clean-up
+  -- took out, and as the actor's dead letters those of the home. If this pass is the only one, the system messages that it counts are what this pass
+  -- put into the actor's list.
   pub record HomesReturned (report : Report) : Type 0 where
     pub all : List (Option BoxedHome)
     pub left : AreHomes gives first actors v all
     pub came : (id : ℕ) → id < actors → HasNoClaimOut v id
+    pub journal : (id : ℕ) (l : BoxedHome) (a : ActorReport) → slice_get all id ≡ Some (Some l) → slice_get report.actors.items id ≡ Some a
+        → a.journal.entries ≡ l.home.value.cell.journal
     pub given : (id : ℕ) (l : BoxedHome) (a : ActorReport) → slice_get all id ≡ Some (Some l) → slice_get report.actors.items id ≡ Some a
         → (l.listed ≡ false) × CountsGiven l.home.value.cell.who l.given a
+    pub put : (id : ℕ) (l : BoxedHome) (a : ActorReport) → slice_get all id ≡ Some (Some l) → slice_get report.actors.items id ≡ Some a
+        → (counts : CountsSystems v.log l.home.value.cell.who a)
+        × (IsWhole v.share → (measure : ℕ × SysMsg → ℕ) → put_by id measure v ≡ total measure (numbered 0 counts.pushed))
     pub cleaned : (id : ℕ) (l : BoxedHome) (a : ActorReport) → slice_get all id ≡ Some (Some l) → slice_get report.actors.items id ≡ Some a
         → a.cleaned.items ≡ l.home.value.cleaned
     pub dead : (id : ℕ) (l : BoxedHome) (s : SenderReport) → slice_get all id ≡ Some (Some l) → slice_get report.senders.items id ≡ Some s

@@ -1,12 +1,22 @@
 -- Why a system that ends has no report.
 use Rattle.std.specs.Prelude.{◌≡◌, ℕ, ◌<◌, List, Some, length, slice_get}
+use Rattle.mb_ghost.specs.Shares.{IsWhole}
+use Rattle.mb_ghost.specs.Summed.{total}
+use Rattle.mb_journal.specs.Entry.{Entry}
+use Rattle.mb_journal.specs.Identity.{Identity}
+use Rattle.mb_msg.specs.declared.system.SysMsg.{SysMsg}
+use Rattle.mb_gate.specs.PutIn.{IsAllPut, put_by}
+use Rattle.mb_gate.specs.Releases.{ReleasesAddUp, back_by, taken_by}
+use Rattle.mb_system.specs.Shares.{shares_of, views_of}
 use Rattle.mb_actor.specs.Behaviour.{Moment, Reply}
 use Rattle.mb_gate.specs.Accessors.{actors_of, first_home}
 use Rattle.mb_gate.specs.Rule.{IsAmong}
 use Rattle.mb_gate.specs.View.{Counted, Observation, View}
+use Rattle.mb_home.specs.Directory.{DirectoryEntry}
 use Rattle.mb_queue.specs.Passes.{SendPassView}
 use Rattle.mb_report.specs.declared.report.ActorReport.{ActorReport}
 use Rattle.mb_report.specs.declared.report.Report.{Report}
+use Rattle.mb_shutdown.specs.CompleteReport.{CountsSystems}
 use Rattle.mb_shutdown.specs.Homes.{HomesReturned, Disagrees}
 use Rattle.mb_shutdown.specs.Mismatched.{of_whom}
 use Rattle.mb_shutdown.specs.Rooms.{AreCounted, HasOnlyCounted}
@@ -15,7 +25,7 @@ use Rattle.mb_shutdown.specs.Idle.{WereReadIdle, WasReadBusy}
 use Rattle.mb_system.specs.Belonging.{senders_numbers}
 use Rattle.mb_system.specs.Members.{ends_numbers}
 use Rattle.mb_system.specs.declared.built.Built.{Built}
-use Rattle.mb_shutdown.specs.Belonging.{AreThere, AreSendPasses, HasAllSeen, HasRead, AllFoundIdle, IsLeastMissing}
+use Rattle.mb_shutdown.specs.Belonging.{AreThere, AreSendPasses, HasAllSeen, HasRead, AllFoundIdle, IsLeastMissing, directory_of}
 use Rattle.mb_shutdown.specs.declared.ending.FinishError.{FinishError}
 use Rattle.mb_shutdown.specs.declared.ending.FinishError.TheVariants.{MissingEnd, MissingSender, NotQuiet, NoMemory, Mismatch}
 
@@ -55,11 +65,36 @@ module _ {A K : Type 0} where
   IsOfWhole actors (NoMemory back) = Unit {0}
   IsOfWhole actors (Mismatch what) = of_whom what < actors
 
-  -- This does not agree, by what the gates gave back, by the senders' passes and by the counts that were read; all that ends and senders saw was
+  -- All that the system's ends and senders know is known to this view: what each saw, put into lists, and gave back. It has the shares of all of them.
+  pub record IsOfAll (built : Built A K) (view : View) : Type 0 where
+    pub seen : HasAllSeen built view.log
+    pub share : IsWhole (shares_of built) → IsWhole view.share
+    pub put : (actor : ℕ) (measure : ℕ × SysMsg → ℕ) → put_by actor measure view ≡ total (put_by actor measure) (views_of built)
+    pub taken : (actor : ℕ) (measure : List Entry → ℕ) → taken_by actor measure view ≡ total (taken_by actor measure) (views_of built)
+    pub back : (actor : ℕ) (measure : List Entry → ℕ) → back_by actor measure view ≡ total (back_by actor measure) (views_of built)
+
+  -- Where there are no passes but those of the system's ends and senders, the journal of each actor is what came of an empty one in their releases.
+  abbrev pub ReleasesAddUpTo : Built A K → Report → Type 0
+  ReleasesAddUpTo built report = IsWhole (shares_of built) → (id : ℕ) (a : ActorReport) → slice_get report.actors.items id ≡ Some a
+      → ReleasesAddUp id a.journal.entries (views_of built)
+
+  -- The report counts each system message once that the system's ends and senders put into the actor's list.
+  pub record CountsAllPut (built : Built A K) (who : Identity) (a : ActorReport) : Type 0 where
+    pub log : List Observation
+    pub seen : HasAllSeen built log
+    pub counts : CountsSystems log who a
+    pub put : IsAllPut who.this.0 counts.pushed (views_of built)
+
+  -- Where there are no passes but those of the system's ends and senders, the report does so for each actor.
+  abbrev pub PutAddsUpTo : Built A K → Report → Type 0
+  PutAddsUpTo built report = IsWhole (shares_of built) → (id : ℕ) (e : DirectoryEntry) (a : ActorReport) → slice_get (directory_of built) id ≡ Some e
+      → slice_get report.actors.items id ≡ Some a → CountsAllPut built e.who a
+
+  -- This does not agree, by what the gates gave back, by the senders' passes and by the counts that were read; all that ends and senders knew was
   -- known then.
   pub record DisagreesAtEnd (gives : ℕ → Moment → Reply → Type 0) (built : Built A K) (what : What) : Type 0 where
     pub view : View
-    pub seen : HasAllSeen built view.log
+    pub of_all : IsOfAll built view
     pub outside : List (List SendPassView)
     pub send_passes : AreSendPasses built.system.senders built.senders.items outside
     pub waiting : List ℕ
@@ -74,10 +109,10 @@ module _ {A K : Type 0} where
   DisagreesIfSaid gives built (NotQuiet id back) = Unit {0}
   DisagreesIfSaid gives built (NoMemory back) = Unit {0}
 
-  -- Each home came back. The report counts all that each list gave, shows as cleaned up and as dead letters what the homes have, and leaves as many
-  -- envelopes as were read as waiting. All that ends and senders saw was known then.
+  -- Each home came back. The report shows the homes' journals, counts all that each list gave, shows as cleaned up and as dead letters what the homes
+  -- have, and leaves as many envelopes as were read as waiting. All that ends and senders knew was known then.
   pub record HasHomesReturned (gives : ℕ → Moment → Reply → Type 0) (built : Built A K) (report : Report) : Type 0 where
     pub view : View
-    pub seen : HasAllSeen built view.log
+    pub of_all : IsOfAll built view
     pub home : HomesReturned gives (first_home built.system.gates).value (actors_of built.system.gates) view report
     pub counted : LeavesCounted view.log report

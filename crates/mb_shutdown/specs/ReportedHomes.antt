@@ -8,8 +8,8 @@ use Rattle.mb_shutdown.specs.Homes.{HomesReturned}
 use Rattle.mb_report.specs.declared.report.Report.{Report}
 use Rattle.mb_shutdown.specs.Refused.{LeavesCounted}
 
--- The report is made of what gates with this directory gave back: each home came back; and the report counts all that each list gave, shows as
--- cleaned up and as dead letters what the homes have, and leaves as many envelopes as were read as waiting.
+-- The report is made of what gates with this directory gave back: each home came back; and the report shows the homes' journals, counts all that each
+-- list gave, shows as cleaned up and as dead letters what the homes have, and leaves as many envelopes as were read as waiting.
 pub record IsOfHomes (gives : ℕ → Moment → Reply → Type 0) (directory : List DirectoryEntry) (report : Report) : Type 0 where
   pub first : Contents
   pub same_directory : first.directory ≡ directory

@@ -11,7 +11,7 @@ ghost use Rattle.mb_shutdown.specs.CompleteReport.{IsCompleteReport};
 ghost use Rattle.mb_system.specs.Belonging.{BelongsTogether};
 ghost use Rattle.mb_system.specs.Members.{IsEndOf};
 ghost use Rattle.mb_shutdown.specs.Belonging.{AreAnswers, HasAllSeen, HasRead, AllFoundIdle};
-ghost use Rattle.mb_shutdown.specs.Refused.{DisagreesIfSaid, FindsBusy, HasHomesReturned, IsComplete, IsRefusal};
+ghost use Rattle.mb_shutdown.specs.Refused.{DisagreesIfSaid, FindsBusy, HasHomesReturned, IsComplete, IsRefusal, PutAddsUpTo, ReleasesAddUpTo};
 
 use crate::finished_sender::FinishedSender;
 use crate::gather::gather;
@@ -60,6 +60,8 @@ pub fn finish<A: Actor, K: Behaviours, R: Wait>(
     ensures seen { IfOk result (λ report. All (λ e. ReportExtendsAll report (pass_view e.registrar.pass)) built.ends.items
         × All (λ s. ReportExtendsAll report (pass_view s.inner.registrar.pass)) built.senders.items) }
     ensures home { IfOk result (HasHomesReturned K.gives built) }
+    ensures releases { IfOk result (ReleasesAddUpTo built) }
+    ensures put { IfOk result (PutAddsUpTo built) }
     ensures refused { IfErr result (IsRefusal built) }
     ensures disagreement { IfErr result (DisagreesIfSaid K.gives built) }
 {

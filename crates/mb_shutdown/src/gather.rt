@@ -4,8 +4,8 @@ ghost use Rattle.mb_build.specs.Numbers.{numbers};
 ghost use Rattle.mb_gate.specs.Accessors.{gates_id, pass_view, pass_id};
 ghost use Rattle.mb_system.specs.Belonging.{BelongsTogether, senders_numbers};
 ghost use Rattle.mb_system.specs.declared.sender.Sender.{Sender as SenderValue};
-ghost use Rattle.mb_shutdown.specs.Belonging.{HasAllSeen, brings, brought};
-ghost use Rattle.mb_shutdown.specs.Refused.{IsComplete};
+ghost use Rattle.mb_shutdown.specs.Belonging.{brings, brought};
+ghost use Rattle.mb_shutdown.specs.Refused.{IsComplete, IsOfAll};
 
 use crate::finished_sender::FinishedSender;
 use crate::missing::sort_by_number;
@@ -24,7 +24,7 @@ pub(crate) fn gather<A: Actor, K: Behaviours>(
     requires complete { IsComplete built }
     requires room { (outside.old.items ≡ []) × (length built.senders.items ≤ vec_capacity outside.old) }
     ensures gates { (result.0 ≡ built.system.gates) × (pass_id result.1 ≡ gates_id result.0) }
-    ensures seen { HasAllSeen built (pass_view result.1).log }
+    ensures of_all { IsOfAll built (pass_view result.1) }
     ensures outside { (senders : List (SenderValue A K)) × IsPermutation senders built.senders.items
         × (senders_numbers senders ≡ numbers 0 built.system.senders) × (map brought outside.new.items ≡ map brings senders) }
 {

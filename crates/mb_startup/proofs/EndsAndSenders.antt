@@ -65,11 +65,14 @@ created number node v w is made none =
 pub nobody-got : (v : View) → v.got ≡ [] → 0 < claims_got 0 v → ⊥
 nobody-got v none some = let zero_got : claims_got 0 v ≡ 0 = ap (times 0) none in omega (arith, some, zero_got)
 
--- who put it there got no claim by that, and has the share that it had
-pub kept-whole : (number : ℕ) (node : SysMsg) (v w : View) → w ≡ enlisting 0 number node v → v.got ≡ [] → IsWhole v.share
-    → (w.got ≡ []) × IsWhole w.share
-kept-whole number node v w is none whole =
-    (ap (λ (x : View). x.got) is ∙ none, subst IsWhole (sym (ap (λ (x : View). x.share) is)) whole)
+-- who put it there got no claim by that, gave no cell back, and has the share that it had
+pub kept-whole : (number : ℕ) (node : SysMsg) (v w : View) → w ≡ enlisting 0 number node v → v.got ≡ [] → v.releases ≡ [] → IsWhole v.share
+    → (w.got ≡ []) × IsWhole w.share × (w.releases ≡ [])
+kept-whole number node v w is none none_released whole = (
+  ap (λ (x : View). x.got) is ∙ none,
+  subst IsWhole (sym (ap (λ (x : View). x.share) is)) whole,
+  ap (λ (x : View). x.releases) is ∙ none_released,
+)
 
 -- there is one in this place for each that came before this one
 module _ {X Y : Type 0} where

@@ -36,9 +36,10 @@ module _ {A K : Type 0} (gates : Gates (Box Contents)) where
   led-by : (x e : WorkerEnd A K) (others : List (WorkerEnd A K)) (p : Pass (Box Contents)) (v : View) → e ≡ x → IsNewEnd gates 0 x
       → AreNewEnds gates 1 others → pass_id p ≡ pass_id e.registrar.pass → IsCreated v × OwesFirstRun v
       → (pass_view p).log ≡ v.log ++ (pass_view e.registrar.pass).log → (pass_view p).got ≡ v.got ++ (pass_view e.registrar.pass).got → v.got ≡ []
+      → (pass_view p).releases ≡ v.releases ++ (pass_view e.registrar.pass).releases → v.releases ≡ []
       → (pass_view p).obligations ≡ added_obligations v.obligations (pass_view e.registrar.pass).obligations
       → AreFirstEnds gates (record e { registrar = record e.registrar { pass = p } } ∷ others)
-  led-by x e others p v is new are id created saw got none owed =
+  led-by x e others p v is new are id created saw got none released none_released owed =
       let mine : IsNewEnd gates 0 e = subst (IsNewEnd gates 0) (sym is) new in record {
         end = record e { registrar = record e.registrar { pass = p } };
         others = others;
@@ -49,12 +50,15 @@ module _ {A K : Type 0} (gates : Gates (Box Contents)) where
         created = (created.0.0, saw ∙ ap (λ l. v.log ++ l) mine.blank ∙ append-nil v.log ∙ created.0.1);
         settled = owes-over v (pass_view e.registrar.pass) (pass_view p) owed created.1 mine.settled;
         unclaimed = got ∙ ap (λ l. v.got ++ l) mine.unclaimed ∙ append-nil v.got ∙ none;
+        none_released = released ∙ ap (λ l. v.releases ++ l) mine.none_released ∙ append-nil v.releases ∙ none_released;
       }
 
   pub first-led : (ends : List (WorkerEnd A K)) (d e : WorkerEnd A K) (p : Pass (Box Contents)) (v : View) → e ≡ get_or ends 0 d
       → 0 < length ends → AreNewEnds gates 0 ends → pass_id p ≡ pass_id e.registrar.pass → IsCreated v × OwesFirstRun v
       → (pass_view p).log ≡ v.log ++ (pass_view e.registrar.pass).log → (pass_view p).got ≡ v.got ++ (pass_view e.registrar.pass).got → v.got ≡ []
+      → (pass_view p).releases ≡ v.releases ++ (pass_view e.registrar.pass).releases → v.releases ≡ []
       → (pass_view p).obligations ≡ added_obligations v.obligations (pass_view e.registrar.pass).obligations
       → AreFirstEnds gates (set ends 0 (record e { registrar = record e.registrar { pass = p } }))
-  first-led [] d e p v is some are id created saw got none owed = absurd (omega (arith, some))
-  first-led (x ∷ others) d e p v is some are id created saw got none owed = led-by x e others p v is are.0 are.1 id created saw got none owed
+  first-led [] d e p v is some are id created saw got none released none_released owed = absurd (omega (arith, some))
+  first-led (x ∷ others) d e p v is some are id created saw got none released none_released owed =
+      led-by x e others p v is are.0 are.1 id created saw got none released none_released owed

@@ -11,7 +11,8 @@ use Rattle.mb_ghost.proofs.SummedLemmas.{total_append}
 use Rattle.mb_gate.specs.Accessors.{pass_view}
 use Rattle.mb_gate.specs.declared.pass.Pass.{Pass}
 use Rattle.mb_home.specs.Contents.{Contents}
-use Rattle.mb_startup.specs.Shared.{KeepsWhole, share_of_end, shares_of_ends}
+use Rattle.mb_startup.specs.Shared.{KeepsWhole}
+use Rattle.mb_system.specs.Shares.{share_of_end, shares_of_ends}
 use Rattle.mb_system.specs.declared.end.WorkerEnd.{WorkerEnd}
 
 each-first : {A : Type 0} (P : A → Type 0) (xs ys : List A) → Each P (xs ++ ys) → Each P xs

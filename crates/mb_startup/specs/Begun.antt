@@ -21,7 +21,7 @@ use Rattle.mb_build.specs.Kinds.{AreKindsOf}
 use Rattle.mb_send.specs.Sends.{AreRoutes, receiving_queues}
 use Rattle.mb_register.specs.Owed.{IsNobody}
 use Rattle.mb_system.specs.Members.{IsEndOf, IsSenderOf, pool_ends_of, pool_feeds_of}
-use Rattle.mb_startup.specs.Shared.{shares_of_ends, shares_of_senders}
+use Rattle.mb_system.specs.Shares.{shares_of}
 use Rattle.mb_system.specs.Belonging.{BelongsTogether}
 use Rattle.mb_system.specs.declared.built.Built.{Built}
 use Rattle.mb_system.specs.declared.end.WorkerEnd.{WorkerEnd}
@@ -51,8 +51,8 @@ abbrev pub OwesFirstRun : View → Type 0
 OwesFirstRun view = (obligation_to 0 view ≡ record nothing { system = true }) × ((id : ℕ) → id ≢ 0 → obligation_to id view ≡ nothing)
 
 module _ {A K : Type 0} (gates : Gates (Box Contents)) where
-  -- A new sender of this number: it sent no envelope and no system message, was answered nothing, saw nothing, got no claim, owes nobody anything,
-  -- and pushes by these passes.
+  -- A new sender of this number: it sent no envelope and no system message, was answered nothing, saw nothing, got no claim, gave no cell back, owes
+  -- nobody anything, and pushes by these passes.
   pub record IsNewSender (number : ℕ) (sends : List SendPassView) (s : Sender A K) : Type 0 where
     pub same_gates : IsSenderOf gates s.inner
     pub by : s.inner.send_log.by ≡ record { 0 = number }
@@ -63,6 +63,7 @@ module _ {A K : Type 0} (gates : Gates (Box Contents)) where
     pub blank : (pass_view s.inner.registrar.pass).log ≡ []
     pub sent_nothing : (pass_view s.inner.registrar.pass).sent_system ≡ []
     pub unclaimed : (pass_view s.inner.registrar.pass).got ≡ []
+    pub none_released : (pass_view s.inner.registrar.pass).releases ≡ []
 
   -- New senders, numbered on from this one.
   abbrev pub AreNewSenders : ℕ → List (List SendPassView) → List (Sender A K) → Type 0
@@ -70,7 +71,7 @@ module _ {A K : Type 0} (gates : Gates (Box Contents)) where
   AreNewSenders number (sends ∷ rows) (s ∷ senders) = IsNewSender number sends s × AreNewSenders (number + 1) rows senders
   AreNewSenders number _ _ = ⊥
 
-  -- A new worker's end of this number, which saw nothing, got no claim and owes nobody anything.
+  -- A new worker's end of this number, which saw nothing, got no claim, gave no cell back and owes nobody anything.
   pub record IsNewEnd (number : ℕ) (e : WorkerEnd A K) : Type 0 where
     pub same_gates : IsEndOf gates e.registrar
     pub number_is : e.number ≡ number
@@ -78,6 +79,7 @@ module _ {A K : Type 0} (gates : Gates (Box Contents)) where
     pub settled : HasNoObligations (pass_view e.registrar.pass)
     pub blank : (pass_view e.registrar.pass).log ≡ []
     pub unclaimed : (pass_view e.registrar.pass).got ≡ []
+    pub none_released : (pass_view e.registrar.pass).releases ≡ []
 
   -- New ends, numbered on from this one.
   abbrev pub AreNewEnds : ℕ → List (WorkerEnd A K) → Type 0
@@ -95,11 +97,12 @@ module _ {A K : Type 0} (gates : Gates (Box Contents)) where
     pub created : IsCreated (pass_view end.registrar.pass)
     pub settled : OwesFirstRun (pass_view end.registrar.pass)
     pub unclaimed : (pass_view end.registrar.pass).got ≡ []
+    pub none_released : (pass_view end.registrar.pass).releases ≡ []
 
 -- A new system of this plan. The actors' homes are as the plan says, its queues are of the plan's kinds and empty, and its pool is of the plan's
 -- kind. Its ends and its senders are unused; they have the ends and feeds of that pool, by which nothing was pushed or taken. One Create, to the
--- guardian, is the only message that anybody put into a list: the first end put it there, and owes the guardian its first run. Nobody got a claim or
--- owes anything else, and there are no passes but those of these ends and senders.
+-- guardian, is the only message that anybody put into a list: the first end put it there, and owes the guardian its first run. Nobody got a claim,
+-- gave a cell back or owes anything else, and there are no passes but those of these ends and senders.
 pub record IsBegun {A K : Type 0} (gives : ℕ → Moment → Reply → Type 0) (plan : Plan) (built : Built A K) : Type 0 where
   pub together : BelongsTogether built
   pub kinds : List MailboxType
@@ -123,4 +126,5 @@ pub record IsBegun {A K : Type 0} (gives : ℕ → Moment → Reply → Type 0) 
   pub created : IsCreated (pass_view end.registrar.pass)
   pub settled : OwesFirstRun (pass_view end.registrar.pass)
   pub unclaimed : (pass_view end.registrar.pass).got ≡ []
-  pub whole : IsWhole (shares_of_ends built.ends.items ++ shares_of_senders built.senders.items)
+  pub none_released : (pass_view end.registrar.pass).releases ≡ []
+  pub whole : IsWhole (shares_of built)

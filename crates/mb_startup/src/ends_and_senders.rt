@@ -8,7 +8,8 @@ ghost use Rattle.mb_home.specs.Directory.{queues_of};
 ghost use Rattle.mb_pool.specs.Places.{gates_of};
 ghost use Rattle.mb_startup.specs.Begun.{AreFirstEnds, AreNewEnds, AreNewSenders, AreUnused, IsCreated, OwesFirstRun};
 ghost use Rattle.mb_system.specs.Members.{pool_ends_of, pool_feeds_of};
-ghost use Rattle.mb_startup.specs.Shared.{KeepsWhole, shares_of_ends, shares_of_senders};
+ghost use Rattle.mb_startup.specs.Shared.{KeepsWhole};
+ghost use Rattle.mb_system.specs.Shares.{shares_of_ends, shares_of_senders};
 
 use mb_actor::{Actor, Behaviours};
 use mb_gate::{Gates, MailboxState, Pass};
@@ -45,7 +46,8 @@ pub(crate) fn open<A: Actor, K: Behaviours, R: Wait>(
     outside: Vec<Vec<SendPass>>,
 ) -> Result<EndsAndSenders<A, K>, AllocError>
     requires same_gates { pass_id pass ≡ gates_id gates.now }
-    requires nothing_done { ((pass_view pass).log ≡ []) × ((pass_view pass).got ≡ []) × ((pass_view pass).obligations ≡ []) }
+    requires nothing_done { ((pass_view pass).log ≡ []) × ((pass_view pass).got ≡ []) × ((pass_view pass).obligations ≡ [])
+        × ((pass_view pass).releases ≡ []) }
     requires whole { IsWhole (pass_view pass).share }
     requires actors { (0 < actors_of gates.now) × (actors_of gates.now ≤ 64) }
     requires not_empty { (0 < length ends.items) × (length ends.items ≤ 16) }
@@ -82,7 +84,7 @@ fn open_senders<A: Actor, K: Behaviours>(
         (map (λ row. row.items) outside.items) }
     ensures same_gates { pass_id pass.new ≡ pass_id pass.old }
     ensures kept { ((pass_view pass.new).log ≡ (pass_view pass.old).log) × ((pass_view pass.new).got ≡ (pass_view pass.old).got)
-        × ((pass_view pass.new).obligations ≡ (pass_view pass.old).obligations) }
+        × ((pass_view pass.new).obligations ≡ (pass_view pass.old).obligations) × ((pass_view pass.new).releases ≡ (pass_view pass.old).releases) }
     ensures shares { IfOk result (λ senders. KeepsWhole (pass_view pass.old).share (pass_view pass.new).share (shares_of_senders senders.items)) }
     ensures opened { IfOk result (λ senders. AreNewSenders gates.now most_actors (map (λ row. row.items) outside.items) senders.items) }
     ensures ports { IfOk result (λ senders. pool_feeds_of senders.items ≡ feeds.items) }
@@ -117,7 +119,7 @@ fn open_ends<A: Actor, K: Behaviours>(
     requires within_limit { length ends.items ≤ 16 }
     ensures same_gates { pass_id pass.new ≡ pass_id pass.old }
     ensures kept { ((pass_view pass.new).log ≡ (pass_view pass.old).log) × ((pass_view pass.new).got ≡ (pass_view pass.old).got)
-        × ((pass_view pass.new).obligations ≡ (pass_view pass.old).obligations) }
+        × ((pass_view pass.new).obligations ≡ (pass_view pass.old).obligations) × ((pass_view pass.new).releases ≡ (pass_view pass.old).releases) }
     ensures shares { IfOk result (λ opened. KeepsWhole (pass_view pass.old).share (pass_view pass.new).share (shares_of_ends opened.items)) }
     ensures opened { IfOk result (λ opened. (length opened.items ≡ length ends.items) × AreNewEnds gates.now 0 opened.items) }
     ensures ports { IfOk result (λ opened. pool_ends_of opened.items ≡ ends.items) }
@@ -143,11 +145,12 @@ fn start<H: MailboxState, R: Wait>(
     pass: &mut Pass<H>,
 ) -> Result<(), AllocError>
     requires same_gates { (pass_id pass.old ≡ gates_id gates.now) × (0 < actors_of gates.now) }
-    requires nothing_done { ((pass_view pass.old).log ≡ []) × ((pass_view pass.old).got ≡ []) × ((pass_view pass.old).obligations ≡ []) }
+    requires nothing_done { ((pass_view pass.old).log ≡ []) × ((pass_view pass.old).got ≡ []) × ((pass_view pass.old).obligations ≡ [])
+        × ((pass_view pass.old).releases ≡ []) }
     requires whole { IsWhole (pass_view pass.old).share }
     ensures same_gates { pass_id pass.new ≡ pass_id pass.old }
     ensures created { IfOk result (λ _. IsCreated (pass_view pass.new) × OwesFirstRun (pass_view pass.new)) }
-    ensures kept { IfOk result (λ _. ((pass_view pass.new).got ≡ []) × IsWhole (pass_view pass.new).share) }
+    ensures kept { IfOk result (λ _. ((pass_view pass.new).got ≡ []) × IsWhole (pass_view pass.new).share × ((pass_view pass.new).releases ≡ [])) }
 {
     let node = Node::new(alloc, SysMsg::Create)?;
     match gates.sys_enqueue(rt, pass, ActorId(0), node) {
@@ -164,7 +167,7 @@ fn give_first<A: Actor, K: Behaviours>(
 )
     requires same_gates { pass_id pass ≡ gates_id gates.now }
     requires created { IsCreated (pass_view pass) × OwesFirstRun (pass_view pass) }
-    requires unclaimed { (pass_view pass).got ≡ [] }
+    requires unclaimed { ((pass_view pass).got ≡ []) × ((pass_view pass).releases ≡ []) }
     requires not_empty { 0 < length ends.old }
     requires ends { AreNewEnds gates.now 0 ends.old }
     ensures same_count { length ends.new ≡ length ends.old }

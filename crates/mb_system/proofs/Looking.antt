@@ -10,6 +10,7 @@ use Rattle.mb_gate.specs.View.{Observation, View, obligation_to}
 use Rattle.mb_register.specs.Views.{IsLook, LooksAfter, LooksAmong}
 use Rattle.mb_register.specs.Registering.{IsRegistered}
 use Rattle.mb_register.proofs.Retries.{among-none, among-on}
+use Rattle.mb_register.proofs.Unchanged.{unchanged-then}
 use Rattle.mb_system.specs.OnlyLooks.{OnlyLooks}
 use Rattle.mb_system.proofs.Saw.{saw-same, saw-then}
 
@@ -66,6 +67,7 @@ only-among among u v a = record {
   sent_system = a.sent_system;
   others = λ other out. let e : true ≡ false = out in absurd (cc);
   share = a.share;
+  gives_back = a.gives_back;
 }
 
 pub only-then : (u v w : View) → OnlyLooks u v → OnlyLooks v w → OnlyLooks u w
@@ -76,4 +78,5 @@ only-then u v w a b = record {
   sent_system = b.sent_system ∙ a.sent_system;
   others = λ other out. b.others other out ∙ a.others other out;
   share = b.share ∙ a.share;
+  gives_back = unchanged-then u v w a.gives_back b.gives_back;
 }

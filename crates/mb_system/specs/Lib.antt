@@ -2,5 +2,6 @@ pub mod KnownSenders
 pub mod Members
 pub mod Obligations
 pub mod OnlyLooks
+pub mod Shares
 pub mod Belonging
 pub mod RunErrors

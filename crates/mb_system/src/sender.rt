@@ -13,6 +13,7 @@ ghost use Rattle.mb_register.specs.Owed.{is_owed};
 ghost use Rattle.mb_register.specs.Registering.{StopsAt};
 ghost use Rattle.mb_system.specs.Obligations.{KeepsObligations, OwesNobody};
 ghost use Rattle.mb_system.specs.Members.{IsSenderOf, sender_caller};
+ghost use Rattle.mb_register.specs.Views.{GivesBackUnchanged};
 
 use crate::failure::RunError;
 use crate::parting::parts_of;
@@ -171,6 +172,8 @@ impl<A: Actor, K: Behaviours> Sender<A, K> {
             (λ _. StopsAt (sender_caller self.old.inner.registrar).account (sender_caller self.new.inner.registrar).account) }
         ensures log_kept { IsPart (pass_view self.old.inner.registrar.pass).log (pass_view self.new.inner.registrar.pass).log }
         ensures refused { OnErr result (IsErrOf result RunError.NoMemory) }
+        ensures gives_back { GivesBackUnchanged (pass_view self.old.inner.registrar.pass) (pass_view self.new.inner.registrar.pass) }
+        ensures share { (pass_view self.new.inner.registrar.pass).share ≡ (pass_view self.old.inner.registrar.pass).share }
         ensures same { ((pass_view self.new.inner.registrar.pass).sent_system ≡ (pass_view self.old.inner.registrar.pass).sent_system)
             × (self.new.inner.send_log ≡ self.old.inner.send_log) × (self.new.inner.sends ≡ self.old.inner.sends) }
     {

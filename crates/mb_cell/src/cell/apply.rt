@@ -3,6 +3,7 @@
 ghost use Rattle.std.specs.Prelude.{◌≡◌};
 ghost use Rattle.mb_status.specs.Mailbox.{word_of};
 ghost use Rattle.mb_journal.specs.Lawful.{IsLawful};
+ghost use Rattle.mb_cell.specs.ByNewest.{EnvelopeByNewest};
 ghost use Rattle.mb_cell.specs.MayHandle.{MayHandle};
 ghost use Rattle.mb_cell.specs.CellView.{TakesEnvelope};
 
@@ -18,6 +19,7 @@ impl<A: Actor, K: Behaviours> Cell<A, K> {
         requires may_handle { MayHandle self.old envelope (word_of reading) }
         ensures taken { TakesEnvelope self.old self.new envelope (word_of reading) }
         ensures lawful { IsLawful self.new.who (K.gives self.new.who.this.0) self.new.journal }
+        ensures by_newest { EnvelopeByNewest self.old self.new envelope.body }
     {
         match envelope.body {
             Body::User { kind, value } => {

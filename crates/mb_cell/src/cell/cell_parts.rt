@@ -1,7 +1,9 @@
 //! Taking a cell apart at the end.
-ghost use Rattle.std.specs.Prelude.{◌≡◌};
+ghost use Rattle.std.specs.Prelude.{◌≡◌, [], not, filter, if◌then◌else◌};
 ghost use Rattle.mb_journal.specs.Aside.{aside as aside_of};
 ghost use Rattle.mb_journal.specs.Lawful.{IsLawful};
+ghost use Rattle.mb_journal.specs.Life.{closed};
+ghost use Rattle.mb_journal.specs.Remaining.{all_set_aside, was_applied};
 
 use crate::cell::Cell;
 use mb_actor::{Actor, Behaviours};
@@ -23,6 +25,8 @@ impl<A: Actor, K: Behaviours> Cell<A, K> {
         ensures journal { result.journal ≡ record { entries = self.journal; limit = self.who.limit; is_ready = self.is_ready } }
         ensures lawful { IsLawful self.who (K.gives self.who.this.0) self.journal }
         ensures aside { result.aside.items ≡ aside_of self.who self.journal }
+        ensures unapplied { result.aside.items ≡ (if closed self.who self.journal then []
+            else filter (λ m. not (was_applied self.journal m.0)) (all_set_aside self.journal)) }
     {
         let Cell {
             place: _,

@@ -3,6 +3,7 @@
 ghost use Rattle.std.specs.Prelude.{◌≡◌, false};
 ghost use Rattle.mb_journal.specs.Aside.{sets_aside};
 ghost use Rattle.mb_journal.specs.Lawful.{IsLawful};
+ghost use Rattle.mb_cell.specs.ByNewest.{ActsByNewest};
 ghost use Rattle.mb_cell.specs.CellView.{MayTake, TakesSystem};
 
 use crate::cell::Cell;
@@ -16,6 +17,7 @@ impl<A: Actor, K: Behaviours> Cell<A, K> {
         requires may_take { MayTake self.old number message }
         ensures taken { TakesSystem self.old self.new number message }
         ensures lawful { IsLawful self.new.who (K.gives self.new.who.this.0) self.new.journal }
+        ensures by_newest { ActsByNewest self.old self.new message }
     {
         if self.waits(message) {
             self.set_aside(number, message);

@@ -1,6 +1,6 @@
 use Rattle.mb_gate.specs.Accessors.{actors_of}
 use Rattle.mb_shutdown.proofs.Wholly.{of-whole}
-use Rattle.heddleorange.proofs.NoReport.{untold}
+use Rattle.heddleorange.proofs.NoReport.{brings-own-ends, untold}
 use Rattle.heddleorange.proofs.WholeRun.{story}
 use Rattle.heddleorange.proofs.finish.finish_run.Goals as goal
 
@@ -10,9 +10,13 @@ returns-in-Ok-clause-story g c = λ plan orders right ran.
     story g.K.Behaviours.gives plan ran.first ran.begun orders c.args.built right ran.system ran.ends ran.sent g.K.Behaviours.after
     c.in-Ok.report end.whole.0 end.whole.2.0 ran.log_kept ran.runs end.whole.1 end.whole.2.1 end.whole.2.2 end.seen.0 end.seen.1 end.home)
 
-pub without_report-requires : goal.without_report-requires
-without_report-requires g c =
+pub without_report-requires-clause-whole : goal.without_report-requires-clause-whole
+without_report-requires-clause-whole g c =
     (actors_of c.args.built.system.gates, of-whole c.args.built c.in-Err.error c.requires.complete c.in-Err.ensures.refused)
+
+pub without_report-requires-clause-own_ends : goal.without_report-requires-clause-own_ends
+without_report-requires-clause-own_ends g c =
+    brings-own-ends c.args.built c.in-Err.error c.requires.together.ends c.in-Err.ensures.refused
 
 pub returns-in-Err-clause-refused : goal.returns-in-Err-clause-refused
 returns-in-Err-clause-refused g c = λ plan actors orders right ran.
@@ -21,3 +25,6 @@ returns-in-Err-clause-refused g c = λ plan actors orders right ran.
 
 pub returns-in-Ok-clause-seen : goal.returns-in-Ok-clause-seen
 returns-in-Ok-clause-seen g c = c.in-Ok.ensures.seen.0
+
+pub returns-in-Ok-clause-releases : goal.returns-in-Ok-clause-releases
+returns-in-Ok-clause-releases g c = c.in-Ok.ensures.releases

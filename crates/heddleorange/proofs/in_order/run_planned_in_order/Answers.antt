@@ -1,21 +1,17 @@
-use Rattle.std.proofs.Common.{◌≡◌, ◌+◌, ◌≤◌, ◌<◌, ap, arith, inl, inr, length, sym, subst, ◌∙◌}
+use Rattle.std.proofs.Common.{◌≤◌, ◌<◌, ◌+◌, ap, arith, length, sym, subst, ◌∙◌}
 use Rattle.std.specs.Prelude.{All}
-use Rattle.std.proofs.lemmas.Option.{slice_get_within}
 use Rattle.mb_msg.specs.Limits.{most_actors}
 use Rattle.mb_startup.proofs.There.{senders-there, some-end}
-use Rattle.heddleorange.specs.NoReport.{IsErrorInOrder}
 use Rattle.heddleorange.specs.Orders.{lists_of, senders_for}
 use Rattle.heddleorange.specs.Sent.{BreaksOff, HaveSent}
-use Rattle.heddleorange.specs.Turns.{AreStretches, AreTurnsOf, CoverJournals}
-use Rattle.heddleorange.specs.WholeRun.{IsReportOfRun}
-use Rattle.heddleorange.proofs.Breaking.{may-break}
+use Rattle.heddleorange.proofs.Breaking.{full-seen, may-break, own-ends}
 use Rattle.heddleorange.proofs.HasRunLemmas.{complete, has-run}
 use Rattle.heddleorange.proofs.Identified.{as-planned}
 use Rattle.heddleorange.proofs.InOrder.{from-many, length-lists}
 use Rattle.heddleorange.proofs.InTurn.{new-owe-nobody}
 use Rattle.heddleorange.proofs.Ledger.{line-count}
-use Rattle.heddleorange.proofs.Sent.{err-of, err-weaker, on-ok}
-use Rattle.heddleorange.proofs.Turns.{covers-of, ok-weaker, turns-of}
+use Rattle.heddleorange.proofs.Turns.{covers-of, turns-of}
+use Rattle.heddleorange.proofs.Unchanged.{changed-none}
 use Rattle.heddleorange.proofs.in_order.run_planned_in_order.Goals as goal
 
 pub send_in_order_and_run-requires-clause-not_empty : goal.send_in_order_and_run-requires-clause-not_empty
@@ -49,27 +45,8 @@ returns-in-Ok-finish_run-clause-story g c =
     let orders = lists_of plan.senders sends in
     let sent = subst (λ n. HaveSent first.system.gates (lists_of n sends) first.senders.items now.senders.items)
     (senders-there gives plan first begun.begun).0 went.sent in
-    let ran = has-run gives plan orders first now begun.begun went.system went.ends sent went.log_kept went.runs in
-    let report = c.in-Ok-finish_run.report in let told = c.in-Ok-finish_run.ensures.story plan orders begun.right.1 ran in
-    ok-weaker _ _ c.covered.result (λ run is. subst (IsReportOfRun g.K.Behaviours.after gives plan orders) (sym is.0) told) c.covered.ensures.run
-
-pub returns-in-Ok-finish_run-clause-right : goal.returns-in-Ok-finish_run-clause-right
-returns-in-Ok-finish_run-clause-right g c = on-ok c.covered.result c.in_ok-built.ensures.right
-
-pub returns-in-Ok-finish_run-clause-refused : goal.returns-in-Ok-finish_run-clause-refused
-returns-in-Ok-finish_run-clause-refused g c =
-    let begun = c.in_ok-built.ensures in let went = c.in-Ok.ensures in let gives = g.K.Behaviours.gives in
-    let plan = c.args.plan in let sends = c.args.sends.now in let first = c.in_ok-built.built in let now = c.send_in_order_and_run.new.built in
-    let orders = lists_of plan.senders sends in
-    let sent = subst (λ n. HaveSent first.system.gates (lists_of n sends) first.senders.items now.senders.items)
-    (senders-there gives plan first begun.begun).0 went.sent in
-    let ran = has-run gives plan orders first now begun.begun went.system went.ends sent went.log_kept went.runs in
-    let report = c.in-Ok-finish_run.report in let told = c.in-Ok-finish_run.ensures.story plan orders begun.right.1 ran in
-    let actors = length c.args.actors.items in
-    let many : length report.actors.items ≡ actors + 1 = line-count g.K.Behaviours.after gives plan actors orders report begun.right told in
-    err-weaker _ _ c.covered.result
-    (λ error is. inr (is.0, is.2, begun.right, (let within = slice_get_within report.actors.items is.0.0 is.1 is.3 in omega (arith, within, many))))
-    c.covered.ensures.refused
+    c.in-Ok-finish_run.ensures.story plan orders begun.right.1
+    (has-run gives plan orders first now begun.begun went.system went.ends sent went.log_kept went.runs)
 
 pub returns-in-Err-finish_run-clause-refused : goal.returns-in-Err-finish_run-clause-refused
 returns-in-Err-finish_run-clause-refused g c =
@@ -78,34 +55,38 @@ returns-in-Err-finish_run-clause-refused g c =
     let orders = lists_of plan.senders sends in
     let sent = subst (λ n. HaveSent first.system.gates (lists_of n sends) first.senders.items now.senders.items)
     (senders-there gives plan first begun.begun).0 went.sent in
-    let ran = has-run gives plan orders first now begun.begun went.system went.ends sent went.log_kept went.runs in
-    inl (c.in-Err-finish_run.ensures.refused plan (length c.args.actors.items) orders begun.right ran)
+    c.in-Err-finish_run.ensures.refused plan (length c.args.actors.items) orders begun.right
+    (has-run gives plan orders first now begun.begun went.system went.ends sent went.log_kept went.runs)
+
+pub broken_off-requires-clause-own_ends : goal.broken_off-requires-clause-own_ends
+broken_off-requires-clause-own_ends g c =
+    let went = c.in-Err.ensures in
+    own-ends c.in_ok-built.built c.send_in_order_and_run.new.built went.system
+    (some-end g.K.Behaviours.gives c.args.plan c.in_ok-built.built c.in_ok-built.ensures.begun) went.ends went.same_gates
+
+pub broken_off-requires-clause-full : goal.broken_off-requires-clause-full
+broken_off-requires-clause-full g c = λ is.
+    (let begun = c.in_ok-built.ensures in let gives = g.K.Behaviours.gives in let plan = c.args.plan in let sends = c.args.sends.now in
+    let first = c.in_ok-built.built in let now = c.send_in_order_and_run.new.built in
+    full-seen gives plan first now begun.begun c.in-Err.ensures.system (length c.args.actors.items) (lists_of plan.senders sends) begun.right c.in-Err.error
+    (subst (λ n. BreaksOff gives first.system now.ends.items (lists_of n sends) c.in-Err.error) (senders-there gives plan first begun.begun).0
+    c.in-Err.ensures.fault) is)
 
 pub returns-in-Err-clause-refused : goal.returns-in-Err-clause-refused
 returns-in-Err-clause-refused g c =
     let begun = c.in_ok-built.ensures in let gives = g.K.Behaviours.gives in let plan = c.args.plan in let sends = c.args.sends.now in
-    let first = c.in_ok-built.built in
-    inl (may-break gives plan first begun.begun (length c.args.actors.items) (lists_of plan.senders sends) begun.right c.in-Err.error
-    (subst (λ n. BreaksOff gives first.system (lists_of n sends) c.in-Err.error) (senders-there gives plan first begun.begun).0 c.in-Err.ensures.fault))
-
-pub returns-in_err-built-clause-refused : goal.returns-in_err-built-clause-refused
-returns-in_err-built-clause-refused g c =
-    let gives = g.K.Behaviours.gives in let plan = c.args.plan in let actors = length c.args.actors.items in
-    let orders = lists_of plan.senders c.args.sends.now in
-    err-of (IsErrorInOrder gives plan actors orders) c.from_residual.result c.in_err-built.field-0.0 c.from_residual.ensures.1
-    (inl c.in_err-built.ensures.refused)
+    let first = c.in_ok-built.built in let now = c.send_in_order_and_run.new.built in
+    may-break gives plan first now begun.begun c.in-Err.ensures.system (length c.args.actors.items) (lists_of plan.senders sends) begun.right
+    c.in-Err.error c.broken_off.result
+    (subst (λ n. BreaksOff gives first.system now.ends.items (lists_of n sends) c.in-Err.error) (senders-there gives plan first begun.begun).0
+    c.in-Err.ensures.fault) c.broken_off.ensures
 
 pub returns-in-Ok-finish_run-clause-turns : goal.returns-in-Ok-finish_run-clause-turns
 returns-in-Ok-finish_run-clause-turns g c =
-    let are = turns-of g.K.Behaviours.gives c.args.plan c.in_ok-built.built c.in_ok-built.ensures.begun _ c.in-Ok.ensures.turns in
-    ok-weaker _ _ c.covered.result (λ run is. subst (λ v. AreTurnsOf c.args.plan v.items) (sym is.1) are) c.covered.ensures.run
+    turns-of g.K.Behaviours.gives c.args.plan c.in_ok-built.built c.in_ok-built.ensures.begun _ c.in-Ok.ensures.turns
 
 pub returns-in-Ok-finish_run-clause-stretches : goal.returns-in-Ok-finish_run-clause-stretches
-returns-in-Ok-finish_run-clause-stretches g c =
-    let report = c.in-Ok-finish_run.report in let turns = c.in-Ok.turns in
-    let are = c.in-Ok.ensures.stretches report c.in-Ok-finish_run.ensures.seen in
-    ok-weaker _ _ c.covered.result
-    (λ run is. subst (λ v. AreStretches run.report v.items) (sym is.1) (subst (λ r. AreStretches r turns.items) (sym is.0) are)) c.covered.ensures.run
+returns-in-Ok-finish_run-clause-stretches g c = c.in-Ok.ensures.stretches c.in-Ok-finish_run.report c.in-Ok-finish_run.ensures.seen
 
 pub returns-in-Ok-finish_run-clause-covers : goal.returns-in-Ok-finish_run-clause-covers
 returns-in-Ok-finish_run-clause-covers g c =
@@ -115,11 +96,9 @@ returns-in-Ok-finish_run-clause-covers g c =
     let sent = subst (λ n. HaveSent first.system.gates (lists_of n sends) first.senders.items now.senders.items)
     (senders-there gives plan first begun.begun).0 went.sent in
     let ran = has-run gives plan orders first now begun.begun went.system went.ends sent went.log_kept went.runs in
-    let report = c.in-Ok-finish_run.report in let told = c.in-Ok-finish_run.ensures.story plan orders begun.right.1 ran in
-    let turns = c.in-Ok.turns in let actors = length c.args.actors.items in
+    let ended = c.in-Ok-finish_run.ensures in let report = c.in-Ok-finish_run.report in let turns = c.in-Ok.turns in
+    let told = ended.story plan orders begun.right.1 ran in let actors = length c.args.actors.items in
     let many = line-count g.K.Behaviours.after gives plan actors orders report begun.right told in
-    let planned = as-planned plan actors begun.right.0 in
-    let are = turns-of gives plan first begun.begun turns.items went.turns in
-    ok-weaker _ _ c.covered.result
-    (λ run is. subst (λ v. CoverJournals run.report v.items) (sym is.1) (subst (λ r. CoverJournals r turns.items) (sym is.0)
-    (covers-of plan report turns.items (many ∙ ap (λ n. n + 1) (sym planned)) are is.2))) c.covered.ensures.run
+    covers-of plan report turns.items (many ∙ ap (λ n. n + 1) (sym (as-planned plan actors begun.right.0)))
+    (turns-of gives plan first begun.begun turns.items went.turns)
+    (went.covers begun.begun.whole (changed-none gives plan first begun.begun) report ended.seen ended.releases)

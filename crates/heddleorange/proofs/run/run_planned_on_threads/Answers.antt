@@ -3,7 +3,7 @@ use Rattle.std.specs.Global.{Global}
 use Rattle.mb_shutdown.proofs.Lists.{length-mapped}
 use Rattle.mb_msg.specs.declared.order.Order.{Order}
 use Rattle.mb_startup.proofs.There.{senders-there, some-end}
-use Rattle.heddleorange.proofs.Breaking.{may-break}
+use Rattle.heddleorange.proofs.Breaking.{full-seen, may-break, own-ends}
 use Rattle.heddleorange.proofs.HasRunLemmas.{complete, has-run, storied, unstoried}
 use Rattle.heddleorange.proofs.Sent.{orders_of}
 use Rattle.heddleorange.proofs.run.run_planned_on_threads.Goals as goal
@@ -37,7 +37,21 @@ returns-clause-refused g c =
     unstoried g.K.Behaviours.after gives plan orders now ran (length c.args.actors.items) c.finish_run.result begun.right
     c.finish_run.ensures.refused
 
+pub broken_off-requires-clause-own_ends : goal.broken_off-requires-clause-own_ends
+broken_off-requires-clause-own_ends g c =
+    let went = c.in-Err.ensures in
+    own-ends c.in_ok-built.built c.run_together.new.built went.system (some-end g.K.Behaviours.gives c.args.plan c.in_ok-built.built c.in_ok-built.ensures.begun)
+    went.ends went.same_gates
+
+pub broken_off-requires-clause-full : goal.broken_off-requires-clause-full
+broken_off-requires-clause-full g c = λ is.
+    (let went = c.in-Err.ensures in
+    full-seen g.K.Behaviours.gives c.args.plan c.in_ok-built.built c.run_together.new.built c.in_ok-built.ensures.begun went.system
+    (length c.args.actors.items) (orders_of c.args.sends.now) c.in_ok-built.ensures.right c.in-Err.error went.fault is)
+
 pub returns-in-Err-clause-refused : goal.returns-in-Err-clause-refused
 returns-in-Err-clause-refused g c =
-    may-break g.K.Behaviours.gives c.args.plan c.in_ok-built.built c.in_ok-built.ensures.begun (length c.args.actors.items) (orders_of c.args.sends.now)
-    c.in_ok-built.ensures.right c.in-Err.error c.in-Err.ensures.fault
+    let went = c.in-Err.ensures in
+    may-break g.K.Behaviours.gives c.args.plan c.in_ok-built.built c.run_together.new.built c.in_ok-built.ensures.begun went.system
+    (length c.args.actors.items) (orders_of c.args.sends.now) c.in_ok-built.ensures.right c.in-Err.error c.broken_off.result went.fault
+    c.broken_off.ensures

@@ -3,7 +3,8 @@ use Rattle.mb_dispatch.specs.Faults.{BreaksQuietRun}
 use Rattle.mb_gate.specs.Accessors.{pass_view}
 use Rattle.mb_gate.specs.Untouched.{origin_of}
 use Rattle.mb_system.specs.Members.{IsEndOf}
-use Rattle.heddleorange.proofs.Sent.{err-weaker, first-number, found-nothing, ok-gives, on-all, ran-on, see-on}
+use Rattle.heddleorange.proofs.Covering.{all-turns}
+use Rattle.heddleorange.proofs.Sent.{err-weaker, first-number, first-there, found-nothing, ok-gives, on-all, ran-on, see-on}
 use Rattle.heddleorange.proofs.Stretches.{first-extends, stretches-of}
 use Rattle.heddleorange.proofs.Turns.{made-turns, ok-weaker}
 use Rattle.heddleorange.proofs.sending.run_first.Goals as goal
@@ -32,7 +33,12 @@ returns-clause-log_kept g c =
 pub returns-clause-fault : goal.returns-clause-fault
 returns-clause-fault g c =
     err-weaker (BreaksQuietRun g.K.Behaviours.gives c.args.built.now.system (pass_view c.index_mut.result.now.registrar.pass) c.run_quietly.new.end) _ c.run_quietly.result
-    (λ e broken. (pass_view c.index_mut.result.now.registrar.pass, c.run_quietly.new.end, broken)) c.run_quietly.ensures.fault
+    (λ e broken. (
+      pass_view c.index_mut.result.now.registrar.pass,
+      c.run_quietly.new.end,
+      first-there c.run_quietly.new.end c.args.built.now.ends.items c.requires.not_empty,
+      broken,
+    )) c.run_quietly.ensures.fault
 
 pub returns-clause-turns : goal.returns-clause-turns
 returns-clause-turns g c =
@@ -45,6 +51,13 @@ returns-clause-stretches g c =
     (λ turns made report extends.
     stretches-of g.K.Behaviours.gives (origin_of built.system.gates) built.system.throughput report _ turns.items _ made
     (first-extends report built.ends.items end c.requires.not_empty extends)) c.run_quietly.ensures.runs
+
+pub returns-clause-covers : goal.returns-clause-covers
+returns-clause-covers g c =
+    let built = c.args.built.now in let end = c.run_quietly.new.end in
+    ok-weaker _ _ c.run_quietly.result
+    (λ turns made. all-turns g.K.Behaviours.gives (origin_of built.system.gates) built.system.throughput c.index_mut.result.now end built.ends.items
+    built.senders.items turns.items c.requires.not_empty c.index_mut.ensures.value made) c.run_quietly.ensures.runs
 
 pub returns-clause-runs : goal.returns-clause-runs
 returns-clause-runs g c =

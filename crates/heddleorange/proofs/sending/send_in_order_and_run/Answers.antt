@@ -5,7 +5,9 @@ use Rattle.mb_system.specs.Members.{IsSenderOf}
 use Rattle.heddleorange.specs.Orders.{lists_of}
 use Rattle.heddleorange.specs.Sent.{HaveSent}
 use Rattle.heddleorange.proofs.InOrder.{length-lists, many-from}
+use Rattle.heddleorange.proofs.Covering.{all-turns-since}
 use Rattle.heddleorange.proofs.Sent.{err-weaker, on-ok, together-kept}
+use Rattle.heddleorange.proofs.Turns.{ok-weaker}
 use Rattle.heddleorange.proofs.sending.send_in_order_and_run.Goals as goal
 
 pub returns-clause-sent : goal.returns-clause-sent
@@ -39,3 +41,13 @@ returns-clause-stretches g c = c.run_first.ensures.stretches
 
 pub returns-clause-runs : goal.returns-clause-runs
 returns-clause-runs g c = c.run_first.ensures.runs
+
+pub returns-clause-covers : goal.returns-clause-covers
+returns-clause-covers g c =
+    let old = c.args.built.now in let gates = old.system.gates in let now = c.send_in_order.new.senders in
+    let orders = lists_of (length old.senders.items) c.args.sends.now in
+    let many = sym (length-lists (length old.senders.items) c.args.sends.now ∙ many-from (length old.senders.items) c.args.sends.now c.requires.from) in
+    let sent = subst (λ l. HaveSent gates (lists_of (length l) c.args.sends.now) l now) c.deref_mut.ensures.value c.in_ok-send_in_order.ensures.sent in
+    let items = with_items_is old.senders now (sent.same_count ∙ sym old.senders.ok.0) in
+    ok-weaker _ _ c.run_first.result (λ turns all. all-turns-since gates orders old.ends.items old.senders.items _ now many sent items _ all)
+    c.run_first.ensures.covers

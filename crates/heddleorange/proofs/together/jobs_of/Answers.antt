@@ -1,4 +1,4 @@
-use Rattle.std.proofs.Common.{rules, ◌≡◌, ◌<◌, ℕ, List, ◌++◌, ◌∷◌, ◌∙◌, [], refl, sym, ap, subst, length, map, take, append_assoc, get_or, arith}
+use Rattle.std.proofs.Common.{rules, ◌≡◌, ◌<◌, ◌++◌, ◌∷◌, ◌∙◌, [], refl, sym, ap, subst, length, map, take, append_assoc, get_or, arith}
 use Rattle.std.specs.Vec.Iter.{into_iter_items}
 use Rattle.std.proofs.lemmas.List.{append-nil, nil_from_length}
 use Rattle.mb_shutdown.proofs.Lists.{length-mapped}

@@ -3,13 +3,13 @@ use Rattle.std.proofs.lemmas.List.{with_items_is}
 use Rattle.std.specs.Vec.{with_items}
 use Rattle.mb_gate.specs.Accessors.{pass_view}
 use Rattle.mb_gate.specs.Untouched.{origin_of}
-use Rattle.mb_system.specs.Members.{AreEndsOf}
+use Rattle.mb_system.specs.Members.{AreEndsOf, ends_numbers}
 use Rattle.mb_dispatch.specs.Jobs.{AreDone, AreJobsOf, jobs_senders}
 use Rattle.mb_dispatch.proofs.Runs.{no-run}
 use Rattle.mb_dispatch.proofs.Together.{run-again}
 use Rattle.heddleorange.specs.Sent.{BreaksOff, HaveSent}
 use Rattle.heddleorange.proofs.Jobs.{broke-off, jobs-ours, jobs-sent, sender_in, sends_in, some-one}
-use Rattle.heddleorange.proofs.Sent.{err-of, orders_of}
+use Rattle.heddleorange.proofs.Sent.{err-of, orders_of, some-still}
 use Rattle.heddleorange.proofs.together.run_together.Goals as goal
 
 pub run-requires-clause-jobs : goal.run-requires-clause-jobs
@@ -24,19 +24,44 @@ returns-in_err-run-clause-fault g c =
     let built = c.args.built.now in let gives = g.K.Behaviours.gives in let orders = orders_of c.args.sends.now in
     let sends : map sends_in c.deref_mut-2.result.now ≡ orders =
     ap (map sends_in) c.deref_mut-2.ensures.value ∙ c.in-Ok.ensures.sends in
-    err-of (BreaksOff gives built.system orders) c.from_residual.result c.in_err-run.field-0.0 c.from_residual.ensures.1
+    let ends = with_items_is built.ends c.run.new.ends (c.run.auto.ends ∙ ap length c.deref_mut.ensures.value ∙ sym built.ends.ok.0) in
+    err-of (BreaksOff gives built.system (with_items built.ends c.run.new.ends).items orders) c.from_residual.result c.in_err-run.field-0.0
+    c.from_residual.ensures.1
+    (subst (λ l. BreaksOff gives built.system l orders c.in_err-run.field-0.0) (sym ends)
     (broke-off gives built.system c.deref_mut.result.now c.run.new.ends c.deref_mut-2.result.now orders sends c.run.new.jobs c.in_err-run.field-0.0
-    c.in_err-run.ensures.fault)
+    c.in_err-run.ensures.fault))
+
+pub returns-in_err-run-clause-same_gates : goal.returns-in_err-run-clause-same_gates
+returns-in_err-run-clause-same_gates g c =
+    let built = c.args.built.now in
+    let ends = with_items_is built.ends c.run.new.ends (c.run.auto.ends ∙ ap length c.deref_mut.ensures.value ∙ sym built.ends.ok.0) in
+    subst (AreEndsOf built.system.gates) (sym ends) c.in_err-run.ensures.ends.0
+
+pub returns-in_default-senders_of-clause-same_gates : goal.returns-in_default-senders_of-clause-same_gates
+returns-in_default-senders_of-clause-same_gates g c =
+    let built = c.args.built.now in
+    let ends = with_items_is built.ends c.run.new.ends (c.run.auto.ends ∙ ap length c.deref_mut.ensures.value ∙ sym built.ends.ok.0) in
+    subst (AreEndsOf built.system.gates) (sym ends) c.in_ok-run.ensures.ends.0
+
+pub returns-clause-same_gates : goal.returns-clause-same_gates
+returns-clause-same_gates g c =
+    let built = c.args.built.now in
+    let ends = with_items_is built.ends c.run.new.ends (c.run.auto.ends ∙ ap length c.deref_mut.ensures.value ∙ sym built.ends.ok.0) in
+    subst (AreEndsOf built.system.gates) (sym ends) c.in_ok-run.ensures.ends.0
 
 pub returns-in_default-clause-fault : goal.returns-in_default-clause-fault
 returns-in_default-clause-fault g c =
-    let built = c.args.built.now in let end = some-one built.ends.items c.requires.not_empty in let knew = pass_view end.registrar.pass in
-    inr (knew, end, inl (refl, no-run g.K.Behaviours.gives (origin_of built.system.gates) built.system.throughput knew))
+    let built = c.args.built.now in let one = some-one built.ends.items c.requires.not_empty in let knew = pass_view (one.0).registrar.pass in
+    inr (knew, one.0, one.1, inl (refl, no-run g.K.Behaviours.gives (origin_of built.system.gates) built.system.throughput knew))
 
 pub returns-in_default-senders_of-clause-fault : goal.returns-in_default-senders_of-clause-fault
 returns-in_default-senders_of-clause-fault g c =
-    let built = c.args.built.now in let end = some-one built.ends.items c.requires.not_empty in let knew = pass_view end.registrar.pass in
-    inr (knew, end, inl (refl, no-run g.K.Behaviours.gives (origin_of built.system.gates) built.system.throughput knew))
+    let built = c.args.built.now in let now = with_items built.ends c.run.new.ends in
+    let ends = with_items_is built.ends c.run.new.ends (c.run.auto.ends ∙ ap length c.deref_mut.ensures.value ∙ sym built.ends.ok.0) in
+    let numbers = ap ends_numbers ends ∙ c.in_ok-run.ensures.ends.1 ∙ ap ends_numbers c.deref_mut.ensures.value in
+    let one = some-one now.items (some-still built.ends.items now.items c.requires.not_empty numbers) in
+    let knew = pass_view (one.0).registrar.pass in
+    inr (knew, one.0, one.1, inl (refl, no-run g.K.Behaviours.gives (origin_of built.system.gates) built.system.throughput knew))
 
 pub returns-clause-sent : goal.returns-clause-sent
 returns-clause-sent g c =

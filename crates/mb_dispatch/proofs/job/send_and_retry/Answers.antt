@@ -18,7 +18,11 @@ returns-clause-sent g c =
     let discharged = c.retry_refused.ensures in let gates = c.args.system.now.gates in
     let orders = c.args.orders.now in let old = c.args.sender.now in let new = c.retry_refused.new.self in
     let both : OwesNobody gates new → HasSent orders old new × OwesNobody gates new =
-    λ nobody. (sent-still orders old c.send_all.new.sender new discharged.same.1 discharged.same.0 discharged.log_kept c.in_ok-send_all.ensures.sent, nobody) in
+    λ nobody. (
+      sent-still orders old c.send_all.new.sender new discharged.same.1 discharged.same.0 discharged.log_kept discharged.share discharged.gives_back
+          c.in_ok-send_all.ensures.sent,
+      nobody,
+    ) in
     on_ok_weaker _ both discharged.done
 
 pub returns-clause-obligations : goal.returns-clause-obligations

@@ -5,7 +5,8 @@ use Rattle.mb_journal.specs.Identity.{Identity}
 use Rattle.mb_journal.specs.Life.{closed}
 use Rattle.mb_journal.specs.Run.{IsReason}
 use Rattle.mb_journal.specs.Run.Stopped.{NoRoom}
-use Rattle.mb_gate.specs.Accessors.{pass_view, claim_view, drained_by, held_actor, actors_of}
+use Rattle.mb_gate.specs.Accessors.{pass_view, claim_view, drained_by, held_actor, actors_of, taken_with}
+use Rattle.mb_gate.specs.Returned.{GoesOn}
 use Rattle.mb_gate.specs.Rule.{IsAmong}
 use Rattle.mb_gate.specs.View.{View}
 use Rattle.mb_ghost.proofs.SeenLemmas.{each_append}
@@ -19,7 +20,7 @@ use Rattle.mb_mailbox.specs.Ran.{HasStopped, IsShortOfMemory}
 use Rattle.mb_mailbox.proofs.AppliedLemmas.{same-fault}
 use Rattle.mb_register.proofs.CallerLemmas.{account-registered}
 use Rattle.mb_mailbox.proofs.FinishLemmas.{home-own, home-longer, home-fold, home-told, home-rest, saw-journal, given-after, steps-taken, leaves-caller, leaves-run}
-use Rattle.mb_mailbox.proofs.FinishLemmas.{ends-cleared, ends-empty}
+use Rattle.mb_mailbox.proofs.FinishLemmas.{each-before, ends-cleared, ends-empty, gives-back}
 use Rattle.mb_mailbox.proofs.FreshLemmas.{taken-fresh, log-fresh, taken-begun, running-fresh, backlog-fresh, run_counts-fresh}
 use Rattle.mb_mailbox.proofs.StepSendsLemmas.{sent-by-run}
 use Rattle.mb_mailbox.proofs.run.run_mailbox.Goals as goal
@@ -147,6 +148,13 @@ returns-in-Ok-clause-ran g c =
     let part = steps-taken (held_actor last) journal (claim_view last) (pass_view run.new.registrar.pass) (pass_view c.release.new.pass)
     run.ensures.in_run.running.owes_nothing c.release.ensures.known (pass_view c.register.new.self.pass) looks
     (caller_of g.W.RunQueue.pushed g.W.RunQueue.refused c.args.registrar.now) (caller_of g.W.RunQueue.pushed g.W.RunQueue.refused run.new.registrar) refl run.ensures.advances.caller_advances in
+    let gives = gives-back (held_actor last) journal (claim_view last) (pass_view run.new.registrar.pass) (pass_view c.release.new.pass)
+    run.ensures.in_run.running.owes_nothing c.release.ensures.known (pass_view c.register.new.self.pass) looks
+    (caller_of g.W.RunQueue.pushed g.W.RunQueue.refused c.args.registrar.now) (caller_of g.W.RunQueue.pushed g.W.RunQueue.refused run.new.registrar)
+    refl run.ensures.advances.caller_advances run.ensures.in_run.running.none_released in
+    let goes_on = each-before (GoesOn (held_actor last) (taken_with last))
+    (caller_of g.W.RunQueue.pushed g.W.RunQueue.refused c.args.registrar.now) (caller_of g.W.RunQueue.pushed g.W.RunQueue.refused run.new.registrar)
+    run.ensures.advances.caller_advances c.release.ensures.goes_on in
     let kept = c.register.ensures.looks.sent_system ∙ ap (λ (v : View). v.sent_system) c.release.ensures.known in
     let given = given-after (held_actor last) journal (claim_view last) (pass_view run.new.registrar.pass) (pass_view c.release.new.pass)
     run.ensures.in_run.running.owes_nothing c.release.ensures.known (pass_view c.register.new.self.pass) looks in
@@ -173,7 +181,8 @@ returns-in-Ok-clause-ran g c =
         ended.1,
         leaves-run c.args.throughput c.args.claim last (pass_view c.args.registrar.now.pass) (pass_view c.register.new.self.pass) turn ended.0
             taken run.ensures.advances.same
-            run.ensures.in_run.run_counts run.ensures.within_limit ended.4 ended.2 ended.5 run.ensures.in_run.running.only_drained saw part
+            run.ensures.in_run.run_counts run.ensures.within_limit ended.4 ended.2 ended.5 run.ensures.in_run.running.only_drained saw goes_on
+            (returns-in-Ok-clause-caller_advances g c).share gives part
             (pass_view run.new.registrar.pass) run.ensures.advances.sends kept given c.requires.untouched.recorded told fresh at_first
             run.ensures.in_run.running.settled.taken run.ensures.in_run.running.settled.open_keeps empty,
       ),
@@ -193,6 +202,13 @@ returns-in-Err-clause-ran g c =
     let part = steps-taken (held_actor last) journal (claim_view last) (pass_view run.new.registrar.pass) (pass_view c.release.new.pass)
     run.ensures.in_run.running.owes_nothing c.release.ensures.known (pass_view c.register.new.self.pass) looks
     (caller_of g.W.RunQueue.pushed g.W.RunQueue.refused c.args.registrar.now) (caller_of g.W.RunQueue.pushed g.W.RunQueue.refused run.new.registrar) refl run.ensures.advances.caller_advances in
+    let gives = gives-back (held_actor last) journal (claim_view last) (pass_view run.new.registrar.pass) (pass_view c.release.new.pass)
+    run.ensures.in_run.running.owes_nothing c.release.ensures.known (pass_view c.register.new.self.pass) looks
+    (caller_of g.W.RunQueue.pushed g.W.RunQueue.refused c.args.registrar.now) (caller_of g.W.RunQueue.pushed g.W.RunQueue.refused run.new.registrar)
+    refl run.ensures.advances.caller_advances run.ensures.in_run.running.none_released in
+    let goes_on = each-before (GoesOn (held_actor last) (taken_with last))
+    (caller_of g.W.RunQueue.pushed g.W.RunQueue.refused c.args.registrar.now) (caller_of g.W.RunQueue.pushed g.W.RunQueue.refused run.new.registrar)
+    run.ensures.advances.caller_advances c.release.ensures.goes_on in
     let kept = c.register.ensures.looks.sent_system ∙ ap (λ (v : View). v.sent_system) c.release.ensures.known in
     let given = given-after (held_actor last) journal (claim_view last) (pass_view run.new.registrar.pass) (pass_view c.release.new.pass)
     run.ensures.in_run.running.owes_nothing c.release.ensures.known (pass_view c.register.new.self.pass) looks in
@@ -207,7 +223,8 @@ returns-in-Err-clause-ran g c =
         turn,
         leaves-run c.args.throughput c.args.claim last (pass_view c.args.registrar.now.pass) (pass_view c.register.new.self.pass) turn NoRoom
             taken run.ensures.advances.same
-            run.ensures.in_run.run_counts run.ensures.within_limit tt tt tt run.ensures.in_run.running.only_drained saw part
+            run.ensures.in_run.run_counts run.ensures.within_limit tt tt tt run.ensures.in_run.running.only_drained saw goes_on
+            (returns-in-Err-clause-caller_advances g c).share gives part
             (pass_view run.new.registrar.pass) run.ensures.advances.sends kept given c.requires.untouched.recorded told fresh at_first
             run.ensures.in_run.running.settled.taken run.ensures.in_run.running.settled.open_keeps (λ ends. absurd ends),
         λ full. subst (λ (w : Identity). w.limit ≤ length journal) run.ensures.advances.same.who
@@ -229,6 +246,13 @@ returns-in-Err-clause-out_of_memory g c = λ short.
     let part = steps-taken (held_actor last) journal (claim_view last) (pass_view run.new.registrar.pass) (pass_view c.release.new.pass)
     run.ensures.in_run.running.owes_nothing c.release.ensures.known (pass_view c.register.new.self.pass) looks
     (caller_of g.W.RunQueue.pushed g.W.RunQueue.refused c.args.registrar.now) (caller_of g.W.RunQueue.pushed g.W.RunQueue.refused run.new.registrar) refl run.ensures.advances.caller_advances in
+    let gives = gives-back (held_actor last) journal (claim_view last) (pass_view run.new.registrar.pass) (pass_view c.release.new.pass)
+    run.ensures.in_run.running.owes_nothing c.release.ensures.known (pass_view c.register.new.self.pass) looks
+    (caller_of g.W.RunQueue.pushed g.W.RunQueue.refused c.args.registrar.now) (caller_of g.W.RunQueue.pushed g.W.RunQueue.refused run.new.registrar)
+    refl run.ensures.advances.caller_advances run.ensures.in_run.running.none_released in
+    let goes_on = each-before (GoesOn (held_actor last) (taken_with last))
+    (caller_of g.W.RunQueue.pushed g.W.RunQueue.refused c.args.registrar.now) (caller_of g.W.RunQueue.pushed g.W.RunQueue.refused run.new.registrar)
+    run.ensures.advances.caller_advances c.release.ensures.goes_on in
     let kept = c.register.ensures.looks.sent_system ∙ ap (λ (v : View). v.sent_system) c.release.ensures.known in
     let given = given-after (held_actor last) journal (claim_view last) (pass_view run.new.registrar.pass) (pass_view c.release.new.pass)
     run.ensures.in_run.running.owes_nothing c.release.ensures.known (pass_view c.register.new.self.pass) looks in
@@ -242,7 +266,8 @@ returns-in-Err-clause-out_of_memory g c = λ short.
       turn,
       leaves-run c.args.throughput c.args.claim last (pass_view c.args.registrar.now.pass) (pass_view c.register.new.self.pass) turn NoRoom
           taken run.ensures.advances.same
-          run.ensures.in_run.run_counts run.ensures.within_limit tt tt tt run.ensures.in_run.running.only_drained saw part
+          run.ensures.in_run.run_counts run.ensures.within_limit tt tt tt run.ensures.in_run.running.only_drained saw goes_on
+          (returns-in-Err-clause-caller_advances g c).share gives part
           (pass_view run.new.registrar.pass) run.ensures.advances.sends kept given c.requires.untouched.recorded told fresh at_first
           run.ensures.in_run.running.settled.taken run.ensures.in_run.running.settled.open_keeps (λ ends. absurd ends),
       subst (λ (w : Identity). IsShortOfMemory w journal) run.ensures.advances.same.who

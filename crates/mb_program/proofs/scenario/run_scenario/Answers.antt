@@ -1,13 +1,13 @@
 use Rattle.std.proofs.Common.{List, length, map, refl, sym, subst, arith, string_bytes}
 use Rattle.mb_scenario.specs.View.{scenario_data}
 use Rattle.mb_msg.specs.declared.order.SenderOrder.{SenderOrder}
-use Rattle.heddleorange.specs.NoReport.{IsErrorInOrder, IsErrorOfRun, IsRight}
+use Rattle.heddleorange.specs.NoReport.{IsErrorOfRun, IsRight}
 use Rattle.heddleorange.specs.Orders.{lists_of}
 use Rattle.heddleorange.specs.RunHeadline.{RunHeadline}
 use Rattle.heddleorange.specs.WholeRun.{IsReportOfRun}
 use Rattle.mb_program.specs.Scripts.{after_by_scripts, gives_by_scripts}
 use Rattle.mb_program.proofs.Actors.{all-unused}
-use Rattle.mb_program.proofs.Runnable.{as-many-names, can-run, fault-in-order}
+use Rattle.mb_program.proofs.Runnable.{as-many-names, can-run, fault-of-run}
 use Rattle.mb_program.proofs.scenario.run_scenario.Goals as goal
 
 pub run-requires-clause-unused : goal.run-requires-clause-unused
@@ -23,7 +23,7 @@ pub fault_of-requires : goal.fault_of-requires
 fault_of-requires g c =
     let read = c.in_ok-plan.field-0 in
     let right = can-run c.args.text.now (scenario_data read) read.plan c.in_ok-plan.ensures.read refl in
-    fault-in-order (gives_by_scripts (scenario_data read).scripts) read.plan (length read.scripts.items) _ c.in-Err.error
+    fault-of-run (gives_by_scripts (scenario_data read).scripts) read.plan (length read.scripts.items) _ c.in-Err.failed
     (subst (λ (l : List SenderOrder). IsRight read.plan (length read.scripts.items) (lists_of read.plan.senders l)) (sym c.deref.ensures.value) right)
     c.in-Err.ensures.fault
 
@@ -35,11 +35,9 @@ returns-in-Err-clause-refused g c =
       record {
         plan = read.plan;
         planned = refl;
-        error = c.in-Err.error;
-        of_run = subst (λ (l : List SenderOrder). IsErrorInOrder (gives_by_scripts scenario.scripts) read.plan (length read.scripts.items)
-            (lists_of read.plan.senders l) c.in-Err.error) c.deref.ensures.value c.in-Err.ensures.fault;
-        on_threads = λ threads. subst (λ (l : List SenderOrder). IsErrorOfRun (gives_by_scripts scenario.scripts) read.plan
-            (length read.scripts.items) (lists_of read.plan.senders l) c.in-Err.error) c.deref.ensures.value (c.in-Err.ensures.threads_fault threads);
+        failed = c.in-Err.failed;
+        of_run = subst (λ (l : List SenderOrder). IsErrorOfRun (gives_by_scripts scenario.scripts) read.plan (length read.scripts.items)
+            (lists_of read.plan.senders l) c.in-Err.failed) c.deref.ensures.value c.in-Err.ensures.fault;
         told = c.fault_of.ensures;
       },
     )

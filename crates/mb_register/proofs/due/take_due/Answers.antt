@@ -1,8 +1,8 @@
-use Rattle.std.proofs.Common.{◌∙◌, [], ◌∷◌}
+use Rattle.std.proofs.Common.{◌∙◌, [], ◌∷◌, refl}
 use Rattle.mb_status.specs.Mailbox.{word_of}
 use Rattle.mb_gate.specs.Accessors.{pass_view}
-use Rattle.mb_register.proofs.Views.{looks-then, looks-read, looks-read-twice, looks-read-won}
-use Rattle.mb_register.proofs.ClaimCounts.{claims-then, claims-read, claims-read-twice, claims-read-won}
+use Rattle.mb_register.proofs.Views.{looks-none, looks-then, looks-read, looks-read-twice, looks-read-won}
+use Rattle.mb_register.proofs.ClaimCounts.{claims-none, claims-then, claims-read, claims-read-twice, claims-read-won}
 use Rattle.mb_register.proofs.due.take_due.Goals as goal
 
 pub returns-in-Got-clause-looks : goal.returns-in-Got-clause-looks
@@ -56,6 +56,9 @@ returns-then-not-is_due-clause-claims g c =
     let tried = c.in-Lost.ensures.answer in
     let lost = claims-then [] [] [] [] a b d c.loop.invariant.4 (claims-read-twice id (word_of tried.0) (word_of c.in-Lost.field-0) b d tried.1.2) in
     claims-then [] [] [] [] a d e lost c.is_due.ensures.claims
+
+pub loop-init : goal.loop-init
+loop-init g c = let a = pass_view c.args.pass.now in (tt, tt, refl, looks-none c.args.id.0 a, claims-none a)
 
 pub loop-preserved : goal.loop-preserved
 loop-preserved g c =

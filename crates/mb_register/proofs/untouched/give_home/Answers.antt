@@ -1,4 +1,4 @@
-use Rattle.std.proofs.Common.{refl, sym, ap}
+use Rattle.std.proofs.Common.{sym, ap}
 use Rattle.mb_status.specs.Mailbox.{word_of}
 use Rattle.mb_gate.specs.Claims.{held_in}
 use Rattle.mb_gate.specs.Accessors.{pass_view, claim_view, held_actor, status_of, gave_last, taken_with, closed_with, drained_by, recorded_by}
@@ -44,11 +44,9 @@ pub returns-clause-looks : goal.returns-clause-looks
 returns-clause-looks g c =
     let claim = c.args.claim in
     let home = claim.home in
-    looks-back (held_actor claim) (g.H.MailboxState.facts home).journal (g.H.MailboxState.facts home).journal (g.H.MailboxState.facts home).closed_to (word_of
-    (status_of claim))
-    (gave_last claim) (g.H.MailboxState.facts home).given (g.H.MailboxState.facts home).drained (held_actor claim) (pass_view c.args.pass.now) (claim_view claim)
-    (pass_view c.release.new.pass) refl
-    c.requires.untouched.known c.release.ensures.known
+    looks-back (held_actor claim) (g.H.MailboxState.facts home).journal (g.H.MailboxState.facts home).closed_to (word_of (status_of claim))
+    (gave_last claim) (g.H.MailboxState.facts home).given (g.H.MailboxState.facts home).drained (pass_view c.args.pass.now) (claim_view claim)
+    (pass_view c.release.new.pass) c.requires.untouched.known c.release.ensures.known
 
 pub returns-clause-claims : goal.returns-clause-claims
 returns-clause-claims g c =

@@ -6,6 +6,7 @@ use Rattle.mb_send_tests.proofs.desk.gates_of_three.Goals as goal
 pub new-requires-clause-fresh : goal.new-requires-clause-fresh
 new-requires-clause-fresh c first at actor home there = record {
   of_actor = tt;
+  not_run = refl;
   none_given = refl;
   none_closed = refl;
   none_drained = refl;

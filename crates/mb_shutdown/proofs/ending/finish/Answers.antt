@@ -1,4 +1,4 @@
-use Rattle.std.proofs.Common.{◌≡◌, ◌<◌, ◌≤◌, length, map, refl, sym, ap, subst, arith}
+use Rattle.std.proofs.Common.{◌≡◌, ◌<◌, ◌≤◌, length, map, refl, sym, ap, ◌∙◌, subst, arith}
 use Rattle.std.specs.Global.{Box}
 use Rattle.mb_gate.specs.Accessors.{actors_of, first_home, pass_view}
 use Rattle.mb_gate.specs.declared.gates.Gates.{Gates}
@@ -15,6 +15,7 @@ use Rattle.mb_shutdown.specs.Belonging.{AreThere, HasRead, IsLeastMissing}
 use Rattle.mb_shutdown.proofs.Back.{counted-all, back-complete, back-ends, back-some, back-together, left-counted, settled-then-read, some-end}
 use Rattle.mb_shutdown.proofs.Closing.{as-many-outside, came-answers, came-known, came-outside, came-room, came-passes, gathered, goes-on}
 use Rattle.mb_shutdown.proofs.HeadlineLaw.{headline}
+use Rattle.mb_shutdown.proofs.OfAll.{of-all-before, put-adds-up, releases-add-up}
 use Rattle.mb_shutdown.proofs.Places.{as-many-senders}
 use Rattle.mb_shutdown.proofs.ending.finish.Goals as goal
 
@@ -115,7 +116,7 @@ build_report-requires g c =
     let found = settled-then-read (actors_of built.system.gates) built b1 b2 settled c.room_of.ensures.read in
     let gates = c.gather-gates.result.0 in let log = (pass_view c.gather-gates.result.1).log in
     let outside = c.gather-gates.new.outside.items in
-    let came = gathered built b2 gates log outside found c.gather-gates.ensures.gates.0 c.gather-gates.ensures.seen c.gather-gates.ensures.outside in
+    let came = gathered built b2 gates log outside found c.gather-gates.ensures.gates.0 c.gather-gates.ensures.of_all.seen c.gather-gates.ensures.outside in
     let together = c.requires.together in
     let many = as-many-outside built gates log outside together (ends, senders) came in
     let few = built.system.within_limit.1 in record {
@@ -142,7 +143,7 @@ returns-in-Ok-clause-whole g c =
     let found = settled-then-read (actors_of built.system.gates) built b1 b2 settled c.room_of.ensures.read in
     let gates = c.gather-gates.result.0 in let log = (pass_view c.gather-gates.result.1).log in
     let outside = c.gather-gates.new.outside.items in
-    let came = gathered built b2 gates log outside found c.gather-gates.ensures.gates.0 c.gather-gates.ensures.seen c.gather-gates.ensures.outside in
+    let came = gathered built b2 gates log outside found c.gather-gates.ensures.gates.0 c.gather-gates.ensures.of_all.seen c.gather-gates.ensures.outside in
     let answers = map (λ (o : FinishedSender). o.send_log.posted) outside in (
       log,
       came.seen,
@@ -165,7 +166,7 @@ returns-in-Ok-clause-headline g c =
     let found = settled-then-read (actors_of built.system.gates) built b1 b2 settled c.room_of.ensures.read in
     let gates = c.gather-gates.result.0 in let log = (pass_view c.gather-gates.result.1).log in
     let outside = c.gather-gates.new.outside.items in
-    let came = gathered built b2 gates log outside found c.gather-gates.ensures.gates.0 c.gather-gates.ensures.seen c.gather-gates.ensures.outside in
+    let came = gathered built b2 gates log outside found c.gather-gates.ensures.gates.0 c.gather-gates.ensures.of_all.seen c.gather-gates.ensures.outside in
     let answers = map (λ (o : FinishedSender). o.send_log.posted) outside in
     headline g.K.Behaviours.after g.K.Behaviours.gives built log answers c.in-Ok.report senders
     (came-answers built gates log outside c.requires.together (ends, senders) came)
@@ -183,7 +184,7 @@ returns-in-Ok-clause-all_idle g c =
     let found = settled-then-read (actors_of built.system.gates) built b1 b2 settled c.room_of.ensures.read in
     let gates = c.gather-gates.result.0 in let log = (pass_view c.gather-gates.result.1).log in
     let outside = c.gather-gates.new.outside.items in
-    let came = gathered built b2 gates log outside found c.gather-gates.ensures.gates.0 c.gather-gates.ensures.seen c.gather-gates.ensures.outside in
+    let came = gathered built b2 gates log outside found c.gather-gates.ensures.gates.0 c.gather-gates.ensures.of_all.seen c.gather-gates.ensures.outside in
     ((ends, senders), came.settled)
 
 pub returns-in-Ok-clause-seen : goal.returns-in-Ok-clause-seen
@@ -197,7 +198,7 @@ returns-in-Ok-clause-seen g c =
     let found = settled-then-read (actors_of built.system.gates) built b1 b2 settled c.room_of.ensures.read in
     let gates = c.gather-gates.result.0 in let log = (pass_view c.gather-gates.result.1).log in
     let outside = c.gather-gates.new.outside.items in
-    let came = gathered built b2 gates log outside found c.gather-gates.ensures.gates.0 c.gather-gates.ensures.seen c.gather-gates.ensures.outside in
+    let came = gathered built b2 gates log outside found c.gather-gates.ensures.gates.0 c.gather-gates.ensures.of_all.seen c.gather-gates.ensures.outside in
     goes-on built gates log outside c.requires.together (ends, senders) came c.in-Ok.report (pass_view c.gather-gates.result.1) refl c.in-Ok.ensures.seen
 
 pub returns-in-Err-clause-refused : goal.returns-in-Err-clause-refused
@@ -211,7 +212,7 @@ returns-in-Err-clause-refused g c =
     let found = settled-then-read (actors_of built.system.gates) built b1 b2 settled c.room_of.ensures.read in
     let gates = c.gather-gates.result.0 in let log = (pass_view c.gather-gates.result.1).log in
     let outside = c.gather-gates.new.outside.items in
-    let came = gathered built b2 gates log outside found c.gather-gates.ensures.gates.0 c.gather-gates.ensures.seen c.gather-gates.ensures.outside in (
+    let came = gathered built b2 gates log outside found c.gather-gates.ensures.gates.0 c.gather-gates.ensures.of_all.seen c.gather-gates.ensures.outside in (
       (ends, senders),
       came.settled,
       subst (λ (h : Gates (Box Contents)). of_whom c.in-Err.mismatch < actors_of h) came.gates_are c.in-Err.ensures.in_plan,
@@ -228,16 +229,50 @@ returns-in-Ok-clause-home g c =
     let found = settled-then-read (actors_of built.system.gates) built b1 b2 settled c.room_of.ensures.read in
     let gates = c.gather-gates.result.0 in let v = pass_view c.gather-gates.result.1 in let log = v.log in
     let outside = c.gather-gates.new.outside.items in
-    let came = gathered built b2 gates log outside found c.gather-gates.ensures.gates.0 c.gather-gates.ensures.seen c.gather-gates.ensures.outside in
+    let came = gathered built b2 gates log outside found c.gather-gates.ensures.gates.0 c.gather-gates.ensures.of_all.seen c.gather-gates.ensures.outside in
     let waiting = counted_in c.in-Some-room_of.room in
     record {
       view = v;
-      seen = came.seen;
+      of_all = of-all-before (actors_of built.system.gates) built b2 v found came.seen c.gather-gates.ensures.of_all;
       home = subst (λ (h : Gates (Box Contents)). HomesReturned g.K.Behaviours.gives (first_home h).value (actors_of h) v c.in-Ok.report) came.gates_are
           c.in-Ok.ensures.home;
       counted = left-counted c.in-Ok.report waiting log c.in-Ok.ensures.counted
-          (counted-all b1 b2 log waiting c.in-Some-room_of.ensures.waiting c.gather-gates.ensures.seen.0);
+          (counted-all b1 b2 log waiting c.in-Some-room_of.ensures.waiting c.gather-gates.ensures.of_all.seen.0);
     }
+
+pub returns-in-Ok-clause-releases : goal.returns-in-Ok-clause-releases
+returns-in-Ok-clause-releases g c =
+    let built = c.args.built in let b1 = c.first_busy_of.new.built in let b2 = c.room_of.new.built in
+    let settled : HasRead (WereReadIdle 0 (actors_of built.system.gates)) built b1 = c.in_default-first_busy_of.ensures in
+    let found = settled-then-read (actors_of built.system.gates) built b1 b2 settled c.room_of.ensures.read in
+    let gates = c.gather-gates.result.0 in let v = pass_view c.gather-gates.result.1 in let log = v.log in
+    let outside = c.gather-gates.new.outside.items in
+    let came = gathered built b2 gates log outside found c.gather-gates.ensures.gates.0 c.gather-gates.ensures.of_all.seen c.gather-gates.ensures.outside in
+    let of_all = of-all-before (actors_of built.system.gates) built b2 v found came.seen c.gather-gates.ensures.of_all in
+    let many : length c.in-Ok.report.actors.items ≡ actors_of built.system.gates
+    = c.in-Ok.ensures.whole.same_count.0 ∙ ap (λ (h : Gates (Box Contents)). length (first_home h).value.directory) came.gates_are
+    ∙ built.system.directory in
+    releases-add-up g.K.Behaviours.gives built c.in-Ok.report v of_all
+    (subst (λ (h : Gates (Box Contents)). HomesReturned g.K.Behaviours.gives (first_home h).value (actors_of h) v c.in-Ok.report) came.gates_are
+    c.in-Ok.ensures.home)
+    many
+
+pub returns-in-Ok-clause-put : goal.returns-in-Ok-clause-put
+returns-in-Ok-clause-put g c =
+    let built = c.args.built in let b1 = c.first_busy_of.new.built in let b2 = c.room_of.new.built in
+    let settled : HasRead (WereReadIdle 0 (actors_of built.system.gates)) built b1 = c.in_default-first_busy_of.ensures in
+    let found = settled-then-read (actors_of built.system.gates) built b1 b2 settled c.room_of.ensures.read in
+    let gates = c.gather-gates.result.0 in let v = pass_view c.gather-gates.result.1 in let log = v.log in
+    let outside = c.gather-gates.new.outside.items in
+    let came = gathered built b2 gates log outside found c.gather-gates.ensures.gates.0 c.gather-gates.ensures.of_all.seen c.gather-gates.ensures.outside in
+    let of_all = of-all-before (actors_of built.system.gates) built b2 v found came.seen c.gather-gates.ensures.of_all in
+    let many : length c.in-Ok.report.actors.items ≡ actors_of built.system.gates
+    = c.in-Ok.ensures.whole.same_count.0 ∙ ap (λ (h : Gates (Box Contents)). length (first_home h).value.directory) came.gates_are
+    ∙ built.system.directory in
+    put-adds-up g.K.Behaviours.gives built c.in-Ok.report v of_all
+    (subst (λ (h : Gates (Box Contents)). HomesReturned g.K.Behaviours.gives (first_home h).value (actors_of h) v c.in-Ok.report) came.gates_are
+    c.in-Ok.ensures.home)
+    many
 
 pub returns-in-Err-clause-disagreement : goal.returns-in-Err-clause-disagreement
 returns-in-Err-clause-disagreement g c =
@@ -250,15 +285,15 @@ returns-in-Err-clause-disagreement g c =
     let found = settled-then-read (actors_of built.system.gates) built b1 b2 settled c.room_of.ensures.read in
     let gates = c.gather-gates.result.0 in let v = pass_view c.gather-gates.result.1 in let log = v.log in
     let outside = c.gather-gates.new.outside.items in
-    let came = gathered built b2 gates log outside found c.gather-gates.ensures.gates.0 c.gather-gates.ensures.seen c.gather-gates.ensures.outside in
+    let came = gathered built b2 gates log outside found c.gather-gates.ensures.gates.0 c.gather-gates.ensures.of_all.seen c.gather-gates.ensures.outside in
     let waiting = counted_in c.in-Some-room_of.room in let send_passes = map (λ (o : FinishedSender). o.sends.items) outside in
     record {
       view = v;
-      seen = came.seen;
+      of_all = of-all-before (actors_of built.system.gates) built b2 v found came.seen c.gather-gates.ensures.of_all;
       outside = send_passes;
       send_passes = came-passes built gates log outside c.requires.together (ends, senders) came;
       waiting = waiting;
-      counted = counted-all b1 b2 log waiting c.in-Some-room_of.ensures.waiting c.gather-gates.ensures.seen.0;
+      counted = counted-all b1 b2 log waiting c.in-Some-room_of.ensures.waiting c.gather-gates.ensures.of_all.seen.0;
       disagrees =
           subst (λ (h : Gates (Box Contents)). Disagrees g.K.Behaviours.gives (first_home h).value (actors_of h) v send_passes waiting c.in-Err.mismatch)
           came.gates_are c.in-Err.ensures.disagreement;

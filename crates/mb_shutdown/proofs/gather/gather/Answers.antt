@@ -1,4 +1,4 @@
-use Rattle.std.proofs.Common.{◌≡◌, ◌∷◌, length, map, refl, sym, ap, ◌∙◌, subst, arith, length-append}
+use Rattle.std.proofs.Common.{◌≡◌, ◌∷◌, ◌++◌, length, map, refl, sym, ap, ◌∙◌, subst, arith, length-append}
 use Rattle.std.specs.Prelude.{IsPermutation}
 use Rattle.std.specs.Vec.Iter.{into_iter_items}
 use Rattle.std.proofs.lemmas.List.{nil_from_length}
@@ -9,10 +9,12 @@ use Rattle.mb_build.specs.Numbers.{numbers}
 use Rattle.mb_gate.specs.Accessors.{pass_view}
 use Rattle.mb_gate.specs.Rule.{IsPart}
 use Rattle.mb_system.specs.Members.{IsSenderOf}
-use Rattle.mb_shutdown.specs.Belonging.{brings}
+use Rattle.mb_shutdown.specs.Belonging.{HasAllSeen, brings}
 use Rattle.mb_shutdown.proofs.Back.{some-end}
-use Rattle.mb_shutdown.proofs.Gathered.{end-ours, ends-all, ends-first, ends-more, seen_by_sender, sender-ours, senders-all, senders-first, senders-more}
+use Rattle.mb_shutdown.proofs.Gathered.{end-ours, ends-all, ends-first, ends-more, seen_by_sender, sender-ours, senders-all, senders-first, senders-more, view_of_end, view_of_sender}
+use Rattle.mb_shutdown.proofs.OfAll.{of-all}
 use Rattle.mb_shutdown.proofs.Places.{all-there, as-many-senders}
+use Rattle.mb_shutdown.proofs.Sums.{HasAll}
 use Rattle.mb_shutdown.proofs.gather.gather.Goals as goal
 
 pub sort_by_number-requires : goal.sort_by_number-requires
@@ -47,7 +49,7 @@ pub absorb-requires : goal.absorb-requires
 absorb-requires g c =
     let built = c.args.built in let at = c.loop-end in record {
       same_gates = (
-        at.invariant.same_gates,
+        at.invariant.knows.same_gates,
         end-ours built.system.gates built.ends.items at.yielded (into_iter_items at.end-iterator) (into_iter_items c.next-in-loop-end.new.self)
             c.in-Some-end.end at.pass c.into_pass.result at.invariant c.in-Some-end.ensures.steps.0 c.into_pass.ensures c.requires.together.ends,
       );
@@ -76,7 +78,7 @@ loop-sender-init g c =
       same,
       c.sort_by_number.ensures.numbers ∙ ap (numbers 0) (ap length is ∙ many),
       senders-first built.system.gates built.ends.items now (into_iter_items c.into_iter-sender-iterator.result) at.pass c.args.outside.now.items
-          at.invariant.same_gates
+          at.invariant.knows.same_gates
           (ends-all built.system.gates built.ends.items at.yielded (into_iter_items at.end-iterator) at.pass at.invariant
           (nil_from_length (into_iter_items at.end-iterator) (sym at.end-iterator.rest.ok.0 ∙ c.in-None.ensures.steps.0)))
           rest c.requires.room.0,
@@ -127,12 +129,14 @@ returns g c =
     let none = nil_from_length (into_iter_items at.sender-iterator) (sym at.sender-iterator.rest.ok.0 ∙ c.in-None-sender.ensures.steps.0) in
     let all : at.yielded ≡ now =
     senders-all built.system.gates built.ends.items now at.yielded (into_iter_items at.sender-iterator) at.pass at.outside.items has none in
+    let seen : HasAllSeen built (pass_view at.pass).log = (
+      has.ends_seen,
+      All-permutation (λ s. IsPart (seen_by_sender s) (pass_view at.pass).log) now built.senders.items at.invariant.1
+          (All-same (λ s. IsPart (seen_by_sender s) (pass_view at.pass).log) now at.yielded (sym all) has.seen),
+    ) in
     record {
       gates = (refl, has.same_gates);
-      seen = (
-        has.ends_seen,
-        All-permutation (λ s. IsPart (seen_by_sender s) (pass_view at.pass).log) now built.senders.items at.invariant.1
-            (All-same (λ s. IsPart (seen_by_sender s) (pass_view at.pass).log) now at.yielded (sym all) has.seen),
-      );
+      of_all = of-all built (pass_view at.pass) now seen at.invariant.1
+          (subst (λ l. HasAll (map view_of_end built.ends.items ++ map view_of_sender l) (pass_view at.pass)) all has.all);
       outside = (now, at.invariant.1, at.invariant.2, has.shown ∙ ap (map brings) all);
     }

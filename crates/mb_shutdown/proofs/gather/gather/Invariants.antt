@@ -3,11 +3,11 @@ use Rattle.std.specs.Prelude.{IsPermutation, vec_capacity}
 use Rattle.std.specs.Vec.Iter.{into_iter_items}
 use Rattle.mb_build.specs.Numbers.{numbers}
 use Rattle.mb_system.specs.Belonging.{senders_numbers}
-use Rattle.mb_shutdown.proofs.Gathered.{HasEnds, HasSenders}
+use Rattle.mb_shutdown.proofs.Gathered.{HasJoined, HasSenders}
 use Rattle.mb_shutdown.proofs.gather.gather.Given as goal
 
 abbrev pub invariant-loop-end : goal.invariant-loop-end
-invariant-loop-end g l = HasEnds l.fn.built.system.gates l.fn.built.ends.items l.yielded (into_iter_items l.end-iterator) l.pass
+invariant-loop-end g l = HasJoined l.fn.built.system.gates l.fn.built.ends.items l.yielded (into_iter_items l.end-iterator) l.pass
 
 abbrev pub invariant-loop-sender : goal.invariant-loop-sender
 invariant-loop-sender g l =

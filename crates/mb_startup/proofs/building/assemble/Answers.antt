@@ -5,7 +5,7 @@ use Rattle.mb_msg.specs.Limits.{most_actors}
 use Rattle.mb_ghost.specs.Shares.{IsWhole}
 use Rattle.mb_ghost.proofs.SharesLemmas.{whole_one}
 use Rattle.mb_gate.specs.View.{View}
-use Rattle.mb_pool.specs.Made.{AreUnused, IsOfKind}
+use Rattle.mb_pool.specs.Made.{AreUnused}
 use Rattle.mb_pool.specs.Places.{AreEnds, AreFeeds, gates_of}
 use Rattle.mb_system.specs.Members.{pool_feeds_of}
 use Rattle.mb_startup.proofs.NewGates.{all-numbered, all-once, all-senders, as-many-senders, ends-gates, feeds-gates}
@@ -38,7 +38,7 @@ open-requires g c =
     let rows = sym (length-map outside.items (λ row. row.items)) ∙ founded.rows in let senders = right.senders in record {
       same_gates = c.in_ok-gates.ensures.pass.0;
       nothing_done = let known = c.in_ok-gates.ensures.pass.1 in
-          (ap (λ (v : View). v.log) known, ap (λ (v : View). v.got) known, ap (λ (v : View). v.obligations) known);
+          (ap (λ (v : View). v.log) known, ap (λ (v : View). v.got) known, ap (λ (v : View). v.obligations) known, ap (λ (v : View). v.releases) known);
       whole = subst (λ (v : View). IsWhole v.share) (sym c.in_ok-gates.ensures.pass.1) whole_one;
       actors = (omega (arith, actors), omega (arith, actors, few));
       not_empty = (omega (arith, as_many, some), omega (arith, as_many, workers));
@@ -88,6 +88,7 @@ returns g c =
       created = opened.ends.created;
       settled = opened.ends.settled;
       unclaimed = opened.ends.unclaimed;
+      none_released = opened.ends.none_released;
       whole = opened.whole;
     }
 

@@ -17,7 +17,8 @@ pub returns-clause-first : goal.returns-clause-first
 returns-clause-first g c =
     first-led c.args.gates.now c.args.ends.now _ _ c.absorb.new.pass (pass_view c.args.pass) refl c.requires.not_empty c.requires.ends
     c.absorb.ensures.same_gates c.requires.created (ap (λ (v : View). v.log) c.absorb.ensures.known)
-    (ap (λ (v : View). v.got) c.absorb.ensures.known) c.requires.unclaimed (ap (λ (v : View). v.obligations) c.absorb.ensures.known)
+    (ap (λ (v : View). v.got) c.absorb.ensures.known) c.requires.unclaimed.0
+    (ap (λ (v : View). v.releases) c.absorb.ensures.known) c.requires.unclaimed.1 (ap (λ (v : View). v.obligations) c.absorb.ensures.known)
 
 pub returns-clause-ports : goal.returns-clause-ports
 returns-clause-ports g c = first-ports c.args.gates.now c.args.ends.now _ _ c.absorb.new.pass refl

@@ -3,7 +3,7 @@ use Rattle.mb_gate.specs.Accessors.{pass_view}
 use Rattle.mb_build.proofs.QueueLemmas.{refilled}
 use Rattle.mb_startup.specs.Begun.{AreFirstEnds, AreNewEnds}
 use Rattle.mb_system.specs.Members.{pool_ends_of}
-use Rattle.mb_startup.specs.Shared.{shares_of_ends}
+use Rattle.mb_system.specs.Shares.{shares_of_ends}
 use Rattle.mb_startup.proofs.Obligations.{owes-same}
 use Rattle.mb_startup.proofs.Sharing.{whole-with}
 use Rattle.mb_startup.proofs.ends_and_senders.open.Goals as goal
@@ -20,7 +20,10 @@ give_first-requires g c =
             owes-same (pass_view c.start.new.pass) (pass_view c.open_ends.new.pass)
                 (c.open_ends.ensures.kept.2 ∙ c.open_senders.ensures.kept.2) is.1,
           );
-      unclaimed = c.open_ends.ensures.kept.1 ∙ c.open_senders.ensures.kept.1 ∙ c.in_ok-start.ensures.kept.0;
+      unclaimed = (
+        c.open_ends.ensures.kept.1 ∙ c.open_senders.ensures.kept.1 ∙ c.in_ok-start.ensures.kept.0,
+        c.open_ends.ensures.kept.3 ∙ c.open_senders.ensures.kept.3 ∙ c.in_ok-start.ensures.kept.2,
+      );
       not_empty = omega (arith, many, some);
       ends = subst (AreNewEnds c.args.gates.now 0) (sym lent) c.in_ok-ends.ensures.opened.1;
     }

@@ -9,7 +9,8 @@ use Rattle.mb_gate.specs.Untouched.{origin_of}
 use Rattle.mb_pool.specs.Places.{gates_of}
 use Rattle.mb_startup.specs.Begun.{AreNewEnds}
 use Rattle.mb_system.specs.Members.{pool_ends_of}
-use Rattle.mb_startup.specs.Shared.{KeepsWhole, share_of_end, shares_of_ends}
+use Rattle.mb_startup.specs.Shared.{KeepsWhole}
+use Rattle.mb_system.specs.Shares.{share_of_end, shares_of_ends}
 use Rattle.mb_system.specs.declared.end.WorkerEnd.{WorkerEnd}
 use Rattle.mb_startup.proofs.EndsAndSenders.{ends-next}
 use Rattle.mb_startup.proofs.Sharing.{keeps-next, keeps-none}
@@ -23,7 +24,7 @@ loop-end-init g c =
       ends = subst (All (λ e. gates_of e ≡ Some (origin_of c.args.gates.now))) (sym all) c.requires.ends;
       count = ap length none;
       same_gates = refl;
-      kept = (refl, refl, refl);
+      kept = (refl, refl, refl, refl);
       shares = subst (λ l. KeepsWhole (pass_view c.args.pass.now).share (pass_view c.args.pass.now).share (shares_of_ends l)) (sym none)
           (keeps-none (pass_view c.args.pass.now).share);
       opened = subst (AreNewEnds c.args.gates.now 0) (sym none) tt;
@@ -46,6 +47,7 @@ loop-end-preserved g c =
         ap (λ (v : View). v.log) c.new_pass.ensures.known.0 ∙ at.invariant.kept.0,
         ap (λ (v : View). v.got) c.new_pass.ensures.known.0 ∙ at.invariant.kept.1,
         ap (λ (v : View). v.obligations) c.new_pass.ensures.known.0 ∙ at.invariant.kept.2,
+        ap (λ (v : View). v.releases) c.new_pass.ensures.known.0 ∙ at.invariant.kept.3,
       );
       shares = keeps-next share_of_end (pass_view c.args.pass.now).share (pass_view at.pass).share _ at.opened.items _ _
           (ap (λ (v : View). v.share) c.new_pass.ensures.known.0) pushed (ap (λ (v : View). v.share) c.new_pass.ensures.known.1) at.invariant.shares;
@@ -60,6 +62,7 @@ loop-end-preserved g c =
         settled = λ id. ap (obligation_to id) c.new_pass.ensures.known.1;
         blank = ap (λ (v : View). v.log) c.new_pass.ensures.known.1;
         unclaimed = ap (λ (v : View). v.got) c.new_pass.ensures.known.1;
+        none_released = ap (λ (v : View). v.releases) c.new_pass.ensures.known.1;
       });
       ports = ap pool_ends_of pushed ∙ map_push (λ (e : WorkerEnd _ _). e.registrar.run_queue.end) at.opened.items _
           ∙ (λ i. at.invariant.ports i ++ c.new.ensures i ∷ []);
@@ -93,7 +96,7 @@ pub returns-in_err-opened-clause-same_gates : goal.returns-in_err-opened-clause-
 returns-in_err-opened-clause-same_gates g c = refl
 
 pub returns-in_err-opened-clause-kept : goal.returns-in_err-opened-clause-kept
-returns-in_err-opened-clause-kept g c = (refl, refl, refl)
+returns-in_err-opened-clause-kept g c = (refl, refl, refl, refl)
 
 pub returns-in_err-push-clause-same_gates : goal.returns-in_err-push-clause-same_gates
 returns-in_err-push-clause-same_gates g c = c.new_pass.ensures.same_gates.0 ∙ c.loop-end.invariant.same_gates
@@ -104,4 +107,5 @@ returns-in_err-push-clause-kept g c =
       ap (λ (v : View). v.log) known ∙ at.0,
       ap (λ (v : View). v.got) known ∙ at.1,
       ap (λ (v : View). v.obligations) known ∙ at.2,
+      ap (λ (v : View). v.releases) known ∙ at.3,
     )

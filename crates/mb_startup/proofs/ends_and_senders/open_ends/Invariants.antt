@@ -6,7 +6,8 @@ use Rattle.mb_gate.specs.Untouched.{origin_of}
 use Rattle.mb_pool.specs.Places.{gates_of}
 use Rattle.mb_startup.specs.Begun.{AreNewEnds}
 use Rattle.mb_system.specs.Members.{pool_ends_of}
-use Rattle.mb_startup.specs.Shared.{KeepsWhole, shares_of_ends}
+use Rattle.mb_startup.specs.Shared.{KeepsWhole}
+use Rattle.mb_system.specs.Shares.{shares_of_ends}
 use Rattle.mb_startup.proofs.ends_and_senders.open_ends.Given as goal
 
 abbrev pub invariant-loop-end : goal.invariant-loop-end
@@ -16,7 +17,7 @@ invariant-loop-end g l = record {
   count : length l.opened.items ≡ length l.yielded;
   same_gates : pass_id l.pass ≡ pass_id l.initial.pass;
   kept : ((pass_view l.pass).log ≡ (pass_view l.initial.pass).log) × ((pass_view l.pass).got ≡ (pass_view l.initial.pass).got)
-      × ((pass_view l.pass).obligations ≡ (pass_view l.initial.pass).obligations);
+      × ((pass_view l.pass).obligations ≡ (pass_view l.initial.pass).obligations) × ((pass_view l.pass).releases ≡ (pass_view l.initial.pass).releases);
   shares : KeepsWhole (pass_view l.initial.pass).share (pass_view l.pass).share (shares_of_ends l.opened.items);
   opened : AreNewEnds l.gates 0 l.opened.items;
   ports : pool_ends_of l.opened.items ≡ l.yielded;

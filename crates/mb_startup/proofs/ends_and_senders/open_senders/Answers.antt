@@ -14,7 +14,8 @@ use Rattle.mb_register.specs.Owed.{IsNobody}
 use Rattle.mb_build.proofs.DirectoryLemmas.{drop-next}
 use Rattle.mb_startup.specs.Begun.{AreNewSenders}
 use Rattle.mb_system.specs.Members.{pool_feeds_of}
-use Rattle.mb_startup.specs.Shared.{KeepsWhole, share_of_sender, shares_of_senders}
+use Rattle.mb_startup.specs.Shared.{KeepsWhole}
+use Rattle.mb_system.specs.Shares.{share_of_sender, shares_of_senders}
 use Rattle.mb_system.specs.declared.sender.Sender.{Sender}
 use Rattle.mb_startup.proofs.EndsAndSenders.{none-left, place-left, senders-next, unused-there}
 use Rattle.mb_startup.proofs.Sharing.{keeps-next, keeps-none}
@@ -29,7 +30,7 @@ loop-feed-init g c =
       count = ap length none;
       rows = c.into_iter-outside.ensures.rest ∙ ap (λ l. drop (length l) c.args.outside.items) (sym none);
       same_gates = refl;
-      kept = (refl, refl, refl);
+      kept = (refl, refl, refl, refl);
       shares = subst (λ l. KeepsWhole (pass_view c.args.pass.now).share (pass_view c.args.pass.now).share (shares_of_senders l)) (sym none)
           (keeps-none (pass_view c.args.pass.now).share);
       opened = subst (λ l. AreNewSenders c.args.gates.now most_actors (map (λ row. row.items) (take (length l) c.args.outside.items)) l)
@@ -87,6 +88,7 @@ loop-feed-preserved g c =
         ap (λ (v : View). v.log) c.new_pass.ensures.known.0 ∙ at.invariant.kept.0,
         ap (λ (v : View). v.got) c.new_pass.ensures.known.0 ∙ at.invariant.kept.1,
         ap (λ (v : View). v.obligations) c.new_pass.ensures.known.0 ∙ at.invariant.kept.2,
+        ap (λ (v : View). v.releases) c.new_pass.ensures.known.0 ∙ at.invariant.kept.3,
       );
       shares = keeps-next share_of_sender (pass_view c.args.pass.now).share (pass_view at.pass).share _ at.senders.items _ _
           (ap (λ (v : View). v.share) c.new_pass.ensures.known.0) pushed
@@ -109,6 +111,7 @@ loop-feed-preserved g c =
         blank = ap (λ w. (pass_view w.pass).log) parts.0 ∙ ap (λ (v : View). v.log) c.new_pass.ensures.known.1;
         sent_nothing = ap (λ w. (pass_view w.pass).sent_system) parts.0 ∙ ap (λ (v : View). v.sent_system) c.new_pass.ensures.known.1;
         unclaimed = ap (λ w. (pass_view w.pass).got) parts.0 ∙ ap (λ (v : View). v.got) c.new_pass.ensures.known.1;
+        none_released = ap (λ w. (pass_view w.pass).releases) parts.0 ∙ ap (λ (v : View). v.releases) c.new_pass.ensures.known.1;
       });
       ports = ap pool_feeds_of pushed ∙ map_push (λ (s : Sender _ _). s.inner.registrar.run_queue.feed) at.senders.items _
           ∙ (λ i. at.invariant.ports i ++ (ap (λ w. w.run_queue.feed) parts.0 ∙ c.new.ensures) i ∷ []);
@@ -144,7 +147,7 @@ pub returns-in_err-senders-clause-same_gates : goal.returns-in_err-senders-claus
 returns-in_err-senders-clause-same_gates g c = refl
 
 pub returns-in_err-senders-clause-kept : goal.returns-in_err-senders-clause-kept
-returns-in_err-senders-clause-kept g c = (refl, refl, refl)
+returns-in_err-senders-clause-kept g c = (refl, refl, refl, refl)
 
 pub returns-in_err-push-clause-same_gates : goal.returns-in_err-push-clause-same_gates
 returns-in_err-push-clause-same_gates g c = c.new_pass.ensures.same_gates.0 ∙ c.loop-feed.invariant.same_gates
@@ -155,4 +158,5 @@ returns-in_err-push-clause-kept g c =
       ap (λ (v : View). v.log) known ∙ at.0,
       ap (λ (v : View). v.got) known ∙ at.1,
       ap (λ (v : View). v.obligations) known ∙ at.2,
+      ap (λ (v : View). v.releases) known ∙ at.3,
     )

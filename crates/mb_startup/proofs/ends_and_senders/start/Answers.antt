@@ -15,7 +15,9 @@ returns-clause-created g c = (
 )
 
 pub returns-clause-kept : goal.returns-clause-kept
-returns-clause-kept g c = kept-whole _ _ (pass_view c.args.pass.now) _ c.in-Ok.ensures.listed c.requires.nothing_done.1 c.requires.whole
+returns-clause-kept g c =
+    let nothing = c.requires.nothing_done in
+    kept-whole _ _ (pass_view c.args.pass.now) _ c.in-Ok.ensures.listed nothing.1 nothing.3 c.requires.whole
 
 pub sys_enqueue-requires-clause-same_gates : goal.sys_enqueue-requires-clause-same_gates
 sys_enqueue-requires-clause-same_gates g c = c.requires.same_gates.0

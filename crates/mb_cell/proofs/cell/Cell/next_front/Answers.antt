@@ -14,6 +14,6 @@ returns-in-Ending g c =
 
 pub returns-in-Fresh : goal.returns-in-Fresh
 returns-in-Fresh g c =
-    c.copied.ensures ∙ (c.first.ensures.value ∙ (first-get c.aside.result.now ∙ (ap first_of_list c.aside.ensures
+    c.copied.ensures ∙ (c.first.ensures.value ∙ (first-get c.aside.result.now ∙ (ap first_of_list c.aside.ensures.value
     ∙ front-first c.args.self.now.who c.args.self.now.journal c.count.result c.count.ensures (omega (arith, c.if-count-gt0.false))
     (ap (λ p. phase_is p Ending) (sym c.phase.ensures) ∙ off-ending c.phase.result c.in-Fresh.is))))

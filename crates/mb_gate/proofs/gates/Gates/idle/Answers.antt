@@ -33,3 +33,9 @@ store-requires-2 g c =
           c.word.ensures.word) (valid_word c.idle.result c.word.ensures.possible))
           (subst (λ n. n % 4 ≡ 0) is (idle_free c.args.status unshut)) (sym is ∙ sym r.fold) (λ no. r.rest (inr no)) r.share,
     )
+
+pub returns-then-closed-clause-idle : goal.returns-then-closed-clause-idle
+returns-then-closed-clause-idle g c home carried = let told = c.store.ensures.2 c.args.actor.0 home carried in (told.0, told.2)
+
+pub returns-clause-idle : goal.returns-clause-idle
+returns-clause-idle g c home carried = let told = c.store-2.ensures.2 c.args.actor.0 home carried in (told.0, told.2)

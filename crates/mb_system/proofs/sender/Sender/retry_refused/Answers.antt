@@ -48,6 +48,18 @@ returns-clause-log_kept g c = saw-more c.retry_refused.ensures.looks.looks _ _ c
 pub returns-in_err-retry_refused-clause-log_kept : goal.returns-in_err-retry_refused-clause-log_kept
 returns-in_err-retry_refused-clause-log_kept g c = saw-more c.retry_refused.ensures.looks.looks _ _ c.retry_refused.ensures.looks.log
 
+pub returns-clause-gives_back : goal.returns-clause-gives_back
+returns-clause-gives_back g c = c.retry_refused.ensures.looks.gives_back
+
+pub returns-in_err-retry_refused-clause-gives_back : goal.returns-in_err-retry_refused-clause-gives_back
+returns-in_err-retry_refused-clause-gives_back g c = c.retry_refused.ensures.looks.gives_back
+
+pub returns-clause-share : goal.returns-clause-share
+returns-clause-share g c = c.retry_refused.ensures.looks.share
+
+pub returns-in_err-retry_refused-clause-share : goal.returns-in_err-retry_refused-clause-share
+returns-in_err-retry_refused-clause-share g c = c.retry_refused.ensures.looks.share
+
 pub retry_refused-requires-clause-same_gates : goal.retry_refused-requires-clause-same_gates
 retry_refused-requires-clause-same_gates g c = (c.requires.same_gates.same_gates.0, c.requires.same_gates.same_gates.1)
 

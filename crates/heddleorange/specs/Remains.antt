@@ -1,0 +1,130 @@
+-- What is left of the actors of a whole run that gave no report (this project's own profile: Akka shows nothing of such a run).
+use Rattle.std.specs.Prelude.{◌≡◌, ◌⊎◌, ℕ, ◌<◌, ◌≤◌, nat_le, Bool, false, List, [], Contains, Option, Some, None, length, slice_get}
+use Rattle.std.specs.Global.{Box}
+use Rattle.mb_actor.specs.Behaviour.{Moment, Reply}
+use Rattle.mb_build.specs.Planned.{IsDirectoryOf, actors_in}
+use Rattle.mb_gate.specs.Accessors.{actors_of, first_home, pass_view}
+use Rattle.mb_gate.specs.Rule.{IsAmong, IsPart}
+use Rattle.mb_gate.specs.View.{Saw, View}
+use Rattle.mb_gate.specs.declared.gates.Gates.{Gates}
+use Rattle.mb_home.specs.Contents.{Contents}
+use Rattle.mb_journal.specs.Aside.{aside}
+use Rattle.mb_journal.specs.Entry.{Entry}
+use Rattle.mb_journal.specs.Identity.{Identity}
+use Rattle.mb_journal.specs.Lawful.{IsLawful}
+use Rattle.mb_journal.specs.Life.{phase}
+use Rattle.mb_journal.specs.Suspension.{count}
+use Rattle.mb_msg.specs.declared.plan.Plan.{Plan}
+use Rattle.mb_shutdown.specs.NotFinished.{HasWorkLeft}
+use Rattle.mb_shutdown.specs.Unfinished.{AreUnfinished, ShowsHomes}
+use Rattle.mb_shutdown.specs.declared.ending.FinishError.{FinishError}
+use Rattle.mb_shutdown.specs.declared.ending.FinishError.TheVariants as end
+use Rattle.mb_shutdown.specs.declared.mismatch.Mismatch.{Mismatch as What}
+use Rattle.mb_shutdown.specs.declared.mismatch.Mismatch.TheVariants as what
+use Rattle.mb_shutdown.specs.declared.unfinished.UnfinishedActor.{UnfinishedActor}
+use Rattle.mb_system.specs.Members.{AreEndsOf}
+use Rattle.mb_system.specs.declared.built.Built.{Built}
+use Rattle.mb_system.specs.declared.end.WorkerEnd.{WorkerEnd}
+use Rattle.mb_system.specs.declared.failure.RunError.{RunError}
+use Rattle.mb_system.specs.declared.failure.RunError.TheVariants as Fault
+use Rattle.heddleorange.specs.declared.error.Error.{Error}
+use Rattle.heddleorange.specs.declared.error.Error.TheVariants.{Mismatch, NoMemory, NotQuiet, Run}
+use Rattle.heddleorange.specs.declared.failed_run.FailedRun.{FailedRun}
+
+-- What is left of an actor is what its journal says of it, and the journal is one that it can have.
+pub record IsLeftOf (gives : Moment → Reply → Type 0) (who : Identity) (a : UnfinishedActor) : Type 0 where
+  pub phase_is : a.phase ≡ phase who a.journal.entries
+  pub count_is : a.count ≡ count who a.journal.entries
+  pub aside_is : a.aside.items ≡ aside who a.journal.entries
+  pub lawful : IsLawful who gives a.journal.entries
+
+-- This is left of the actors of a run of the plan, the guardian first: what the gates of its system gave back of each, whose journals go on from all
+-- that was seen. What is shown of an actor is left of the one that the plan has at its number.
+pub record AreRemains (gives : ℕ → Moment → Reply → Type 0) (plan : Plan) (shown : List (Option UnfinishedActor)) : Type 0 where
+  pub gates : Gates (Box Contents)
+  pub planned : IsDirectoryOf plan (first_home gates).value.directory
+  pub view : View
+  pub homes : ShowsHomes gives (first_home gates).value (actors_of gates) view shown
+  pub same_count : length shown ≡ length (actors_in plan)
+  pub each : (id : ℕ) (who : Identity) (a : UnfinishedActor) → slice_get (actors_in plan) id ≡ Some who → slice_get shown id ≡ Some (Some a)
+      → IsLeftOf (gives id) who a
+
+-- The journal of this actor is shown, and has at least so many entries.
+abbrev pub is_full : ℕ → Option UnfinishedActor → Bool
+is_full limit None = false
+is_full limit (Some a) = nat_le limit (length a.journal.entries)
+
+-- One of these journals has at least so many entries.
+abbrev pub ShowFull : ℕ → List (Option UnfinishedActor) → Type 0
+ShowFull limit shown = (id : ℕ) × (a : UnfinishedActor) × (slice_get shown id ≡ Some (Some a)) × (limit ≤ length a.journal.entries)
+
+-- Nothing is shown of one of these actors.
+abbrev pub LackOne : List (Option UnfinishedActor) → Type 0
+LackOne shown = (id : ℕ) × (slice_get shown id ≡ Some None)
+
+-- The actor is named of which nothing is shown.
+abbrev pub IsLackOf : List (Option UnfinishedActor) → What → Type 0
+IsLackOf shown (what.Held whom) = slice_get shown whom.0 ≡ Some None
+IsLackOf shown (what.List whom) = ⊥
+IsLackOf shown (what.Waiting whom) = ⊥
+
+-- An end of the system whose actors are shown read that this actor has something to run. This was known as the actors were shown.
+pub record HasWorkAmong (gives : ℕ → Moment → Reply → Type 0) (plan : Plan) (shown : List (Option UnfinishedActor)) (id : ℕ) : Type 0 where
+  pub remains : AreRemains gives plan shown
+  pub work : HasWorkLeft plan id
+  pub same_gates : work.gates ≡ remains.gates
+  pub known : IsPart (pass_view work.after.pass).log remains.view.log
+
+-- A run that was broken off for this reason is told so by what is left. A full journal is told where one is shown; else an actor is named of which
+-- nothing is shown.
+abbrev pub IsToldAs : RunError → ℕ → List (Option UnfinishedActor) → Error → Type 0
+IsToldAs Fault.JournalFull limit shown error =
+    ((error ≡ Run Fault.JournalFull) × ShowFull limit shown) ⊎ ((id : What) × (error ≡ Mismatch id) × IsLackOf shown id)
+IsToldAs Fault.NoMemory limit shown error = error ≡ Run Fault.NoMemory
+IsToldAs Fault.NoSuchActor limit shown error = error ≡ Run Fault.NoSuchActor
+
+-- Nothing is shown, since memory was refused.
+abbrev pub IsWithoutMemory : FailedRun → Type 0
+IsWithoutMemory failed = (failed.error ≡ NoMemory) × (failed.actors.items ≡ [])
+
+module _ {A K : Type 0} where
+  -- One of these ends saw a journal of at least so many entries, of one of so many actors.
+  pub record SawFull (actors limit : ℕ) (ends : List (WorkerEnd A K)) : Type 0 where
+    pub end : WorkerEnd A K
+    pub present : Contains ends end
+    pub actor : ℕ
+    pub within : actor < actors
+    pub journal : List Entry
+    pub seen : IsAmong (Saw actor journal) (pass_view end.registrar.pass).log
+    pub full : limit ≤ length journal
+
+  -- The run of this system was broken off for this reason, with this limit of its journals; what is left of its actors is shown, unless memory was
+  -- refused.
+  abbrev pub IsBrokenOff : (ℕ → Moment → Reply → Type 0) → Built A K → RunError → ℕ → FailedRun → Type 0
+  IsBrokenOff gives built fault limit failed = (AreUnfinished gives built failed.actors.items × IsToldAs fault limit failed.actors.items failed.error)
+      ⊎ IsWithoutMemory failed
+
+  -- The system has no report for this reason; what is left of its actors is shown, unless memory was refused.
+  abbrev pub IsLeftFor : (ℕ → Moment → Reply → Type 0) → Built A K → Error → FailedRun → Type 0
+  IsLeftFor gives built error failed = ((failed.error ≡ error) × AreUnfinished gives built failed.actors.items) ⊎ IsWithoutMemory failed
+
+  -- All ends of the system are its own, and there is one.
+  abbrev pub HasOwnEnds : Built A K → Type 0
+  HasOwnEnds built = AreEndsOf built.system.gates built.ends.items × (0 < length built.ends.items)
+
+  -- A system that comes back with all its ends and senders has its own ends.
+  abbrev pub BringsOwnEnds : FinishError A K → Type 0
+  BringsOwnEnds (end.MissingEnd number back) = Unit {0}
+  BringsOwnEnds (end.MissingSender number back) = Unit {0}
+  BringsOwnEnds (end.NotQuiet id back) = HasOwnEnds back
+  BringsOwnEnds (end.NoMemory back) = HasOwnEnds back
+  BringsOwnEnds (end.Mismatch what) = Unit {0}
+
+  -- The failure of a whole run for this reason of a system that did not end. A system to which all ends and senders come back has none that speaks of a
+  -- missing one.
+  abbrev pub IsFailureFor : (ℕ → Moment → Reply → Type 0) → FinishError A K → FailedRun → Type 0
+  IsFailureFor gives (end.MissingEnd number back) failed = ⊥
+  IsFailureFor gives (end.MissingSender number back) failed = ⊥
+  IsFailureFor gives (end.NotQuiet id back) failed = IsLeftFor gives back (NotQuiet id) failed
+  IsFailureFor gives (end.NoMemory back) failed = IsLeftFor gives back NoMemory failed
+  IsFailureFor gives (end.Mismatch what) failed = (failed.error ≡ Mismatch what) × (failed.actors.items ≡ [])

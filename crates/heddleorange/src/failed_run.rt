@@ -1,0 +1,37 @@
+//! A run that gave no report.
+ghost use Rattle.std.specs.Prelude.{◌≡◌, []};
+
+use crate::error::Error;
+use mb_shutdown::UnfinishedActor;
+use std::alloc::Global;
+
+/// A run that gave no report: why, and what is left of its actors.
+#[derive(Drop)]
+pub struct FailedRun {
+    /// Why there is no report.
+    pub error: Error,
+    /// What is left of each actor, the guardian first; `None` for one of which a claim is out. There is nothing where nothing was
+    /// run, where the end found a mismatch, or where memory was refused for this too: the error is `NoMemory` then.
+    pub actors: Vec<Option<UnfinishedActor>>,
+}
+
+impl FailedRun {
+    /// A run of which nothing is left. This takes no memory.
+    pub fn without_actors(alloc: Global, error: Error) -> Self
+        ensures error { result.error ≡ error }
+        ensures actors { result.actors.items ≡ [] }
+    {
+        FailedRun {
+            error,
+            actors: Vec::new(alloc),
+        }
+    }
+}
+
+impl From<FailedRun> for Error {
+    ghost from_gives = { λ failed error. error ≡ failed.error };
+
+    fn from(failed: FailedRun) -> Error {
+        failed.error
+    }
+}
