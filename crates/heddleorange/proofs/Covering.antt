@@ -84,7 +84,7 @@ module _ (actor : ℕ) where
 -- ---- the runs of one actor's mailbox
 
 module _ (gives : ℕ → Moment → Reply → Type 0) (origin : Origin (Box Contents)) (throughput : ℕ) where
-  runs-share : (old : View) (turns : List Turn) (new : View) → MadeRuns gives origin throughput old turns new → new.share ≡ old.share
+  pub runs-share : (old : View) (turns : List Turn) (new : View) → MadeRuns gives origin throughput old turns new → new.share ≡ old.share
   runs-share old [] new made = made.share
   runs-share old (turn ∷ turns) new made = runs-share made.1 turns new made.4 ∙ made.3.left.share ∙ made.2.share
 

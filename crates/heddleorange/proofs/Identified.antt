@@ -48,3 +48,7 @@ pub actor-at : (plan : Plan) (place : ℕ) (who : Identity) → slice_get (actor
     → (who.this.0 ≡ suc place) × (is_guardian who ≡ false) × (who.actors ≡ length plan.actors.items + 1)
 actor-at plan place who is =
     let at = planned-at (length plan.actors.items + 1) plan.journal_limit _ 1 _ _ place who is in let this = at.0 in (omega (arith, this), at.1, at.2)
+
+pub number-at : (plan : Plan) (id : ℕ) (who : Identity) → slice_get (actors_in plan) id ≡ Some who → who.this.0 ≡ id
+number-at plan zero who is = ap (λ (w : Identity). w.this.0) (sym (same_Some _ who is))
+number-at plan (suc place) who is = (actor-at plan place who is).0

@@ -23,7 +23,12 @@ pub mod Lookup
 pub mod InOrder
 pub mod InTurn
 pub mod QuietReport
-pub mod Turns
+pub mod MadeTurns
 pub mod Stretches
 pub mod Unchanged
 pub mod Covering
+pub mod Due
+pub mod Returns
+pub mod Put
+pub mod AskedFor
+pub mod AskedLaw

@@ -38,6 +38,7 @@ use Rattle.mb_shutdown.specs.Belonging.{AreAnswers, AreThere, HasAllSeen}
 use Rattle.mb_shutdown.specs.Refused.{HasHomesReturned}
 use Rattle.mb_shutdown.proofs.Parts.{part-trans}
 use Rattle.mb_startup.proofs.There.{ends-there, length-numbers, number-at, senders-there}
+use Rattle.heddleorange.specs.Asked.{AllGetOnlyAskedFor}
 use Rattle.heddleorange.specs.Sent.{HaveSent}
 use Rattle.heddleorange.specs.WholeRun.{DidOrders, IsReportOfRun}
 use Rattle.heddleorange.specs.Workers.{AllOnlyRuns, AreNewViews}
@@ -52,7 +53,7 @@ all-there many ns are n lt =
 
 module _ {A K : Type 0} (gates : Gates (Box Contents)) where
   -- the sender at this place, as it began
-  new-at : (number : ℕ) (rows : List (List SendPassView)) (senders : List (Sender A K)) (place : ℕ) (s : Sender A K)
+  pub new-at : (number : ℕ) (rows : List (List SendPassView)) (senders : List (Sender A K)) (place : ℕ) (s : Sender A K)
       → AreNewSenders gates number rows senders → slice_get senders place ≡ Some s
       → (s.inner.send_log.by.0 ≡ number + place) × (s.inner.send_log.posted ≡ []) × ((pass_view s.inner.registrar.pass).sent_system ≡ [])
   new-at number [] [] place s are is = absurd (omega (arith, slice_get_within {A = Sender A K} [] place s is))
@@ -137,8 +138,8 @@ module _ {A K : Type 0} (gives : ℕ → Moment → Reply → Type 0) (plan : Pl
         → IsCompleteReport after gives (first_home now.system.gates).value.directory log answers report
         → All (λ (e : WorkerEnd A K). ReportExtendsAll report (pass_view e.registrar.pass)) now.ends.items
         → All (λ (s : Sender A K). ReportExtendsAll report (pass_view s.inner.registrar.pass)) now.senders.items
-        → HasHomesReturned gives now report → IsReportOfRun after gives plan orders report
-    story after report log answers saw runs seen answered whole ends_seen senders_seen home =
+        → HasHomesReturned gives now report → AllGetOnlyAskedFor plan orders report → IsReportOfRun after gives plan orders report
+    story after report log answers saw runs seen answered whole ends_seen senders_seen home asked =
         let knows = λ (s : Sender A K). pass_view s.inner.registrar.pass in
         let knew = λ (e : WorkerEnd A K). pass_view e.registrar.pass in
         let IsTold = λ (v : View). IsPart v.log log × ReportExtendsAll report v in record {
@@ -178,5 +179,6 @@ module _ {A K : Type 0} (gives : ℕ → Moment → Reply → Type 0) (plan : Pl
             subst (λ l. IsPart l log) begun.created.1
                 (led log begun.end begun.others now.ends.items (subst (λ l. StillSee l now.ends.items) begun.ends_are saw) seen.0),
           );
+          asked = asked;
           did = did-orders answers answered;
         }

@@ -1,5 +1,6 @@
 pub mod Sent
 pub mod Workers
+pub mod Asked
 pub mod WholeRun
 pub mod Remains
 pub mod NoReport

@@ -21,6 +21,7 @@ use Rattle.mb_build.specs.Planned.{IsDirectoryOf}
 use Rattle.mb_msg.specs.declared.order.Order.{Order}
 use Rattle.mb_shutdown.specs.ReportedHomes.{IsOfHomes}
 use Rattle.mb_dispatch.specs.Runs.{OnlyRuns}
+use Rattle.heddleorange.specs.Asked.{AllGetOnlyAskedFor}
 use Rattle.heddleorange.specs.Workers.{AreNewViews}
 
 -- The actor that was handed in for this number: the first for number 1, since 0 is the guardian's.
@@ -55,7 +56,8 @@ pub record DidOrders (orders : List Order) (postings : List SentEnvelope) (knew 
 -- The report of a whole run. It tells of all actors of this plan, and of the plan's senders outside, each of which carried out the orders of its
 -- place. It tells of all that the senders and the workers' ends saw, and extends that; and they saw that a Create went into the guardian's list. It
 -- is made of what gates with this directory gave back. From what it knew in the new system to what it saw, each end only made runs of mailboxes of
--- these gates, by the plan's throughput.
+-- these gates, by the plan's throughput. No system message came into an actor's list that an order, an entry of a journal or the start of the guardian
+-- did not ask for.
 pub record IsReportOfRun (after : ℕ → List Message → ℤ) (gives : ℕ → Moment → Reply → Type 0) (plan : Plan) (orders : List (List Order)) (report : Report)
     : Type 0 where
   pub directory : List DirectoryEntry
@@ -76,5 +78,6 @@ pub record IsReportOfRun (after : ℕ → List Message → ℤ) (gives : ℕ →
   pub began_new : AreNewViews began
   pub runs : AllZip (OnlyRuns gives origin plan.throughput) began ends
   pub created : (number : ℕ) × IsPart (Pushed 0 number Create ∷ []) log
+  pub asked : AllGetOnlyAskedFor plan orders report
   pub did : (place : ℕ) (of : List Order) (postings : List SentEnvelope) (view : View) → slice_get orders place ≡ Some of
       → slice_get outside place ≡ Some postings → slice_get knew place ≡ Some view → DidOrders of postings view

@@ -4,6 +4,7 @@ ghost use Rattle.std.specs.Prelude.{◌≡◌, []};
 use crate::error::Error;
 use mb_shutdown::UnfinishedActor;
 use std::alloc::Global;
+use std::fmt;
 
 /// A run that gave no report: why, and what is left of its actors.
 #[derive(Drop)]
@@ -25,6 +26,16 @@ impl FailedRun {
             error,
             actors: Vec::new(alloc),
         }
+    }
+}
+
+// shows the error, and of how many actors something may be left: a journal may be long
+impl fmt::Debug for FailedRun {
+    fn fmt<W: fmt::Write>(&self, f: &mut fmt::Formatter<W>) -> fmt::Result {
+        f.debug_struct("FailedRun")
+            .field("error", &self.error)
+            .field("actors", &self.actors.len())
+            .finish_non_exhaustive()
     }
 }
 

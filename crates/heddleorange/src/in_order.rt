@@ -1,6 +1,7 @@
 //! A whole run on one thread, where the orders of all senders stand in one row.
 ghost use Rattle.std.specs.Prelude.{◌≡◌, ◌+◌, [], All, IfErr, IfOk, OnOk, length};
 ghost use Rattle.mb_build.specs.BehavesAsPlanned.{BehaveAsPlanned};
+ghost use Rattle.mb_dispatch.specs.Runs.{turns_in};
 ghost use Rattle.heddleorange.specs.Ledger.{AddsUp};
 ghost use Rattle.heddleorange.specs.NoReport.{IsErrorOfRun, IsRight};
 ghost use Rattle.heddleorange.specs.Orders.{lists_of};
@@ -16,7 +17,7 @@ use crate::failed_run::FailedRun;
 use crate::finish::finish_run;
 use crate::sending::send_in_order_and_run;
 use mb_actor::{Actor, Behaviours};
-use mb_dispatch::Turn;
+use mb_dispatch::Turns;
 use mb_msg::{Plan, SenderOrder};
 use mb_report::Report;
 use std::alloc::Global;
@@ -29,7 +30,7 @@ pub struct QuietRun {
     /// What became of everything.
     pub report: Report,
     /// What each run of a mailbox did, in order.
-    pub turns: Vec<Turn>,
+    pub turns: Turns,
 }
 
 /// `run_here`, where the orders of all senders stand in one row: they are sent in that order, each by its sender, before anything
@@ -54,9 +55,9 @@ pub fn run_in_order<A: Actor, R: Wait>(
     ensures lines { IfOk result (λ run. length run.report.actors.items ≡ length actors.items + 1) }
     ensures headline { IfOk result (λ run. RunHeadline plan (lists_of plan.senders sends.now) run.report) }
     ensures ledger { IfOk result (λ run. AddsUp plan (lists_of plan.senders sends.now) run.report) }
-    ensures turns { IfOk result (λ run. AreTurnsOf plan run.turns.items) }
-    ensures stretches { IfOk result (λ run. AreStretches run.report run.turns.items) }
-    ensures covers { IfOk result (λ run. CoverJournals run.report run.turns.items) }
+    ensures turns { IfOk result (λ run. AreTurnsOf plan (turns_in run.turns)) }
+    ensures stretches { IfOk result (λ run. AreStretches run.report (turns_in run.turns)) }
+    ensures covers { IfOk result (λ run. CoverJournals run.report (turns_in run.turns)) }
 {
     run_planned_in_order::<A, Brand, R>(rt, alloc, plan, actors, sends)
 }
@@ -73,9 +74,9 @@ fn run_planned_in_order<A: Actor, K: Behaviours, R: Wait>(
     ensures story { IfOk result (λ run. IsReportOfRun K.after K.gives plan (lists_of plan.senders sends.now) run.report) }
     ensures right { OnOk result (IsRight plan (length actors.items) (lists_of plan.senders sends.now)) }
     ensures refused { IfErr result (IsErrorOfRun K.gives plan (length actors.items) (lists_of plan.senders sends.now)) }
-    ensures turns { IfOk result (λ run. AreTurnsOf plan run.turns.items) }
-    ensures stretches { IfOk result (λ run. AreStretches run.report run.turns.items) }
-    ensures covers { IfOk result (λ run. CoverJournals run.report run.turns.items) }
+    ensures turns { IfOk result (λ run. AreTurnsOf plan (turns_in run.turns)) }
+    ensures stretches { IfOk result (λ run. AreStretches run.report (turns_in run.turns)) }
+    ensures covers { IfOk result (λ run. CoverJournals run.report (turns_in run.turns)) }
 {
     let limit = plan.journal_limit;
     let mut built = begin_in_order::<A, K, R>(rt, alloc, plan, actors, sends)?;

@@ -9,10 +9,15 @@ ghost use Rattle.mb_journal.specs.Lawful.{AreLawful};
 ghost use Rattle.mb_journal.specs.Tells.{AddressedBody, tells, tells_of_journal};
 ghost use Rattle.mb_msg.specs.declared.envelope.Body.TheVariants.{Terminated};
 ghost use Rattle.mb_msg.specs.declared.id.ActorId.{ActorId as Id};
+ghost use Rattle.mb_msg.specs.declared.order.Order.{Order};
+ghost use Rattle.mb_msg.specs.declared.plan.Plan.{Plan};
 ghost use Rattle.mb_report.specs.Counts.{tells_of_restart};
+ghost use Rattle.mb_report.specs.declared.report.Report.{Report};
+ghost use Rattle.heddleorange.specs.Asked.{EachIsAskedFor};
 ghost use Rattle.heddleorange.specs.Reading.{handled_messages};
+ghost use Rattle.heddleorange.specs.WholeRun.{IsReportOfRun, after_at, gives_at};
 
-use mb_actor::Behaviours;
+use mb_actor::{Actor, Behaviours};
 
 /// A law: if what each call of an actor sends weighs as much by one weight as by another, and so does a notice to itself that a
 /// watched actor has ended, so does all that it ever sent. The guardian sends nothing but such notices.
@@ -32,4 +37,12 @@ pub fn what_actors_send_is_asked_for<K: Behaviours>()
 pub fn an_actor_without_a_restart_has_handled_all<K: Behaviours>()
     ensures { (who : Identity) (journal : List Entry) → is_guardian who ≡ false → AreLawful who (K.gives who.this.0) journal
         → count_by tells_of_restart journal ≡ 0 → messages who journal ≡ handled_messages journal }
+{}
+
+/// A law: in a run, each system message that has an entry in an actor's journal was asked for: it is the guardian's Create, a
+/// Terminate that a sender outside was to send to that actor, or one that an actor has to send to it, as its journal says. The
+/// notices that an actor has ended are left out: such a notice also answers a message that found its receiver's list ended.
+pub fn each_system_message_is_asked_for<A: Actor>()
+    ensures { (actors : List A) (plan : Plan) (orders : List (List Order)) (report : Report)
+        → IsReportOfRun (after_at actors A.after) (gives_at actors A.gives) plan orders report → EachIsAskedFor plan orders report }
 {}

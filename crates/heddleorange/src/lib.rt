@@ -28,10 +28,13 @@ pub use conservation::{a_run_conserves_what_its_actors_conserve, what_is_sent_ad
 pub use error::Error;
 pub use failed_run::FailedRun;
 pub use in_order::{QuietRun, run_in_order};
-pub use laws::{an_actor_without_a_restart_has_handled_all, what_actors_send_is_asked_for};
+pub use laws::{
+    an_actor_without_a_restart_has_handled_all, each_system_message_is_asked_for,
+    what_actors_send_is_asked_for,
+};
 pub use mb_actor::{Actor, Answer, CallPermit, Effect, Message, Outbox, OutboxError, Phase};
 pub use mb_build::PlanError;
-pub use mb_dispatch::Turn;
+pub use mb_dispatch::{Turn, Turns};
 pub use mb_journal::{EntryRef, Journal, Received};
 pub use mb_msg::{
     ActorId, ActorPlan, Body, Cause, DeadLetter, Directive, Envelope, MailboxType, Order,

@@ -7,6 +7,7 @@ ghost use Rattle.mb_report.specs.declared.report.Report.{Report as ReportOf};
 ghost use Rattle.mb_shutdown.specs.Seen.{ReportExtendsAll};
 ghost use Rattle.mb_system.specs.Belonging.{BelongsTogether};
 ghost use Rattle.mb_dispatch.specs.Faults.{BreaksSending, BreaksQuietRun};
+ghost use Rattle.mb_dispatch.specs.Runs.{turns_in};
 ghost use Rattle.mb_system.specs.Members.{AreEndsOf, IsSenderOf, StillSee, ends_numbers};
 ghost use Rattle.mb_system.specs.Obligations.{OwesNobody};
 ghost use Rattle.mb_system.specs.declared.end.WorkerEnd.{WorkerEnd as EndOf};
@@ -17,7 +18,7 @@ ghost use Rattle.heddleorange.specs.Turns.{AreStretches, IsTurnOf};
 ghost use Rattle.heddleorange.specs.Workers.{AllOnlyRuns};
 
 use mb_actor::{Actor, Behaviours};
-use mb_dispatch::{Turn, run_quietly, send_all};
+use mb_dispatch::{Turns, run_quietly, send_all};
 use mb_msg::{Order, SenderOrder};
 use mb_system::{Built, RunError, Sender, System};
 use std::sync::Wait;
@@ -31,7 +32,7 @@ pub(crate) fn send_and_run<A: Actor, K: Behaviours, R: Wait>(
     rt: &R,
     built: &mut Built<A, K>,
     sends: &[Vec<Order>],
-) -> Result<Vec<Turn>, RunError>
+) -> Result<Turns, RunError>
     requires together { BelongsTogether built.old }
     requires not_empty { built.old.ends.items ≢ [] }
     requires same_count { length built.old.senders.items ≡ length sends.now }
@@ -56,7 +57,7 @@ pub(crate) fn send_in_order_and_run<A: Actor, K: Behaviours, R: Wait>(
     rt: &R,
     built: &mut Built<A, K>,
     sends: &[SenderOrder],
-) -> Result<Vec<Turn>, RunError>
+) -> Result<Turns, RunError>
     requires together { BelongsTogether built.old }
     requires not_empty { built.old.ends.items ≢ [] }
     requires owes_nobody { All (OwesNobody built.old.system.gates) built.old.senders.items }
@@ -71,10 +72,10 @@ pub(crate) fn send_in_order_and_run<A: Actor, K: Behaviours, R: Wait>(
     ensures runs { OnOk result (AllOnlyRuns K.gives (origin_of built.old.system.gates) built.old.system.throughput built.old.ends.items
         built.new.ends.items) }
     ensures found_nothing { OnOk result (FoundNothing K.gives built.old.system.gates built.new.ends.items) }
-    ensures turns { IfOk result (λ turns. All (IsTurnOf (actors_of built.old.system.gates) built.old.system.throughput) turns.items) }
+    ensures turns { IfOk result (λ turns. All (IsTurnOf (actors_of built.old.system.gates) built.old.system.throughput) (turns_in turns)) }
     ensures stretches { IfOk result (λ turns. (report : ReportOf) → All (λ e. ReportExtendsAll report (pass_view e.registrar.pass)) built.new.ends.items
-        → AreStretches report turns.items) }
-    ensures covers { IfOk result (λ turns. AreAllTurns built.old built.new turns.items) }
+        → AreStretches report (turns_in turns)) }
+    ensures covers { IfOk result (λ turns. AreAllTurns built.old built.new (turns_in turns)) }
     ensures fault { IfErr result (BreaksOff K.gives built.old.system built.new.ends.items (lists_of (length built.old.senders.items) sends.now)) }
 {
     send_in_order(rt, &built.system, &mut built.senders, sends)?;
@@ -85,7 +86,7 @@ pub(crate) fn send_in_order_and_run<A: Actor, K: Behaviours, R: Wait>(
 fn run_first<A: Actor, K: Behaviours, R: Wait>(
     rt: &R,
     built: &mut Built<A, K>,
-) -> Result<Vec<Turn>, RunError>
+) -> Result<Turns, RunError>
     requires same_gates { AreEndsOf built.old.system.gates built.old.ends.items }
     requires not_empty { built.old.ends.items ≢ [] }
     ensures system { built.new.system ≡ built.old.system }
@@ -96,10 +97,10 @@ fn run_first<A: Actor, K: Behaviours, R: Wait>(
     ensures runs { OnOk result (AllOnlyRuns K.gives (origin_of built.old.system.gates) built.old.system.throughput built.old.ends.items
         built.new.ends.items) }
     ensures found_nothing { OnOk result (FoundNothing K.gives built.old.system.gates built.new.ends.items) }
-    ensures turns { IfOk result (λ turns. All (IsTurnOf (actors_of built.old.system.gates) built.old.system.throughput) turns.items) }
+    ensures turns { IfOk result (λ turns. All (IsTurnOf (actors_of built.old.system.gates) built.old.system.throughput) (turns_in turns)) }
     ensures stretches { IfOk result (λ turns. (report : ReportOf) → All (λ e. ReportExtendsAll report (pass_view e.registrar.pass)) built.new.ends.items
-        → AreStretches report turns.items) }
-    ensures covers { IfOk result (λ turns. AreAllTurns built.old built.new turns.items) }
+        → AreStretches report (turns_in turns)) }
+    ensures covers { IfOk result (λ turns. AreAllTurns built.old built.new (turns_in turns)) }
     ensures fault { IfErr result (λ error. (start : View) × (end : EndOf A K) × Contains built.new.ends.items end
         × BreaksQuietRun K.gives built.old.system start end error) }
 {

@@ -4,13 +4,13 @@ ghost use Rattle.std.specs.Prelude.{◌≡◌, false};
 use crate::argument_error::ArgumentError;
 use crate::options::{Format, Options};
 use crate::refusal::{Failure, no_memory, not_written};
-use mb_dispatch::Turn;
+use crate::turn_lengths::turn_lengths;
 use mb_program::{FinishedRun, TrackedStream, run_scenario};
 use mb_scenario::{Scenario, read};
 use mb_streams::read_input;
 use mb_trace::{Filter, Trace, TraceError, TurnLength, write_text};
 use mb_trace_forms::{write_html, write_json, write_svg};
-use std::alloc::{AllocError, Global};
+use std::alloc::Global;
 use std::io::{BufWriter, Read, Write};
 use std::sync::Wait;
 use std::thread::Threads;
@@ -41,12 +41,11 @@ fn show_run<W: Write + Drop>(
     writer: W,
 ) -> Result<(), Failure> {
     let actors = numbers_of(alloc, &options.actors, &scenario.names)?;
-    let made = match &run.turns {
-        Some(turns) => Some(turns_of(alloc, turns)?),
+    let lengths = match &run.turns {
+        Some(turns) => Some(turn_lengths(alloc, turns.as_slice())?),
         None => None,
     };
-    let turns = made.as_deref();
-    let trace = trace_of(scenario, run, turns);
+    let trace = trace_of(scenario, run, lengths.as_deref());
     let filter = Filter {
         actors: actors.as_slice(),
         only: options.only,
@@ -92,18 +91,6 @@ fn write<W: Write + Drop>(
     }
     out.flush()?;
     Ok(())
-}
-
-/// The turns as a trace needs them.
-fn turns_of(alloc: Global, turns: &[Turn]) -> Result<Vec<TurnLength>, AllocError> {
-    let mut made = Vec::new(alloc);
-    for turn in turns {
-        made.push(TurnLength {
-            actor: turn.actor,
-            entries: turn.system.saturating_add(turn.envelopes),
-        })?;
-    }
-    Ok(made)
 }
 
 /// The numbers of the actors with these names, of which each is one of the scenario's or the guardian's.

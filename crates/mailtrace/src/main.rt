@@ -6,6 +6,7 @@ mod argument_error;
 mod options;
 mod refusal;
 mod running;
+mod turn_lengths;
 
 use crate::running::trace_program;
 use mb_program::TrackedStream;

@@ -1,3 +1,4 @@
+pub mod Puts
 pub mod Sending
 pub mod Sides
 pub mod Ended

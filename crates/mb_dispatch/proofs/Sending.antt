@@ -1,8 +1,8 @@
 -- A sender that carries out its orders, one after another.
 use Rattle.std.proofs.Common.{◌≡◌, ◌≢◌, ◌⊎◌, List, [], ◌∷◌, ◌++◌, Bool, true, false, ℕ, ap, sym, refl, ◌∙◌, subst, append_assoc, Option}
-use Rattle.std.proofs.Common.{◌+◌, zero, suc, arith}
-use Rattle.std.specs.Prelude.{reverse}
-use Rattle.std.proofs.lemmas.List.{append-nil, map-append, reverse-append}
+use Rattle.std.proofs.Common.{◌+◌, ◌<◌, zero, suc, arith, take, drop, get_or, length}
+use Rattle.std.specs.Prelude.{Err, Result, reverse}
+use Rattle.std.proofs.lemmas.List.{append-nil, drop_more, map-append, reverse-append, take-append-drop}
 use Rattle.mb_msg.specs.declared.dead_letter.Why.{Why}
 use Rattle.mb_msg.specs.Payload.{body_of}
 use Rattle.mb_msg.specs.declared.envelope.Body.{Body}
@@ -28,14 +28,24 @@ use Rattle.mb_register.proofs.Unchanged.{unchanged-none, unchanged-then}
 use Rattle.mb_register.proofs.Views.{looks-read}
 use Rattle.mb_queue.specs.Passes.{SendPassView}
 use Rattle.mb_send.specs.Answers.{FollowsLook, IsTold, Stops}
+use Rattle.mb_send.specs.Faults.{OnlyLooked}
 use Rattle.mb_send.specs.Posted.{envelope_of, posting}
 use Rattle.mb_send.specs.declared.put.Put.{Put}
+use Rattle.mb_send.specs.declared.send_error.SendError.{SendError}
+use Rattle.mb_send.specs.declared.send_error.SendError.TheVariants.{NoMemory, NoSuchActor}
 use Rattle.mb_send.specs.declared.ticket.Look.{Look}
 use Rattle.mb_send.specs.declared.ticket.Look.TheVariants.{Open, Closed}
 use Rattle.mb_system.specs.Obligations.{KeepsObligations}
 use Rattle.mb_system.specs.Members.{sender_caller}
-use Rattle.mb_dispatch.specs.Orders.{HasSent, addressed, order_for, over, addressed_system, terminates_of, terminates_of_one, envelopes_of, envelopes_of_one}
+use Rattle.mb_dispatch.specs.Orders.{HasSent, HasSentUpTo, StopsWithin, addressed, order_for, over, addressed_system, terminates_of, terminates_of_one}
+use Rattle.mb_dispatch.specs.Orders.{envelopes_of, envelopes_of_one}
 use Rattle.mb_system.specs.declared.sender.Sender.{Sender}
+use Rattle.mb_mailbox.specs.RunSends.{PutsAsSent, listed_measure}
+use Rattle.mb_gate.specs.PutIn.{put_in}
+use Rattle.mb_ghost.specs.Summed.{total}
+use Rattle.mb_msg.specs.declared.system.SysMsg.{SysMsg}
+use Rattle.mb_system.specs.OnlyLooks.{OnlyLooks}
+use Rattle.mb_dispatch.proofs.Puts.{counts-put-none, does-puts, looks-put, puts-none, puts-then}
 use Rattle.mb_system.proofs.Obligations.{obligations-at}
 use Rattle.mb_system.proofs.Saw.{saw-more, saw-same, saw-then}
 
@@ -74,6 +84,7 @@ module _ {A K : Type 0} where
     posted = sym (append-nil s.inner.send_log.posted);
     accepted_are = refl;
     system_sent = refl;
+    put = puts-none (pass_view s.inner.registrar.pass);
     log_kept = saw-same _;
     share = refl;
     gives_back = unchanged-none _ _ refl;
@@ -90,6 +101,7 @@ module _ {A K : Type 0} where
         q.system_sent ∙ ap (λ l. reverse (terminates_of ys) ++ l) p.system_sent ∙ sym (append_assoc (reverse (terminates_of ys)) (reverse (terminates_of xs)) _)
         ∙ ap (λ l. l ++ addressed_system (pass_view a.inner.registrar.pass).sent_system)
         (sym (reverse-append (terminates_of xs) (terminates_of ys)) ∙ ap reverse (sym (terminates-append xs ys)));
+    put = puts-then (pass_view a.inner.registrar.pass) (pass_view b.inner.registrar.pass) (pass_view c.inner.registrar.pass) p.put q.put;
     log_kept = saw-then _ _ _ p.log_kept q.log_kept;
     share = q.share ∙ p.share;
     gives_back = unchanged-then _ _ _ p.gives_back q.gives_back;
@@ -103,6 +115,7 @@ module _ {A K : Type 0} where
     posted = p.posted;
     accepted_are = p.accepted_are ∙ envelopes;
     system_sent = p.system_sent ∙ ap (λ l. reverse l ++ addressed_system (pass_view a.inner.registrar.pass).sent_system) terminates;
+    put = p.put;
     log_kept = p.log_kept;
     share = p.share;
     gives_back = p.gives_back;
@@ -120,32 +133,51 @@ module _ {A K : Type 0} where
       (over-more n (envelopes_of_one to what)) (over-more n (terminates_of_one to what))
       (sent-then (order_for to what n ∷ []) (order_for to what 1 ∷ []) a b c before more)
 
+  -- it stopped at the order of this place
+  pub stops-within : (orders : List Order) (i : ℕ) (d : Order) (a b c : Sender A K) → i < length orders → HasSent (take i orders) a b
+      → HasSentUpTo [] (get_or orders i d) b c → StopsWithin orders a c
+  stops-within orders i d a b c within before part =
+      let next = get_or orders i d in record {
+        done = take i orders;
+        next = next;
+        left = drop (i + 1) orders;
+        are = sym (take-append-drop i orders) ∙ ap (λ l. take i orders ++ l) (drop_more orders i d within);
+        sent = record {
+          times = part.times;
+          fewer = part.fewer;
+          sent = sent-then (take i orders) (order_for next.to next.what part.times ∷ []) a b c before part.sent;
+        };
+      }
+
   -- it sent no envelope and no system message since, kept its share, and gave each cell back as it was taken
   pub sent-still : (xs : List Order) (a b c : Sender A K) → c.inner.send_log ≡ b.inner.send_log
-      → (pass_view c.inner.registrar.pass).sent_system ≡ (pass_view b.inner.registrar.pass).sent_system
-      → IsPart (pass_view b.inner.registrar.pass).log (pass_view c.inner.registrar.pass).log
-      → (pass_view c.inner.registrar.pass).share ≡ (pass_view b.inner.registrar.pass).share
-      → GivesBackUnchanged (pass_view b.inner.registrar.pass) (pass_view c.inner.registrar.pass) → HasSent xs a b → HasSent xs a c
-  sent-still xs a b c send_log same saw share gives_back p = record {
+      → OnlyLooks (pass_view b.inner.registrar.pass) (pass_view c.inner.registrar.pass) → HasSent xs a b → HasSent xs a c
+  sent-still xs a b c send_log only p = record {
     by = ap (λ k. k.by) send_log ∙ p.by;
     more = p.more;
     posted = ap (λ k. k.posted) send_log ∙ p.posted;
     accepted_are = p.accepted_are;
-    system_sent = ap addressed_system same ∙ p.system_sent;
-    log_kept = saw-then _ _ _ p.log_kept saw;
-    share = share ∙ p.share;
-    gives_back = unchanged-then _ _ _ p.gives_back gives_back;
+    system_sent = ap addressed_system only.sent_system ∙ p.system_sent;
+    put =
+        puts-then (pass_view a.inner.registrar.pass) (pass_view b.inner.registrar.pass) (pass_view c.inner.registrar.pass) p.put
+        (looks-put (pass_view b.inner.registrar.pass) (pass_view c.inner.registrar.pass) only);
+    log_kept = saw-then _ _ _ p.log_kept (saw-more only.looks _ _ only.log);
+    share = only.share ∙ p.share;
+    gives_back = unchanged-then _ _ _ p.gives_back only.gives_back;
   }
 
--- it sees still what it saw, owes the others what it did, has the share that it had, and gave each cell back as it was taken
+-- it put what it sent, sees still what it saw, owes the others what it did, has the share that it had, and gave each cell back as it was taken
 pub record GoesOnAt (id : ℕ) (old new : View) : Type 0 where
+  pub put : PutsAsSent old new
   pub log_kept : IsPart old.log new.log
   pub others : (other : ℕ) → other ≢ id → obligation_to other new ≡ obligation_to other old
   pub share : new.share ≡ old.share
   pub gives_back : GivesBackUnchanged old new
 
-does-at : (id : ℕ) (did : List Observation) (sent : List SentSystem) (old new : View) → Does id did sent old new → GoesOnAt id old new
-does-at id did sent old new does = record {
+does-at : (id : ℕ) (did : List Observation) (sent : List SentSystem) (old new : View) → Does id did sent old new
+    → ((to : ℕ) (measure : SysMsg → ℕ) → total (put_in to (λ m. measure m.1)) did ≡ total (listed_measure to measure) sent) → GoesOnAt id old new
+does-at id did sent old new does same = record {
+  put = does-puts id did sent old new does same;
   log_kept = saw-more (does.looks ++ did) old.log new.log does.log;
   others = does.others;
   share = does.share;
@@ -154,6 +186,7 @@ does-at id did sent old new does = record {
 
 then-at : (id : ℕ) (a b c : View) → GoesOnAt id a b → GoesOnAt id b c → GoesOnAt id a c
 then-at id a b c p q = record {
+  put = puts-then a b c p.put q.put;
   log_kept = saw-then a.log b.log c.log p.log_kept q.log_kept;
   others = λ other ne. q.others other ne ∙ p.others other ne;
   share = q.share ∙ p.share;
@@ -174,13 +207,15 @@ module _ (by : SenderId) (number : ℕ) (to : ActorId) (body : Body) (posted pos
 
       read : GoesOnAt to.0 old told.between
       read = does-at to.0 [] [] old told.between (looks-read to.0 (word_of told.seen.seen) old told.between told.seen.read)
+          (λ id measure. refl)
 
       by_look : (look : Look) → FollowsLook by number to body posted posted' sends told.between new put look
           → IsOnePosted × (new.sent_system ≡ old.sent_system) × GoesOnAt to.0 old new
       by_look (Open ticket) sent = (
         (sent.refused, sent.posted_is),
         sent.counted.sent_system ∙ same,
-        then-at to.0 old told.between new read (does-at to.0 (counts to.0 sent.refused) [] told.between new sent.counted),
+        then-at to.0 old told.between new read (does-at to.0 (counts to.0 sent.refused) [] told.between new sent.counted
+            (counts-put-none to.0 sent.refused)),
       )
       by_look Closed is_dead = (
         (_, is_dead.0.posted_is),
@@ -201,16 +236,40 @@ module _ {A K : Type 0} where
         posted = one.0.1;
         accepted_are = refl;
         system_sent = ap addressed_system one.1;
+        put = one.2.put;
         log_kept = one.2.log_kept;
         share = one.2.share;
         gives_back = one.2.gives_back;
       }
 
+-- a tell that failed sent nothing
+module _ {A K : Type 0} (to : ActorId) (a b : Sender A K) where
+  sent-looked : OnlyLooked to a.inner b.inner → HasSent [] a b
+  sent-looked looked =
+      let old = pass_view a.inner.registrar.pass in let new = pass_view b.inner.registrar.pass in
+      let read = does-at to.0 [] [] old new (looks-read to.0 (word_of looked.seen.seen) old new looked.seen.read) (λ id measure. refl) in
+      record {
+        by = looked.send_log.by;
+        more = [];
+        posted = looked.send_log.posted ∙ sym (append-nil a.inner.send_log.posted);
+        accepted_are = refl;
+        system_sent = ap (λ (v : View). addressed_system v.sent_system) looked.seen.read;
+        put = read.put;
+        log_kept = read.log_kept;
+        share = read.share;
+        gives_back = read.gives_back;
+      }
+
+  pub sent-nothing : (r : Result Put SendError) (error : SendError) → r ≡ Err error → (r ≡ Err NoSuchActor → b ≡ a)
+      → (r ≡ Err NoMemory → OnlyLooked to a.inner b.inner) → HasSent [] a b
+  sent-nothing r NoSuchActor was unknown unsent = subst (λ s. HasSent [] a s) (sym (unknown was)) (sent-none a)
+  sent-nothing r NoMemory was unknown unsent = sent-looked (unsent was)
+
 -- a Terminate was sent
 sent-terminate : (id : ℕ) (old new : View) (stopped : Bool) → Stops id old new stopped
     → (addressed_system new.sent_system ≡ (id, Terminate) ∷ addressed_system old.sent_system) × GoesOnAt id old new
-sent-terminate id old new true s = (ap addressed_system s.1.sent_system, does-at id _ _ old new s.1)
-sent-terminate id old new false s = (ap addressed_system s.sent_system, does-at id _ _ old new s)
+sent-terminate id old new true s = (ap addressed_system s.1.sent_system, does-at id _ _ old new s.1 (λ to measure. refl))
+sent-terminate id old new false s = (ap addressed_system s.sent_system, does-at id _ _ old new s (λ to measure. refl))
 
 module _ {A K : Type 0} where
   pub sent-stopped : (to : ActorId) (stopped : Bool) (a b : Sender A K) → b.inner.send_log ≡ a.inner.send_log
@@ -221,6 +280,7 @@ module _ {A K : Type 0} where
     posted = ap (λ k. k.posted) send_log ∙ sym (append-nil a.inner.send_log.posted);
     accepted_are = refl;
     system_sent = stop.0;
+    put = stop.1.put;
     log_kept = stop.1.log_kept;
     share = stop.1.share;
     gives_back = stop.1.gives_back;

@@ -1,6 +1,6 @@
 -- What holds of each task, or of one of them, holds of all tasks that are done in parallel, or of one; and the first of two errors.
 use Rattle.std.proofs.Common.{◌≡◌, suc, List, [], ◌∷◌, length, get_or, map, set, refl, sym, ap, ◌∙◌, subst, inl, inr}
-use Rattle.std.specs.Prelude.{All, Err, MatchResult, Ok, OnOk, Result}
+use Rattle.std.specs.Prelude.{All, Err, MatchResult, Ok, OnErr, OnOk, Result}
 use Rattle.std.specs.Global.{Box}
 use Rattle.std.specs.List.{AllZip}
 use Rattle.std.proofs.lemmas.List.Elements.{All-cons, All-nil, All-set}
@@ -39,6 +39,13 @@ module _ {T : Type 0} where
   zip_then R S Q f (x ∷ xs) [] zs p q = absurd p
   zip_then R S Q f (x ∷ xs) (y ∷ ys) [] p q = absurd q
   zip_then R S Q f (x ∷ xs) (y ∷ ys) (z ∷ zs) p q = (f x y z p.0 q.0, zip_then R S Q f xs ys zs p.1 q.1)
+
+  -- what was done with each was also this
+  pub zip_weaker : (R Q : T → T → Type 0) → ((x y : T) → R x y → Q x y) → (xs ys : List T) → AllZip R xs ys → AllZip Q xs ys
+  zip_weaker R Q f [] [] p = tt
+  zip_weaker R Q f [] (y ∷ ys) p = absurd p
+  zip_weaker R Q f (x ∷ xs) [] p = absurd p
+  zip_weaker R Q f (x ∷ xs) (y ∷ ys) p = (f x y p.0, zip_weaker R Q f xs ys p.1)
 
   -- nothing was, or something with the first
   pub zip_same : (R : T → T → Type 0) → ((x : T) → R x x) → (xs : List T) → AllZip R xs xs
@@ -79,6 +86,15 @@ module _ {E : Type 0} where
   pub on_ok : {P : Type 0} (r : Result (Unit {0}) E) → P → OnOk r P
   on_ok (Ok x) p = p
   on_ok (Err e) p = tt
+
+  pub on_err : {P : Type 0} (r : Result (Unit {0}) E) → P → OnErr r P
+  on_err (Ok x) p = tt
+  on_err (Err e) p = p
+
+  -- in either case
+  pub on_both : {P : Type 0} (r : Result (Unit {0}) E) → OnOk r P → OnErr r P → P
+  on_both (Ok x) p q = p
+  on_both (Err e) p q = q
 
   pub on_ok_and : {T : Type 0} (P Q : Type 0) (r : Result T E) → OnOk r P → OnOk r Q → OnOk r (P × Q)
   on_ok_and P Q (Ok x) p q = (p, q)

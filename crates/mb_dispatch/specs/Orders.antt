@@ -1,5 +1,5 @@
 -- What a sender is to send, and what it sent.
-use Rattle.std.specs.Prelude.{◌≡◌, ℕ, zero, suc, List, [], ◌∷◌, ◌++◌, map, reverse}
+use Rattle.std.specs.Prelude.{◌≡◌, ◌⊎◌, ℕ, zero, suc, ◌<◌, List, [], ◌∷◌, ◌++◌, map, reverse}
 use Rattle.mb_msg.specs.Payload.{body_of}
 use Rattle.mb_msg.specs.declared.envelope.Body.{Body}
 use Rattle.mb_msg.specs.declared.envelope.Envelope.{Envelope}
@@ -14,6 +14,7 @@ use Rattle.mb_msg.specs.declared.order.OrderKind.TheVariants.{Tell, Stop}
 use Rattle.mb_gate.specs.Accessors.{pass_view}
 use Rattle.mb_gate.specs.Rule.{IsPart}
 use Rattle.mb_gate.specs.View.{SentSystem}
+use Rattle.mb_mailbox.specs.RunSends.{PutsAsSent}
 use Rattle.mb_register.specs.Views.{GivesBackUnchanged}
 use Rattle.mb_system.specs.declared.sender.Sender.{Sender}
 
@@ -56,14 +57,33 @@ addressed_system = map (λ (s : SentSystem). (s.to, s.message))
 
 module _ {A K : Type 0} where
   -- The sender was answered for the envelopes of these orders, in order, after all that it was answered for before, and for nothing else. It sent
-  -- their Terminates, or found the list ended, in order, and sent no other system message; these stand newest first. It still knows what it saw
-  -- before, kept its share, and gave each cell back as it was taken.
+  -- their Terminates, or found the list ended, in order, and sent no other system message; these stand newest first. What it put into lists is what it
+  -- sent so. It still knows what it saw before, kept its share, and gave each cell back as it was taken.
   pub record HasSent (orders : List Order) (old new : Sender A K) : Type 0 where
     pub by : new.inner.send_log.by ≡ old.inner.send_log.by
     pub more : List SentEnvelope
     pub posted : new.inner.send_log.posted ≡ old.inner.send_log.posted ++ more
     pub accepted_are : addressed (accepted more) ≡ envelopes_of orders
     pub system_sent : addressed_system (pass_view new.inner.registrar.pass).sent_system ≡ reverse (terminates_of orders) ++ addressed_system (pass_view old.inner.registrar.pass).sent_system
+    pub put : PutsAsSent (pass_view old.inner.registrar.pass) (pass_view new.inner.registrar.pass)
     pub log_kept : IsPart (pass_view old.inner.registrar.pass).log (pass_view new.inner.registrar.pass).log
     pub share : (pass_view new.inner.registrar.pass).share ≡ (pass_view old.inner.registrar.pass).share
     pub gives_back : GivesBackUnchanged (pass_view old.inner.registrar.pass) (pass_view new.inner.registrar.pass)
+
+  -- The sender carried out these orders, one after another, and then this one fewer times than it says, and nothing else.
+  pub record HasSentUpTo (done : List Order) (next : Order) (old new : Sender A K) : Type 0 where
+    pub times : ℕ
+    pub fewer : times < next.times
+    pub sent : HasSent (done ++ order_for next.to next.what times ∷ []) old new
+
+  -- The sender stopped at one of these orders: it carried out those before it, and this one fewer times than it says, and nothing else.
+  pub record StopsWithin (orders : List Order) (old new : Sender A K) : Type 0 where
+    pub done : List Order
+    pub next : Order
+    pub left : List Order
+    pub are : orders ≡ done ++ next ∷ left
+    pub sent : HasSentUpTo done next old new
+
+  -- The sender carried out all of these orders, or stopped at one of them.
+  abbrev pub HasSentSome : List Order → Sender A K → Sender A K → Type 0
+  HasSentSome orders old new = HasSent orders old new ⊎ StopsWithin orders old new

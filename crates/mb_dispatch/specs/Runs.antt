@@ -11,7 +11,12 @@ use Rattle.mb_home.specs.Contents.{Contents}
 use Rattle.mb_home.specs.Fresh.{IsFreshClaim}
 use Rattle.mb_mailbox.specs.Ran.{HadRoom, LeavesRun}
 use Rattle.mb_mailbox.specs.declared.turn.Turn.{Turn}
+use Rattle.mb_dispatch.specs.declared.turns.Turns.{Turns}
 use Rattle.mb_system.specs.OnlyLooks.{OnlyLooks}
+
+-- What each run of a mailbox did in a quiet run, in the order in which they were made.
+abbrev pub turns_in : Turns → List Turn
+turns_in turns = turns.list.items
 
 module _ (gives : ℕ → Moment → Reply → Type 0) (origin : Origin (Box Contents)) (throughput : ℕ) where
   -- The end ran the mailbox of a claim of these gates, by this throughput, and there was room for all that the run took. The result names the actor

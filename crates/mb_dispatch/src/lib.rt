@@ -8,6 +8,7 @@ mod order;
 mod parallel;
 mod quiet;
 mod running;
+mod turns;
 mod working;
 
 pub use job::Job;
@@ -18,4 +19,5 @@ pub use mb_system::{Built, RunError, Sender, System, WorkerEnd};
 pub use order::send_all;
 pub use quiet::run_quietly;
 pub use running::run;
+pub use turns::Turns;
 pub use working::work;

@@ -1,10 +1,10 @@
 //! Carrying out what a sender outside the actors is to send.
-ghost use Rattle.std.specs.Prelude.{◌≡◌, [], ◌∷◌, IfErr, OnOk};
+ghost use Rattle.std.specs.Prelude.{◌≡◌, [], ◌∷◌, IfErr, OnErr, OnOk};
 ghost use Rattle.mb_dispatch.specs.Faults.{BreaksSending};
 ghost use Rattle.mb_gate.specs.Accessors.{actors_of};
 ghost use Rattle.mb_system.specs.Obligations.{KeepsObligations};
 ghost use Rattle.mb_system.specs.Members.{IsSenderOf, sender_caller};
-ghost use Rattle.mb_dispatch.specs.Orders.{HasSent, order_for};
+ghost use Rattle.mb_dispatch.specs.Orders.{HasSent, HasSentUpTo, StopsWithin, order_for};
 ghost use Rattle.mb_register.specs.Caller.{OwesForRefusals};
 
 use mb_actor::{Actor, Behaviours};
@@ -13,9 +13,9 @@ use mb_system::{RunError, Sender, System};
 use std::sync::Wait;
 
 /// Carries out all these orders, each as often as it says, in their order. It stops at the first fault: `NoSuchActor` or
-/// `NoMemory` as a tell or a stop answers it. What was sent before stays sent. Call `retry_refused` then: it looks
-/// after the actors to which the sender owes a look. These are those to which it owed one before, and actors whose claims the
-/// pool refused.
+/// `NoMemory` as a tell or a stop answers it. What was sent before stays sent, and nothing more is sent. Call `retry_refused`
+/// then: it looks after the actors to which the sender owes a look. These are those to which it owed one before, and actors
+/// whose claims the pool refused.
 pub fn send_all<A: Actor, K: Behaviours, R: Wait>(
     rt: &R,
     system: &System<A, K>,
@@ -29,6 +29,7 @@ pub fn send_all<A: Actor, K: Behaviours, R: Wait>(
     ensures obligations { OnOk result (KeepsObligations (actors_of system.now.gates) (sender_caller sender.old.inner.registrar)
         (sender_caller sender.new.inner.registrar)) }
     ensures owed { OwesForRefusals (sender_caller sender.old.inner.registrar).account (sender_caller sender.new.inner.registrar).account }
+    ensures stopped { OnErr result (StopsWithin orders.now sender.old sender.new) }
     ensures fault { IfErr result (BreaksSending system.now.gates orders.now) }
 {
     for order in orders {
@@ -51,6 +52,7 @@ fn send_often<A: Actor, K: Behaviours, R: Wait>(
     ensures obligations { OnOk result (KeepsObligations (actors_of system.now.gates) (sender_caller sender.old.inner.registrar)
         (sender_caller sender.new.inner.registrar)) }
     ensures owed { OwesForRefusals (sender_caller sender.old.inner.registrar).account (sender_caller sender.new.inner.registrar).account }
+    ensures stopped { OnErr result (HasSentUpTo [] order sender.old sender.new) }
     ensures fault { IfErr result (BreaksSending system.now.gates (order ∷ [])) }
 {
     for _ in 0..order.times {
@@ -75,6 +77,7 @@ fn send<A: Actor, K: Behaviours, R: Wait>(
     ensures obligations { OnOk result (KeepsObligations (actors_of system.now.gates) (sender_caller sender.old.inner.registrar)
         (sender_caller sender.new.inner.registrar)) }
     ensures owed { OwesForRefusals (sender_caller sender.old.inner.registrar).account (sender_caller sender.new.inner.registrar).account }
+    ensures unsent { OnErr result (HasSent [] sender.old sender.new) }
     ensures fault { IfErr result (BreaksSending system.now.gates (order_for to what 1 ∷ [])) }
 {
     match what {

@@ -8,11 +8,11 @@ ghost use Rattle.mb_system.specs.Obligations.{AreDischargedOrOwed, HasNoObligati
 ghost use Rattle.mb_system.specs.Members.{end_caller, IsEndOf};
 ghost use Rattle.mb_dispatch.specs.Faults.{BreaksQuietRun};
 ghost use Rattle.mb_dispatch.specs.Found.{FoundPoolEmpty};
-ghost use Rattle.mb_dispatch.specs.Runs.{MadeRuns};
+ghost use Rattle.mb_dispatch.specs.Runs.{MadeRuns, turns_in};
 
+use crate::turns::Turns;
 use crate::working::run_one;
 use mb_actor::{Actor, Behaviours};
-use mb_mailbox::Turn;
 use mb_system::{RunError, System, WorkerEnd};
 use std::sync::Wait;
 
@@ -27,14 +27,14 @@ pub fn run_quietly<A: Actor, K: Behaviours, R: Wait>(
     rt: &R,
     system: &System<A, K>,
     end: &mut WorkerEnd<A, K>,
-) -> Result<Vec<Turn>, RunError>
+) -> Result<Turns, RunError>
     requires same_gates { IsEndOf system.now.gates end.old.registrar }
     ensures same_gates { IsEndOf system.now.gates end.new.registrar }
     ensures discharged { OnOk result (IsNobody end.new.registrar.owed) }
     ensures obligations { AreDischargedOrOwed (actors_of system.now.gates) (end_caller end.new.registrar) }
     ensures settled { OnOk result (HasNoObligationTo (actors_of system.now.gates) (end_caller end.new.registrar)) }
     ensures runs { IfOk result (λ turns. MadeRuns K.gives (origin_of system.now.gates) system.now.throughput
-        (pass_view end.old.registrar.pass) turns.items (pass_view end.new.registrar.pass)) }
+        (pass_view end.old.registrar.pass) (turns_in turns) (pass_view end.new.registrar.pass)) }
     ensures empty { OnOk result (FoundPoolEmpty K.gives end.new) }
     ensures number { end.new.number ≡ end.old.number }
     ensures log_kept { IsPart (pass_view end.old.registrar.pass).log (pass_view end.new.registrar.pass).log }
@@ -50,7 +50,7 @@ pub fn run_quietly<A: Actor, K: Behaviours, R: Wait>(
             Some(claim) => turns.push_reserved(run_one(rt, system, end, claim)?),
             None => {
                 if end.registrar.owed.is_empty() {
-                    return Ok(turns);
+                    return Ok(Turns { list: turns });
                 }
                 end.retry_refused(rt, system)?;
             }

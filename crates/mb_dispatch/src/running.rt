@@ -10,6 +10,7 @@ ghost use Rattle.mb_dispatch.specs.Faults.{BreaksRun, RunsOrBreaks};
 ghost use Rattle.mb_dispatch.specs.Found.{AllFoundPoolEmpty};
 ghost use Rattle.mb_dispatch.specs.Runs.{OnlyRuns};
 ghost use Rattle.mb_dispatch.specs.Jobs.{AreJobsOf, jobs_senders, AreDone};
+ghost use Rattle.mb_dispatch.specs.Orders.{HasSentSome};
 
 use crate::job::Job;
 use crate::parallel::{both_in_parallel, first_error};
@@ -24,7 +25,7 @@ use std::thread::Threads;
 /// mailboxes, by the system's throughput, and to look at actors.
 ///
 /// It answers the first error in the order of the ends, then of the jobs. Whatever is answered, no end forgets anything that it
-/// owes.
+/// owes, and each job sent what it is to send in order, all of it or up to where it stopped.
 pub fn run<A: Actor + Send, K: Behaviours + Send, R: Threads + Wait + Sync>(
     rt: &R,
     system: &System<A, K>,
@@ -45,6 +46,7 @@ pub fn run<A: Actor + Send, K: Behaviours + Send, R: Threads + Wait + Sync>(
     ensures ran { OnOk result (AllZip (λ o n. OnlyRuns K.gives (origin_of system.now.gates) system.now.throughput (pass_view o.registrar.pass)
         (pass_view n.registrar.pass)) ends.old ends.new) }
     ensures done { OnOk result (AreDone system.now.gates jobs.old jobs.new) }
+    ensures sent { AllZip (λ o n. HasSentSome o.sends.items o.sender n.sender) jobs.old jobs.new }
     ensures fault { IfErr result (BreaksRun K.gives system.now ends.old ends.new jobs.old jobs.new) }
 {
     register_by_first(rt, system, ends);

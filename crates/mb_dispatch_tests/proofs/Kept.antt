@@ -22,6 +22,7 @@ use Rattle.mb_shutdown.specs.Belonging.{OnlyFirstEndRead}
 use Rattle.mb_shutdown.specs.Refused.{IsRefusal}
 use Rattle.mb_shutdown.specs.declared.ending.FinishError.{FinishError}
 use Rattle.mb_shutdown.specs.declared.ending.FinishError.TheVariants.{MissingEnd, MissingSender, NotQuiet, NoMemory, Mismatch}
+use Rattle.mb_dispatch_tests.specs.ComesBack.{ComesBack}
 
 -- an end took a claim
 pub took : {A K : Type 0} (gates : Gates (Box Contents)) (old new : WorkerEnd A K)
@@ -84,21 +85,9 @@ module _ {A K : Type 0} where
       (All-same Q new.senders.items old.senders.items back.senders was.senders) (ap (map by_of) back.senders) was
 
   -- what comes back of a system that may not end belongs together
-  abbrev pub ComesBack : FinishError A K → Type 0
-  ComesBack (MissingEnd number back) = BelongsTogether back
-  ComesBack (MissingSender number back) = BelongsTogether back
-  ComesBack (NotQuiet id back) = BelongsTogether back
-  ComesBack (NoMemory back) = BelongsTogether back
-  ComesBack (Mismatch what) = Unit {0}
-
-  of-refusal : (old : Built A K) (error : FinishError A K) → IsRefusal old error → BelongsTogether old → ComesBack error
+  pub of-refusal : (old : Built A K) (error : FinishError A K) → IsRefusal old error → BelongsTogether old → ComesBack error
   of-refusal old (MissingEnd number back) refused was = subst BelongsTogether (sym refused.1) was
   of-refusal old (MissingSender number back) refused was = subst BelongsTogether (sym refused.2) was
   of-refusal old (NotQuiet id back) refused was = let read = refused.2 in read-back old back read.0 read.1 read.2 was
   of-refusal old (NoMemory back) refused was = let read = refused.1 in read-back old back read.0 read.1 read.2 was
   of-refusal old (Mismatch what) refused was = tt
-
-  pub comes-back : (system : System A K) (ends : Vec (WorkerEnd A K) Global) (senders : Vec (Sender A K) Global) (error known : FinishError A K)
-      → error ≡ known → IsRefusal (record { system = system; ends = ends; senders = senders }) error → Are system ends senders → ComesBack known
-  comes-back system ends senders error known is refused was =
-      subst ComesBack is (of-refusal (record { system = system; ends = ends; senders = senders }) error refused was)

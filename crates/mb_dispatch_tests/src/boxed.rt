@@ -25,6 +25,7 @@ const SENDS: &[Order] = &[tell!(2, ADD, 1), poison!(2), tell!(2, ADD, 2)];
 fn run_both<R: Wait>(
     rt: &R,
     alloc: Global,
+    sends: &[Vec<Order>],
     first: Box<dyn Actor + Send>,
     second: Box<dyn Actor + Send>,
 ) -> Result<Report, Error>
@@ -33,15 +34,15 @@ fn run_both<R: Wait>(
     let mut planned = PlannedSystem::new(alloc, SETTINGS);
     planned.add(ActorPlan::child_of(alloc, ActorId(0)), first)?;
     planned.add(ActorPlan::child_of(alloc, ActorId(0)), second)?;
-    let sends = vec![in alloc; sends_of(alloc, SENDS)?]?;
-    Ok(planned.run_here(rt, alloc, &sends)?)
+    Ok(planned.run_here(rt, alloc, sends)?)
 }
 
 #[test]
 fn a_boxed_actor_watches_one_of_another_kind(rt: HostRuntime) -> Result<(), Fail> {
+    let sends = vec![in rt.alloc(); sends_of(rt.alloc(), SENDS)?]?;
     let first: Box<dyn Actor + Send> = Box::new(rt.alloc(), Watcher { of: ActorId(2) })?;
     let second: Box<dyn Actor + Send> = Box::new(rt.alloc(), TestActor::new(COUNTER))?;
-    let outcome = run_both(&rt, rt.alloc(), first, second);
+    let outcome = run_both(&rt, rt.alloc(), &sends, first, second);
     see(&rt, &outcome_text(rt.alloc(), outcome, 2), REPORT);
     Ok(())
 }

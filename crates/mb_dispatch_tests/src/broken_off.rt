@@ -1,4 +1,6 @@
 //! What is left of the actors of a system whose run was broken off.
+use crate::end_call::EndCall;
+use crate::sender_call::SenderCall;
 use crate::system_driver::SystemDriver;
 use crate::test_system::TestSystem;
 use mb_msg::{ActorId, Payload};
@@ -18,9 +20,10 @@ const SHORT: TestCase<'static> = TestCase {
 fn broken_off<R: Wait>(rt: &R, alloc: Global) -> Result<Vec<Option<UnfinishedActor>>, AllocError> {
     let mut system = TestSystem::new(rt, alloc, &SHORT)?;
     for value in 1..3 {
-        let _told = system.tell(rt, ActorId(1), Payload::User { kind: ADD, value });
+        let payload = Payload::User { kind: ADD, value };
+        let _told = system.send(rt, SenderCall::Tell(ActorId(1), payload));
     }
-    let _run = system.run_quietly(rt);
+    let _run = system.lead(rt, EndCall::RunQuietly);
     system.unfinished(rt)
 }
 

@@ -1,6 +1,6 @@
 //! Sixteen workers, sixty-three actors and four senders, each on a thread of its own.
 use crate::seen::see;
-use crate::together::run_together;
+use crate::whole_run::{RunMode, story_text};
 use mb_msg::PoolKind;
 use mb_testkit::{COUNTER, PLAIN, TestCase, crowd_report, crowd_sends, words};
 use std::alloc::Global;
@@ -23,7 +23,7 @@ fn count_in_a_crowd<R: Threads + Wait + Sync>(
         sends: &sends,
         ..PLAIN
     };
-    run_together(rt, alloc, &story)
+    story_text(rt, alloc, RunMode::OnThreads, &story)
 }
 
 fn try_in_a_crowd<R: Abort + Threads + Wait + Sync>(rt: &R, alloc: Global, pool: PoolKind) {

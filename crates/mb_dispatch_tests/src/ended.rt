@@ -1,6 +1,6 @@
 //! Actors that end, and who is told of it, on threads.
 use crate::farewell::ALL_ENDED;
-use crate::together::{Run, play_together};
+use crate::whole_run::{Run, RunMode, play_whole};
 use mb_testkit::{Action, COUNTER, PLAIN, TestActorPlan, TestCase, kill, stop};
 
 pub const WATCHED: &str = "\
@@ -37,10 +37,10 @@ const STOP: &[Run] = &[(
 
 #[test]
 fn who_watches_is_told_of_an_end(rt: HostRuntime) {
-    play_together(&rt, rt.alloc(), WATCH)
+    play_whole(&rt, rt.alloc(), RunMode::OnThreads, WATCH)
 }
 
 #[test]
 fn all_end_with_a_guardian_that_is_stopped(rt: HostRuntime) {
-    play_together(&rt, rt.alloc(), STOP)
+    play_whole(&rt, rt.alloc(), RunMode::OnThreads, STOP)
 }

@@ -3,8 +3,6 @@
 #![tactic(auto)]
 
 #[cfg(test)]
-mod alone;
-#[cfg(test)]
 mod boxed;
 #[cfg(test)]
 mod broken_off;
@@ -14,6 +12,8 @@ mod by_hand;
 mod closing;
 #[cfg(test)]
 mod crowd;
+#[cfg(test)]
+mod end_call;
 #[cfg(test)]
 mod ended;
 #[cfg(test)]
@@ -41,6 +41,8 @@ mod retried;
 #[cfg(test)]
 mod seen;
 #[cfg(test)]
+mod sender_call;
+#[cfg(test)]
 mod shown;
 #[cfg(test)]
 mod supervised;
@@ -57,6 +59,6 @@ mod thousand;
 #[cfg(test)]
 mod throughput;
 #[cfg(test)]
-mod together;
-#[cfg(test)]
 mod unbuilt;
+#[cfg(test)]
+mod whole_run;

@@ -1,14 +1,15 @@
 //! Full mailboxes and full journals, on one thread.
-use crate::alone::{play_alone, text_alone};
 use crate::seen::see;
-use crate::together::Run;
+use crate::whole_run::{Run, RunMode, play_whole, text_with};
 use mb_testkit::{
     ADD, COUNTER, Order, PLAIN, TestActorPlan, TestCase, TestMailbox, one_shared_counter, tell,
 };
-use std::sync::Arc;
+use std::alloc::{AllocError, Global};
+use std::process::Abort;
 use std::sync::atomic::AtomicI64;
 use std::sync::atomic::Ordering::SeqCst;
-use std::test::Fail;
+use std::sync::{Arc, Wait};
+use std::thread::Threads;
 
 pub const TWO_PLACES: &str = "\
 guardian live state - suspended 0 handled 0 left 0 dead 0 restarts 0
@@ -63,23 +64,28 @@ const SHORT_JOURNAL: &[Run] = &[(SHORT, JOURNAL_FULL)];
 
 #[test]
 fn what_finds_a_full_mailbox_is_dead(rt: HostRuntime) {
-    play_alone(&rt, rt.alloc(), FULL_MAILBOX)
+    play_whole(&rt, rt.alloc(), RunMode::Here, FULL_MAILBOX)
 }
 
 #[test]
 fn what_finds_a_full_journal_is_not_handled(rt: HostRuntime) {
-    play_alone(&rt, rt.alloc(), SHORT_JOURNAL)
+    play_whole(&rt, rt.alloc(), RunMode::Here, SHORT_JOURNAL)
+}
+
+/// Checks that what was handled before the journal was full was seen.
+fn see_handled_before<R: Abort + Threads + Wait + Sync>(
+    rt: &R,
+    alloc: Global,
+) -> Result<(), AllocError> {
+    let shown = Arc::new(alloc, AtomicI64::new(0))?;
+    let witnesses = one_shared_counter(alloc, shown.clone()?)?;
+    let found = text_with(rt, alloc, RunMode::Here, &SHORT, witnesses);
+    see(rt, &found, JOURNAL_FULL);
+    assert_eq!(rt; shown.load(SeqCst), 1);
+    Ok(())
 }
 
 #[test]
-fn what_was_handled_before_stands(rt: HostRuntime) -> Result<(), Fail> {
-    let shown = Arc::new(rt.alloc(), AtomicI64::new(0))?;
-    let witnesses = one_shared_counter(rt.alloc(), shown.clone()?)?;
-    see(
-        &rt,
-        &text_alone(&rt, rt.alloc(), &SHORT, witnesses),
-        JOURNAL_FULL,
-    );
-    assert_eq!(rt; shown.load(SeqCst), 1);
-    Ok(())
+fn what_was_handled_before_stands(rt: HostRuntime) -> Result<(), AllocError> {
+    see_handled_before(&rt, rt.alloc())
 }

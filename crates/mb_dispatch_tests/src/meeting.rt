@@ -1,6 +1,6 @@
 //! Two actors that wait for one another while they are called: two workers run at once.
 use crate::seen::see;
-use crate::together::text_together;
+use crate::whole_run::{RunMode, text_with};
 use mb_msg::PoolKind;
 use mb_testkit::{ADD, COUNTER, PLAIN, TestCase, tell, two_meeting_actors};
 use std::alloc::Global;
@@ -28,7 +28,7 @@ const BY_STEALING: TestCase<'static> = TestCase {
 /// The report of two guests that are sent a message each.
 fn meet<R: Threads + Wait + Sync>(rt: &R, alloc: Global, story: &TestCase<'_>) -> Option<String> {
     match two_meeting_actors(alloc) {
-        Ok(guests) => text_together(rt, alloc, story, guests),
+        Ok(guests) => text_with(rt, alloc, RunMode::OnThreads, story, guests),
         Err(_) => None,
     }
 }

@@ -1,10 +1,10 @@
 //! A planned system of known actors, whose report was worked out by hand. No order in which its actors are run changes the report.
 ghost use Rattle.std.specs.Prelude.{◌≡◌, All, IfOk, pos};
 
+use crate::reading::{has_letters, has_no_actor, has_no_sender};
 use crate::seen::see;
-use heddleorange::{
-    Error, FailedRun, PlanError, PlannedSystem, SETTINGS, dead_letters, handled, journal, state,
-};
+use crate::whole_run::RunMode;
+use heddleorange::{Error, PlanError, PlannedSystem, SETTINGS, handled, journal, state};
 use mb_msg::{ActorId, ActorPlan, Body, DeadLetter, Envelope, MailboxType, Order, SenderId, Why};
 use mb_report::Report;
 use mb_testkit::{
@@ -12,7 +12,9 @@ use mb_testkit::{
 };
 use std::alloc::{AllocError, Global};
 use std::process::Abort;
+use std::sync::Wait;
 use std::test::Fail;
+use std::thread::Threads;
 
 /// Tells its child two messages and only then starts it: its mailbox has one place, so that the second is refused.
 const PARENT: TestActorPlan = TestActorPlan {
@@ -130,9 +132,7 @@ fn read<R: Abort>(rt: &R, alloc: Global, report: &Report) {
         read_one(rt, alloc, report, id, due);
         id = ActorId(id.0.wrapping_add(1));
     }
-    assert!(rt; state(report, id).is_none());
-    assert!(rt; handled(report, id).is_none());
-    assert!(rt; journal(report, id).is_none());
+    assert!(rt; has_no_actor(report, id));
     read_letters(rt, report);
 }
 
@@ -153,33 +153,49 @@ fn read_journal(alloc: Global, report: &Report, id: ActorId) -> Option<String> {
 fn read_letters<R: Abort>(rt: &R, report: &Report) {
     let mut id = ActorId(0);
     for letters in LETTERS {
-        assert_eq!(rt; dead_letters(report, id), Some(*letters));
+        assert!(rt; has_letters(report, id, *letters), "the letters of {id:?}");
         id = ActorId(id.0.wrapping_add(1));
     }
-    assert!(rt; dead_letters(report, id).is_none());
+    assert!(rt; has_no_sender(report, id));
 }
 
-/// The report, or why there is none.
-fn report_of(outcome: Result<Report, FailedRun>) -> Result<Report, Error> {
-    Ok(outcome?)
+/// The report of this planned system, or why there is none.
+fn report_of<R: Threads + Wait + Sync>(
+    rt: &R,
+    alloc: Global,
+    mode: RunMode,
+    planned: PlannedSystem<TestActor>,
+    sends: &[Vec<Order>],
+) -> Result<Report, Error>
+    requires unused { All (λ actor. actor.sum ≡ pos 0) planned.actors.items }
+{
+    match mode {
+        RunMode::Here => Ok(planned.run_here(rt, alloc, sends)?),
+        RunMode::OnThreads => Ok(planned.run_on_threads(rt, alloc, sends)?),
+    }
+}
+
+/// Checks that the planned system comes to what is due.
+fn comes_to_what_is_due<R: Abort + Threads + Wait + Sync>(
+    rt: &R,
+    alloc: Global,
+    mode: RunMode,
+) -> Result<(), Fail> {
+    let sends = orders_of(alloc, SENDS)?;
+    let planned = planned(alloc, PARTS)?;
+    let report = report_of(rt, alloc, mode, planned, &sends)?;
+    read(rt, alloc, &report);
+    Ok(())
 }
 
 #[test]
 fn a_planned_system_comes_to_what_is_due_on_one_thread(rt: HostRuntime) -> Result<(), Fail> {
-    let sends = orders_of(rt.alloc(), SENDS)?;
-    let planned = planned(rt.alloc(), PARTS)?;
-    let report = report_of(planned.run_here(&rt, rt.alloc(), &sends))?;
-    read(&rt, rt.alloc(), &report);
-    Ok(())
+    comes_to_what_is_due(&rt, rt.alloc(), RunMode::Here)
 }
 
 #[test]
 fn a_planned_system_comes_to_what_is_due_on_threads(rt: HostRuntime) -> Result<(), Fail> {
-    let sends = orders_of(rt.alloc(), SENDS)?;
-    let planned = planned(rt.alloc(), PARTS)?;
-    let report = report_of(planned.run_on_threads(&rt, rt.alloc(), &sends))?;
-    read(&rt, rt.alloc(), &report);
-    Ok(())
+    comes_to_what_is_due(&rt, rt.alloc(), RunMode::OnThreads)
 }
 
 /// Adds a counter.
@@ -189,20 +205,21 @@ fn add_counter(alloc: Global, planned: &mut PlannedSystem<TestActor>) -> Result<
     planned.add(plan_of(alloc, &COUNTER), TestActor::new(COUNTER))
 }
 
-fn see_added<R: Abort>(rt: &R, added: Result<ActorId, Error>, due: Result<ActorId, Error>) {
-    assert_eq!(rt; added, due);
+/// Adds counters until one is refused, and runs the others.
+fn take_sixty_three<R: Abort + Threads + Wait + Sync>(rt: &R, alloc: Global) -> Result<(), Fail> {
+    let sends = orders_of(alloc, &[tell!(63, ADD, 5)])?;
+    let mut planned = planned(alloc, &[COUNTER; 62])?;
+    let last = add_counter(alloc, &mut planned);
+    assert!(rt; last == Ok(ActorId(63)));
+    let one_more = add_counter(alloc, &mut planned);
+    assert!(rt; one_more == Err(Error::BadPlan(PlanError::Actors)));
+    let report = report_of(rt, alloc, RunMode::Here, planned, &sends)?;
+    see_state(rt, &report, ActorId(63), Some(5));
+    see_state(rt, &report, ActorId(64), None);
+    Ok(())
 }
 
 #[test]
 fn a_planned_system_takes_sixty_three_actors(rt: HostRuntime) -> Result<(), Fail> {
-    let mut planned = planned(rt.alloc(), &[COUNTER; 62])?;
-    let last = add_counter(rt.alloc(), &mut planned);
-    see_added(&rt, last, Ok(ActorId(63)));
-    let one_more = add_counter(rt.alloc(), &mut planned);
-    see_added(&rt, one_more, Err(Error::BadPlan(PlanError::Actors)));
-    let sends = orders_of(rt.alloc(), &[tell!(63, ADD, 5)])?;
-    let report = report_of(planned.run_here(&rt, rt.alloc(), &sends))?;
-    see_state(&rt, &report, ActorId(63), Some(5));
-    see_state(&rt, &report, ActorId(64), None);
-    Ok(())
+    take_sixty_three(&rt, rt.alloc())
 }

@@ -16,6 +16,11 @@ fn are_actors_read_right(report: &Report) -> bool {
         }
         id = ActorId(id.0.wrapping_add(1));
     }
+    has_no_actor(report, id)
+}
+
+/// Whether the calls that read a report of an actor answer nothing of this one.
+pub fn has_no_actor(report: &Report, id: ActorId) -> bool {
     state(report, id).is_none() && handled(report, id).is_none() && journal(report, id).is_none()
 }
 
@@ -65,17 +70,23 @@ fn is_same_entry(one: &EntryRef<'_>, other: &EntryRef<'_>) -> bool {
 fn are_letters_read_right(report: &Report) -> bool {
     let mut id = ActorId(0);
     for sender in &report.senders {
-        if !is_letters(dead_letters(report, id), &sender.dead) {
+        if !has_letters(report, id, &sender.dead) {
             return false;
         }
         id = ActorId(id.0.wrapping_add(1));
     }
-    dead_letters(report, id).is_none()
+    has_no_sender(report, id)
 }
 
-fn is_letters(read: Option<&[DeadLetter]>, letters: &[DeadLetter]) -> bool {
-    match read {
+/// Whether these are read as the dead letters of this sender.
+pub fn has_letters(report: &Report, id: ActorId, letters: &[DeadLetter]) -> bool {
+    match dead_letters(report, id) {
         Some(read) => read == letters,
         None => false,
     }
+}
+
+/// Whether nothing is read of this sender.
+pub fn has_no_sender(report: &Report, id: ActorId) -> bool {
+    dead_letters(report, id).is_none()
 }

@@ -1,10 +1,8 @@
 //! Runs that are refused, or broken off: each error in which a whole run with ample memory was seen to end, on one thread and on
 //! threads.
-use heddleorange::{
-    Error, FailedRun, PlanError, RunError, UnfinishedActor, run_here, run_on_threads,
-};
+use crate::whole_run::{RunMode, run_whole};
+use heddleorange::{Error, FailedRun, PlanError, RunError, UnfinishedActor};
 use mb_msg::ActorId;
-use mb_report::Report;
 use mb_testkit::{
     ADD, COUNTER, Order, PLAIN, TestActorPlan, TestCase, TestMailbox, plan_of, sends_of, stop,
     tell, test_actors_of,
@@ -166,21 +164,17 @@ fn lists_of(alloc: Global, sends: &[&[Order]]) -> Result<Vec<Vec<Order>>, AllocE
     Ok(lists)
 }
 
-/// What came of a run, where there was memory for the test.
-type Outcome = Result<Result<Report, FailedRun>, AllocError>;
-
-fn run_alone<R: Wait>(rt: &R, alloc: Global, refusal: &Refusal) -> Outcome {
-    let plan = plan_of(alloc, &refusal.plan)?;
-    let actors = test_actors_of(alloc, refusal.actors)?;
+/// What is left of a run that is refused; nothing where it has a report.
+fn refused<R: Threads + Wait + Sync>(
+    rt: &R,
+    alloc: Global,
+    mode: RunMode,
+    refusal: &Refusal,
+) -> Result<Option<FailedRun>, AllocError> {
     let sends = lists_of(alloc, refusal.sends)?;
-    Ok(run_here(rt, alloc, plan, actors, &sends))
-}
-
-fn run_together<R: Threads + Wait + Sync>(rt: &R, alloc: Global, refusal: &Refusal) -> Outcome {
-    let plan = plan_of(alloc, &refusal.plan)?;
     let actors = test_actors_of(alloc, refusal.actors)?;
-    let sends = lists_of(alloc, refusal.sends)?;
-    Ok(run_on_threads(rt, alloc, plan, actors, &sends))
+    let plan = plan_of(alloc, &refusal.plan)?;
+    Ok(run_whole(rt, alloc, mode, plan, actors, &sends).err())
 }
 
 /// How many entries the journal of this actor has, if it is left.
@@ -192,11 +186,7 @@ fn entries(actor: Option<&Option<UnfinishedActor>>) -> Option<usize> {
 }
 
 /// The run has no report for the reason that is due, and what is left of its actors is as is due.
-fn see_refused<R: Abort>(rt: &R, refusal: &Refusal, outcome: Outcome) {
-    let Ok(Err(failed)) = outcome else {
-        assert!(rt; false, "it is not refused");
-        return;
-    };
+fn see_refused<R: Abort>(rt: &R, refusal: &Refusal, failed: &FailedRun) {
     assert_eq!(rt; failed.error, refusal.why);
     assert_eq!(rt; failed.actors.len(), refusal.left.len());
     for (number, due) in refusal.left.iter().enumerate() {
@@ -204,16 +194,29 @@ fn see_refused<R: Abort>(rt: &R, refusal: &Refusal, outcome: Outcome) {
     }
 }
 
-#[test]
-fn a_run_on_one_thread_is_refused_for_its_first_reason(rt: HostRuntime) {
-    for refusal in BAD_PLANS.iter().chain(BAD_ORDERS) {
-        see_refused(&rt, refusal, run_alone(&rt, rt.alloc(), refusal));
+/// Checks that each of these is refused as is due.
+fn are_refused<R: Abort + Threads + Wait + Sync>(
+    rt: &R,
+    alloc: Global,
+    mode: RunMode,
+    refusals: &[Refusal],
+) {
+    for refusal in refusals {
+        match refused(rt, alloc, mode, refusal) {
+            Ok(Some(failed)) => see_refused(rt, refusal, &failed),
+            _ => assert!(rt; false, "it is not refused"),
+        }
     }
 }
 
 #[test]
+fn a_run_on_one_thread_is_refused_for_its_first_reason(rt: HostRuntime) {
+    are_refused(&rt, rt.alloc(), RunMode::Here, BAD_PLANS);
+    are_refused(&rt, rt.alloc(), RunMode::Here, BAD_ORDERS);
+}
+
+#[test]
 fn a_run_on_threads_is_refused_for_its_first_reason(rt: HostRuntime) {
-    for refusal in BAD_PLANS.iter().chain(BAD_ORDERS) {
-        see_refused(&rt, refusal, run_together(&rt, rt.alloc(), refusal));
-    }
+    are_refused(&rt, rt.alloc(), RunMode::OnThreads, BAD_PLANS);
+    are_refused(&rt, rt.alloc(), RunMode::OnThreads, BAD_ORDERS);
 }

@@ -1,6 +1,8 @@
 //! A whole run on one thread, whose calls are made again where memory was refused: `tools/refuse_each_allocation system` runs
 //! this with each allocation refused in turn.
 use crate::closing::{FinishRefusal, Unfinished};
+use crate::end_call::{EndAnswer, EndCall};
+use crate::sender_call::{SenderAnswer, SenderCall};
 use crate::system_driver::SystemDriver;
 use crate::test_system::TestSystem;
 use mb_dispatch::{Put, RunError, SendError};
@@ -8,6 +10,7 @@ use mb_msg::{ActorId, Payload, PoolKind, Why};
 use mb_report::Report;
 use mb_testkit::{ADD, Action, COUNTER, FAIL, PLAIN, TestActorPlan, TestCase, text_of};
 use std::alloc::Global;
+use std::process::Abort;
 use std::sync::Wait;
 
 const PARENT: TestActorPlan = TestActorPlan {
@@ -110,8 +113,8 @@ fn tell_each<S: SystemDriver, R: Wait>(rt: &R, company: &mut S) -> Option<&'stat
     let mut due = WITH_ALL;
     for (payload, without) in SENDS {
         match tell_at_last(rt, company, *payload)? {
-            Ok(Put::Queued(_)) => {}
-            Ok(Put::Dead(_, Why::NoMemory)) => due = *without,
+            SenderAnswer::Put(Ok(Put::Queued(_))) => {}
+            SenderAnswer::Put(Ok(Put::Dead(_, Why::NoMemory))) => due = *without,
             _ => return None,
         }
     }
@@ -123,20 +126,21 @@ fn tell_at_last<S: SystemDriver, R: Wait>(
     rt: &R,
     company: &mut S,
     payload: Payload,
-) -> Option<Result<Put, SendError>> {
-    match company.tell(rt, ActorId(2), payload)? {
-        Err(SendError::NoMemory) => company.tell(rt, ActorId(2), payload),
-        put => Some(put),
+) -> Option<SenderAnswer> {
+    let call = SenderCall::Tell(ActorId(2), payload);
+    match company.send(rt, call)? {
+        SenderAnswer::Put(Err(SendError::NoMemory)) => company.send(rt, call),
+        answer => Some(answer),
     }
 }
 
 /// Runs all, again where memory was refused; answers whether it ran.
 fn run_at_last<S: SystemDriver, R: Wait>(rt: &R, company: &mut S) -> bool {
-    let turns = match company.run_quietly(rt) {
-        Some(Err(RunError::NoMemory)) => company.run_quietly(rt),
-        turns => turns,
+    let answer = match company.lead(rt, EndCall::RunQuietly) {
+        Some(EndAnswer::Turns(Err(RunError::NoMemory))) => company.lead(rt, EndCall::RunQuietly),
+        answer => answer,
     };
-    matches!(turns, Some(Ok(_)))
+    matches!(answer, Some(EndAnswer::Turns(Ok(_))))
 }
 
 /// Ends the system, again where memory was refused.
@@ -198,14 +202,17 @@ fn try_at_last<R: Wait>(rt: &R, alloc: Global, story: &TestCase<'_>) -> Option<b
     is_as_due(rt, alloc, build_at_last(rt, alloc, story)?)
 }
 
-#[test]
-fn a_refused_call_of_a_system_with_a_shared_pool_can_be_made_again(rt: HostRuntime) {
-    let is_as_due = try_at_last(&rt, rt.alloc(), &BY_SHARED);
+/// Checks that there was a report, which is the one that is due.
+pub fn see_due<R: Abort>(rt: &R, is_as_due: Option<bool>) {
     assert_eq!(rt; is_as_due, Some(true));
 }
 
 #[test]
+fn a_refused_call_of_a_system_with_a_shared_pool_can_be_made_again(rt: HostRuntime) {
+    see_due(&rt, try_at_last(&rt, rt.alloc(), &BY_SHARED));
+}
+
+#[test]
 fn a_refused_call_of_a_system_with_a_stealing_pool_can_be_made_again(rt: HostRuntime) {
-    let is_as_due = try_at_last(&rt, rt.alloc(), &BY_STEALING);
-    assert_eq!(rt; is_as_due, Some(true));
+    see_due(&rt, try_at_last(&rt, rt.alloc(), &BY_STEALING));
 }

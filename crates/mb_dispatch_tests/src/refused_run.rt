@@ -1,12 +1,14 @@
 //! A whole run by one call, which is made again where memory was refused: `tools/refuse_each_allocation run` runs this with each
 //! allocation refused in turn.
-use crate::refused::{BY_SHARED, SENDS, WITH_ALL, is_text_due};
-use heddleorange::{Error, RunError, dead_letters, run_here};
+use crate::refused::{BY_SHARED, SENDS, WITH_ALL, is_text_due, see_due};
+use crate::whole_run::{RunMode, run_whole};
+use heddleorange::{Error, RunError, dead_letters};
 use mb_msg::{ActorId, DeadLetter, Order, OrderKind, Why};
 use mb_report::Report;
 use mb_testkit::{TestCase, plan_of, test_actors_of};
 use std::alloc::{AllocError, Global};
 use std::sync::Wait;
+use std::thread::Threads;
 
 /// The place of the sender outside: it comes behind the guardian and two actors.
 const SENDER: ActorId = ActorId(3);
@@ -24,15 +26,23 @@ fn orders(alloc: Global) -> Result<Vec<Vec<Order>>, AllocError> {
     Ok(vec![in alloc; own]?)
 }
 
-fn run_once<R: Wait>(rt: &R, alloc: Global, story: &TestCase<'_>) -> Result<Report, Error> {
-    let plan = plan_of(alloc, story)?;
-    let actors = test_actors_of(alloc, story.parts)?;
+fn run_once<R: Threads + Wait + Sync>(
+    rt: &R,
+    alloc: Global,
+    story: &TestCase<'_>,
+) -> Result<Report, Error> {
     let sends = orders(alloc)?;
-    Ok(run_here(rt, alloc, plan, actors, &sends)?)
+    let actors = test_actors_of(alloc, story.parts)?;
+    let plan = plan_of(alloc, story)?;
+    Ok(run_whole(rt, alloc, RunMode::Here, plan, actors, &sends)?)
 }
 
 /// The report of the run, which is made again where memory was refused.
-fn run_at_last<R: Wait>(rt: &R, alloc: Global, story: &TestCase<'_>) -> Result<Report, Error> {
+fn run_at_last<R: Threads + Wait + Sync>(
+    rt: &R,
+    alloc: Global,
+    story: &TestCase<'_>,
+) -> Result<Report, Error> {
     match run_once(rt, alloc, story) {
         Err(Error::NoMemory | Error::Run(RunError::NoMemory)) => run_once(rt, alloc, story),
         outcome => outcome,
@@ -63,5 +73,5 @@ fn a_refused_whole_run_can_be_made_again(rt: HostRuntime) {
         assert!(rt; false, "no report");
         return;
     };
-    assert_eq!(rt; is_as_due(rt.alloc(), &report), Some(true));
+    see_due(&rt, is_as_due(rt.alloc(), &report));
 }

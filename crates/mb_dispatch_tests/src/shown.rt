@@ -1,6 +1,8 @@
 //! Answers of the dispatcher, and of whole runs, as texts.
+use crate::end_call::EndAnswer;
+use crate::sender_call::SenderAnswer;
 use heddleorange::{Error, FailedRun};
-use mb_dispatch::{Look, Put, RunError, SendError, Turn};
+use mb_dispatch::{Look, SendError, Turn};
 use mb_report::Report;
 use mb_testkit::{add, text_of};
 use std::alloc::{AllocError, Global};
@@ -9,7 +11,7 @@ use std::alloc::{AllocError, Global};
 pub fn outcome_text(alloc: Global, outcome: Result<Report, Error>, count: usize) -> Option<String> {
     match outcome {
         Ok(report) => text_of(alloc, &report, count),
-        Err(error) => format!(in alloc; "{error:?}").ok(),
+        Err(error) => error_text(alloc, error),
     }
 }
 
@@ -21,12 +23,28 @@ pub fn failed_text(
 ) -> Option<String> {
     match outcome {
         Ok(report) => text_of(alloc, &report, count),
-        Err(failed) => outcome_text(alloc, Err(failed.error), count),
+        Err(failed) => error_text(alloc, failed.error),
     }
 }
 
-/// One run: its actor, its system messages and its envelopes.
-pub fn turn_text(alloc: Global, turn: &Turn) -> Result<String, AllocError> {
+// Why there is no report.
+fn error_text(alloc: Global, error: Error) -> Option<String> {
+    format!(in alloc; "{error:?}").ok()
+}
+
+/// What an end answered: of each run its actor, its system messages and its envelopes; or why the runs were broken off.
+pub fn end_text(alloc: Global, answer: EndAnswer) -> Result<String, AllocError> {
+    match answer {
+        EndAnswer::Turns(Ok(turns)) => turns_text(alloc, turns.as_slice()),
+        EndAnswer::Turns(Err(error)) => format!(in alloc; "{error:?}"),
+        EndAnswer::Registered(is_done) => format!(in alloc; "{is_done}"),
+        EndAnswer::Turned(turn) => turn_text(alloc, &turn),
+        EndAnswer::Worked(Ok(())) => String::from_str(alloc, "done"),
+        EndAnswer::Worked(Err(error)) => format!(in alloc; "{error:?}"),
+    }
+}
+
+fn turn_text(alloc: Global, turn: &Turn) -> Result<String, AllocError> {
     let Turn {
         actor,
         system,
@@ -36,16 +54,8 @@ pub fn turn_text(alloc: Global, turn: &Turn) -> Result<String, AllocError> {
     format!(in alloc; "({number};{system},{envelopes})")
 }
 
-/// What each run did, or why the runs were broken off.
-pub fn turns_text(alloc: Global, run: Result<Vec<Turn>, RunError>) -> Result<String, AllocError> {
-    match run {
-        Ok(turns) => each_turn_text(alloc, &turns),
-        Err(error) => run_text(alloc, Err(error)),
-    }
-}
-
 // The runs, one after another.
-fn each_turn_text(alloc: Global, turns: &[Turn]) -> Result<String, AllocError> {
+fn turns_text(alloc: Global, turns: &[Turn]) -> Result<String, AllocError> {
     let mut text = String::new(alloc);
     for turn in turns {
         let one = turn_text(alloc, turn)?;
@@ -54,35 +64,19 @@ fn each_turn_text(alloc: Global, turns: &[Turn]) -> Result<String, AllocError> {
     Ok(text)
 }
 
-/// What came of a run.
-pub fn run_text(alloc: Global, run: Result<(), RunError>) -> Result<String, AllocError> {
-    match run {
-        Ok(()) => String::from_str(alloc, "done"),
-        Err(error) => format!(in alloc; "{error:?}"),
+/// What a sender answered: what became of the envelope, whether something was done, or how the receiver was seen.
+pub fn sender_text(alloc: Global, answer: SenderAnswer) -> Result<String, AllocError> {
+    match answer {
+        SenderAnswer::Put(Ok(put)) => format!(in alloc; "{put:?}"),
+        SenderAnswer::Put(Err(why)) => refusal_text(alloc, why),
+        SenderAnswer::Stopped(Ok(is_done)) => format!(in alloc; "{is_done}"),
+        SenderAnswer::Stopped(Err(why)) => refusal_text(alloc, why),
+        SenderAnswer::Seen(Ok(Look::Open(_))) => String::from_str(alloc, "Open"),
+        SenderAnswer::Seen(Ok(Look::Closed)) => String::from_str(alloc, "Closed"),
+        SenderAnswer::Seen(Err(why)) => refusal_text(alloc, why),
     }
 }
 
-/// What became of an envelope.
-pub fn put_text(alloc: Global, put: Result<Put, SendError>) -> Result<String, AllocError> {
-    match put {
-        Ok(put) => format!(in alloc; "{put:?}"),
-        Err(why) => format!(in alloc; "{why:?}"),
-    }
-}
-
-/// Whether something was done.
-pub fn stop_text(alloc: Global, stopped: Result<bool, SendError>) -> Result<String, AllocError> {
-    match stopped {
-        Ok(is_done) => format!(in alloc; "{is_done}"),
-        Err(why) => format!(in alloc; "{why:?}"),
-    }
-}
-
-/// How a receiver was seen.
-pub fn look_text(alloc: Global, look: Result<Look, SendError>) -> Result<String, AllocError> {
-    match look {
-        Ok(Look::Open(_)) => String::from_str(alloc, "Open"),
-        Ok(Look::Closed) => String::from_str(alloc, "Closed"),
-        Err(why) => format!(in alloc; "{why:?}"),
-    }
+fn refusal_text(alloc: Global, why: SendError) -> Result<String, AllocError> {
+    format!(in alloc; "{why:?}")
 }

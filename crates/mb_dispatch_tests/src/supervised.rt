@@ -1,6 +1,6 @@
 //! Children that fail, on threads. (What is told to a child that may have ended is dead or left, as it happens: such stories
 //! are run one mailbox after another, in `family` and `retried`.)
-use crate::together::{Run, play_together};
+use crate::whole_run::{Run, RunMode, play_whole};
 use mb_msg::{Directive, Pattern};
 use mb_testkit::{ADD, Action, COUNTER, FAIL, Order, PLAIN, TestActorPlan, TestCase, tell};
 
@@ -131,10 +131,10 @@ const RETRIED: &[Run] = &[
 
 #[test]
 fn a_child_that_fails_is_treated_as_its_parent_says(rt: HostRuntime) {
-    play_together(&rt, rt.alloc(), DECIDED)
+    play_whole(&rt, rt.alloc(), RunMode::OnThreads, DECIDED)
 }
 
 #[test]
 fn a_child_is_restarted_as_often_as_its_parent_says(rt: HostRuntime) {
-    play_together(&rt, rt.alloc(), RETRIED)
+    play_whole(&rt, rt.alloc(), RunMode::OnThreads, RETRIED)
 }

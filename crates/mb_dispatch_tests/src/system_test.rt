@@ -1,6 +1,8 @@
 //! A system on which a story goes on step by step.
 use crate::closing::{FinishRefusal, Unfinished};
-use crate::shown::{look_text, put_text, run_text, stop_text, turn_text, turns_text};
+use crate::end_call::EndCall;
+use crate::sender_call::{SenderAnswer, SenderCall};
+use crate::shown::{end_text, sender_text};
 use crate::system_driver::SystemDriver;
 use crate::system_script::SystemStep;
 use mb_dispatch::{Look, Ticket};
@@ -35,7 +37,7 @@ impl<S: SystemDriver> SystemTest<S> {
     /// Takes a step: its answer. Nothing where it cannot be taken, or memory was refused.
     pub fn take<R: Wait>(&mut self, rt: &R, step: SystemStep) -> Option<String> {
         match step {
-            SystemStep::Look(id) => self.look(ActorId(id)),
+            SystemStep::Look(id) => self.look(rt, ActorId(id)),
             SystemStep::Put(value) => self.put(rt, value),
             SystemStep::Finish => self.finish(rt),
             SystemStep::Journal(id) => self.journal(id),
@@ -44,19 +46,17 @@ impl<S: SystemDriver> SystemTest<S> {
         }
     }
 
-    fn look(&mut self, to: ActorId) -> Option<String> {
-        let look = self.company.as_mut()?.look(to)?;
-        if let Ok(Look::Open(ticket)) = look {
+    fn look<R: Wait>(&mut self, rt: &R, to: ActorId) -> Option<String> {
+        let answer = self.company.as_mut()?.send(rt, SenderCall::Look(to))?;
+        if let SenderAnswer::Seen(Ok(Look::Open(ticket))) = answer {
             self.ticket = Some(ticket);
         }
-        look_text(self.alloc, look).ok()
+        sender_text(self.alloc, answer).ok()
     }
 
     fn put<R: Wait>(&mut self, rt: &R, value: i64) -> Option<String> {
-        let ticket = self.ticket?;
-        let payload = Payload::User { kind: ADD, value };
-        let put = self.company.as_mut()?.put(rt, ticket, payload)?;
-        put_text(self.alloc, put).ok()
+        let call = SenderCall::Put(self.ticket?, Payload::User { kind: ADD, value });
+        send(rt, self.alloc, self.company.as_mut()?, call)
     }
 
     fn finish<R: Wait>(&mut self, rt: &R) -> Option<String> {
@@ -103,18 +103,19 @@ fn lead<S: SystemDriver, R: Wait>(
     company: &mut S,
     step: SystemStep,
 ) -> Option<String> {
-    match step {
-        SystemStep::Send(orders) => send_all(rt, alloc, company, orders),
-        SystemStep::Run => turns_text(alloc, company.run_quietly(rt)?).ok(),
-        SystemStep::Register(id) => stop_text(alloc, Ok(company.register(rt, ActorId(id))?)).ok(),
-        SystemStep::Turn => turn_text(alloc, &company.turn(rt)?).ok(),
-        SystemStep::Work => run_text(alloc, company.work(rt)?).ok(),
+    let call = match step {
+        SystemStep::Send(orders) => return send_all(rt, alloc, company, orders),
         SystemStep::LoseSenders => {
             company.lose_senders();
-            String::from_str(alloc, "lost").ok()
+            return String::from_str(alloc, "lost").ok();
         }
-        _ => None,
-    }
+        SystemStep::Run => EndCall::RunQuietly,
+        SystemStep::Register(id) => EndCall::Register(ActorId(id)),
+        SystemStep::Turn => EndCall::Turn,
+        SystemStep::Work => EndCall::Work,
+        _ => return None,
+    };
+    end_text(alloc, company.lead(rt, call)?).ok()
 }
 
 fn send_all<S: SystemDriver, R: Wait>(
@@ -125,20 +126,24 @@ fn send_all<S: SystemDriver, R: Wait>(
 ) -> Option<String> {
     let mut text = String::new(alloc);
     for order in orders {
-        let answer = send(rt, alloc, company, *order)?;
+        let answer = send(rt, alloc, company, call_for(order))?;
         add(&mut text, ", ", answer.as_str()).ok()?;
     }
     Some(text)
+}
+
+fn call_for(order: &Order) -> SenderCall {
+    match order.what {
+        OrderKind::Tell(payload) => SenderCall::Tell(order.to, payload),
+        OrderKind::Stop => SenderCall::Stop(order.to),
+    }
 }
 
 fn send<S: SystemDriver, R: Wait>(
     rt: &R,
     alloc: Global,
     company: &mut S,
-    order: Order,
+    call: SenderCall,
 ) -> Option<String> {
-    match order.what {
-        OrderKind::Tell(payload) => put_text(alloc, company.tell(rt, order.to, payload)?).ok(),
-        OrderKind::Stop => stop_text(alloc, company.stop(rt, order.to)?).ok(),
-    }
+    sender_text(alloc, company.send(rt, call)?).ok()
 }

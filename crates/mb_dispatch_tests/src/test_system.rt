@@ -1,18 +1,14 @@
 //! A system of players with all that belongs to it. What the dispatcher's calls ask for is in the type, or is checked first.
 ghost use Rattle.mb_system.specs.Belonging.{BelongsTogether};
-ghost use Rattle.mb_system.specs.Members.{IsEndOf};
 
-use crate::closing::{FinishRefusal, Unfinished, come_back};
+use crate::closing::{Unfinished, refusal_of};
+use crate::end_call::{EndAnswer, EndCall, call_end};
+use crate::sender_call::{SenderAnswer, SenderCall, call_sender};
 use crate::system_driver::SystemDriver;
-use mb_dispatch::{
-    Built, Look, Put, RunError, SendError, Sender, System, Ticket, Turn, WorkerEnd, run_mailbox,
-    run_quietly, work,
-};
-use mb_msg::{ActorId, Payload};
-use mb_register::Hint;
+use mb_dispatch::{Built, Sender, System, WorkerEnd};
 use mb_report::Report;
-use mb_shutdown::{FinishError, UnfinishedActor, finish, unfinished_actors};
-use mb_startup::build;
+use mb_shutdown::{UnfinishedActor, finish, unfinished_actors};
+use mb_startup::{BuildError, build};
 use mb_testkit::{Adding, TestActor, TestCase, plan_of, test_actors_of};
 use std::alloc::{AllocError, Global};
 use std::marker::Model;
@@ -47,14 +43,29 @@ impl Model for TestSystem {
         BelongsTogether (record { system = company.system; ends = company.ends; senders = company.senders }) };
 }
 
+/// The system of a story, or why there is none.
+pub type Outcome = Result<TestSystem, BuildError<TestActor>>;
+
 impl TestSystem {
     /// The system of this story.
     pub fn new<R: Wait>(rt: &R, alloc: Global, story: &TestCase<'_>) -> Result<Self, AllocError> {
+        match TestSystem::build(rt, alloc, story)? {
+            Ok(company) => Ok(company),
+            Err(_) => Err(AllocError),
+        }
+    }
+
+    /// The system of this story, or why none can be built; where there is memory for its plan and its actors.
+    pub fn build<R: Wait>(
+        rt: &R,
+        alloc: Global,
+        story: &TestCase<'_>,
+    ) -> Result<Outcome, AllocError> {
         let plan = plan_of(alloc, story)?;
         let players = test_actors_of(alloc, story.parts)?;
         match build::<TestActor, Adding, R>(rt, alloc, plan, players) {
-            Ok(built) => Ok(TestSystem::of(built)),
-            Err(_) => Err(AllocError),
+            Ok(built) => Ok(Ok(TestSystem::of(built))),
+            Err(error) => Ok(Err(error)),
         }
     }
 
@@ -73,9 +84,7 @@ impl TestSystem {
             senders,
         }
     }
-}
 
-impl TestSystem {
     /// What is left of each actor, the guardian first.
     pub(crate) fn unfinished<R: Wait>(
         self,
@@ -114,21 +123,7 @@ impl SystemDriver for TestSystem {
         };
         match finish(rt, built) {
             Ok(report) => Ok(report),
-            Err(FinishError::MissingEnd(number, back)) => {
-                Err(come_back(FinishRefusal::MissingEnd(number), back))
-            }
-            Err(FinishError::MissingSender(number, back)) => {
-                Err(come_back(FinishRefusal::MissingSender(number), back))
-            }
-            Err(FinishError::NotQuiet(id, back)) => Err(come_back(
-                FinishRefusal::NotQuiet(id.0),
-                back,
-            )),
-            Err(FinishError::NoMemory(back)) => Err(come_back(FinishRefusal::NoMemory, back)),
-            Err(FinishError::Mismatch(what)) => Err(Unfinished {
-                why: FinishRefusal::Mismatch(what),
-                back: None,
-            }),
+            Err(error) => Err(refusal_of(error)),
         }
     }
 
@@ -136,85 +131,17 @@ impl SystemDriver for TestSystem {
         self.senders.clear();
     }
 
-    fn run_quietly<R: Wait>(&mut self, rt: &R) -> Option<Result<Vec<Turn>, RunError>> {
+    fn lead<R: Wait>(&mut self, rt: &R, call: EndCall) -> Option<EndAnswer> {
         if self.ends.len() == 0 {
             return None;
         }
-        Some(run_quietly(rt, &self.system, &mut self.ends[0]))
+        call_end(rt, &self.system, &mut self.ends[0], call)
     }
 
-    fn register<R: Wait>(&mut self, rt: &R, id: ActorId) -> Option<bool> {
-        if self.ends.len() == 0 || id.0 as usize >= self.system.gates.actors() {
-            return None;
-        }
-        Some(self.ends[0].register(rt, &self.system, id, Hint::None))
-    }
-
-    fn turn<R: Wait>(&mut self, rt: &R) -> Option<Turn> {
-        if self.ends.len() == 0 {
-            return None;
-        }
-        run_next(rt, &self.system, &mut self.ends[0])
-    }
-
-    fn work<R: Wait>(&mut self, rt: &R) -> Option<Result<(), RunError>> {
-        if self.ends.len() == 0 {
-            return None;
-        }
-        Some(work(rt, &self.system, &mut self.ends[0]))
-    }
-
-    fn tell<R: Wait>(
-        &mut self,
-        rt: &R,
-        to: ActorId,
-        payload: Payload,
-    ) -> Option<Result<Put, SendError>> {
+    fn send<R: Wait>(&mut self, rt: &R, call: SenderCall) -> Option<SenderAnswer> {
         if self.senders.len() == 0 {
             return None;
         }
-        Some(self.senders[0].tell(rt, &self.system, to, payload))
-    }
-
-    fn stop<R: Wait>(&mut self, rt: &R, id: ActorId) -> Option<Result<bool, SendError>> {
-        if self.senders.len() == 0 {
-            return None;
-        }
-        Some(self.senders[0].stop(rt, &self.system, id))
-    }
-
-    fn look(&mut self, to: ActorId) -> Option<Result<Look, SendError>> {
-        if self.senders.len() == 0 {
-            return None;
-        }
-        Some(self.senders[0].look(&self.system, to))
-    }
-
-    fn put<R: Wait>(
-        &mut self,
-        rt: &R,
-        ticket: Ticket,
-        payload: Payload,
-    ) -> Option<Result<Put, SendError>> {
-        let to = ticket.receiver();
-        if self.senders.len() == 0 || to.0 == 0 || to.0 as usize >= self.system.gates.actors() {
-            return None;
-        }
-        Some(self.senders[0].put(rt, &self.system, ticket, payload))
-    }
-}
-
-// Takes a claim and runs its mailbox.
-fn run_next<R: Wait>(
-    rt: &R,
-    system: &System<TestActor, Adding>,
-    end: &mut WorkerEnd<TestActor, Adding>,
-) -> Option<Turn>
-    requires same_gates { IsEndOf system.now.gates end.old.registrar }
-    ensures same_gates { IsEndOf system.now.gates end.new.registrar }
-{
-    match end.take(rt) {
-        Some(claim) => run_mailbox(rt, system, end, claim).ok(),
-        None => None,
+        call_sender(rt, &self.system, &mut self.senders[0], call)
     }
 }

@@ -1,7 +1,8 @@
 //! A thousand random plans, half of them with each pool, each run on this thread and on threads: what must be true of a run is
 //! true of each report.
 use crate::reading::is_read_right;
-use heddleorange::{Error, run_here, run_on_threads};
+use crate::whole_run::{RunMode, run_whole};
+use heddleorange::Error;
 use mb_msg::{Order, PoolKind};
 use mb_report::Report;
 use mb_testkit::{
@@ -21,27 +22,32 @@ fn seeds_of(pool: PoolKind) -> Range<u64> {
     }
 }
 
-/// Runs the plan of this seed on this thread: whether its report is right.
-fn try_alone<R: Wait>(rt: &R, alloc: Global, seed: u64, pool: PoolKind) -> Result<bool, Error> {
-    let plan = plan_by_chance(alloc, seed, pool)?;
-    let sends = sends_by_chance(alloc, seed, plan.senders, actors_by_chance(seed))?;
-    let actors = random_actors(alloc, seed, actors_by_chance(seed))?;
-    let report = run_here(rt, alloc, plan, actors, &sends)?;
-    Ok(is_right(alloc, seed, pool, &report, sends)?)
-}
-
-/// The same on threads.
-fn try_together<R: Threads + Wait + Sync>(
+/// Runs the plan of this seed: whether its report is right.
+fn try_seed<R: Threads + Wait + Sync>(
     rt: &R,
     alloc: Global,
+    mode: RunMode,
     seed: u64,
     pool: PoolKind,
 ) -> Result<bool, Error> {
-    let plan = plan_by_chance(alloc, seed, pool)?;
-    let sends = sends_by_chance(alloc, seed, plan.senders, actors_by_chance(seed))?;
-    let actors = random_actors(alloc, seed, actors_by_chance(seed))?;
-    let report = run_on_threads(rt, alloc, plan, actors, &sends)?;
+    let senders = plan_by_chance(alloc, seed, pool)?.senders;
+    let sends = sends_by_chance(alloc, seed, senders, actors_by_chance(seed))?;
+    let report = report_of(rt, alloc, mode, seed, pool, &sends)?;
     Ok(is_right(alloc, seed, pool, &report, sends)?)
+}
+
+/// The report of the plan of this seed, each of whose senders sends its own of these.
+fn report_of<R: Threads + Wait + Sync>(
+    rt: &R,
+    alloc: Global,
+    mode: RunMode,
+    seed: u64,
+    pool: PoolKind,
+    sends: &[Vec<Order>],
+) -> Result<Report, Error> {
+    let actors = random_actors(alloc, seed, actors_by_chance(seed))?;
+    let plan = plan_by_chance(alloc, seed, pool)?;
+    Ok(run_whole(rt, alloc, mode, plan, actors, sends)?)
 }
 
 /// Whether this is right as the report of the plan of this seed, each of whose senders sent its own of these, and the calls that
@@ -57,36 +63,29 @@ fn is_right(
     Ok(is_right_of_these_alone(alloc, report, &plan, sends)? && is_read_right(report))
 }
 
-fn try_all_alone<R: Abort + Wait>(rt: &R, alloc: Global, pool: PoolKind) {
+fn try_all<R: Abort + Threads + Wait + Sync>(rt: &R, alloc: Global, mode: RunMode, pool: PoolKind) {
     for seed in seeds_of(pool) {
-        let is_right = try_alone(rt, alloc, seed, pool);
-        assert!(rt; matches!(is_right, Ok(true)), "the plan of seed {seed}");
-    }
-}
-
-fn try_all_together<R: Abort + Threads + Wait + Sync>(rt: &R, alloc: Global, pool: PoolKind) {
-    for seed in seeds_of(pool) {
-        let is_right = try_together(rt, alloc, seed, pool);
+        let is_right = try_seed(rt, alloc, mode, seed, pool);
         assert!(rt; matches!(is_right, Ok(true)), "the plan of seed {seed}");
     }
 }
 
 #[test]
 fn five_hundred_plans_by_a_shared_pool_come_out_right_on_one_thread(rt: HostRuntime) {
-    try_all_alone(&rt, rt.alloc(), PoolKind::Shared)
+    try_all(&rt, rt.alloc(), RunMode::Here, PoolKind::Shared)
 }
 
 #[test]
 fn five_hundred_plans_by_a_stealing_pool_come_out_right_on_one_thread(rt: HostRuntime) {
-    try_all_alone(&rt, rt.alloc(), PoolKind::Stealing)
+    try_all(&rt, rt.alloc(), RunMode::Here, PoolKind::Stealing)
 }
 
 #[test]
 fn five_hundred_plans_by_a_shared_pool_come_out_right(rt: HostRuntime) {
-    try_all_together(&rt, rt.alloc(), PoolKind::Shared)
+    try_all(&rt, rt.alloc(), RunMode::OnThreads, PoolKind::Shared)
 }
 
 #[test]
 fn five_hundred_plans_by_a_stealing_pool_come_out_right(rt: HostRuntime) {
-    try_all_together(&rt, rt.alloc(), PoolKind::Stealing)
+    try_all(&rt, rt.alloc(), RunMode::OnThreads, PoolKind::Stealing)
 }

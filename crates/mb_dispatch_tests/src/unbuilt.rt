@@ -1,9 +1,8 @@
 //! Plans from which no system is built: the plan and the actors come back.
+use crate::test_system::TestSystem;
 use mb_msg::{ActorId, Plan};
-use mb_startup::{BuildError, PlanError, build};
-use mb_testkit::{
-    Adding, COUNTER, PLAIN, TestActor, TestActorPlan, TestCase, plan_of, test_actors_of,
-};
+use mb_startup::{BuildError, PlanError};
+use mb_testkit::{COUNTER, PLAIN, TestActorPlan, TestCase};
 use std::alloc::{AllocError, Global};
 use std::sync::Wait;
 use std::test::Fail;
@@ -33,16 +32,11 @@ fn refusal<R: Wait>(
     alloc: Global,
     case: &TestCase<'_>,
 ) -> Result<Option<PlanError>, AllocError> {
-    let plan = plan_of(alloc, case)?;
-    let actors = test_actors_of(alloc, case.parts)?;
-    match build::<TestActor, Adding, R>(rt, alloc, plan, actors) {
+    match TestSystem::build(rt, alloc, case)? {
         Ok(_) => Ok(None),
         Err(BuildError::BadPlan(reason, plan, actors)) => {
-            if is_plan_of(&plan, case) && actors.len() == case.parts.len() {
-                Ok(Some(reason))
-            } else {
-                Ok(None)
-            }
+            let is_back = is_plan_of(&plan, case) && actors.len() == case.parts.len();
+            Ok(if is_back { Some(reason) } else { None })
         }
         Err(BuildError::NoMemory) => Err(AllocError),
     }

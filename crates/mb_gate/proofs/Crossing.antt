@@ -15,6 +15,7 @@ use Rattle.mb_gate.specs.contracts.slot.Slot as slot
 use Rattle.mb_gate.specs.contracts.gates.Gates as gates
 use Rattle.mb_gate.specs.contracts.pass.Pass as pass
 use Rattle.mb_gate.specs.contracts.claim.Claim as claim
+use Rattle.mb_gate.specs.contracts.pooled_claim.PooledClaim as pooled
 
 pub slot_send : (H : RattleType) → IsSend H → IsSend (slot.the_row H)
 slot_send H home = variants_send (slot.enum H) (
@@ -63,3 +64,6 @@ claim_send H home = declared_send (claim.the_type H) (
     ),
   ),
 )
+
+pub pooled_send : (H : RattleType) → IsSend H → IsSend (pooled.the_row H)
+pooled_send H home = declared_send (pooled.the_type H) (claim_send H home, tt)

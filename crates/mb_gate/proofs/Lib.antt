@@ -20,6 +20,7 @@ pub mod ListCalls
 pub mod Shows
 pub mod Claimed
 pub mod Unclaimed
+pub mod NotRun
 pub mod Returning
 pub mod SentSystemLemmas
 pub mod KnownLemmas
@@ -27,3 +28,4 @@ pub mod NamedActorsLemmas
 pub mod Crossing
 pub mod TwoClaims
 pub mod FreeHome
+pub mod Got

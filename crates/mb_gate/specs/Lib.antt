@@ -10,6 +10,7 @@ pub mod Claims
 pub mod Rule
 pub mod TableSteps
 pub mod Accessors
+pub mod PooledClaims
 pub mod Tries
 pub mod Starts
 pub mod ListWord
@@ -20,3 +21,4 @@ pub mod SentSystem
 pub mod SentSystemLog
 pub mod TwoClaims
 pub mod FreeHome
+pub mod NotRun

@@ -38,3 +38,7 @@ module _ {H : Type 0} (is_of : H → ℕ → H → Type 0) (facts : H → HomeFa
         (gave_last claim)
         (facts claim.home).given (facts claim.home).drained
     pub recorded : recorded_by claim ≡ []
+
+  -- The claim is of some gates and as a try to schedule gave it.
+  abbrev pub IsAsTaken : Claim H → Type 0
+  IsAsTaken claim = (origin : Option (Origin H)) × IsUntouched origin claim

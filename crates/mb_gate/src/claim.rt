@@ -12,7 +12,8 @@ use atomic_table::Seat;
 use mb_msg::ActorId;
 use mb_status::Status;
 
-/// The one claim of an actor that a worker holds: its cell, and what is kept beside it. It has to be given back or abandoned.
+/// The one claim of an actor that a worker holds: its cell, and what is kept beside it. It has to be given back
+/// (`Gates::release`): nobody can drop it. One that is as it was taken may go into a run queue (`PooledClaim`).
 /// (This project's own profile: `akka.dispatch.Dispatcher.registerForExecution` hands the mailbox itself to an executor.)
 pub struct Claim<H> {
     /// The cell, and what is kept beside it.
@@ -46,19 +47,5 @@ impl<H> Claim<H> {
         ensures { result ≡ self.now.status }
     {
         self.status
-    }
-}
-
-impl<H: Drop> Claim<H> {
-    /// Gives the claim up without giving the cell back. The actor stays held for good: nobody can schedule it any more (this
-    /// project's own profile).
-    pub fn abandon(self) {
-        let Claim {
-            home: _,
-            actor: _,
-            status: _,
-            seat: _,
-            sent_log: _,
-        } = self;
     }
 }

@@ -1,4 +1,5 @@
 //! What holds at the gates between any two atomic steps (this project's own profile).
+ghost use Rattle.mb_gate.specs.NotRun.{ShowsNotRun};
 ghost use Rattle.mb_gate.specs.Shown.{MakesWhole, ShowsMachine, ShowsClaims, ShowsSeen, ShowsClosed, ShowsUnclaimed, ShowsBalance, ShowsNumbers, ReleasesAlike};
 
 use crate::mailbox_state::MailboxState;
@@ -32,6 +33,13 @@ pub fn closed_receivers_are_closed<H: MailboxState>()
 /// home, and neither it nor its list is closed. For only the holder of a claim closes an actor, and nobody else had one.
 pub fn what_nobody_claimed_is_open<H: MailboxState>()
     ensures { (first : H) → ShowsUnclaimed (H.is_of first) H.facts }
+{}
+
+/// A law: between any two atomic steps, while the seats that have the whole share together got no claim and gave no cell back,
+/// nobody ran any actor. Each is at home, in its own home, whose journal is empty and says the status word, which is neither
+/// scheduled nor closed. All that was ever put into an actor's list those seats put there.
+pub fn what_nobody_ran_is_at_its_beginning<H: MailboxState>()
+    ensures { (first : H) → ShowsNotRun (H.is_of first) H.facts }
 {}
 
 /// A law: between any two atomic steps each actor's waiting count is what all passes and claims together counted as sent, less

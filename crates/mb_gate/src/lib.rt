@@ -28,6 +28,7 @@ mod mailbox_state;
 mod new;
 mod pass;
 mod passes;
+mod pooled_claim;
 mod reading;
 mod returned_actor;
 mod run_queue;
@@ -42,11 +43,13 @@ pub use gates::Gates;
 pub use laws::{
     a_number_names_one_message, claims_are_the_holders, closed_receivers_are_closed,
     releases_are_alike, waiting_is_sent_less_taken, what_nobody_claimed_is_open,
-    what_was_seen_is_so, what_was_split_is_whole_again, words_show_the_machine,
+    what_nobody_ran_is_at_its_beginning, what_was_seen_is_so, what_was_split_is_whole_again,
+    words_show_the_machine,
 };
 pub use mailbox_state::MailboxState;
 pub use new::NoGates;
 pub use pass::Pass;
+pub use pooled_claim::PooledClaim;
 pub use returned_actor::ReturnedActor;
 pub use run_queue::{RefusedClaim, RunQueue};
 pub use schedule::Tried;

@@ -44,8 +44,8 @@ fn a_closed_actor_stays_closed(rt: HostRuntime) -> Result<(), Fail> {
 #[test]
 fn a_held_cell_is_not_left(rt: HostRuntime) -> Result<(), Fail> {
     let alloc = rt.alloc();
-    let holding = Single::new(alloc)?.got(&rt);
-    assert!(rt; holding.left(alloc)?.is_none());
+    let single = Single::new(alloc)?;
+    assert!(rt; single.left_while_held(alloc)?.is_none());
     Ok(())
 }
 

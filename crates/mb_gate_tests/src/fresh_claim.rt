@@ -8,19 +8,11 @@ use crate::{calls, tries};
 use mb_gate::{Claim, Gates, Pass};
 use std::sync::Wait;
 
-/// A claim whose home is its actor's own and counts what the list gave, and for which no system message was sent. It may be
-/// dropped, so that it can go to another thread.
+/// A claim whose home is its actor's own and counts what the list gave, and for which no system message was sent.
 pub struct FreshClaim {
     pub(crate) claim: Claim<TestHome>,
     ghost of_actor: { (claim.home.actor ≡ held_actor claim) × (claim.home.given ≡ given_to claim) },
     ghost begun: { (taken_with claim ≡ []) × (recorded_by claim ≡ []) },
-}
-
-impl Drop for FreshClaim {
-    fn drop(self) {
-        let FreshClaim { claim } = self;
-        claim.abandon();
-    }
 }
 
 impl FreshClaim {

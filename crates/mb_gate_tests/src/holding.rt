@@ -9,15 +9,20 @@ use crate::steps::HeldStep;
 use crate::test_home::GUARDIAN;
 use std::alloc::Global;
 use std::sync::Wait;
-use std::test::Fail;
 
-/// The gates of one actor with their passes, and its claim.
-#[derive(Drop)]
+/// The gates of one actor with their passes, and its claim. Where it is dropped, the cell is given back.
 pub struct Holding {
     pub(crate) single: Single,
     pub(crate) shift: FreshClaim,
     ghost same_gates: { claim_id shift.claim ≡ gates_id single.gates },
     ghost present: { held_actor shift.claim < actors_of single.gates },
+}
+
+impl Drop for Holding {
+    fn drop(self) {
+        let Holding { single, shift } = self;
+        let _ = give_back(single, shift);
+    }
 }
 
 impl Holding {
@@ -52,21 +57,20 @@ impl Holding {
     /// Gives the cell back.
     pub fn give(self) -> Single {
         let Holding { single, shift } = self;
-        let Single {
-            gates,
-            mut pass,
-            other,
-        } = single;
-        shift.end(&gates, &mut pass);
-        Single { gates, pass, other }
+        give_back(single, shift)
     }
+}
 
-    /// What is left of the actor while it is held.
-    pub fn left(self, alloc: Global) -> Result<Option<(u64, u64)>, Fail> {
-        let Holding {
-            single,
-            shift: _shift,
-        } = self;
-        single.left(alloc)
-    }
+/// Gives the cell back by the first pass.
+fn give_back(single: Single, shift: FreshClaim) -> Single
+    requires same_gates { claim_id shift.claim ≡ gates_id single.gates }
+    requires present { held_actor shift.claim < actors_of single.gates }
+{
+    let Single {
+        gates,
+        mut pass,
+        other,
+    } = single;
+    shift.end(&gates, &mut pass);
+    Single { gates, pass, other }
 }

@@ -35,8 +35,8 @@ fn look<H: MailboxState>(gates: &Gates<H>, pass: &mut Pass<H>, id: ActorId) -> b
     is_open && gates.waiting(pass, id) == 1 && !gates.has_system(pass, id)
 }
 
-/// Tries to schedule the actor, and gives no cell back that it gets.
-fn is_held<H: MailboxState>(gates: &Gates<H>, pass: &mut Pass<H>, id: ActorId) -> bool
+/// Tries to schedule the actor, and gives a cell back that it gets.
+fn is_held(gates: &Gates<TestHome>, pass: &mut Pass<TestHome>, id: ActorId) -> bool
     requires same_gates { pass_id pass.old ≡ gates_id gates.now }
     requires present { id.0 < actors_of gates.now }
     ensures same_gates { pass_id pass.new ≡ pass_id pass.old }
@@ -45,7 +45,7 @@ fn is_held<H: MailboxState>(gates: &Gates<H>, pass: &mut Pass<H>, id: ActorId) -
         Tried::Already => true,
         Tried::Closed | Tried::Lost(_) => false,
         Tried::Got(claim) => {
-            claim.abandon();
+            give(gates, claim, pass);
             false
         }
     }

@@ -16,14 +16,25 @@ use std::test::Fail;
 use std::thread;
 use std::thread::join;
 
-/// A claim of the one actor, with the gates and the pass by which its cell is given back.
-#[derive(Drop)]
+/// A claim of the one actor, with the gates and the pass by which its cell is given back. Where it is dropped, the cell is given
+/// back too.
 struct SentClaim {
     gates: Gates<TestHome>,
     pass: Pass<TestHome>,
     shift: FreshClaim,
     ghost same_gates: { (claim_id shift.claim ≡ gates_id gates) × (pass_id pass ≡ gates_id gates) },
     ghost present: { (held_actor shift.claim < actors_of gates) × (0 < actors_of gates) },
+}
+
+impl Drop for SentClaim {
+    fn drop(self) {
+        let SentClaim {
+            gates,
+            mut pass,
+            shift,
+        } = self;
+        shift.end(&gates, &mut pass);
+    }
 }
 
 impl SentClaim {

@@ -80,6 +80,21 @@ impl Single {
         }
     }
 
+    /// What is left of the actor while it is held, by a claim that is as it was taken.
+    pub fn left_while_held(self, alloc: Global) -> Result<Option<(u64, u64)>, Fail> {
+        let Single {
+            gates,
+            mut pass,
+            other,
+        } = self;
+        let Some(held) = tries::pooled(&gates, &mut pass) else {
+            return Err(Fail::from("it was not got"));
+        };
+        let left = Single { gates, pass, other }.left(alloc);
+        drop(held);
+        left
+    }
+
     /// What is left of the actor once one pass took over the other: its status word, and how many messages its list gave;
     /// `None` where a claim has it.
     pub fn left(self, alloc: Global) -> Result<Option<(u64, u64)>, Fail> {

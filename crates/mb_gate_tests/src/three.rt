@@ -1,7 +1,7 @@
 //! One thread holds an actor, suspends and resumes it and drains its list; two others send to it.
 ghost use Rattle.std.specs.Prelude.{◌≡◌, ◌<◌};
 ghost use Rattle.mb_gate.specs.NamedActors.{NamesBelow};
-ghost use Rattle.mb_gate.specs.Accessors.{gates_id, pass_id, claim_id, actors_of, held_actor};
+ghost use Rattle.mb_gate.specs.Accessors.{gates_id, pass_id, actors_of};
 
 use crate::calls::{enqueue, note_sent, second, waiting, word};
 use crate::fresh_claim::FreshClaim;
@@ -11,6 +11,7 @@ use crate::tries::got;
 use mb_gate::{Gates, Pass};
 use mb_msg::{Cause, SysMsg};
 use std::alloc::Global;
+use std::process::Abort;
 use std::sync::Wait;
 use std::test::Fail;
 use std::thread;
@@ -53,15 +54,13 @@ fn send<R: Wait>(
 }
 
 // Holds the actor, suspends and resumes it, and drains its list, until all messages came; then gives its cell back.
-fn hold<R: Wait>(
-    rt: &R,
-    gates: &Gates<TestHome>,
-    mut shift: FreshClaim,
-    mut pass: Pass<TestHome>,
-) -> OrderCheck
-    requires same_gates { (claim_id shift.claim ≡ gates_id gates.now) × (pass_id pass ≡ gates_id gates.now) }
-    requires present { held_actor shift.claim < actors_of gates.now }
+fn hold<R: Abort + Wait>(rt: &R, gates: &Gates<TestHome>, mut pass: Pass<TestHome>) -> OrderCheck
+    requires same_gates { pass_id pass ≡ gates_id gates.now }
+    requires present { 0 < actors_of gates.now }
 {
+    let mut shift = FreshClaim {
+        claim: got(rt, gates, &mut pass),
+    };
     let mut tally = NOTHING;
     for _ in rt.forever() {
         let _ = shift.suspend(gates);
@@ -80,18 +79,14 @@ fn hold<R: Wait>(
 fn one_holds_and_two_send(rt: HostRuntime) -> Result<(), Fail> {
     let alloc = rt.alloc();
     let (gates, mut pass) = gates_of_one(alloc)?;
-    let shift = FreshClaim {
-        claim: got(&rt, &gates, &mut pass),
-    };
     let holder = second(&gates, &mut pass);
     let a = second(&gates, &mut pass);
     let b = second(&gates, &mut pass);
     let (tally, sent) = join(
         &rt,
         || -> OrderCheck
-            requires { (claim_id shift.claim ≡ gates_id gates) × (pass_id holder ≡ gates_id gates)
-                × (held_actor shift.claim < actors_of gates) }
-        { hold(&rt, &gates, shift, holder) },
+            requires { (pass_id holder ≡ gates_id gates) × (0 < actors_of gates) }
+        { hold(&rt, &gates, holder) },
         || -> (u32, u32)
             requires { (pass_id a ≡ gates_id gates) × (pass_id b ≡ gates_id gates) × (actors_of gates ≡ 1) }
         { send_both(&rt, alloc, &gates, a, b) },

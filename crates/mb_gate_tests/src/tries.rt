@@ -4,7 +4,7 @@ ghost use Rattle.mb_gate.specs.Accessors.{gates_id, pass_id, claim_id, actors_of
 
 use crate::order_check::{OrderCheck, add_all};
 use crate::test_home::{GUARDIAN, TestHome};
-use mb_gate::{Claim, Gates, Pass, Tried};
+use mb_gate::{Claim, Gates, Pass, PooledClaim, Tried};
 use mb_msg::ActorId;
 use std::process::Abort;
 use std::sync::Wait;
@@ -39,6 +39,18 @@ pub fn attempt(gates: &Gates<TestHome>, pass: &mut Pass<TestHome>) -> Option<Cla
     ensures begun { IfSome result (λ claim. (taken_with claim ≡ []) × (recorded_by claim ≡ [])) }
 {
     claim_of(gates, pass, GUARDIAN)
+}
+
+/// The claim of the one actor as it was taken, which may be dropped, if the try wins.
+pub fn pooled(gates: &Gates<TestHome>, pass: &mut Pass<TestHome>) -> Option<PooledClaim<TestHome>>
+    requires same_gates { pass_id pass.old ≡ gates_id gates.now }
+    requires present { 0 < actors_of gates.now }
+    ensures same_gates { pass_id pass.new ≡ pass_id pass.old }
+{
+    match gates.try_schedule(pass, GUARDIAN) {
+        Tried::Got(claim) => Some(PooledClaim::new(claim)),
+        Tried::Already | Tried::Closed | Tried::Lost(_) => None,
+    }
 }
 
 /// Gets a claim.
@@ -77,7 +89,7 @@ pub enum Miss {
     Lost,
 }
 
-/// What a try answers that does not win. A claim that it gets is abandoned.
+/// What a try answers that does not win. A claim that it gets is given back.
 pub fn missed(gates: &Gates<TestHome>, pass: &mut Pass<TestHome>) -> Option<Miss>
     requires same_gates { pass_id pass.old ≡ gates_id gates.now }
     requires present { 0 < actors_of gates.now }
@@ -88,7 +100,7 @@ pub fn missed(gates: &Gates<TestHome>, pass: &mut Pass<TestHome>) -> Option<Miss
         Tried::Closed => Some(Miss::Closed),
         Tried::Lost(_) => Some(Miss::Lost),
         Tried::Got(claim) => {
-            claim.abandon();
+            give(gates, claim, pass);
             None
         }
     }

@@ -65,7 +65,7 @@ fn two_claims_are_of_two_actors(rt: HostRuntime) -> Result<(), Fail> {
         return Err(Fail::from("the first was not got"));
     };
     let Some(other) = claim_of(&gates, &mut pass, SECOND) else {
-        one.abandon();
+        give(&gates, one, &mut pass);
         return Err(Fail::from("the second was not got"));
     };
     assert!(rt; are_of_two(&gates, one, other, &mut pass));

@@ -23,3 +23,4 @@ pub mod TakenLemmas
 pub mod TellLaw
 pub mod TellLemmas
 pub mod TellSteps
+pub mod UnusedHomeLaw

@@ -8,3 +8,4 @@ pub mod AgreesWithJournal
 pub mod Steps
 pub mod Taken
 pub mod Fresh
+pub mod UnusedHome

@@ -10,6 +10,7 @@ ghost use Rattle.mb_home.specs.NamedActors.{NamesActors, SendsBelow};
 ghost use Rattle.mb_home.specs.Numbers.{applied_numbers, numbers_in, times};
 ghost use Rattle.mb_home.specs.AgreesWithJournal.{AgreesWithJournal};
 ghost use Rattle.mb_home.specs.Steps.{AppliesNext, Begins};
+ghost use Rattle.mb_home.specs.UnusedHome.{IsUnusedUntilRun};
 
 use mb_actor::Behaviours;
 
@@ -43,4 +44,10 @@ pub fn what_is_sent_names_actors<K: Behaviours>()
         → NamesActors new × SendsBelow new.cell.who.actors new.cell.acts }
     ensures begun { (old new : Contents) (reading : ℕ) → NamesActors old → AgreesWithJournal (K.gives new.cell.who.this.0) new.cell.acts new
         → Begins old new reading → NamesActors new × SendsBelow new.cell.who.actors new.cell.acts }
+{}
+
+/// A law: an actor's home whose journal is empty is one to which nothing came. Nothing was taken, sent, dropped or cleaned up,
+/// and nothing is dead.
+pub fn a_home_is_unused_until_its_actor_is_run<K: Behaviours>()
+    ensures { IsUnusedUntilRun K.gives }
 {}

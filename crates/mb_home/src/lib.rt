@@ -14,6 +14,6 @@ pub use boxed_home::BoxedHome;
 pub use entry_snapshot::EntrySnapshot;
 pub use home::{Home, HomeParts};
 pub use laws::{
-    system_messages_stand_once, tells_are_numbered, what_is_sent_names_actors,
-    what_waits_at_the_end_is_dead,
+    a_home_is_unused_until_its_actor_is_run, system_messages_stand_once, tells_are_numbered,
+    what_is_sent_names_actors, what_waits_at_the_end_is_dead,
 };

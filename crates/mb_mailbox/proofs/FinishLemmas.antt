@@ -41,7 +41,7 @@ use Rattle.mb_mailbox.specs.Loaded.{loaded_words, BeginsAt}
 use Rattle.mb_mailbox.specs.OnlyDrained.{TakesOnlyDrained}
 use Rattle.mb_mailbox.specs.Emptied.{FindsNoMore, IsCleared}
 use Rattle.mb_mailbox.specs.RunState.{RunState, run_state}
-use Rattle.mb_mailbox.specs.RunSends.{IsSentByRun, given_by}
+use Rattle.mb_mailbox.specs.RunSends.{IsSentByRun, given_by, listed_by, listed_of}
 use Rattle.mb_mailbox.specs.Ran.{LastTakeFoundNone, LastTakeHadRoom, EndsDrained, EndsEmpty, GivesBackOne, HadRoom, CountsRun, LeavesRun, systems_in, taken_of}
 use Rattle.mb_mailbox.specs.Recorded.{GrowAlike}
 use Rattle.mb_mailbox.specs.Running.{IsRunning, BacklogAgrees, SameRun}
@@ -51,8 +51,8 @@ use Rattle.mb_mailbox.proofs.CountLemmas.{begun-since, begun-blocks, counted-all
 use Rattle.mb_register.proofs.MoveLemmas.{looks-take-none}
 use Rattle.mb_mailbox.proofs.RestLemmas.{closed-front}
 use Rattle.mb_register.proofs.SendingLemmas.{looks-send-none, sends-append}
-use Rattle.mb_mailbox.proofs.RecordedLemmas.{looks-give-none}
-use Rattle.mb_mailbox.proofs.RunSendsLemmas.{given-append}
+use Rattle.mb_mailbox.proofs.RecordedLemmas.{looks-give-none, looks-list-none}
+use Rattle.mb_mailbox.proofs.RunSendsLemmas.{given-append, listed-append}
 use Rattle.mb_mailbox.proofs.RunningMoves.{status-at}
 use Rattle.mb_mailbox.proofs.RunningSteps.{each-right}
 use Rattle.mb_mailbox.proofs.SentDueLemmas.{told-all}
@@ -135,6 +135,14 @@ module _ (actor : ℕ) (journal : List Entry) (v w mid : View) (obligations : v.
         ap given_by log-after ∙ given-append (looks.looks ++ []) (Saw actor journal ∷ (w.log ++ v.log))
         ∙ ap (λ l. given_by (w.log ++ v.log) ++ l) (given-append looks.looks [] ∙ looks-give-none actor looks.looks looks.only)
         ∙ append-nil (given_by (w.log ++ v.log)) ∙ given-append w.log v.log
+
+    -- what the pass put into lists, and the claim nothing
+    pub listed-after : listed_by v.log ≡ [] → listed_by new.log ≡ listed_by w.log
+    listed-after none =
+        ap listed_by log-after ∙ listed-append (looks.looks ++ []) (Saw actor journal ∷ (w.log ++ v.log))
+        ∙ ap (λ l. l ++ listed_by (w.log ++ v.log))
+        (listed-append looks.looks [] ∙ append-nil (listed_by looks.looks) ∙ looks-list-none actor looks.looks looks.only)
+        ∙ listed-append w.log v.log ∙ ap (λ l. listed_by w.log ++ l) none ∙ append-nil (listed_by w.log)
 
     -- the claim's own steps, besides what it knew before and did itself
     pub steps-taken : {H : Type 0} (a b : Caller H) → b.view ≡ w → CallerAdvances a b → TakesOver a.view new v.log
@@ -234,7 +242,8 @@ pub leaves-run : (throughput : ℕ) (first last : Claim (Box Contents)) (old pas
     Each (GoesOn (held_actor last) (taken_with last)) old.log → pass.share ≡ old.share →
     GivesBackOne (record { actor = held_actor last; taken = taken_with last; back = last.home.value.cell.journal }) old pass →
     TakesOver old pass (claim_view last).log → (w : View) → GrowAlike (recorded_by first) old (recorded_by last) w →
-    pass.sent_system ≡ w.sent_system → given_by pass.log ≡ given_by (claim_view last).log ++ given_by w.log →
+    pass.sent_system ≡ w.sent_system → listed_by pass.log ≡ listed_by w.log →
+    given_by pass.log ≡ given_by (claim_view last).log ++ given_by w.log →
     recorded_by first ≡ [] →
     IsSentByRun first.home.value.cell.who (held_actor first) last.home.value.cell.journal first.home.value.cell.journal first.home.value.rest
     (claim_view last).log (recorded_by last) → (claim_view first).log ≡ [] →
@@ -243,12 +252,13 @@ pub leaves-run : (throughput : ℕ) (first last : Claim (Box Contents)) (old pas
     (closed last.home.value.cell.who last.home.value.cell.journal ≡ false → last.home.value.cleaned ≡ []) →
     (EndsEmpty stopped (closed first.home.value.cell.who last.home.value.cell.journal) → FindsNoMore first.home.value.take last.home.value.take) →
     LeavesRun throughput first old pass last.home.value.cell.journal turn stopped
-leaves-run throughput first last old pass turn stopped taken same t few reason ends room only_drained saw goes_on share gives_back part w sends kept given unsent told fresh at_first at_last keeps empty =
+leaves-run throughput first last old pass turn stopped taken same t few reason ends room only_drained saw goes_on share gives_back part w sends kept puts given unsent told fresh at_first at_last keeps empty =
     let before : (run_state last).before ≡ first.home.value.cell.journal = same.before ∙ taken in
     let journal = last.home.value.cell.journal in
     let blocks : AreBlocks first.home.value.cell.who first.home.value.cell.journal turn.envelopes journal =
     subst (λ (x : Identity × List Entry). AreBlocks x.0 x.1 turn.envelopes journal) (λ i. (same.who i, before i)) t.blocks in
     let steps = (claim_view last).log in
+    let all_sent : sends.more ≡ recorded_by last = sym (sends.recorded ∙ ap (λ l. l ++ sends.more) unsent) in
     let since = begun-since first.home.value.cell.who first.home.value.cell.journal journal turn.envelopes blocks in
     let counted : total (counted_off (held_actor first)) steps ≡ turn.envelopes + length last.home.value.cleaned =
     ap (λ n. total (counted_off n) steps) (sym same.actor)
@@ -275,8 +285,9 @@ leaves-run throughput first last old pass turn stopped taken same t few reason e
       taken_over = part;
       told = recorded_by last;
       told_is = told;
+      puts = puts ∙ sends.puts ∙ ap (λ l. listed_of (reverse l) ++ listed_by old.log) all_sent;
       given = given ∙ ap (λ l. given_by (claim_view last).log ++ l) sends.got_nothing;
-      sent_system = kept ∙ sends.sent ∙ ap (λ l. reverse l ++ old.sent_system) (sym (sends.recorded ∙ ap (λ l. l ++ sends.more) unsent));
+      sent_system = kept ∙ sends.sent ∙ ap (λ l. reverse l ++ old.sent_system) all_sent;
       only_drained = subst (λ n. TakesOnlyDrained n (claim_view last).log) same.actor only_drained;
       begins = subst (λ j. BeginsAt (loaded_words (claim_view last).log) j journal) before t.begins;
       last = subst (λ n. EndsDrained n (claim_view last).log stopped) same.actor ends;

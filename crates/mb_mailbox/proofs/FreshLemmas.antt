@@ -111,6 +111,7 @@ module _ (gives : ℕ → Moment → Reply → Type 0) (origin : Origin (Box Con
           named = u.same_gates.of_actor.named;
           sends = tt;
           only_drained = tt;
+          puts_nothing = refl;
           owes_nothing = refl;
           bare = refl;
           none_released = refl;

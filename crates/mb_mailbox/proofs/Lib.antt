@@ -13,6 +13,7 @@ pub mod RunningMoves
 pub mod AnswerLemmas
 pub mod NamedLemmas
 pub mod RunSendsLemmas
+pub mod ListedLemmas
 pub mod RecordedLemmas
 pub mod SendSystemLemmas
 pub mod StepSendsLemmas

@@ -4,6 +4,7 @@ use Rattle.std.proofs.lemmas.List.{reverse-append}
 use Rattle.mb_msg.specs.declared.id.ActorId.{ActorId}
 use Rattle.mb_msg.specs.declared.envelope.Body.{Body}
 use Rattle.mb_ghost.specs.Seen.{Each}
+use Rattle.mb_ghost.proofs.SeenLemmas.{each_weaker}
 use Rattle.mb_gate.specs.View.{View, SentSystem}
 use Rattle.mb_gate.specs.View.{Observation, Read, Saw, Counted, Looked, Sent, Unsent, Took, Pushed, Drained, Ended}
 use Rattle.mb_home.specs.Contents.{Contents}
@@ -11,22 +12,31 @@ use Rattle.mb_register.specs.Views.{Does, IsLook}
 use Rattle.mb_register.specs.declared.hint.Hint.{Hint}
 use Rattle.mb_register.specs.declared.hint.Hint.TheVariants as hint
 use Rattle.mb_mailbox.specs.Recorded.{GrowAlike}
-use Rattle.mb_mailbox.specs.RunSends.{given_by}
+use Rattle.mb_mailbox.specs.RunSends.{given_by, listed_by, listed_of}
 use Rattle.mb_mailbox.specs.Sending.{HintTells}
-use Rattle.mb_mailbox.proofs.RunSendsLemmas.{given-append}
+use Rattle.mb_mailbox.proofs.RunSendsLemmas.{given-append, listed-append, listed_of-append}
 
 module _ (r : List SentSystem) (v : View) (r' : List SentSystem) (v' : View) where
   -- nothing was sent
-  pub alike-quiet : r' ≡ r → v'.sent_system ≡ v.sent_system → given_by v'.log ≡ given_by v.log → GrowAlike r v r' v'
-  alike-quiet recorded sent given = record { more = []; recorded = recorded ∙ sym (append-nil r); sent = sent; got_nothing = given }
+  pub alike-quiet : r' ≡ r → v'.sent_system ≡ v.sent_system → listed_by v'.log ≡ listed_by v.log → given_by v'.log ≡ given_by v.log →
+      GrowAlike r v r' v'
+  alike-quiet recorded sent puts given = record {
+    more = [];
+    recorded = recorded ∙ sym (append-nil r);
+    sent = sent;
+    puts = puts;
+    got_nothing = given;
+  }
 
   -- and the pass did nothing
   pub alike-still : r' ≡ r → v' ≡ v → GrowAlike r v r' v'
-  alike-still recorded same = alike-quiet recorded (ap (λ (x : View). x.sent_system) same) (ap (λ (x : View). given_by x.log) same)
+  alike-still recorded same =
+      alike-quiet recorded (ap (λ (x : View). x.sent_system) same) (ap (λ (x : View). listed_by x.log) same) (ap (λ (x : View). given_by x.log) same)
 
   -- one message was
-  pub alike-one : (m : SentSystem) → r' ≡ r ++ m ∷ [] → v'.sent_system ≡ m ∷ v.sent_system → given_by v'.log ≡ given_by v.log → GrowAlike r v r' v'
-  alike-one m recorded sent given = record { more = m ∷ []; recorded = recorded; sent = sent; got_nothing = given }
+  pub alike-one : (m : SentSystem) → r' ≡ r ++ m ∷ [] → v'.sent_system ≡ m ∷ v.sent_system →
+      listed_by v'.log ≡ listed_of (m ∷ []) ++ listed_by v.log → given_by v'.log ≡ given_by v.log → GrowAlike r v r' v'
+  alike-one m recorded sent puts given = record { more = m ∷ []; recorded = recorded; sent = sent; puts = puts; got_nothing = given }
 
   pub alike-then : (r'' : List SentSystem) (v'' : View) → GrowAlike r v r' v' → GrowAlike r' v' r'' v'' → GrowAlike r v r'' v''
   alike-then r'' v'' p q = record {
@@ -35,6 +45,10 @@ module _ (r : List SentSystem) (v : View) (r' : List SentSystem) (v' : View) whe
     sent =
         q.sent ∙ ap (λ l. reverse q.more ++ l) p.sent ∙ sym (append_assoc (reverse q.more) (reverse p.more) v.sent_system)
         ∙ ap (λ l. l ++ v.sent_system) (sym (reverse-append p.more q.more));
+    puts =
+        q.puts ∙ ap (λ l. listed_of (reverse q.more) ++ l) p.puts
+        ∙ sym (append_assoc (listed_of (reverse q.more)) (listed_of (reverse p.more)) (listed_by v.log))
+        ∙ ap (λ l. l ++ listed_by v.log) (sym (listed_of-append (reverse q.more) (reverse p.more)) ∙ ap listed_of (sym (reverse-append p.more q.more)));
     got_nothing = q.got_nothing ∙ p.got_nothing;
   }
 
@@ -52,7 +66,34 @@ looks-give-none id (Pushed a n m ∷ looks) only = absurd only.0
 looks-give-none id (Drained a given ∷ looks) only = absurd only.0
 looks-give-none id (Ended a given ∷ looks) only = absurd only.0
 
--- nor what a pass does besides, where this is no drain
+-- and puts nothing into a list
+pub look-lists-none : (id : ℕ) (s : Observation) → IsLook id s → listed_by (s ∷ []) ≡ []
+look-lists-none id (Read a n) is = refl
+look-lists-none id (Saw a n) is = refl
+look-lists-none id (Counted a n) is = refl
+look-lists-none id (Looked a n) is = refl
+look-lists-none id (Sent a n) is = absurd is
+look-lists-none id (Unsent a n) is = absurd is
+look-lists-none id (Took a n) is = absurd is
+look-lists-none id (Pushed a n m) is = absurd is
+look-lists-none id (Drained a given) is = absurd is
+look-lists-none id (Ended a given) is = absurd is
+
+pub all-list-none : (log : List Observation) → Each (λ s. listed_by (s ∷ []) ≡ []) log → listed_by log ≡ []
+all-list-none [] none = refl
+all-list-none (s ∷ log) none = listed-append (s ∷ []) log ∙ (λ i. none.0 i ++ all-list-none log none.1 i)
+
+pub looks-list-none : (id : ℕ) (looks : List Observation) → Each (IsLook id) looks → listed_by looks ≡ []
+looks-list-none id looks only = all-list-none looks (each_weaker (IsLook id) (λ s. listed_by (s ∷ []) ≡ []) looks (look-lists-none id) only)
+
+-- what a pass did besides is all that it put into lists
+pub does-list : (id : ℕ) (did : List Observation) (told : List SentSystem) (a b : View) → Does id did told a b →
+    listed_by b.log ≡ listed_by did ++ listed_by a.log
+does-list id did told a b d =
+    ap listed_by d.log ∙ listed-append (d.looks ++ did) a.log
+    ∙ ap (λ l. l ++ listed_by a.log) (listed-append d.looks did ∙ ap (λ l. l ++ listed_by did) (looks-list-none id d.looks d.only))
+
+-- what a pass does besides gives nothing, where it is no drain
 pub does-give-none : (id : ℕ) (did : List Observation) (told : List SentSystem) (a b : View) → given_by did ≡ [] → Does id did told a b →
     given_by b.log ≡ given_by a.log
 does-give-none id did told a b none d =
@@ -60,12 +101,17 @@ does-give-none id did told a b none d =
     ∙ ap (λ l. given_by a.log ++ l) (given-append d.looks did ∙ (λ i. none i ++ looks-give-none id d.looks d.only i))
     ∙ append-nil (given_by a.log)
 
--- a tell sends no system message, and gets nothing out of a list
+-- a tell sends no system message, puts none into a list, and gets nothing out of one
 module _ (to : ActorId) (body : Body) (old new : View) (home left : Contents) where
   pub sent-tells : (given : Hint) → HintTells given to body old new home left → new.sent_system ≡ old.sent_system
   sent-tells hint.None t = t.did.sent_system
   sent-tells hint.Message t = t.did.sent_system
   sent-tells hint.System t = absurd t
+
+  pub listed-tells : (given : Hint) → HintTells given to body old new home left → listed_by new.log ≡ listed_by old.log
+  listed-tells hint.None t = does-list to.0 _ [] old new t.did
+  listed-tells hint.Message t = does-list to.0 _ [] old new t.did
+  listed-tells hint.System t = absurd t
 
   pub given-tells : (given : Hint) → HintTells given to body old new home left → given_by new.log ≡ given_by old.log
   given-tells hint.None t = does-give-none to.0 _ [] old new refl t.did

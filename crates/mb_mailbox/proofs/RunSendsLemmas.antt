@@ -13,10 +13,10 @@ use Rattle.mb_journal.specs.Identity.{Identity}
 use Rattle.mb_ghost.specs.Seen.{Each}
 use Rattle.mb_ghost.proofs.SeenLemmas.{each_append, each_weaker}
 use Rattle.mb_gate.specs.SentSystem.{SplitClaim, Listed, Dropped, Answered, Parting, IsRightPart, due_of_part, due_since, messages_of, sent_by_part}
-use Rattle.mb_gate.specs.View.{Observation, Read, Saw, Counted, Looked, Sent, Unsent, Took, Pushed, Drained, Ended}
+use Rattle.mb_gate.specs.View.{Observation, SentSystem, Read, Saw, Counted, Looked, Sent, Unsent, Took, Pushed, Drained, Ended}
 use Rattle.mb_mailbox.specs.Notice.{asker}
 use Rattle.mb_mailbox.specs.RunState.{RunState}
-use Rattle.mb_mailbox.specs.RunSends.{SendsAndAnswers, TakesSystemsIn, SendsDue, SendsForEntries, askers_of, came_since, given_by, number_if_some, told_of_end}
+use Rattle.mb_mailbox.specs.RunSends.{SendsAndAnswers, TakesSystemsIn, SendsDue, SendsForEntries, askers_of, came_since, given_by, listed_by, listed_of, number_if_some, told_of_end}
 
 -- ---- lists, one after another
 
@@ -32,6 +32,25 @@ given-append (Sent a n ∷ xs) ys = given-append xs ys
 given-append (Unsent a n ∷ xs) ys = given-append xs ys
 given-append (Took a n ∷ xs) ys = given-append xs ys
 given-append (Pushed a n m ∷ xs) ys = given-append xs ys
+
+pub listed-append : (xs ys : List Observation) → listed_by (xs ++ ys) ≡ listed_by xs ++ listed_by ys
+listed-append [] ys = refl
+listed-append (Pushed to n m ∷ xs) ys = ap (λ l. (to, m) ∷ l) (listed-append xs ys)
+listed-append (Read a n ∷ xs) ys = listed-append xs ys
+listed-append (Saw a n ∷ xs) ys = listed-append xs ys
+listed-append (Counted a n ∷ xs) ys = listed-append xs ys
+listed-append (Looked a n ∷ xs) ys = listed-append xs ys
+listed-append (Sent a n ∷ xs) ys = listed-append xs ys
+listed-append (Unsent a n ∷ xs) ys = listed-append xs ys
+listed-append (Took a n ∷ xs) ys = listed-append xs ys
+listed-append (Drained a given ∷ xs) ys = listed-append xs ys
+listed-append (Ended a given ∷ xs) ys = listed-append xs ys
+
+pub listed_of-append : (xs ys : List SentSystem) → listed_of (xs ++ ys) ≡ listed_of xs ++ listed_of ys
+listed_of-append [] ys = refl
+listed_of-append (s ∷ xs) ys =
+    ap (λ l. (if s.was_ended then [] else (s.to, s.message) ∷ []) ++ l) (listed_of-append xs ys)
+    ∙ sym (append_assoc (if s.was_ended then [] else (s.to, s.message) ∷ []) (listed_of xs) (listed_of ys))
 
 module _ (who : Identity) (first before : List Entry) where
   pub due-append : (newer : List Entry) → due_since who (newer ++ first) before ≡ due_since who first before ++ due_since who newer (first ++ before)

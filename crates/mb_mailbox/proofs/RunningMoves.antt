@@ -66,6 +66,7 @@ module _ (gives : ℕ → Moment → Reply → Type 0) (origin : Origin (Box Con
     named = named.0;
     sends = subst (λ n. SendsBelow n new.cell.acts) (ap (λ (c : CellView). c.who.actors) adds ∙ r.same_count) named.1;
     only_drained = r.only_drained;
+    puts_nothing = r.puts_nothing;
     owes_nothing = r.owes_nothing;
     bare = r.bare;
     none_released = r.none_released;

@@ -28,7 +28,7 @@ use Rattle.mb_home.specs.AgreesWithJournal.{AgreesWithJournal}
 use Rattle.mb_home.proofs.CarryLemmas.{leads-tell, leads-sys, leads-suspend, leads-resume, leads-close}
 use Rattle.mb_gate.specs.Untouched.{Origin}
 use Rattle.mb_mailbox.specs.OnlyDrained.{LoadedOpenLast, WasEnded, TakesOnlyDrained}
-use Rattle.mb_mailbox.specs.RunSends.{given_by}
+use Rattle.mb_mailbox.specs.RunSends.{given_by, listed_by}
 use Rattle.mb_mailbox.specs.RunState.{RunState}
 use Rattle.mb_mailbox.specs.Running.{IsRunning, IsKnownClosedTo, WereDrained}
 use Rattle.mb_mailbox.specs.SentDue.{HasSentDueExcept}
@@ -88,6 +88,7 @@ module _ (gives : ℕ → Moment → Reply → Type 0) (origin : Origin (Box Con
     named = r.named;
     sends = r.sends;
     only_drained = r.only_drained;
+    puts_nothing = r.puts_nothing;
     owes_nothing = r.owes_nothing;
     bare = r.bare;
     none_released = r.none_released;
@@ -119,6 +120,7 @@ module _ (gives : ℕ → Moment → Reply → Type 0) (origin : Origin (Box Con
       named = named;
       sends = sends;
       only_drained = r.only_drained;
+      puts_nothing = r.puts_nothing;
       owes_nothing = r.owes_nothing;
       bare = r.bare;
       none_released = r.none_released;
@@ -190,6 +192,7 @@ module _ (gives : ℕ → Moment → Reply → Type 0) (origin : Origin (Box Con
       named = r.named;
       sends = sends;
       only_drained = r.only_drained;
+      puts_nothing = r.puts_nothing;
       owes_nothing = r.owes_nothing;
       bare = r.bare;
       none_released = r.none_released;
@@ -245,6 +248,7 @@ module _ (gives : ℕ → Moment → Reply → Type 0) (origin : Origin (Box Con
       named = r.named;
       sends = sends;
       only_drained = r.only_drained;
+      puts_nothing = r.puts_nothing;
       owes_nothing = r.owes_nothing;
       bare = r.bare;
       none_released = r.none_released;
@@ -296,9 +300,9 @@ module _ (gives : ℕ → Moment → Reply → Type 0) (origin : Origin (Box Con
     -- the claim's own seat did something at its actor
     running-log : (pending : List Act) (gave : Bool) (given : ℕ) (drained : List (ℕ × SysMsg)) (s : Observation) → IsRunning gives origin pending seen h →
         ((m : ℕ × SysMsg) → IsAmong m h.drained → IsAmong m drained) → Each (λ m. IsAmong m drained) (given_by (s ∷ h.log)) →
-        TakesOnlyDrained h.actor (s ∷ h.log) →
+        TakesOnlyDrained h.actor (s ∷ h.log) → listed_by (s ∷ h.log) ≡ [] →
         IsRunning gives origin pending seen (record h { gave = gave; given = given; drained = drained; log = s ∷ h.log })
-    running-log pending gave given drained s r more logged only_drained = record {
+    running-log pending gave given drained s r more logged only_drained puts_nothing = record {
       same_gates = r.same_gates;
       present = r.present;
       directory = r.directory;
@@ -314,6 +318,7 @@ module _ (gives : ℕ → Moment → Reply → Type 0) (origin : Origin (Box Con
       named = r.named;
       sends = r.sends;
       only_drained = only_drained;
+      puts_nothing = puts_nothing;
       owes_nothing = r.owes_nothing;
       bare = r.bare;
       none_released = r.none_released;
@@ -324,22 +329,22 @@ module _ (gives : ℕ → Moment → Reply → Type 0) (origin : Origin (Box Con
         (record h { gave = gave; given = given; drained = h.drained ++ result; log = Drained h.actor result ∷ h.log })
     running-drained pending gave given result r =
         running-log pending gave given (h.drained ++ result) (Drained h.actor result) r (λ m. among_left m h.drained result)
-        (logged-more h.drained (given_by h.log) result r.logged) r.only_drained
+        (logged-more h.drained (given_by h.log) result r.logged) r.only_drained r.puts_nothing
 
     pub running-read : (pending : List Act) (word : ℕ) → IsRunning gives origin pending seen h →
         IsRunning gives origin pending seen (record h { log = Read h.actor word ∷ h.log })
-    running-read pending word r = running-log pending h.gave h.given h.drained (Read h.actor word) r (λ m is. is) r.logged r.only_drained
+    running-read pending word r = running-log pending h.gave h.given h.drained (Read h.actor word) r (λ m is. is) r.logged r.only_drained r.puts_nothing
 
     pub running-looked : (pending : List Act) → IsRunning gives origin pending seen h →
         IsRunning gives origin pending seen (record h { log = Looked h.actor true ∷ h.log })
-    running-looked pending r = running-log pending h.gave h.given h.drained (Looked h.actor true) r (λ m is. is) r.logged r.only_drained
+    running-looked pending r = running-log pending h.gave h.given h.drained (Looked h.actor true) r (λ m is. is) r.logged r.only_drained r.puts_nothing
 
     pub running-ended : (pending : List Act) (given : ℕ) (result : List (ℕ × SysMsg)) → IsRunning gives origin pending seen h →
         IsRunning gives origin pending seen (record h { given = given; drained = h.drained ++ result; log = Ended h.actor result ∷ h.log })
     running-ended pending given result r =
         running-log pending h.gave given (h.drained ++ result) (Ended h.actor result) r (λ m. among_left m h.drained result)
-        (logged-more h.drained (given_by h.log) result r.logged) r.only_drained
+        (logged-more h.drained (given_by h.log) result r.logged) r.only_drained r.puts_nothing
 
     pub running-taken : (pending : List Act) (n : ℕ) → LoadedOpenLast h.actor h.log ⊎ WasEnded h.actor h.log → IsRunning gives origin pending seen h →
         IsRunning gives origin pending seen (record h { log = Took h.actor n ∷ h.log })
-    running-taken pending n when r = running-log pending h.gave h.given h.drained (Took h.actor n) r (λ m is. is) r.logged (when, r.only_drained)
+    running-taken pending n when r = running-log pending h.gave h.given h.drained (Took h.actor n) r (λ m is. is) r.logged (when, r.only_drained) r.puts_nothing

@@ -1,6 +1,6 @@
 -- Which system messages a run sends, and what becomes of those that its actor's list gave (`akka.dispatch.Mailbox.processAllSystemMessages` and
 -- `cleanUp`; that a Create is answered too is this project's own profile).
-use Rattle.std.specs.Prelude.{◌≡◌, ℕ, if◌then◌else◌, true, false, List, [], ◌∷◌, ◌++◌, Option, Some, None, is_some}
+use Rattle.std.specs.Prelude.{◌≡◌, ℕ, ◌+◌, ◌==◌, if◌then◌else◌, true, false, List, [], ◌∷◌, ◌++◌, Option, Some, None, is_some}
 use Rattle.std.specs.List.{flat_map}
 use Rattle.mb_msg.specs.declared.id.ActorId.{ActorId}
 use Rattle.mb_msg.specs.declared.system.SysMsg.{SysMsg}
@@ -10,8 +10,10 @@ use Rattle.mb_journal.specs.Entry.Entry.{Handled, System, Dropped as DroppedEnve
 use Rattle.mb_journal.specs.Identity.{Identity}
 use Rattle.mb_journal.specs.Life.{closed}
 use Rattle.mb_ghost.specs.Seen.{Each}
+use Rattle.mb_ghost.specs.Summed.{total}
+use Rattle.mb_gate.specs.PutIn.{put_by}
 use Rattle.mb_gate.specs.SentSystem.{SplitClaim, Listed, Dropped, Answered, Parting, IsRightPart, due_of_part, due_since, sent_by_part}
-use Rattle.mb_gate.specs.View.{Observation, SentSystem, Drained, Ended}
+use Rattle.mb_gate.specs.View.{Observation, SentSystem, View, Pushed, Drained, Ended}
 use Rattle.mb_mailbox.specs.Notice.{asker}
 use Rattle.mb_mailbox.specs.RunState.{RunState}
 
@@ -21,6 +23,27 @@ given_by [] = []
 given_by (Drained actor given ∷ log) = given_by log ++ given
 given_by (Ended actor given ∷ log) = given_by log ++ given
 given_by (_ ∷ log) = given_by log
+
+-- What these steps put into lists, each message with its receiver. The newest stands first, as of the steps.
+abbrev pub listed_by : List Observation → List (ℕ × SysMsg)
+listed_by [] = []
+listed_by (Pushed to number message ∷ log) = (to, message) ∷ listed_by log
+listed_by (_ ∷ log) = listed_by log
+
+-- Those of these messages that a list took, each with its receiver, in the same order.
+abbrev pub listed_of : List SentSystem → List (ℕ × SysMsg)
+listed_of [] = []
+listed_of (s ∷ sent_system) = (if s.was_ended then [] else (s.to, s.message) ∷ []) ++ listed_of sent_system
+
+-- The measure of a system message that was sent, if this actor's list took it.
+abbrev pub listed_measure : ℕ → (SysMsg → ℕ) → SentSystem → ℕ
+listed_measure to measure s = if s.was_ended then 0 else if s.to == to then measure s.message else 0
+
+-- Between these views a pass put into lists just what it sent and they took, by any measure of messages.
+abbrev pub PutsAsSent : View → View → Type 0
+PutsAsSent old new = (to : ℕ) (measure : SysMsg → ℕ)
+    → put_by to (λ m. measure m.1) new + total (listed_measure to measure) old.sent_system
+    ≡ put_by to (λ m. measure m.1) old + total (listed_measure to measure) new.sent_system
 
 -- The system messages that came new to the cell with these entries, the earliest first: all but those that had been set aside, which go before others.
 -- The entries stand newest first and came after those before.

@@ -19,7 +19,7 @@ use Rattle.mb_gate.specs.Untouched.{Origin}
 use Rattle.mb_mailbox.specs.Loaded.{loaded_words}
 use Rattle.mb_mailbox.specs.OnlyDrained.{TakesOnlyDrained}
 use Rattle.mb_mailbox.specs.Emptied.{TakesOn}
-use Rattle.mb_mailbox.specs.RunSends.{given_by}
+use Rattle.mb_mailbox.specs.RunSends.{given_by, listed_by}
 use Rattle.mb_mailbox.specs.RunState.{RunState}
 use Rattle.mb_mailbox.specs.SentDue.{HasSentDueExcept}
 
@@ -35,8 +35,8 @@ WereDrained hold messages = Each (λ m. IsAmong m hold.drained) messages
 -- first home. The home agrees with its journal, and the status and the system messages that were sent are what the journal says, but for these acts,
 -- which are still to be carried out. The home and these acts name only actors of these gates. Each actor that the home says is closed is known to be.
 -- The claim knows that the list gave each system message that has an entry, is left beside the cell, or was drained by the claim's own seat. Each
--- envelope was taken right after a load of an open status word, when no system message was left to be drained, or cleaned up. The claim's seat owes
--- nothing, has no share, and gave no cell back.
+-- envelope was taken right after a load of an open status word, when no system message was left to be drained, or cleaned up. The claim's seat put
+-- nothing into a list, owes nothing, has no share, and gave no cell back.
 pub record IsRunning (gives : ℕ → Moment → Reply → Type 0) (origin : Origin (Box Contents)) (pending : List Act) (seen : List Observation) (hold : RunState)
     : Type 0 where
   pub same_gates : hold.gates ≡ origin.gates
@@ -54,6 +54,7 @@ pub record IsRunning (gives : ℕ → Moment → Reply → Type 0) (origin : Ori
   pub named : NamesActors hold.home
   pub sends : SendsBelow origin.actors pending
   pub only_drained : TakesOnlyDrained hold.actor hold.log
+  pub puts_nothing : listed_by hold.log ≡ []
   pub owes_nothing : hold.obligations ≡ []
   pub bare : hold.share ≡ []
   pub none_released : hold.releases ≡ []

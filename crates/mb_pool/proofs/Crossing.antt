@@ -12,9 +12,8 @@ use Rattle.crossbeam_deque.proofs.injector.Injector.TheSendSync as injector
 use Rattle.crossbeam_deque.proofs.handles.Worker.TheSendSync as worker
 use Rattle.crossbeam_deque.proofs.handles.Stealer.TheSendSync as stealer
 use Rattle.mb_gate.specs.declared.mailbox_state.MailboxState as resident
-use Rattle.mb_gate.proofs.Crossing.{claim_send}
+use Rattle.mb_gate.proofs.Crossing.{pooled_send}
 use Rattle.mb_pool.proofs.padding.Padding.TheSendSync as apart
-use Rattle.mb_pool.specs.contracts.pooled_claim.PooledClaim as parked
 use Rattle.mb_pool.specs.contracts.pool.Pool as pool
 use Rattle.mb_pool.specs.contracts.pool.Pool.TheInside as pool_inside
 use Rattle.mb_pool.specs.contracts.slots.Slots as slots
@@ -35,9 +34,6 @@ use Rattle.mb_pool.specs.contracts.end.PoolEnd.TheInside as end_inside
 use Rattle.mb_pool.specs.contracts.feed.Feed as feed
 use Rattle.mb_pool.specs.contracts.feed.Feed.TheInside as feed_inside
 
-pub parked_send : (H : RattleType) → IsSend H → IsSend (parked.the_row H)
-parked_send H home = declared_send (parked.the_type H) (claim_send H home, tt)
-
 pub pool_sync : (H : RattleType) (g : resident.Ghosts H.Denot) → IsSync (pool.the_row H g)
 pool_sync H g = view_sync _ _ _ _ _ (declared_sync (pool_inside.the_type H g) (
   search sendable,
@@ -53,30 +49,30 @@ pool_sync H g = view_sync _ _ _ _ _ (declared_sync (pool_inside.the_type H g) (
 module _ (H : RattleType) (g : resident.Ghosts H.Denot) (home : IsSend H) where
   slots_send : IsSend (slots.the_row H g)
   slots_send = declared_send (slots.the_type H g)
-      (search (sendable, std_crosses, heap_send, slotted.the_field_send, slotted.the_send, parked_send) depth 30, tt)
+      (search (sendable, std_crosses, heap_send, slotted.the_field_send, slotted.the_send, pooled_send) depth 30, tt)
 
   slots_sync : IsSync (slots.the_row H g)
   slots_sync = declared_sync (slots.the_type H g)
-      (search (sendable, std_crosses, heap_send, heap_sync, slotted.the_field_sync, slotted.the_sync, parked_send) depth 30, tt)
+      (search (sendable, std_crosses, heap_send, heap_sync, slotted.the_field_sync, slotted.the_sync, pooled_send) depth 30, tt)
 
   slots_port_send : IsSend (slots_port.the_row H g)
   slots_port_send = view_send _ _ _ _ _ (declared_send (slots_inside.the_type H g) (
     search (sendable, std_crosses, slots_send, slots_sync) depth 20,
-    (search (sendable, std_crosses, seat.the_send, parked_send) depth 20, tt),
+    (search (sendable, std_crosses, seat.the_send, pooled_send) depth 20, tt),
   ))
 
   feed_queue_send : IsSend (inlet.the_row H g)
   feed_queue_send = declared_send (inlet.the_type H g)
-      (search (sendable, std_crosses, heap_send, injector.the_field_send, injector.the_send, parked_send) depth 30, tt)
+      (search (sendable, std_crosses, heap_send, injector.the_field_send, injector.the_send, pooled_send) depth 30, tt)
 
   feed_queue_sync : IsSync (inlet.the_row H g)
   feed_queue_sync = declared_sync (inlet.the_type H g)
-      (search (sendable, std_crosses, heap_send, heap_sync, injector.the_field_sync, injector.the_sync, parked_send) depth 30, tt)
+      (search (sendable, std_crosses, heap_send, heap_sync, injector.the_field_sync, injector.the_sync, pooled_send) depth 30, tt)
 
   feed_queue_port_send : IsSend (inlet_port.the_row H g)
   feed_queue_port_send = view_send _ _ _ _ _ (declared_send (feed_queue_inside.the_type H g) (
     search (sendable, std_crosses, feed_queue_send, feed_queue_sync) depth 20,
-    (search (sendable, std_crosses, heap_send, web_seat.the_send, parked_send) depth 20, tt),
+    (search (sendable, std_crosses, heap_send, web_seat.the_send, pooled_send) depth 20, tt),
   ))
 
   pub shared_port_send : IsSend (shared_port.the_row H g)
@@ -84,7 +80,7 @@ module _ (H : RattleType) (g : resident.Ghosts H.Denot) (home : IsSend H) where
 
   deque_send : IsSend (deque.the_row H g)
   deque_send = declared_send (deque.the_type H g)
-      (search (sendable, std_crosses, heap_send, heap_sync, worker.the_field_send, worker.the_send, parked_send) depth 30, tt)
+      (search (sendable, std_crosses, heap_send, heap_sync, worker.the_field_send, worker.the_send, pooled_send) depth 30, tt)
 
   own_send : IsSend (own_deque.the_row H g)
   own_send = view_send _ _ _ _ _ (declared_send (own_inside.the_type H g)
@@ -94,8 +90,8 @@ module _ (H : RattleType) (g : resident.Ghosts H.Denot) (home : IsSend H) where
   thief_send = view_send _ _ _ _ _ (declared_send (thief_inside.the_type H g) (
     search sendable depth 20,
     (
-      search (sendable, std_crosses, heap_send, stealer.the_field_send, stealer.the_send, parked_send) depth 30,
-      (search (sendable, std_crosses, heap_send, rows_seat.the_send, parked_send) depth 20, tt),
+      search (sendable, std_crosses, heap_send, stealer.the_field_send, stealer.the_send, pooled_send) depth 30,
+      (search (sendable, std_crosses, heap_send, rows_seat.the_send, pooled_send) depth 20, tt),
     ),
   ))
 

@@ -7,7 +7,7 @@ use Rattle.crossbeam_deque.specs.Tasks as tasks
 use Rattle.crossbeam_deque.specs.Handles.{Pass, IsPassOf, SamePass}
 use Rattle.atomic_blocks.specs.Lent.{RowsId}
 use Rattle.mb_gate.specs.declared.claim.Claim.{Claim}
-use Rattle.mb_pool.specs.declared.pooled_claim.PooledClaim.{PooledClaim}
+use Rattle.mb_gate.specs.declared.pooled_claim.PooledClaim.{PooledClaim}
 use Rattle.mb_pool.specs.Items.{claims_of}
 use Rattle.mb_pool.specs.Ledger.{PortAccount, opened, unused, lending, borrowing, joining, spent}
 use Rattle.mb_pool.specs.Rule.{Kept, QueueMoment, PutsLast, TakesFirst}

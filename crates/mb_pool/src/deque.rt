@@ -5,11 +5,10 @@ ghost use Rattle.mb_pool.specs.Ledger.{borrowing, joining, lending, opened, unus
 ghost use Rattle.mb_pool.specs.Rule.{QueueMoment, PutsLast, TakesFirst};
 ghost use Rattle.mb_gate.specs.Untouched.{IsUntouched};
 
-use crate::pooled_claim::PooledClaim;
 use crate::port_ledger::PortLedger;
 use crate::rule::{Joins, Lends, Opens, PoolRule, Pushed, Scoped, Taken};
 use crossbeam_deque::{Pass, Worker};
-use mb_gate::{Claim, MailboxState};
+use mb_gate::{Claim, MailboxState, PooledClaim};
 use std::alloc::{AllocError, Global};
 
 /// The capacity with which a deque begins. It grows.
@@ -52,9 +51,9 @@ impl<H: MailboxState> Deque<H> {
             (worker_view self.new.worker))
             (λ back. (back ≡ claim) × (worker_view self.new.worker ≡ worker_view self.old.worker)) }
     {
-        match self.worker.push_as::<Pushed>(PooledClaim { claim }) {
+        match self.worker.push_as::<Pushed>(PooledClaim::new(claim)) {
             Ok(()) => Ok(()),
-            Err(parked) => Err(parked.open()),
+            Err(pooled) => Err(pooled.open()),
         }
     }
 
@@ -72,7 +71,7 @@ impl<H: MailboxState> Deque<H> {
             (worker_view self.new.worker)) }
     {
         match self.worker.pop_as::<Taken>() {
-            Some(parked) => Some(parked.open()),
+            Some(pooled) => Some(pooled.open()),
             None => None,
         }
     }

@@ -5,11 +5,10 @@ ghost use Rattle.mb_pool.specs.Ledger.{borrowing, joining, lending, opened, unus
 ghost use Rattle.mb_pool.specs.Rule.{QueueMoment, PutsLast, TakesFirst};
 ghost use Rattle.mb_gate.specs.Untouched.{IsUntouched};
 
-use crate::pooled_claim::PooledClaim;
 use crate::port_ledger::PortLedger;
 use crate::rule::{Joins, Lends, Opens, PoolRule, Pushed, Scoped, Taken};
 use crossbeam_deque::{Injector, InjectorPass, Steal};
-use mb_gate::{Claim, MailboxState};
+use mb_gate::{Claim, MailboxState, PooledClaim};
 use std::alloc::Global;
 use std::sync::Wait;
 
@@ -43,10 +42,10 @@ impl<H: MailboxState> FeedQueue<H> {
     {
         match self
             .queue
-            .push_as::<Pushed, R>(rt, pass, PooledClaim { claim })
+            .push_as::<Pushed, R>(rt, pass, PooledClaim::new(claim))
         {
             Ok(()) => Ok(()),
-            Err(parked) => Err(parked.open()),
+            Err(pooled) => Err(pooled.open()),
         }
     }
 
@@ -64,7 +63,7 @@ impl<H: MailboxState> FeedQueue<H> {
     {
         for _ in rt.forever() {
             match self.queue.steal_as::<Taken, R>(rt, pass) {
-                Steal::Success(parked) => return Some(parked.open()),
+                Steal::Success(pooled) => return Some(pooled.open()),
                 Steal::Empty => return None,
                 Steal::Retry => {}
             }

@@ -178,7 +178,6 @@ fn keep<H: MailboxState, R: Wait>(rt: &R, left: &mut Vec<Claim<H>>, claim: Claim
         left.push_reserved(claim);
         return;
     }
-    claim.abandon();
     stop(rt)
 }
 

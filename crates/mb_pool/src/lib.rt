@@ -29,7 +29,6 @@ mod new_end_deques;
 mod own_deque;
 mod padding;
 mod pool;
-mod pooled_claim;
 mod port_ledger;
 mod rule;
 mod shared_port;

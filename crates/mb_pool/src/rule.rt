@@ -1,11 +1,10 @@
 //! The rule of a queue of the pool and its steps, in the form that `crossbeam_queue` and `crossbeam_deque` are generic
 //! in.
-use crate::pooled_claim::PooledClaim;
 use crate::port_ledger::PortLedger;
 use crossbeam_deque::protocol as deque;
 use crossbeam_queue::protocol as queue;
 use crossbeam_queue::protocol::{Join, Split};
-use mb_gate::MailboxState;
+use mb_gate::{MailboxState, PooledClaim};
 use std::marker::{Brand, PhantomData};
 
 /// The rule: what each port knows is true of what the queue holds.
@@ -39,10 +38,11 @@ impl<H: MailboxState> deque::Protocol<PooledClaim<H>, PortLedger<H>> for PoolRul
 pub struct Pushed;
 
 impl<H: MailboxState> queue::Outcome<PooledClaim<H>, PortLedger<H>> for Pushed {
+    ghost use Rattle.mb_gate.specs.PooledClaims.{claim_in};
     ghost use Rattle.mb_pool.specs.Rule.{PutsLast};
     ghost use Rattle.mb_gate.specs.Untouched.{IsUntouched};
 
-    ghost then = { λ old p new. PutsLast (IsUntouched H.is_of H.facts) old p.claim new };
+    ghost then = { λ old p new. PutsLast (IsUntouched H.is_of H.facts) old (claim_in p) new };
 }
 
 /// What a push learns of a queue that it found full.
@@ -69,10 +69,11 @@ impl<H: MailboxState> deque::Outcome<PooledClaim<H>, PortLedger<H>> for Pushed {
 pub struct Taken;
 
 impl<H: MailboxState> queue::Outcome<PooledClaim<H>, PortLedger<H>> for Taken {
+    ghost use Rattle.mb_gate.specs.PooledClaims.{claim_in};
     ghost use Rattle.mb_pool.specs.Rule.{TakesFirst};
     ghost use Rattle.mb_gate.specs.Untouched.{IsUntouched};
 
-    ghost then = { λ old p new. TakesFirst (IsUntouched H.is_of H.facts) old p.claim new };
+    ghost then = { λ old p new. TakesFirst (IsUntouched H.is_of H.facts) old (claim_in p) new };
 }
 
 /// What a take learns of a queue that it found empty.

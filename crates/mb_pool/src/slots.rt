@@ -6,11 +6,10 @@ ghost use Rattle.mb_pool.specs.Moves.{WasFull};
 ghost use Rattle.mb_pool.specs.Rule.{QueueMoment, PutsLast, TakesFirst};
 ghost use Rattle.mb_gate.specs.Untouched.{IsUntouched};
 
-use crate::pooled_claim::PooledClaim;
 use crate::port_ledger::PortLedger;
 use crate::rule::{Joins, Lends, Opens, PoolRule, Pushed, Scoped, Taken};
 use crossbeam_queue::{Pass, RuledArrayQueue};
-use mb_gate::{Claim, MailboxState};
+use mb_gate::{Claim, MailboxState, PooledClaim};
 use std::sync::Wait;
 
 /// A bounded queue of `crossbeam_queue` under the pool's rule.
@@ -43,10 +42,10 @@ impl<H: MailboxState> Slots<H> {
     {
         match self
             .queue
-            .push_as::<Pushed, R>(rt, pass, PooledClaim { claim })
+            .push_as::<Pushed, R>(rt, pass, PooledClaim::new(claim))
         {
             Ok(()) => Ok(()),
-            Err(parked) => Err(parked.open()),
+            Err(pooled) => Err(pooled.open()),
         }
     }
 
@@ -61,7 +60,7 @@ impl<H: MailboxState> Slots<H> {
             (λ c. TakesFirst (IsUntouched H.is_of H.facts) (view pass.old) c (view pass.new)) }
     {
         match self.queue.pop_as::<Taken, R>(rt, pass) {
-            Some(parked) => Some(parked.open()),
+            Some(pooled) => Some(pooled.open()),
             None => None,
         }
     }

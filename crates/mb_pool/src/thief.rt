@@ -5,11 +5,10 @@ ghost use Rattle.mb_pool.specs.Places.{owner_of};
 ghost use Rattle.mb_pool.specs.Rule.{QueueMoment, TakesFirst};
 ghost use Rattle.mb_gate.specs.Untouched.{IsUntouched};
 
-use crate::pooled_claim::PooledClaim;
 use crate::port_ledger::PortLedger;
 use crate::rule::{PoolRule, Taken};
 use crossbeam_deque::{Pass, Steal, Stealer};
-use mb_gate::{Claim, MailboxState};
+use mb_gate::{Claim, MailboxState, PooledClaim};
 use std::alloc::Global;
 use std::marker::Model;
 use std::sync::Wait;
@@ -77,7 +76,7 @@ fn steal_first<H: MailboxState, R: Wait>(
 {
     for _ in rt.forever() {
         match stealer.steal_as::<Taken>(pass) {
-            Steal::Success(parked) => return Some(parked.open()),
+            Steal::Success(pooled) => return Some(pooled.open()),
             Steal::Empty => return None,
             Steal::Retry => {}
         }

@@ -1,10 +1,10 @@
 //! Pushes that are retried where memory is refused.
-ghost use Rattle.std.specs.Prelude.{◌≡◌};
-ghost use Rattle.mb_gate.specs.Untouched.{IsUntouched};
+ghost use Rattle.std.specs.Prelude.{◌≡◌, IfErr};
+ghost use Rattle.mb_gate.specs.Untouched.{IsAsTaken, IsUntouched};
 ghost use Rattle.mb_pool.specs.Moves.{given_back};
 ghost use Rattle.mb_pool.specs.Places.{gates_of, parts_of};
 
-use mb_gate::{Claim, MailboxState};
+use mb_gate::{Claim, MailboxState, PooledClaim};
 use mb_pool::{ClaimRefused, Feed, PoolEnd};
 use std::sync::Wait;
 
@@ -57,15 +57,18 @@ pub fn back<H>(refused: ClaimRefused<H>) -> Claim<H>
     }
 }
 
-fn told<H: Drop>(pushed: Result<(), ClaimRefused<H>>) -> PushAnswer {
+/// What the push answered. A claim that comes back is dropped.
+fn told<H: MailboxState>(pushed: Result<(), ClaimRefused<H>>) -> PushAnswer
+    requires untouched { IfErr pushed (λ refused. IsAsTaken H.is_of H.facts (given_back refused)) }
+{
     match pushed {
         Ok(()) => PushAnswer::Done,
         Err(ClaimRefused::Full(claim)) => {
-            claim.abandon();
+            drop(PooledClaim::new(claim));
             PushAnswer::Full
         }
         Err(ClaimRefused::NoMemory(claim)) => {
-            claim.abandon();
+            drop(PooledClaim::new(claim));
             PushAnswer::NoMemory
         }
     }

@@ -1,5 +1,6 @@
 -- What a run of a scenario's text came to (this project's own profile).
 use Rattle.std.specs.Prelude.{◌≡◌, ℕ, ◌+◌, IfSome, List, is_some, length}
+use Rattle.mb_dispatch.specs.Runs.{turns_in}
 use Rattle.heddleorange.specs.Turns.{CoverJournals}
 use Rattle.mb_scenario.specs.Plans.{ScenarioData}
 use Rattle.mb_scenario.specs.Reading.{IsReadAs}
@@ -16,4 +17,4 @@ pub record IsRunOf (text : List ℕ) (names : List (List ℕ)) (run : FinishedRu
   pub ran : IsOfScenario scenario run.report
   pub same_count : length run.report.actors.items ≡ length names + 1
   pub quiet : is_some run.turns ≡ scenario.quiet
-  pub covers : IfSome run.turns (λ turns. CoverJournals run.report turns.items)
+  pub covers : IfSome run.turns (λ turns. CoverJournals run.report (turns_in turns))

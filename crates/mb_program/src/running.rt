@@ -1,5 +1,6 @@
 //! A run, from the plan and its actors to the report.
 ghost use Rattle.std.specs.Prelude.{◌≡◌, ◌+◌, [], All, IfErr, IfOk, IfSome, is_some, length};
+ghost use Rattle.mb_dispatch.specs.Runs.{turns_in};
 ghost use Rattle.heddleorange.specs.NoReport.{IsErrorOfRun, IsRight};
 ghost use Rattle.heddleorange.specs.Orders.{lists_of};
 ghost use Rattle.heddleorange.specs.RunHeadline.{RunHeadline};
@@ -7,7 +8,7 @@ ghost use Rattle.heddleorange.specs.Turns.{CoverJournals};
 ghost use Rattle.heddleorange.specs.WholeRun.{IsReportOfRun, after_at, gives_at};
 
 use crate::orders::lists_of;
-use heddleorange::{Error, FailedRun, QuietRun, Report, Turn, run_in_order, run_on_threads};
+use heddleorange::{Error, FailedRun, QuietRun, Report, Turns, run_in_order, run_on_threads};
 use mb_actor::Actor;
 use mb_msg::{Plan, SenderOrder};
 use std::alloc::Global;
@@ -20,7 +21,7 @@ pub struct FinishedRun {
     /// What became of everything.
     pub report: Report,
     /// What each run of a mailbox did, in order, where the run was quiet. A run on threads has no such order.
-    pub turns: Option<Vec<Turn>>,
+    pub turns: Option<Turns>,
 }
 
 /// Runs the actors of a plan, in the order of their numbers from 1 on, with these sends: the report. A quiet run is one on the
@@ -43,7 +44,7 @@ pub fn run<A: Actor + Send, R: Threads + Wait + Sync>(
     ensures headline { IfOk result (λ run. RunHeadline plan (lists_of plan.senders sends.now) run.report) }
     ensures lines { IfOk result (λ run. length run.report.actors.items ≡ length actors.items + 1) }
     ensures turns { IfOk result (λ run. is_some run.turns ≡ is_quiet) }
-    ensures covers { IfOk result (λ run. IfSome run.turns (λ turns. CoverJournals run.report turns.items)) }
+    ensures covers { IfOk result (λ run. IfSome run.turns (λ turns. CoverJournals run.report (turns_in turns))) }
     ensures fault { IfErr result (IsErrorOfRun (gives_at actors.items A.gives) plan (length actors.items) (lists_of plan.senders sends.now)) }
 {
     if is_quiet {

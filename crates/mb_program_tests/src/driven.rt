@@ -1,7 +1,7 @@
 //! Whole runs, from bytes to bytes.
 use mb_program::{TrackedStream, run_program};
 use std::alloc::Global;
-use std::io::Read;
+use std::io::{Read, Write};
 use std::process::Abort;
 use std::sync::Wait;
 use std::thread::Threads;
@@ -61,19 +61,31 @@ pub fn ran<T: Threads + Wait + Sync, I: Read>(
 ) -> Outcome {
     let mut written = Vec::new(alloc);
     let mut errors = Vec::new(alloc);
-    let status = run_program(
-        rt,
-        alloc,
-        arguments,
-        &mut TrackedStream::new(reader),
-        &mut TrackedStream::new(&mut written),
-        &mut TrackedStream::new(&mut errors),
-    );
+    let status = status_of(rt, alloc, arguments, reader, &mut written, &mut errors);
     Outcome {
         status,
         written,
         errors,
     }
+}
+
+/// Runs the program on these streams: its status. Tests call it in place of `run_program`, since each call of that is costly to prove.
+pub fn status_of<T: Threads + Wait + Sync, I: Read, O: Write, E: Write>(
+    rt: &T,
+    alloc: Global,
+    arguments: usize,
+    reader: &mut I,
+    writer: &mut O,
+    errors: &mut E,
+) -> u8 {
+    run_program(
+        rt,
+        alloc,
+        arguments,
+        &mut TrackedStream::new(reader),
+        &mut TrackedStream::new(writer),
+        &mut TrackedStream::new(errors),
+    )
 }
 
 /// The same of a text, without arguments.

@@ -1,6 +1,5 @@
 //! What becomes of streams that fail.
-use crate::driven::{COUNT, COUNT_REPORT, Outcome, ran, same_bytes, see};
-use mb_program::{TrackedStream, run_program};
+use crate::driven::{COUNT, COUNT_REPORT, Outcome, ran, same_bytes, see, status_of};
 use std::alloc::Global;
 use std::io;
 use std::io::{Read, Write};
@@ -116,23 +115,19 @@ fn narrow_writer(alloc: Global, room: usize, fails: bool) -> Narrow {
     }
 }
 
-/// Runs the example with so much room on standard output and on the error output.
+/// Runs a text with so much room on standard output and on the error output.
 fn with_room<T: Threads + Wait + Sync>(
     rt: &T,
     alloc: Global,
     text: &[u8],
-    mut writer: Narrow,
-    mut errors: Narrow,
+    room: usize,
+    error_room: usize,
+    fails: bool,
 ) -> Outcome {
     let mut rest = text;
-    let status = run_program(
-        rt,
-        alloc,
-        0,
-        &mut TrackedStream::new(&mut rest),
-        &mut TrackedStream::new(&mut writer),
-        &mut TrackedStream::new(&mut errors),
-    );
+    let mut writer = narrow_writer(alloc, room, fails);
+    let mut errors = narrow_writer(alloc, error_room, fails);
+    let status = status_of(rt, alloc, 0, &mut rest, &mut writer, &mut errors);
     Outcome {
         status,
         written: writer.taken,
@@ -148,11 +143,7 @@ fn is_start<T: Abort>(rt: &T, found: &[u8], whole: &[u8], count: usize) {
 
 /// Gives so much room for the report of the example, whose writer then fails, or takes nothing more.
 fn try_output<T: Abort + Threads + Wait + Sync>(rt: &T, alloc: Global, room: usize, fails: bool) {
-    let (writer, errors) = (
-        narrow_writer(alloc, room, fails),
-        narrow_writer(alloc, 100, fails),
-    );
-    let found = with_room(rt, alloc, COUNT.as_bytes(), writer, errors);
+    let found = with_room(rt, alloc, COUNT.as_bytes(), room, 100, fails);
     assert_eq!(rt; found.status, 1, "with room for {room}");
     is_start(rt, &found.written, COUNT_REPORT.as_bytes(), room);
     same_bytes(rt, &found.errors, b"mailrun: 2 Os\n");
@@ -160,11 +151,7 @@ fn try_output<T: Abort + Threads + Wait + Sync>(rt: &T, alloc: Global, room: usi
 
 /// Gives so much room for the line of a text that is refused.
 fn try_line<T: Abort + Threads + Wait + Sync>(rt: &T, alloc: Global, room: usize, fails: bool) {
-    let (writer, errors) = (
-        narrow_writer(alloc, 100, fails),
-        narrow_writer(alloc, room, fails),
-    );
-    let found = with_room(rt, alloc, b"[", writer, errors);
+    let found = with_room(rt, alloc, b"[", 100, room, fails);
     assert_eq!(rt; found.status, 2, "with room for {room}");
     same_bytes(rt, &found.written, b"");
     is_start(rt, &found.errors, REFUSED, room);
@@ -188,11 +175,7 @@ fn a_writer_that_fails(rt: HostRuntime) {
 /// Gives just enough room for the report of the example, and none for errors.
 fn try_enough<T: Abort + Threads + Wait + Sync>(rt: &T, alloc: Global, fails: bool) {
     let report = COUNT_REPORT.as_bytes();
-    let (writer, errors) = (
-        narrow_writer(alloc, report.len(), fails),
-        narrow_writer(alloc, 0, fails),
-    );
-    let found = with_room(rt, alloc, COUNT.as_bytes(), writer, errors);
+    let found = with_room(rt, alloc, COUNT.as_bytes(), report.len(), 0, fails);
     see(rt, &found, 0, report, b"");
 }
 
@@ -202,30 +185,17 @@ fn a_writer_with_room(rt: HostRuntime) {
     try_enough(&rt, rt.alloc(), true);
 }
 
-/// Runs the example on this writer: the status, and whether nothing is on the error output.
-fn flushed<T: Threads + Wait + Sync>(rt: &T, alloc: Global, writer: &mut Flushing) -> (u8, bool) {
-    let mut rest = COUNT.as_bytes();
-    let mut errors = Vec::new(alloc);
-    let status = run_program(
-        rt,
-        alloc,
-        0,
-        &mut TrackedStream::new(&mut rest),
-        &mut TrackedStream::new(writer),
-        &mut TrackedStream::new(&mut errors),
-    );
-    (status, errors.is_empty())
-}
-
 /// Checks that the report is flushed once.
 fn try_flush<T: Abort + Threads + Wait + Sync>(rt: &T, alloc: Global, fails: bool) {
+    let mut rest = COUNT.as_bytes();
     let mut writer = Flushing {
         taken: Vec::new(alloc),
         flushes: 0,
         fails,
     };
-    let (status, is_quiet) = flushed(rt, alloc, &mut writer);
-    assert!(rt; status == u8::from(fails) && is_quiet == !fails && writer.flushes == 1);
+    let mut errors = Vec::new(alloc);
+    let status = status_of(rt, alloc, 0, &mut rest, &mut writer, &mut errors);
+    assert!(rt; status == u8::from(fails) && errors.is_empty() == !fails && writer.flushes == 1);
     same_bytes(rt, &writer.taken, COUNT_REPORT.as_bytes());
 }
 

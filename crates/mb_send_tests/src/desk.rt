@@ -1,5 +1,5 @@
 //! A stand-in for a home, and the gates of three actors.
-ghost use Rattle.std.specs.Prelude.{◌≡◌, ◌<◌, false, IfOk};
+ghost use Rattle.std.specs.Prelude.{◌≡◌, ◌<◌, IfOk};
 ghost use Rattle.mb_gate.specs.Accessors.{gates_id, pass_id, actors_of};
 
 use mb_gate::{Gates, MailboxState, Pass};
@@ -38,11 +38,11 @@ impl Target {
     }
 }
 
-/// A status that is neither suspended nor scheduled; its journal stays empty.
+/// A status, which is open as the gates begin, and how many messages its list gave; its journal stays empty.
 #[derive(Drop)]
 pub struct OpenHome {
-    status: Status,
-    ghost idle: { status ≡ record { closed = false; scheduled = false; count = 0 } },
+    pub(crate) status: Status,
+    pub(crate) given: u64,
 }
 
 impl MailboxState for OpenHome {
@@ -65,7 +65,7 @@ impl MailboxState for OpenHome {
       journal = [];
       mailbox = desk.status;
       no_backlog = Unit {0};
-      given = 0;
+      given = desk.given;
       drained = [];
       closed_to = [];
     } };
@@ -83,9 +83,9 @@ pub fn gates_of_three(alloc: Global) -> Result<(Gates<OpenHome>, Pass<OpenHome>)
     let Some(status) = Status::of(0) else {
         return Err(Fail::from("a valid word"));
     };
-    desks.push_reserved(OpenHome { status });
-    desks.push_reserved(OpenHome { status });
-    desks.push_reserved(OpenHome { status });
+    desks.push_reserved(OpenHome { status, given: 0 });
+    desks.push_reserved(OpenHome { status, given: 0 });
+    desks.push_reserved(OpenHome { status, given: 0 });
     match Gates::new(alloc, desks) {
         Ok(made) => Ok(made),
         Err(_) => Err(Fail::from("no memory")),

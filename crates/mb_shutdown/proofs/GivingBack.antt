@@ -1,8 +1,9 @@
 -- What is taken over as a run that was broken off ends, and what is shown of its actors.
-use Rattle.std.proofs.Common.{◌≡◌, ℕ, List, [], ◌∷◌, ◌++◌, refl, sym, ap, ◌∙◌, subst}
+use Rattle.std.proofs.Common.{◌≡◌, ℕ, List, [], ◌∷◌, ◌++◌, append-nil, refl, sym, ap, ◌∙◌, subst}
 use Rattle.std.specs.List.{AllZip}
 use Rattle.std.specs.Global.{Box}
 use Rattle.std.proofs.lemmas.List.Elements.{All-cons, All-nil, All-push}
+use Rattle.mb_actor.specs.Behaviour.{Moment, Reply}
 use Rattle.mb_gate.specs.Accessors.{gates_id, pass_view, pass_id}
 use Rattle.mb_gate.specs.Rule.{IsPart}
 use Rattle.mb_gate.specs.View.{View, Saw, idling, taking_in, taking_over}
@@ -11,6 +12,7 @@ use Rattle.mb_gate.specs.declared.gates.Gates.{Gates}
 use Rattle.mb_gate.specs.declared.pass.Pass.{Pass}
 use Rattle.mb_home.specs.Contents.{Contents}
 use Rattle.mb_system.specs.declared.end.WorkerEnd.{WorkerEnd}
+use Rattle.mb_shutdown.specs.Unfinished.{GivesBack, HaveGivenBack, by_first, by_one_more}
 use Rattle.mb_shutdown.proofs.Gathered.{HasEnds, next-came, seen_by_end}
 use Rattle.mb_shutdown.proofs.Parts.{part-back, part-front, part-trans, seen-by}
 
@@ -42,6 +44,33 @@ module _ {A K : Type 0} where
             (part-trans (seen_by_end e) (pass_view other).log (pass_view new).log part
             (subst (IsPart (pass_view other).log) (sym log) (part-front (pass_view other).log (pass_view old).log)));
       }
+
+module _ {A K : Type 0} (gives : ℕ → Moment → Reply → Type 0) (ends : List (WorkerEnd A K)) where
+  -- the first of these ends and those that came gave back all that they found in the pool, which the pass knows
+  pub record SomeHaveGivenBack (came rest : List (WorkerEnd A K)) (pass : Pass (Box Contents)) : Type 0 where
+    pub first : WorkerEnd A K
+    pub are : (first ∷ came) ++ rest ≡ ends
+    pub back : HaveGivenBack gives (first ∷ came) (pass_view pass)
+
+  pub given-first : (rest : List (WorkerEnd A K)) (e : WorkerEnd A K) (pass : Pass (Box Contents)) → e ∷ rest ≡ ends
+      → GivesBack gives e.registrar.run_queue.end (pass_view e.registrar.pass) (pass_view pass) → SomeHaveGivenBack [] rest pass
+  given-first rest e pass are back = record { first = e; are = are; back = by_first e (pass_view pass) back }
+
+  pub given-more : (came left rest : List (WorkerEnd A K)) (e : WorkerEnd A K) (old new other : Pass (Box Contents)) → SomeHaveGivenBack came left old
+      → left ≡ e ∷ rest → GivesBack gives e.registrar.run_queue.end (pass_view e.registrar.pass) (pass_view other)
+      → pass_view new ≡ taking_over (pass_view old) (pass_view other) → SomeHaveGivenBack (came ++ e ∷ []) rest new
+  given-more came left rest e old new other some next back knows = record {
+    first = some.first;
+    are = next-came (some.first ∷ came) e rest ends (ap (λ l. (some.first ∷ came) ++ l) (sym next) ∙ some.are);
+    back = subst (HaveGivenBack gives ((some.first ∷ came) ++ e ∷ [])) (sym knows)
+        (by_one_more (some.first ∷ came) e (pass_view old) (pass_view other) some.back back);
+  }
+
+  pub given-all : (came rest : List (WorkerEnd A K)) (pass : Pass (Box Contents)) → SomeHaveGivenBack came rest pass → rest ≡ []
+      → HaveGivenBack gives ends (pass_view pass)
+  given-all came rest pass some none =
+      let all = some.first ∷ came in
+      subst (λ l. HaveGivenBack gives l (pass_view pass)) (sym (append-nil all) ∙ ap (λ l. all ++ l) (sym none) ∙ some.are) some.back
 
 -- one more of each of two lists
 pub zip-push : {X Y : Type 0} (R : X → Y → Type 0) (xs : List X) (ys : List Y) (x : X) (y : Y) → AllZip R xs ys → R x y

@@ -3,7 +3,7 @@ ghost use Rattle.std.specs.Prelude.{◌≡◌, ◌<◌, ◌≤◌, [], All, IfOk
 ghost use Rattle.std.specs.List.{AllZip};
 ghost use Rattle.mb_gate.specs.Accessors.{gates_id, pass_id, pass_view};
 ghost use Rattle.mb_gate.specs.Rule.{IsPart};
-ghost use Rattle.mb_shutdown.specs.Unfinished.{AreUnfinished, ShowsCellNow, ShowsHome};
+ghost use Rattle.mb_shutdown.specs.Unfinished.{AreUnfinished, GivesBack, HaveGivenBack, ShowsCellNow, ShowsHome};
 ghost use Rattle.mb_system.specs.Members.{AreEndsOf, IsEndOf};
 
 use crate::boxed_home::BoxedHome;
@@ -75,6 +75,7 @@ fn give_all_back<A: Actor, K: Behaviours, R: Wait>(
     requires not_empty { 0 < length ends.items }
     ensures same_gates { pass_id result ≡ gates_id gates.now }
     ensures seen { All (λ e. IsPart (pass_view e.registrar.pass).log (pass_view result).log) ends.items }
+    ensures back { HaveGivenBack K.gives ends.items (pass_view result) }
 {
     let mut ends = ends.into_iter();
     let Some(first) = ends.next() else {
@@ -97,6 +98,7 @@ fn give_back<A: Actor, K: Behaviours, R: Wait>(
     requires same_gates { IsEndOf gates.now end.registrar }
     ensures same_gates { pass_id result ≡ gates_id gates.now }
     ensures seen { IsPart (pass_view end.registrar.pass).log (pass_view result).log }
+    ensures back { GivesBack K.gives end.registrar.run_queue.end (pass_view end.registrar.pass) (pass_view result) }
 {
     let mut end = end;
     for _ in rt.forever() {

@@ -72,7 +72,7 @@ directory-of directory others number (who ∷ whos) (t ∷ takes) (h ∷ homes) 
     ap (λ (x : Box Contents). x.value.directory) (sym (same_Some h first is)) ∙ ap (λ (c : Contents). c.directory) are.0
 
 -- the actors and the mailboxes of a plan
-housed-plan : (gives : ℕ → Moment → Reply → Type 0) (plan : Plan) (kinds : List MailboxType) (homes : List (Box Contents)) (outside : List (List SendPassView))
+pub housed-plan : (gives : ℕ → Moment → Reply → Type 0) (plan : Plan) (kinds : List MailboxType) (homes : List (Box Contents)) (outside : List (List SendPassView))
     (first : Box Contents) → AreKindsOf plan.actors.items kinds → AreNewHomes gives (actors_in plan) kinds plan.senders homes outside
     → slice_get homes 0 ≡ Some first → IsDirectoryOf plan first.value.directory
 housed-plan gives plan kinds homes outside first queues housed is =

@@ -7,3 +7,4 @@ pub mod Obligations
 pub mod Led
 pub mod Directories
 pub mod There
+pub mod NewActors

@@ -21,11 +21,12 @@ use Rattle.mb_build.specs.Kinds.{AreKindsOf}
 use Rattle.mb_send.specs.Sends.{AreRoutes, receiving_queues}
 use Rattle.mb_register.specs.Owed.{IsNobody}
 use Rattle.mb_system.specs.Members.{IsEndOf, IsSenderOf, pool_ends_of, pool_feeds_of}
-use Rattle.mb_system.specs.Shares.{shares_of}
+use Rattle.mb_system.specs.Shares.{shares_of, views_of}
 use Rattle.mb_system.specs.Belonging.{BelongsTogether}
 use Rattle.mb_system.specs.declared.built.Built.{Built}
 use Rattle.mb_system.specs.declared.end.WorkerEnd.{WorkerEnd}
 use Rattle.mb_system.specs.declared.sender.Sender.{Sender}
+use Rattle.mb_startup.specs.NewActors.{AreNewActors}
 
 -- A sender's passes: one into each of these queues, in order, for the sender of this number. Nothing was pushed by them.
 pub record IsUnused (queues : List Queue) (actors number : ℕ) (sends : List SendPassView) : Type 0 where
@@ -102,7 +103,8 @@ module _ {A K : Type 0} (gates : Gates (Box Contents)) where
 -- A new system of this plan. The actors' homes are as the plan says, its queues are of the plan's kinds and empty, and its pool is of the plan's
 -- kind. Its ends and its senders are unused; they have the ends and feeds of that pool, by which nothing was pushed or taken. One Create, to the
 -- guardian, is the only message that anybody put into a list: the first end put it there, and owes the guardian its first run. Nobody got a claim,
--- gave a cell back or owes anything else, and there are no passes but those of these ends and senders.
+-- gave a cell back or owes anything else, and there are no passes but those of these ends and senders. So each actor is new, in each state of the gates
+-- in which these ends and senders know what they know.
 pub record IsBegun {A K : Type 0} (gives : ℕ → Moment → Reply → Type 0) (plan : Plan) (built : Built A K) : Type 0 where
   pub together : BelongsTogether built
   pub kinds : List MailboxType
@@ -128,3 +130,4 @@ pub record IsBegun {A K : Type 0} (gives : ℕ → Moment → Reply → Type 0) 
   pub unclaimed : (pass_view end.registrar.pass).got ≡ []
   pub none_released : (pass_view end.registrar.pass).releases ≡ []
   pub whole : IsWhole (shares_of built)
+  pub new_actors : AreNewActors gives plan built.system.gates (views_of built)

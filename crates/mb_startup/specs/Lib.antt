@@ -1,4 +1,5 @@
 pub mod Shared
+pub mod NewActors
 pub mod Begun
 pub mod NewGates
 pub mod Unbuilt

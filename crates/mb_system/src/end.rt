@@ -7,13 +7,16 @@ ghost use Rattle.mb_gate.specs.View.{obligation_to};
 ghost use Rattle.mb_pool.specs.Places.{gates_of, ports_of};
 ghost use Rattle.mb_pool.specs.Moves.{Takes, WasEmpty};
 ghost use Rattle.mb_register.specs.Caller.{IsDischargedOrOwed, LeavesCaller};
+ghost use Rattle.mb_register.specs.Due.{GotOnlyDue};
 ghost use Rattle.mb_home.specs.Fresh.{IsFreshClaim};
 ghost use Rattle.mb_register.specs.Owed.{is_owed};
 ghost use Rattle.mb_register.specs.Views.{LooksAfter};
-ghost use Rattle.mb_register.specs.Registering.{IsRegistered, StopsAt};
+ghost use Rattle.mb_register.specs.Registering.{HandsClaimOn, IsRegistered, LosesNoClaim, StopsAt};
+ghost use Rattle.mb_register.specs.declared.hint.Hint.TheVariants as hint;
 ghost use Rattle.mb_system.specs.Obligations.{AreDischargedOrOwed, KeepsObligations};
 ghost use Rattle.mb_system.specs.Members.{end_caller, IsEndOf};
 ghost use Rattle.mb_system.specs.OnlyLooks.{OnlyLooks};
+ghost use Rattle.mb_system.specs.Registered.{AreRegistered};
 
 use crate::failure::RunError;
 use crate::parting::pass_of;
@@ -59,7 +62,8 @@ impl<A: Actor, K: Behaviours> WorkerEnd<A, K> {
 
     /// Gives the actor's claim to the run queue, where the actor has to be given to a worker
     /// (`Dispatcher.registerForExecution`), and answers whether it did. The hint says that envelopes, or system messages, wait
-    /// for it, which saves reading that (`Mailbox.canBeScheduledForExecution`).
+    /// for it, which saves reading that (`Mailbox.canBeScheduledForExecution`). It takes the claim only of an actor that it saw to
+    /// be due.
     ///
     /// Where the run queue refuses the claim, the claim goes back, and a look is owed to the actor.
     pub fn register<R: Wait>(
@@ -75,13 +79,17 @@ impl<A: Actor, K: Behaviours> WorkerEnd<A, K> {
         ensures looks { LooksAfter id.0 (pass_view self.old.registrar.pass) (pass_view self.new.registrar.pass) }
         ensures discharged { IsDischargedOrOwed id.0 (end_caller self.new.registrar) }
         ensures registered { IsRegistered id.0 (end_caller self.old.registrar).account (end_caller self.new.registrar).account result }
+        ensures handed { HandsClaimOn id.0 (end_caller self.old.registrar).account (end_caller self.new.registrar).account
+            (pass_view self.old.registrar.pass) (pass_view self.new.registrar.pass) result }
+        ensures due { GotOnlyDue hint (pass_view self.old.registrar.pass) (pass_view self.new.registrar.pass) }
         ensures leaves { LeavesCaller (end_caller self.old.registrar) (end_caller self.new.registrar) }
         ensures number { self.new.number ≡ self.old.number }
     {
         self.registrar.register(rt, &system.gates, id, hint)
     }
 
-    /// Registers all actors, in the order of their numbers. Each is owed nothing then, or is in the set of actors that it owes a look.
+    /// Registers all actors, each once, in the order of their numbers. Each is owed nothing then, or is in the set of actors that
+    /// it owes a look.
     pub fn register_all<R: Wait>(&mut self, rt: &R, system: &System<A, K>)
         requires same_gates { IsEndOf system.now.gates self.old.registrar }
         ensures same_gates { IsEndOf system.now.gates self.new.registrar }
@@ -90,6 +98,8 @@ impl<A: Actor, K: Behaviours> WorkerEnd<A, K> {
         ensures discharged { AreDischargedOrOwed (actors_of system.now.gates) (end_caller self.new.registrar) }
         ensures number { self.new.number ≡ self.old.number }
         ensures log_kept { IsPart (pass_view self.old.registrar.pass).log (pass_view self.new.registrar.pass).log }
+        ensures registered { AreRegistered (end_caller self.old.registrar) (actors_of system.now.gates) (end_caller self.new.registrar) }
+        ensures due { GotOnlyDue hint.None (pass_view self.old.registrar.pass) (pass_view self.new.registrar.pass) }
     {
         for number in 0..system.gates.actors() {
             self.register(rt, system, ActorId(number as u32), Hint::None);
@@ -128,6 +138,9 @@ impl<A: Actor, K: Behaviours> WorkerEnd<A, K> {
         ensures looks { OnlyLooks (pass_view self.old.registrar.pass) (pass_view self.new.registrar.pass) }
         ensures number { self.new.number ≡ self.old.number }
         ensures log_kept { IsPart (pass_view self.old.registrar.pass).log (pass_view self.new.registrar.pass).log }
+        ensures handed { LosesNoClaim (end_caller self.old.registrar).account (end_caller self.new.registrar).account
+            (pass_view self.old.registrar.pass) (pass_view self.new.registrar.pass) }
+        ensures due { GotOnlyDue hint.None (pass_view self.old.registrar.pass) (pass_view self.new.registrar.pass) }
     {
         self.registrar.retry_refused(rt, &system.gates)?;
         Ok(())

@@ -9,10 +9,13 @@ ghost use Rattle.mb_send.specs.Answers.{IsSeen, IsSent, IsTold, Stops, receiver_
 ghost use Rattle.mb_send.specs.Asked.{RegistersAtMost};
 ghost use Rattle.mb_send.specs.Faults.{OnlyLooked, IsSameSendLog};
 ghost use Rattle.mb_send.specs.declared.send_error.SendError.TheVariants as Refusal;
+ghost use Rattle.mb_register.specs.Due.{GotOnlyDue};
 ghost use Rattle.mb_register.specs.Owed.{is_owed};
-ghost use Rattle.mb_register.specs.Registering.{StopsAt};
+ghost use Rattle.mb_register.specs.Registering.{LosesNoClaim, StopsAt};
+ghost use Rattle.mb_register.specs.declared.hint.Hint.TheVariants as hint;
 ghost use Rattle.mb_system.specs.Obligations.{KeepsObligations, OwesNobody};
 ghost use Rattle.mb_system.specs.Members.{IsSenderOf, sender_caller};
+ghost use Rattle.mb_system.specs.OnlyLooks.{OnlyLooks};
 ghost use Rattle.mb_register.specs.Views.{GivesBackUnchanged};
 
 use crate::failure::RunError;
@@ -170,8 +173,12 @@ impl<A: Actor, K: Behaviours> Sender<A, K> {
         ensures stops { MatchResult result
             (λ _. (sender_caller self.new.inner.registrar).account.refused ≡ (sender_caller self.old.inner.registrar).account.refused)
             (λ _. StopsAt (sender_caller self.old.inner.registrar).account (sender_caller self.new.inner.registrar).account) }
+        ensures looks { OnlyLooks (pass_view self.old.inner.registrar.pass) (pass_view self.new.inner.registrar.pass) }
         ensures log_kept { IsPart (pass_view self.old.inner.registrar.pass).log (pass_view self.new.inner.registrar.pass).log }
         ensures refused { OnErr result (IsErrOf result RunError.NoMemory) }
+        ensures handed { LosesNoClaim (sender_caller self.old.inner.registrar).account (sender_caller self.new.inner.registrar).account
+            (pass_view self.old.inner.registrar.pass) (pass_view self.new.inner.registrar.pass) }
+        ensures due { GotOnlyDue hint.None (pass_view self.old.inner.registrar.pass) (pass_view self.new.inner.registrar.pass) }
         ensures gives_back { GivesBackUnchanged (pass_view self.old.inner.registrar.pass) (pass_view self.new.inner.registrar.pass) }
         ensures share { (pass_view self.new.inner.registrar.pass).share ≡ (pass_view self.old.inner.registrar.pass).share }
         ensures same { ((pass_view self.new.inner.registrar.pass).sent_system ≡ (pass_view self.old.inner.registrar.pass).sent_system)

@@ -1,4 +1,3 @@
 pub mod Captured
 pub mod Crossing
 pub mod Given
-pub mod Got

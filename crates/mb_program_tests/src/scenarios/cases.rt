@@ -1,6 +1,6 @@
 //! Test cases as data: a line for each, with a text and its error.
 
-use mb_scenario::read;
+use mb_scenario::{ReadError, Scenario, read};
 use std::alloc::{AllocError, Global};
 use std::process::Abort;
 use std::test::Fail;
@@ -93,9 +93,14 @@ pub(crate) fn tells<R: Abort>(
     Ok(())
 }
 
+/// What is read of a text. Tests call it in place of `read`, whose contract each call would have to carry.
+pub(crate) fn scenario_of(alloc: Global, text: &[u8]) -> Result<Scenario, ReadError> {
+    read(alloc, text)
+}
+
 /// The error of a text as it is printed; empty where it has none.
 fn told(alloc: Global, text: &[u8]) -> Result<String, Fail> {
-    match read(alloc, text) {
+    match scenario_of(alloc, text) {
         Ok(_) => Ok(String::new(alloc)),
         Err(fault) => Ok(fault.to_string(alloc)?),
     }

@@ -1,7 +1,8 @@
 //! Memory that is refused: `tools/refuse_each_allocation reader` runs this with each allocation refused in turn.
 
+use crate::scenarios::cases::scenario_of;
 use crate::scenarios::whole::{WHOLE, check_whole};
-use mb_scenario::{ReadError, Scenario, read};
+use mb_scenario::{ReadError, Scenario};
 use std::alloc::Global;
 use std::process::Abort;
 use std::test::Fail;
@@ -9,10 +10,10 @@ use std::test::Fail;
 /// The scenario of the document with everything. Where memory is refused, the error says so, and the reading is
 /// retried.
 fn read_at_last<R: Abort>(rt: &R, alloc: Global) -> Result<Scenario, ReadError> {
-    match read(alloc, WHOLE.as_bytes()) {
+    match scenario_of(alloc, WHOLE.as_bytes()) {
         Err(fault) => {
             assert!(rt; matches!(&fault, ReadError::NoMemory));
-            read(alloc, WHOLE.as_bytes())
+            scenario_of(alloc, WHOLE.as_bytes())
         }
         Ok(scenario) => Ok(scenario),
     }
@@ -21,10 +22,10 @@ fn read_at_last<R: Abort>(rt: &R, alloc: Global) -> Result<Scenario, ReadError> 
 /// Whether the error of a text that fails a check is that place and reason; the reading is retried where memory is
 /// refused.
 fn tells_the_check_at_last<R: Abort>(rt: &R, alloc: Global) -> bool {
-    match read(alloc, b"actor = [{ name = 'a', start = ['add'] }]") {
+    match scenario_of(alloc, b"actor = [{ name = 'a', start = ['add'] }]") {
         Err(ReadError::BadScenario { place, reason: _ }) => place.as_str() == "actor 1 start 1",
         Err(ReadError::NoMemory) => {
-            let again = read(alloc, b"actor = [{ name = 'a', start = ['add'] }]");
+            let again = scenario_of(alloc, b"actor = [{ name = 'a', start = ['add'] }]");
             matches!(&again, Err(ReadError::BadScenario { .. }))
         }
         Err(ReadError::NotToml) => false,

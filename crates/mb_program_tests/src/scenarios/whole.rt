@@ -1,11 +1,12 @@
 //! Tests of a document with everything, and of what is read of it.
 
+use crate::scenarios::cases::scenario_of;
 use mb_actor::Actor;
 use mb_msg::{
     ActorId, ActorPlan, Directive, MailboxType, Order, OrderKind, Pattern, Payload, Plan, PoolKind,
     RankRow, SenderOrder,
 };
-use mb_scenario::{Scenario, read};
+use mb_scenario::Scenario;
 use mb_script::{Hooks, Operation, Row, Script};
 use std::process::Abort;
 use std::test::Fail;
@@ -333,15 +334,15 @@ pub(crate) fn check_whole<R: Abort>(rt: &R, scenario: &Scenario) {
 
 #[test]
 fn reads_what_the_text_says(rt: HostRuntime) -> Result<(), Fail> {
-    check_whole(&rt, &read(rt.alloc(), WHOLE.as_bytes())?);
+    check_whole(&rt, &scenario_of(rt.alloc(), WHOLE.as_bytes())?);
     Ok(())
 }
 
 /// Tests the defaults of the document's keys.
 #[test]
 fn reads_the_defaults(rt: HostRuntime) -> Result<(), Fail> {
-    check_empty(&rt, &read(rt.alloc(), b"")?);
-    check_quiet(&rt, &read(rt.alloc(), b"workers = 0")?);
+    check_empty(&rt, &scenario_of(rt.alloc(), b"")?);
+    check_quiet(&rt, &scenario_of(rt.alloc(), b"workers = 0")?);
     Ok(())
 }
 
@@ -361,7 +362,7 @@ fn check_quiet<R: Abort>(rt: &R, quiet: &Scenario) {
 #[test]
 fn reads_the_defaults_of_an_actor(rt: HostRuntime) -> Result<(), Fail> {
     let text = b"actor = [{ name = 'a', mailbox = 'priority' }]\nsend = [{ to = 'a', kind = 1 }]";
-    check_one(&rt, &read(rt.alloc(), text)?);
+    check_one(&rt, &scenario_of(rt.alloc(), text)?);
     Ok(())
 }
 

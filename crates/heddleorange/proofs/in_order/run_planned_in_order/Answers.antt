@@ -1,5 +1,6 @@
 use Rattle.std.proofs.Common.{◌≤◌, ◌<◌, ◌+◌, ap, arith, length, sym, subst, ◌∙◌}
 use Rattle.std.specs.Prelude.{All}
+use Rattle.mb_dispatch.specs.Runs.{turns_in}
 use Rattle.mb_msg.specs.Limits.{most_actors}
 use Rattle.mb_startup.proofs.There.{senders-there, some-end}
 use Rattle.heddleorange.specs.Orders.{lists_of, senders_for}
@@ -10,7 +11,7 @@ use Rattle.heddleorange.proofs.Identified.{as-planned}
 use Rattle.heddleorange.proofs.InOrder.{from-many, length-lists}
 use Rattle.heddleorange.proofs.InTurn.{new-owe-nobody}
 use Rattle.heddleorange.proofs.Ledger.{line-count}
-use Rattle.heddleorange.proofs.Turns.{covers-of, turns-of}
+use Rattle.heddleorange.proofs.MadeTurns.{covers-of, turns-of}
 use Rattle.heddleorange.proofs.Unchanged.{changed-none}
 use Rattle.heddleorange.proofs.in_order.run_planned_in_order.Goals as goal
 
@@ -99,6 +100,6 @@ returns-in-Ok-finish_run-clause-covers g c =
     let ended = c.in-Ok-finish_run.ensures in let report = c.in-Ok-finish_run.report in let turns = c.in-Ok.turns in
     let told = ended.story plan orders begun.right.1 ran in let actors = length c.args.actors.items in
     let many = line-count g.K.Behaviours.after gives plan actors orders report begun.right told in
-    covers-of plan report turns.items (many ∙ ap (λ n. n + 1) (sym (as-planned plan actors begun.right.0)))
-    (turns-of gives plan first begun.begun turns.items went.turns)
+    covers-of plan report (turns_in turns) (many ∙ ap (λ n. n + 1) (sym (as-planned plan actors begun.right.0)))
+    (turns-of gives plan first begun.begun (turns_in turns) went.turns)
     (went.covers begun.begun.whole (changed-none gives plan first begun.begun) report ended.seen ended.releases)

@@ -1,12 +1,13 @@
 use Rattle.std.proofs.lemmas.List.Elements.{All-set}
 use Rattle.mb_dispatch.specs.Faults.{BreaksQuietRun}
+use Rattle.mb_dispatch.specs.Runs.{turns_in}
 use Rattle.mb_gate.specs.Accessors.{pass_view}
 use Rattle.mb_gate.specs.Untouched.{origin_of}
 use Rattle.mb_system.specs.Members.{IsEndOf}
 use Rattle.heddleorange.proofs.Covering.{all-turns}
 use Rattle.heddleorange.proofs.Sent.{err-weaker, first-number, first-there, found-nothing, ok-gives, on-all, ran-on, see-on}
 use Rattle.heddleorange.proofs.Stretches.{first-extends, stretches-of}
-use Rattle.heddleorange.proofs.Turns.{made-turns, ok-weaker}
+use Rattle.heddleorange.proofs.MadeTurns.{made-turns, ok-weaker}
 use Rattle.heddleorange.proofs.sending.run_first.Goals as goal
 
 pub returns-clause-found_nothing : goal.returns-clause-found_nothing
@@ -42,14 +43,14 @@ returns-clause-fault g c =
 
 pub returns-clause-turns : goal.returns-clause-turns
 returns-clause-turns g c =
-    ok-weaker _ _ c.run_quietly.result (λ turns made. made-turns g.K.Behaviours.gives (origin_of c.args.built.now.system.gates) c.args.built.now.system.throughput _ turns.items _ made) c.run_quietly.ensures.runs
+    ok-weaker _ _ c.run_quietly.result (λ turns made. made-turns g.K.Behaviours.gives (origin_of c.args.built.now.system.gates) c.args.built.now.system.throughput _ (turns_in turns) _ made) c.run_quietly.ensures.runs
 
 pub returns-clause-stretches : goal.returns-clause-stretches
 returns-clause-stretches g c =
     let built = c.args.built.now in let end = c.run_quietly.new.end in
     ok-weaker _ _ c.run_quietly.result
     (λ turns made report extends.
-    stretches-of g.K.Behaviours.gives (origin_of built.system.gates) built.system.throughput report _ turns.items _ made
+    stretches-of g.K.Behaviours.gives (origin_of built.system.gates) built.system.throughput report _ (turns_in turns) _ made
     (first-extends report built.ends.items end c.requires.not_empty extends)) c.run_quietly.ensures.runs
 
 pub returns-clause-covers : goal.returns-clause-covers
@@ -57,11 +58,11 @@ returns-clause-covers g c =
     let built = c.args.built.now in let end = c.run_quietly.new.end in
     ok-weaker _ _ c.run_quietly.result
     (λ turns made. all-turns g.K.Behaviours.gives (origin_of built.system.gates) built.system.throughput c.index_mut.result.now end built.ends.items
-    built.senders.items turns.items c.requires.not_empty c.index_mut.ensures.value made) c.run_quietly.ensures.runs
+    built.senders.items (turns_in turns) c.requires.not_empty c.index_mut.ensures.value made) c.run_quietly.ensures.runs
 
 pub returns-clause-runs : goal.returns-clause-runs
 returns-clause-runs g c =
     let built = c.args.built.now in let origin = origin_of built.system.gates in let throughput = built.system.throughput in
     ok-gives _ _ c.run_quietly.result
     (λ turns made. ran-on g.K.Behaviours.gives origin throughput c.index_mut.result.now c.run_quietly.new.end built.ends.items c.requires.not_empty
-    c.index_mut.ensures.value (record { turns = turns.items; made = made })) c.run_quietly.ensures.runs
+    c.index_mut.ensures.value (record { turns = turns_in turns; made = made })) c.run_quietly.ensures.runs

@@ -14,7 +14,7 @@ returns-clause-sent g c =
     let actors = actors_of gates in let caller = sender_caller in
     let both : OwesNobody gates new → HasSentAndRetried gates orders old new =
     λ nobody. (
-      sent-still orders old between new discharged.same.1 discharged.same.0 discharged.log_kept discharged.share discharged.gives_back sent.sent,
+      sent-still orders old between new discharged.same.1 discharged.looks sent.sent,
       nobody,
       obligations-then actors (caller old.inner.registrar) (caller between.inner.registrar) (caller new.inner.registrar) sent.obligations discharged.obligations,
     ) in

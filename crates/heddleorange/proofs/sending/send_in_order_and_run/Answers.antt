@@ -7,7 +7,7 @@ use Rattle.heddleorange.specs.Sent.{HaveSent}
 use Rattle.heddleorange.proofs.InOrder.{length-lists, many-from}
 use Rattle.heddleorange.proofs.Covering.{all-turns-since}
 use Rattle.heddleorange.proofs.Sent.{err-weaker, on-ok, together-kept}
-use Rattle.heddleorange.proofs.Turns.{ok-weaker}
+use Rattle.heddleorange.proofs.MadeTurns.{ok-weaker}
 use Rattle.heddleorange.proofs.sending.send_in_order_and_run.Goals as goal
 
 pub returns-clause-sent : goal.returns-clause-sent

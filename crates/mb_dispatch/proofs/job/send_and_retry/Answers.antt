@@ -1,6 +1,6 @@
 use Rattle.std.proofs.lemmas.Result.{on_ok_weaker, err_from_is_err_and}
 use Rattle.mb_gate.specs.Accessors.{actors_of}
-use Rattle.std.proofs.Common.{◌∙◌, subst, sym}
+use Rattle.std.proofs.Common.{◌∙◌, inl, inr, subst, sym}
 use Rattle.std.specs.Prelude.{Err, IfErr, IsErrOf, Ok, OnErr, Result}
 use Rattle.mb_system.specs.Members.{sender_caller}
 use Rattle.mb_dispatch.specs.Orders.{HasSent}
@@ -10,7 +10,7 @@ use Rattle.mb_dispatch.proofs.Sending.{sent-still}
 use Rattle.mb_system.specs.declared.failure.RunError.{RunError}
 use Rattle.mb_system.specs.declared.failure.RunError.TheVariants.{NoMemory}
 use Rattle.mb_dispatch.specs.Faults.{BreaksSending}
-use Rattle.mb_dispatch.proofs.Sides.{on_ok}
+use Rattle.mb_dispatch.proofs.Sides.{on_err, on_ok}
 use Rattle.mb_dispatch.proofs.job.send_and_retry.Goals as goal
 
 pub returns-clause-sent : goal.returns-clause-sent
@@ -19,8 +19,7 @@ returns-clause-sent g c =
     let orders = c.args.orders.now in let old = c.args.sender.now in let new = c.retry_refused.new.self in
     let both : OwesNobody gates new → HasSent orders old new × OwesNobody gates new =
     λ nobody. (
-      sent-still orders old c.send_all.new.sender new discharged.same.1 discharged.same.0 discharged.log_kept discharged.share discharged.gives_back
-          c.in_ok-send_all.ensures.sent,
+      sent-still orders old c.send_all.new.sender new discharged.same.1 discharged.looks c.in_ok-send_all.ensures.sent,
       nobody,
     ) in
     on_ok_weaker _ both discharged.done
@@ -57,3 +56,12 @@ returns-in_err-send_all-clause-fault g c =
     let breaks = BreaksSending c.args.system.now.gates c.args.orders.now in
     let p = err_from_is_err_and c.from_residual.result c.from_residual.ensures.1 in
     subst (λ r. IfErr r breaks) (sym p.1) (subst breaks (sym p.2) c.in_err-send_all.ensures.fault)
+
+pub returns-clause-stopped : goal.returns-clause-stopped
+returns-clause-stopped g c =
+    let did = c.retry_refused.ensures in let orders = c.args.orders.now in let old = c.args.sender.now in let new = c.retry_refused.new.self in
+    on_err c.retry_refused.result
+    (inl (sent-still orders old c.send_all.new.sender new did.same.1 did.looks c.in_ok-send_all.ensures.sent))
+
+pub returns-in_err-send_all-clause-stopped : goal.returns-in_err-send_all-clause-stopped
+returns-in_err-send_all-clause-stopped g c = on_err c.from_residual.result (inr c.in_err-send_all.ensures.stopped)

@@ -7,7 +7,8 @@ use Rattle.mb_system.proofs.RunErrors.{on-error}
 use Rattle.mb_dispatch.proofs.Breaking.{breaks-one, nobody-of-send, send-is-not-full, to-nobody}
 use Rattle.mb_msg.specs.declared.order.OrderKind.{OrderKind}
 use Rattle.mb_dispatch.specs.Orders.{HasSent, order_for}
-use Rattle.mb_dispatch.proofs.Sending.{obligations-stopped, obligations-told, sent-stopped, sent-told}
+use Rattle.mb_dispatch.proofs.Sending.{obligations-stopped, obligations-told, sent-none, sent-nothing, sent-stopped, sent-told}
+use Rattle.mb_dispatch.proofs.Sides.{on_err}
 use Rattle.mb_dispatch.proofs.order.send.Goals as goal
 
 pub returns-in_err-tell-in-Tell-clause-fault : goal.returns-in_err-tell-in-Tell-clause-fault
@@ -92,3 +93,14 @@ returns-in_ok-stop-in-Stop-clause-owed g c = account-registered _ _ _ c.stop.ens
 
 pub returns-in_err-stop-in-Stop-clause-owed : goal.returns-in_err-stop-in-Stop-clause-owed
 returns-in_err-stop-in-Stop-clause-owed g c = account-registered _ _ _ c.stop.ensures.registered.0 c.stop.ensures.registered.1
+
+pub returns-in_err-tell-in-Tell-clause-unsent : goal.returns-in_err-tell-in-Tell-clause-unsent
+returns-in_err-tell-in-Tell-clause-unsent g c =
+    on_err c.from_residual.result
+    (sent-nothing c.args.to c.args.sender.now c.tell.new.self c.tell.result c.in_err-tell-in-Tell.field-0.0 c.in_err-tell-in-Tell.was
+    c.tell.ensures.unknown c.tell.ensures.unsent)
+
+pub returns-in_err-stop-in-Stop-clause-unsent : goal.returns-in_err-stop-in-Stop-clause-unsent
+returns-in_err-stop-in-Stop-clause-unsent g c =
+    let old = c.args.sender.now in
+    on_err c.from_residual-in_err-stop-in-Stop.result (subst (λ s. HasSent [] old s) (sym c.in_err-stop-in-Stop.ensures.refused.0) (sent-none old))

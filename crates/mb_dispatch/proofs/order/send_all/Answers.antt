@@ -10,7 +10,8 @@ use Rattle.mb_dispatch.specs.Orders.{HasSent}
 use Rattle.mb_dispatch.proofs.Breaking.{breaks-many}
 use Rattle.mb_register.proofs.CallerLemmas.{account-none, account-then}
 use Rattle.mb_system.proofs.Obligations.{obligations-same, obligations-then}
-use Rattle.mb_dispatch.proofs.Sending.{sent-none, sent-then}
+use Rattle.mb_dispatch.proofs.Sending.{sent-none, sent-then, stops-within}
+use Rattle.mb_dispatch.proofs.Sides.{on_err}
 use Rattle.mb_dispatch.proofs.order.send_all.Goals as goal
 
 pub loop-order-init : goal.loop-order-init
@@ -65,3 +66,10 @@ returns-in_err-send_often-clause-fault g c =
     let there = Contains-get_or orders c.loop-order.order-index _ c.loop-order-test.true in
     subst (λ r. IfErr r (BreaksSending gates orders)) (sym p.1)
     (subst (BreaksSending gates orders) (sym p.2) (breaks-many gates orders _ c.in_err-send_often.field-0.0 there c.in_err-send_often.ensures.fault))
+
+pub returns-in_err-send_often-clause-stopped : goal.returns-in_err-send_often-clause-stopped
+returns-in_err-send_often-clause-stopped g c =
+    let at = c.loop-order in
+    on_err c.from_residual.result
+    (stops-within c.args.orders.now at.order-index _ c.args.sender.now at.sender c.send_often.new.sender c.loop-order-test.true at.invariant.1
+    c.in_err-send_often.ensures.stopped)

@@ -3,11 +3,12 @@ use Rattle.mb_gate.specs.Accessors.{actors_of}
 use Rattle.mb_system.specs.Members.{sender_caller}
 use Rattle.mb_register.proofs.CallerLemmas.{account-none, account-then}
 use Rattle.mb_system.proofs.Obligations.{obligations-same, obligations-then}
-use Rattle.mb_dispatch.proofs.Sending.{sent-again, sent-never}
+use Rattle.mb_dispatch.proofs.Sending.{sent-again, sent-never, sent-then}
+use Rattle.mb_dispatch.proofs.Sides.{on_err}
 use Rattle.std.specs.Prelude.{IfErr}
 use Rattle.std.proofs.lemmas.Result.{err_from_is_err_and}
 use Rattle.mb_dispatch.specs.Faults.{BreaksSending}
-use Rattle.mb_dispatch.specs.Orders.{HasSent, order_for}
+use Rattle.mb_dispatch.specs.Orders.{HasSent, HasSentUpTo, order_for}
 use Rattle.mb_dispatch.proofs.Breaking.{breaks-often}
 use Rattle.mb_dispatch.proofs.order.send_often.Goals as goal
 
@@ -66,3 +67,14 @@ returns-clause-owed g c = c.loop.invariant.3
 
 pub returns-in_err-send-clause-owed : goal.returns-in_err-send-clause-owed
 returns-in_err-send-clause-owed g c = account-then _ _ _ c.loop.invariant.3 c.send.ensures.owed
+
+pub returns-in_err-send-clause-stopped : goal.returns-in_err-send-clause-stopped
+returns-in_err-send-clause-stopped g c =
+    let order = c.args.order in let more = c.loop-test.true in
+    let part : HasSentUpTo [] order c.args.sender.now c.send.new.sender = record {
+      times = c.loop.counter;
+      fewer = omega (arith, more);
+      sent = sent-then (order_for order.to order.what c.loop.counter ∷ []) [] c.args.sender.now c.loop.sender c.send.new.sender c.loop.invariant.1
+          c.in_err-send.ensures.unsent;
+    } in
+    on_err c.from_residual.result part

@@ -7,7 +7,7 @@ use Rattle.mb_system.proofs.Obligations.{obligations-then}
 use Rattle.mb_system.proofs.Saw.{saw-then}
 use Rattle.mb_dispatch.proofs.Breaking.{breaks-run, runs-or-broke-then, worked-then}
 use Rattle.mb_dispatch.proofs.Crossing.{job_send}
-use Rattle.mb_dispatch.proofs.Sides.{all_after, as_many_after, ok_first, ok_rest, same_after, zip_then}
+use Rattle.mb_dispatch.proofs.Sides.{all_after, as_many_after, ok_first, ok_rest, same_after, zip_then, zip_weaker}
 use Rattle.mb_dispatch.proofs.Firsts.{first-settled}
 use Rattle.mb_dispatch.proofs.running.run.Goals as goal
 
@@ -100,3 +100,6 @@ both_in_parallel-of_jobs-requires-clause-these_ready g c κs within = c.requires
 
 pub both_in_parallel-of_jobs-requires-clause-those_ready : goal.both_in_parallel-of_jobs-requires-clause-those_ready
 both_in_parallel-of_jobs-requires-clause-those_ready g c κs within = c.register_by_first.ensures.ends.0
+
+pub returns-clause-sent : goal.returns-clause-sent
+returns-clause-sent g c = zip_weaker _ _ (λ old new kept. kept.2) _ _ c.both_in_parallel-of_jobs.ensures.keeps.0

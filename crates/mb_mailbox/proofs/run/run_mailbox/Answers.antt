@@ -1,11 +1,11 @@
-use Rattle.std.proofs.Common.{◌≡◌, ◌<◌, ◌≤◌, length, refl, sym, ap, ◌∙◌, subst, arith}
+use Rattle.std.proofs.Common.{◌≡◌, ◌≤◌, length, refl, sym, ap, ◌∙◌, subst, arith}
 use Rattle.std.specs.Prelude.{OnOk, Result, Err}
 use Rattle.mb_journal.specs.declared.error.ReadyError.{ReadyError}
 use Rattle.mb_journal.specs.Identity.{Identity}
 use Rattle.mb_journal.specs.Life.{closed}
 use Rattle.mb_journal.specs.Run.{IsReason}
 use Rattle.mb_journal.specs.Run.Stopped.{NoRoom}
-use Rattle.mb_gate.specs.Accessors.{pass_view, claim_view, drained_by, held_actor, actors_of, taken_with}
+use Rattle.mb_gate.specs.Accessors.{pass_view, claim_view, drained_by, held_actor, taken_with}
 use Rattle.mb_gate.specs.Returned.{GoesOn}
 use Rattle.mb_gate.specs.Rule.{IsAmong}
 use Rattle.mb_gate.specs.View.{View}
@@ -19,7 +19,7 @@ use Rattle.mb_mailbox.specs.RunState.{run_state}
 use Rattle.mb_mailbox.specs.Ran.{HasStopped, IsShortOfMemory}
 use Rattle.mb_mailbox.proofs.AppliedLemmas.{same-fault}
 use Rattle.mb_register.proofs.CallerLemmas.{account-registered}
-use Rattle.mb_mailbox.proofs.FinishLemmas.{home-own, home-longer, home-fold, home-told, home-rest, saw-journal, given-after, steps-taken, leaves-caller, leaves-run}
+use Rattle.mb_mailbox.proofs.FinishLemmas.{home-own, home-longer, home-fold, home-told, home-rest, saw-journal, given-after, listed-after, steps-taken, leaves-caller, leaves-run}
 use Rattle.mb_mailbox.proofs.FinishLemmas.{each-before, ends-cleared, ends-empty, gives-back}
 use Rattle.mb_mailbox.proofs.FreshLemmas.{taken-fresh, log-fresh, taken-begun, running-fresh, backlog-fresh, run_counts-fresh}
 use Rattle.mb_mailbox.proofs.StepSendsLemmas.{sent-by-run}
@@ -99,10 +99,18 @@ returns-in-Err-clause-same_gates g c = (
 
 pub register-requires-clause-present : goal.register-requires-clause-present
 register-requires-clause-present g c =
-    let below = subst (λ n. n < actors_of c.args.gates.now) (sym c.actor-actor.ensures) c.requires.untouched.same_gates.present in
-    (below, omega (arith, below, c.requires.same_gates.2))
+    let is = c.actor-actor.ensures in let below = c.requires.untouched.same_gates.present in let few = c.requires.same_gates.2 in
+    (omega (arith, is, below), omega (arith, is, below, few))
 
 -- ---- what it leaves
+
+pub returns-in-Ok-clause-discharged : goal.returns-in-Ok-clause-discharged
+returns-in-Ok-clause-discharged g c =
+    subst (λ n. IsDischargedOrOwed n (caller_of g.W.RunQueue.pushed g.W.RunQueue.refused c.register.new.self)) c.actor-actor.ensures c.register.ensures.discharged
+
+pub returns-in-Err-clause-discharged : goal.returns-in-Err-clause-discharged
+returns-in-Err-clause-discharged g c =
+    subst (λ n. IsDischargedOrOwed n (caller_of g.W.RunQueue.pushed g.W.RunQueue.refused c.register.new.self)) c.actor-actor.ensures c.register.ensures.discharged
 
 pub returns-in-Ok-clause-caller_advances : goal.returns-in-Ok-clause-caller_advances
 returns-in-Ok-clause-caller_advances g c =
@@ -125,14 +133,6 @@ returns-in-Err-clause-caller_advances g c =
     (subst (λ n. LooksAfter n (pass_view c.release.new.pass) (pass_view c.register.new.self.pass)) here c.register.ensures.looks)
     run.ensures.advances.caller_advances (account-registered c.actor-actor.result.0 _ _ c.register.result c.register.ensures.registered)
     (subst (λ n. IsDischargedOrOwed n (caller_of g.W.RunQueue.pushed g.W.RunQueue.refused c.register.new.self)) here c.register.ensures.discharged)
-
-pub returns-in-Ok-clause-discharged : goal.returns-in-Ok-clause-discharged
-returns-in-Ok-clause-discharged g c =
-    subst (λ n. IsDischargedOrOwed n (caller_of g.W.RunQueue.pushed g.W.RunQueue.refused c.register.new.self)) c.actor-actor.ensures c.register.ensures.discharged
-
-pub returns-in-Err-clause-discharged : goal.returns-in-Err-clause-discharged
-returns-in-Err-clause-discharged g c =
-    subst (λ n. IsDischargedOrOwed n (caller_of g.W.RunQueue.pushed g.W.RunQueue.refused c.register.new.self)) c.actor-actor.ensures c.register.ensures.discharged
 
 pub returns-in-Ok-clause-ran : goal.returns-in-Ok-clause-ran
 returns-in-Ok-clause-ran g c =
@@ -158,6 +158,9 @@ returns-in-Ok-clause-ran g c =
     let kept = c.register.ensures.looks.sent_system ∙ ap (λ (v : View). v.sent_system) c.release.ensures.known in
     let given = given-after (held_actor last) journal (claim_view last) (pass_view run.new.registrar.pass) (pass_view c.release.new.pass)
     run.ensures.in_run.running.owes_nothing c.release.ensures.known (pass_view c.register.new.self.pass) looks in
+    let puts = listed-after (held_actor last) journal (claim_view last) (pass_view run.new.registrar.pass) (pass_view c.release.new.pass)
+    run.ensures.in_run.running.owes_nothing c.release.ensures.known (pass_view c.register.new.self.pass) looks
+    run.ensures.in_run.running.puts_nothing in
     let taken = taken-fresh g.K.Behaviours.gives (origin_of c.args.gates.now) c.args.claim c.requires.untouched in
     let fresh = log-fresh g.K.Behaviours.gives (origin_of c.args.gates.now) c.args.claim c.requires.untouched in
     let told = sent-by-run g.K.Behaviours.gives (origin_of c.args.gates.now) (pass_view run.new.registrar.pass).log (run_state c.args.claim)
@@ -183,7 +186,7 @@ returns-in-Ok-clause-ran g c =
             taken run.ensures.advances.same
             run.ensures.in_run.run_counts run.ensures.within_limit ended.4 ended.2 ended.5 run.ensures.in_run.running.only_drained saw goes_on
             (returns-in-Ok-clause-caller_advances g c).share gives part
-            (pass_view run.new.registrar.pass) run.ensures.advances.sends kept given c.requires.untouched.recorded told fresh at_first
+            (pass_view run.new.registrar.pass) run.ensures.advances.sends kept puts given c.requires.untouched.recorded told fresh at_first
             run.ensures.in_run.running.settled.taken run.ensures.in_run.running.settled.open_keeps empty,
       ),
     )
@@ -212,6 +215,9 @@ returns-in-Err-clause-ran g c =
     let kept = c.register.ensures.looks.sent_system ∙ ap (λ (v : View). v.sent_system) c.release.ensures.known in
     let given = given-after (held_actor last) journal (claim_view last) (pass_view run.new.registrar.pass) (pass_view c.release.new.pass)
     run.ensures.in_run.running.owes_nothing c.release.ensures.known (pass_view c.register.new.self.pass) looks in
+    let puts = listed-after (held_actor last) journal (claim_view last) (pass_view run.new.registrar.pass) (pass_view c.release.new.pass)
+    run.ensures.in_run.running.owes_nothing c.release.ensures.known (pass_view c.register.new.self.pass) looks
+    run.ensures.in_run.running.puts_nothing in
     let taken = taken-fresh g.K.Behaviours.gives (origin_of c.args.gates.now) c.args.claim c.requires.untouched in
     let fresh = log-fresh g.K.Behaviours.gives (origin_of c.args.gates.now) c.args.claim c.requires.untouched in
     let told = sent-by-run g.K.Behaviours.gives (origin_of c.args.gates.now) (pass_view run.new.registrar.pass).log (run_state c.args.claim)
@@ -225,7 +231,7 @@ returns-in-Err-clause-ran g c =
             taken run.ensures.advances.same
             run.ensures.in_run.run_counts run.ensures.within_limit tt tt tt run.ensures.in_run.running.only_drained saw goes_on
             (returns-in-Err-clause-caller_advances g c).share gives part
-            (pass_view run.new.registrar.pass) run.ensures.advances.sends kept given c.requires.untouched.recorded told fresh at_first
+            (pass_view run.new.registrar.pass) run.ensures.advances.sends kept puts given c.requires.untouched.recorded told fresh at_first
             run.ensures.in_run.running.settled.taken run.ensures.in_run.running.settled.open_keeps (λ ends. absurd ends),
         λ full. subst (λ (w : Identity). w.limit ≤ length journal) run.ensures.advances.same.who
             (run.ensures.stops.full (c.in-Err.is ∙ ap (λ (f : ReadyError). Err f) (same-fault c.in-Err.fault full))),
@@ -256,6 +262,9 @@ returns-in-Err-clause-out_of_memory g c = λ short.
     let kept = c.register.ensures.looks.sent_system ∙ ap (λ (v : View). v.sent_system) c.release.ensures.known in
     let given = given-after (held_actor last) journal (claim_view last) (pass_view run.new.registrar.pass) (pass_view c.release.new.pass)
     run.ensures.in_run.running.owes_nothing c.release.ensures.known (pass_view c.register.new.self.pass) looks in
+    let puts = listed-after (held_actor last) journal (claim_view last) (pass_view run.new.registrar.pass) (pass_view c.release.new.pass)
+    run.ensures.in_run.running.owes_nothing c.release.ensures.known (pass_view c.register.new.self.pass) looks
+    run.ensures.in_run.running.puts_nothing in
     let taken = taken-fresh g.K.Behaviours.gives (origin_of c.args.gates.now) c.args.claim c.requires.untouched in
     let fresh = log-fresh g.K.Behaviours.gives (origin_of c.args.gates.now) c.args.claim c.requires.untouched in
     let told = sent-by-run g.K.Behaviours.gives (origin_of c.args.gates.now) (pass_view run.new.registrar.pass).log (run_state c.args.claim)
@@ -268,7 +277,7 @@ returns-in-Err-clause-out_of_memory g c = λ short.
           taken run.ensures.advances.same
           run.ensures.in_run.run_counts run.ensures.within_limit tt tt tt run.ensures.in_run.running.only_drained saw goes_on
           (returns-in-Err-clause-caller_advances g c).share gives part
-          (pass_view run.new.registrar.pass) run.ensures.advances.sends kept given c.requires.untouched.recorded told fresh at_first
+          (pass_view run.new.registrar.pass) run.ensures.advances.sends kept puts given c.requires.untouched.recorded told fresh at_first
           run.ensures.in_run.running.settled.taken run.ensures.in_run.running.settled.open_keeps (λ ends. absurd ends),
       subst (λ (w : Identity). IsShortOfMemory w journal) run.ensures.advances.same.who
           (run.ensures.stops.out_of_memory (c.in-Err.is ∙ ap (λ (f : ReadyError). Err f) (same-fault c.in-Err.fault short))),

@@ -7,8 +7,8 @@ use Rattle.mb_register.proofs.Views.{does-then, does-enlisting}
 use Rattle.mb_register.proofs.CallerLemmas.{account-registered, further-sent_system}
 use Rattle.mb_register.proofs.MoveLemmas.{moves-does, further-moves}
 use Rattle.mb_mailbox.proofs.SendSystemLemmas.{notified}
-use Rattle.mb_mailbox.proofs.RecordedLemmas.{alike-one, does-give-none}
-use Rattle.mb_mailbox.specs.RunSends.{given_by}
+use Rattle.mb_mailbox.proofs.RecordedLemmas.{alike-one, does-give-none, does-list}
+use Rattle.mb_mailbox.specs.RunSends.{given_by, listed_by}
 use Rattle.mb_mailbox.proofs.sending_system.notify.Goals as goal
 
 pub sys_enqueue_in_run-requires-clause-same_gates : goal.sys_enqueue_in_run-requires-clause-same_gates
@@ -60,9 +60,9 @@ returns-clause-sends g c =
     let id = c.args.whom.0 in
     let a = pass_view c.args.registrar.now.pass in let b = pass_view c.sys_enqueue_in_run.new.pass in let d = pass_view c.register.new.self.pass in
     let did = does-then id _ _ a b d (does-enlisting id c.in-Ok.field-0 c.set.new.self a b c.in-Ok.ensures.listed) c.register.ensures.looks in
-    alike-one _ _ _ _ _ c.in-Ok.ensures.recorded.record_is did.sent_system (does-give-none id _ _ a d refl did)
+    alike-one _ _ _ _ _ c.in-Ok.ensures.recorded.record_is did.sent_system (does-list id _ _ a d did) (does-give-none id _ _ a d refl did)
 
 pub returns-in_default-clause-sends : goal.returns-in_default-clause-sends
 returns-in_default-clause-sends g c =
     alike-one _ _ _ _ _ c.in_default.ensures.recorded.record_is (ap (λ (v : View). v.sent_system) c.in_default.ensures.ended.1)
-    (ap (λ (v : View). given_by v.log) c.in_default.ensures.ended.1)
+    (ap (λ (v : View). listed_by v.log) c.in_default.ensures.ended.1) (ap (λ (v : View). given_by v.log) c.in_default.ensures.ended.1)

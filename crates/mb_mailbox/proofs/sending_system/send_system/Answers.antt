@@ -16,8 +16,8 @@ use Rattle.mb_mailbox.proofs.EmptiedLemmas.{cleared-same}
 use Rattle.mb_register.proofs.MoveLemmas.{moves-does, further-moves}
 use Rattle.mb_mailbox.proofs.SendSystemLemmas.{running-caller_advances, running-sent_system, running-refused, keeps-recorded, keeps-answered, backlog-sent_system, backlog-answered}
 use Rattle.mb_mailbox.proofs.SendSystemLemmas.{home-answered}
-use Rattle.mb_mailbox.proofs.RecordedLemmas.{alike-one, alike-then, does-give-none}
-use Rattle.mb_mailbox.specs.RunSends.{given_by}
+use Rattle.mb_mailbox.proofs.RecordedLemmas.{alike-one, alike-then, does-give-none, does-list}
+use Rattle.mb_mailbox.specs.RunSends.{given_by, listed_by}
 use Rattle.mb_mailbox.proofs.StepSendsLemmas.{due-listed, due-refused}
 use Rattle.mb_mailbox.proofs.sending_system.send_system.Goals as goal
 
@@ -149,13 +149,13 @@ returns-in-Ok-clause-sends g c =
     let id = c.args.to.0 in
     let a = pass_view c.args.registrar.now.pass in let b = pass_view c.sys_enqueue_in_run.new.pass in let d = pass_view c.register.new.self.pass in
     let did = does-then id _ _ a b d (does-enlisting id c.in-Ok.field-0 c.args.node a b c.in-Ok.ensures.listed) c.register.ensures.looks in
-    alike-one _ _ _ _ _ c.in-Ok.ensures.recorded.record_is did.sent_system (does-give-none id _ _ a d refl did)
+    alike-one _ _ _ _ _ c.in-Ok.ensures.recorded.record_is did.sent_system (does-list id _ _ a d did) (does-give-none id _ _ a d refl did)
 
 pub returns-in-Err-clause-sends : goal.returns-in-Err-clause-sends
 returns-in-Err-clause-sends g c =
     alike-then _ _ _ _ _ _
     (alike-one _ _ _ _ _ c.in-Err.ensures.recorded.record_is (ap (λ (v : View). v.sent_system) c.in-Err.ensures.ended.1)
-    (ap (λ (v : View). given_by v.log) c.in-Err.ensures.ended.1)) c.answer.ensures.sends
+    (ap (λ (v : View). listed_by v.log) c.in-Err.ensures.ended.1) (ap (λ (v : View). given_by v.log) c.in-Err.ensures.ended.1)) c.answer.ensures.sends
 
 -- ---- what was due was sent
 

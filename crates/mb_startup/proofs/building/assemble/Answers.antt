@@ -4,13 +4,16 @@ use Rattle.std.proofs.lemmas.List.{length-map}
 use Rattle.mb_msg.specs.Limits.{most_actors}
 use Rattle.mb_ghost.specs.Shares.{IsWhole}
 use Rattle.mb_ghost.proofs.SharesLemmas.{whole_one}
+use Rattle.mb_gate.specs.Accessors.{first_home}
 use Rattle.mb_gate.specs.View.{View}
 use Rattle.mb_pool.specs.Made.{AreUnused}
 use Rattle.mb_pool.specs.Places.{AreEnds, AreFeeds, gates_of}
 use Rattle.mb_system.specs.Members.{pool_feeds_of}
 use Rattle.mb_startup.proofs.NewGates.{all-numbered, all-once, all-senders, as-many-senders, ends-gates, feeds-gates}
 use Rattle.mb_startup.proofs.Right.{right-plan}
+use Rattle.mb_startup.proofs.Directories.{housed-plan}
 use Rattle.mb_startup.proofs.Led.{all-led}
+use Rattle.mb_startup.proofs.NewActors.{new-actors}
 use Rattle.mb_startup.proofs.building.assemble.Goals as goal
 
 pub found-requires : goal.found-requires
@@ -90,6 +93,9 @@ returns g c =
       unclaimed = opened.ends.unclaimed;
       none_released = opened.ends.none_released;
       whole = opened.whole;
+      new_actors = new-actors g.K.Behaviours.gives c.args.plan gates most_actors outside c.in_ok-ends.field-0.ends.items senders
+          (housed-plan g.K.Behaviours.gives c.args.plan housed.0 housed.1 outside (first_home gates) housed.2 housed.3 housed.4)
+          opened.ends opened.senders opened.whole;
     }
 
 pub invariant_of-system : goal.invariant_of-system

@@ -1,5 +1,5 @@
 use Rattle.mb_gate.specs.Untouched.{origin_of}
-use Rattle.mb_testkit.proofs.Got.{untouched}
+use Rattle.mb_gate.proofs.Got.{untouched}
 use Rattle.mb_testkit.proofs.claims.attempt.Goals as goal
 
 pub returns-in-Got-clause-untouched : goal.returns-in-Got-clause-untouched

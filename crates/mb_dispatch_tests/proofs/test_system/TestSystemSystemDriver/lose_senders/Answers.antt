@@ -3,4 +3,5 @@ use Rattle.mb_dispatch_tests.proofs.test_system.TestSystemSystemDriver.lose_send
 
 pub invariant_of-self : goal.invariant_of-self
 invariant_of-self c =
-    without-senders c.self.inside.system c.self.inside.ends c.self.inside.senders _ c.clear.ensures.items c.self.invariant
+    let was = c.self.inside in
+    without-senders was.system was.ends was.senders _ c.clear.ensures.items c.self.invariant

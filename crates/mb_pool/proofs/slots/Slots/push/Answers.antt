@@ -1,17 +1,30 @@
-use Rattle.std.proofs.Common.{ap, ◌∙◌}
+use Rattle.std.proofs.Common.{ap, ◌∙◌, subst, sym}
 use Rattle.crossbeam_queue.specs.Passes.{ruled_capacity, view}
-use Rattle.mb_pool.specs.declared.pooled_claim.PooledClaim.{PooledClaim}
+use Rattle.mb_gate.specs.PooledClaims.{claim_in}
 use Rattle.mb_gate.specs.Untouched.{IsUntouched}
+use Rattle.mb_pool.specs.Rule.{PutsLast}
 use Rattle.mb_pool.proofs.Steps.{queue_push, learns, was_full}
 use Rattle.mb_pool.proofs.slots.Slots.push.Goals as goal
 
+pub new-requires : goal.new-requires
+new-requires g c = record { untouched = ((view c.args.pass.now).gates, c.requires.untouched) }
+
 pub push_as-requires-clause-rule : goal.push_as-requires-clause-rule
-push_as-requires-clause-rule g c = (queue_push _ _ _ _ _ c.requires.share c.requires.untouched, learns _ _ _ c.requires.share)
+push_as-requires-clause-rule g c = (
+  queue_push _ _ _ _ _ c.requires.share
+      (subst (λ x. IsUntouched g.H.MailboxState.is_of g.H.MailboxState.facts (view c.args.pass.now).gates x) (sym c.new.ensures) c.requires.untouched),
+  learns _ _ _ c.requires.share,
+)
+
+pub returns-in-Ok-clause-pushed : goal.returns-in-Ok-clause-pushed
+returns-in-Ok-clause-pushed g c =
+    subst (λ x. PutsLast (IsUntouched g.H.MailboxState.is_of g.H.MailboxState.facts) (view c.args.pass.now) x (view c.push_as.new.pass)) c.new.ensures
+    c.in-Ok.ensures.rule
 
 pub returns-in-Err-clause-pushed : goal.returns-in-Err-clause-pushed
 returns-in-Err-clause-pushed g c =
     let rule = c.in-Err.ensures.rule in (
-      c.open.ensures ∙ ap (λ (p : PooledClaim _). p.claim) rule.0,
+      c.open.ensures ∙ ap (λ p. claim_in p) rule.0 ∙ c.new.ensures,
       rule.1,
       was_full (IsUntouched g.H.MailboxState.is_of g.H.MailboxState.facts) (view c.args.pass.now)
           (ruled_capacity c.args.self.now.queue) rule.2.0 rule.2.1 rule.2.2,

@@ -30,3 +30,9 @@ returns-clause-registered g c = c.register.ensures.registered
 
 pub returns-clause-number : goal.returns-clause-number
 returns-clause-number g c = refl
+
+pub returns-clause-handed : goal.returns-clause-handed
+returns-clause-handed g c = c.register.ensures.handed
+
+pub returns-clause-due : goal.returns-clause-due
+returns-clause-due g c = c.register.ensures.due

@@ -1,7 +1,10 @@
-use Rattle.std.proofs.Common.{arith, refl, ◌∙◌}
+use Rattle.std.proofs.Common.{◌≡◌, ◌++◌, [], arith, refl, subst, ◌∙◌}
 use Rattle.mb_system.specs.Members.{end_caller}
 use Rattle.mb_system.proofs.Obligations.{discharged-more}
-use Rattle.mb_gate.specs.Accessors.{pass_view}
+use Rattle.mb_gate.specs.Accessors.{actors_of, pass_view}
+use Rattle.mb_register.specs.declared.hint.Hint.TheVariants as hint
+use Rattle.mb_register.proofs.Dues.{got-none, got-then}
+use Rattle.mb_system.specs.Registered.{AreRegistered, nobody, one_more}
 use Rattle.mb_system.proofs.Looking.{leaves-none, leaves-then, only-after, only-none}
 use Rattle.mb_system.proofs.end.WorkerEnd.register_all.Goals as goal
 
@@ -12,6 +15,8 @@ loop-number-init g c = (
   leaves-none (end_caller c.args.self.now.registrar),
   λ id lt. absurd (omega (arith, lt)),
   only-none (pass_view c.args.self.now.registrar.pass),
+  nobody,
+  got-none hint.None (pass_view c.args.self.now.registrar.pass) (pass_view c.args.self.now.registrar.pass) refl,
 )
 
 pub loop-number-preserved : goal.loop-number-preserved
@@ -23,6 +28,8 @@ loop-number-preserved g c =
       leaves-then first old new at.invariant.2 did.leaves,
       discharged-more at.number old new at.invariant.3 did.leaves did.discharged,
       only-after at.number first.view old.view new.view at.invariant.4 did.looks,
+      one_more at.number old new c.register.result at.invariant.5 did.handed,
+      got-then hint.None first.view old.view new.view at.invariant.4.looks (did.looks.looks ++ []) at.invariant.4.log did.looks.log at.invariant.6 did.due,
     )
 
 pub returns-clause-discharged : goal.returns-clause-discharged
@@ -45,3 +52,12 @@ returns-clause-same_gates g c = c.loop-number.invariant.0
 
 pub returns-clause-number : goal.returns-clause-number
 returns-clause-number g c = c.loop-number.invariant.1
+
+pub returns-clause-registered : goal.returns-clause-registered
+returns-clause-registered g c =
+    let at = c.loop-number in
+    let all : at.number ≡ actors_of c.args.system.now.gates = omega (arith, c.loop-number-test.false, at.auto.number-end) in
+    subst (λ n. AreRegistered (end_caller c.args.self.now.registrar) n (end_caller at.self.registrar)) all at.invariant.5
+
+pub returns-clause-due : goal.returns-clause-due
+returns-clause-due g c = c.loop-number.invariant.6

@@ -68,3 +68,15 @@ returns-in_err-retry_refused-clause-number g c = refl
 
 pub returns-in_err-retry_refused-clause-refused : goal.returns-in_err-retry_refused-clause-refused
 returns-in_err-retry_refused-clause-refused g c = no-memory c.from_residual.result c.from_residual.ensures.1
+
+pub returns-clause-handed : goal.returns-clause-handed
+returns-clause-handed g c = c.retry_refused.ensures.handed
+
+pub returns-in_err-retry_refused-clause-handed : goal.returns-in_err-retry_refused-clause-handed
+returns-in_err-retry_refused-clause-handed g c = c.retry_refused.ensures.handed
+
+pub returns-clause-due : goal.returns-clause-due
+returns-clause-due g c = c.retry_refused.ensures.due
+
+pub returns-in_err-retry_refused-clause-due : goal.returns-in_err-retry_refused-clause-due
+returns-in_err-retry_refused-clause-due g c = c.retry_refused.ensures.due

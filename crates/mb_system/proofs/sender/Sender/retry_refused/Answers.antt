@@ -8,6 +8,7 @@ use Rattle.mb_system.specs.Members.{sender_caller}
 use Rattle.mb_system.proofs.Obligations.{obligations-discharged}
 use Rattle.mb_register.proofs.Retries.{on-failure}
 use Rattle.mb_system.proofs.RunErrors.{no-memory}
+use Rattle.mb_system.proofs.Looking.{only-among}
 use Rattle.mb_system.proofs.Saw.{saw-more}
 use Rattle.mb_system.proofs.sender.Sender.retry_refused.Goals as goal
 
@@ -41,6 +42,12 @@ returns-clause-stops g c = c.in_ok-retry_refused.ensures.refused
 pub returns-in_err-retry_refused-clause-stops : goal.returns-in_err-retry_refused-clause-stops
 returns-in_err-retry_refused-clause-stops g c =
     on-failure _ _ _ c.from_residual.result c.from_residual.ensures.1 c.in_err-retry_refused.ensures.refused
+
+pub returns-clause-looks : goal.returns-clause-looks
+returns-clause-looks g c = only-among _ _ _ c.retry_refused.ensures.looks
+
+pub returns-in_err-retry_refused-clause-looks : goal.returns-in_err-retry_refused-clause-looks
+returns-in_err-retry_refused-clause-looks g c = only-among _ _ _ c.retry_refused.ensures.looks
 
 pub returns-clause-log_kept : goal.returns-clause-log_kept
 returns-clause-log_kept g c = saw-more c.retry_refused.ensures.looks.looks _ _ c.retry_refused.ensures.looks.log
@@ -102,3 +109,15 @@ returns-in_err-retry_refused-clause-same g c = (c.retry_refused.ensures.looks.se
 
 pub returns-in_err-retry_refused-clause-refused : goal.returns-in_err-retry_refused-clause-refused
 returns-in_err-retry_refused-clause-refused g c = no-memory c.from_residual.result c.from_residual.ensures.1
+
+pub returns-clause-handed : goal.returns-clause-handed
+returns-clause-handed g c = c.retry_refused.ensures.handed
+
+pub returns-in_err-retry_refused-clause-handed : goal.returns-in_err-retry_refused-clause-handed
+returns-in_err-retry_refused-clause-handed g c = c.retry_refused.ensures.handed
+
+pub returns-clause-due : goal.returns-clause-due
+returns-clause-due g c = c.retry_refused.ensures.due
+
+pub returns-in_err-retry_refused-clause-due : goal.returns-in_err-retry_refused-clause-due
+returns-in_err-retry_refused-clause-due g c = c.retry_refused.ensures.due

@@ -1,0 +1,71 @@
+-- What a view put into lists is what it sent.
+use Rattle.std.proofs.Common.{◌≡◌, ◌+◌, ◌==◌, ℕ, Bool, true, List, [], ◌∷◌, ◌++◌, Option, Some, None, ap, arith, if◌then◌else◌, refl, ◌∙◌}
+use Rattle.mb_ghost.proofs.SummedLemmas.{total_append}
+use Rattle.mb_ghost.specs.Seen.{Each}
+use Rattle.mb_ghost.specs.Summed.{total}
+use Rattle.mb_gate.specs.PutIn.{put_by, put_in}
+use Rattle.mb_gate.specs.View.{Observation, SentSystem, View}
+use Rattle.mb_gate.specs.View.{Read, Saw, Counted, Looked, Sent, Unsent, Took, Pushed, Drained, Ended}
+use Rattle.mb_mailbox.specs.RunSends.{PutsAsSent, listed_measure}
+use Rattle.mb_msg.specs.declared.dead_letter.Why.{Why}
+use Rattle.mb_msg.specs.declared.system.SysMsg.{SysMsg}
+use Rattle.mb_register.specs.Sending.{counts}
+use Rattle.mb_register.specs.Views.{Does, IsLook}
+use Rattle.mb_system.specs.OnlyLooks.{OnlyLooks}
+
+pub puts-none : (v : View) → PutsAsSent v v
+puts-none v = λ to measure. refl
+
+pub puts-then : (a b c : View) → PutsAsSent a b → PutsAsSent b c → PutsAsSent a c
+puts-then a b c before after = λ to measure. (let one = before to measure in let two = after to measure in omega (arith, one, two))
+
+-- a look puts nothing
+look-puts-none : (to : ℕ) (measure : ℕ × SysMsg → ℕ) (id : ℕ) (s : Observation) → IsLook id s → put_in to measure s ≡ 0
+look-puts-none to measure id (Read a word) look = refl
+look-puts-none to measure id (Saw a journal) look = refl
+look-puts-none to measure id (Counted a waiting) look = refl
+look-puts-none to measure id (Looked a has_work) look = refl
+look-puts-none to measure id (Sent a n) look = absurd look
+look-puts-none to measure id (Unsent a n) look = absurd look
+look-puts-none to measure id (Took a n) look = absurd look
+look-puts-none to measure id (Pushed a number message) look = absurd look
+look-puts-none to measure id (Drained a given) look = absurd look
+look-puts-none to measure id (Ended a given) look = absurd look
+
+looks-put-none : (to : ℕ) (measure : ℕ × SysMsg → ℕ) (id : ℕ) (looks : List Observation) → Each (IsLook id) looks
+    → total (put_in to measure) looks ≡ 0
+looks-put-none to measure id [] each = refl
+looks-put-none to measure id (s ∷ looks) each =
+    let one = look-puts-none to measure id s each.0 in let rest = looks-put-none to measure id looks each.1 in omega (arith, one, rest)
+
+-- what was done put what was sent
+pub does-puts : (id : ℕ) (did : List Observation) (sent : List SentSystem) (old new : View) → Does id did sent old new
+    → ((to : ℕ) (measure : SysMsg → ℕ) → total (put_in to (λ m. measure m.1)) did ≡ total (listed_measure to measure) sent) → PutsAsSent old new
+does-puts id did sent old new does same = λ to measure.
+    (let put = put_in to (λ (m : ℕ × SysMsg). measure m.1) in
+    let log = ap (total put) does.log ∙ total_append put (does.looks ++ did) old.log in
+    let before = total_append put does.looks did in let none = looks-put-none to (λ m. measure m.1) id does.looks does.only in
+    let told = ap (total (listed_measure to measure)) does.sent_system ∙ total_append (listed_measure to measure) sent old.sent_system in
+    let is = same to measure in
+    omega (arith, log, before, none, told, is))
+
+-- counting an envelope puts nothing
+pub counts-put-none : (id : ℕ) (refused : Option Why) (to : ℕ) (measure : SysMsg → ℕ)
+    → total (put_in to (λ m. measure m.1)) (counts id refused) ≡ total (listed_measure to measure) []
+counts-put-none id None to measure = refl
+counts-put-none id (Some why) to measure = refl
+
+only-looks-put-none : (to : ℕ) (measure : ℕ × SysMsg → ℕ) (looks : List Observation)
+    → Each (λ (s : Observation). (id : ℕ) × (true ≡ true) × IsLook id s) looks → total (put_in to measure) looks ≡ 0
+only-looks-put-none to measure [] each = refl
+only-looks-put-none to measure (s ∷ looks) each =
+    let one = look-puts-none to measure each.0.0 s each.0.2 in let rest = only-looks-put-none to measure looks each.1 in omega (arith, one, rest)
+
+-- who only looked put nothing
+pub looks-put : (old new : View) → OnlyLooks old new → PutsAsSent old new
+looks-put old new only = λ to measure.
+    (let put = put_in to (λ (m : ℕ × SysMsg). measure m.1) in
+    let log = ap (total put) only.log ∙ total_append put only.looks old.log in
+    let none = only-looks-put-none to (λ m. measure m.1) only.looks only.only in
+    let told = ap (total (listed_measure to measure)) only.sent_system in
+    omega (arith, log, none, told))

@@ -1,0 +1,15 @@
+use Rattle.std.proofs.Common.{ℕ, subst}
+use Rattle.mb_actor.specs.Behaviour.{Moment, Reply}
+use Rattle.mb_home.specs.Fresh.{IsFreshClaim}
+use Rattle.mb_dispatch_tests.proofs.Kept.{took}
+use Rattle.mb_dispatch_tests.proofs.end_call.run_next.Goals as goal
+
+pub run_mailbox-requires-clause-same_gates : goal.run_mailbox-requires-clause-same_gates
+run_mailbox-requires-clause-same_gates g c = took c.args.system.now.gates c.args.end.now c.take.new.self c.take.ensures.same c.requires.same_gates
+
+pub run_mailbox-requires-clause-untouched : goal.run_mailbox-requires-clause-untouched
+run_mailbox-requires-clause-untouched g c =
+    subst (λ origin. IsFreshClaim (λ (n : ℕ) (m : Moment) (r : Reply). Unit {0}) origin c.in-Some.claim) c.requires.same_gates.1 c.in-Some.ensures.untouched
+
+pub returns-in-None : goal.returns-in-None
+returns-in-None g c = record { same_gates = took c.args.system.now.gates c.args.end.now c.take.new.self c.take.ensures.same c.requires.same_gates }

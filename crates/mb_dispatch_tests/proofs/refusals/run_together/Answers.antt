@@ -1,4 +1,0 @@
-use Rattle.mb_dispatch_tests.proofs.refusals.run_together.Goals as goal
-
-pub run_on_threads-requires-clause-unused : goal.run_on_threads-requires-clause-unused
-run_on_threads-requires-clause-unused g c κs within = c.in_ok-actors.ensures
