@@ -32,3 +32,5 @@ pub mod Returns
 pub mod Put
 pub mod AskedFor
 pub mod AskedLaw
+pub mod PassedOn
+pub mod Adding

@@ -1,5 +1,5 @@
 //! A plan and its actors, added together.
-ghost use Rattle.std.specs.Prelude.{◌≡◌, ◌⊎◌, ◌+◌, ◌<◌, ◌≤◌, ◌↔◌, [], ◌∷◌, ◌++◌, All, IfErr, IfOk, IsErrOf, IsTrue, OnErr, OnOk, Some, length, map};
+ghost use Rattle.std.specs.Prelude.{◌≡◌, ◌⊎◌, ◌+◌, ◌<◌, ◌≤◌, ◌↔◌, [], ◌∷◌, ◌++◌, All, IfErr, IfOk, IsErrOf, IsTrue, OnErr, OnOk, Some, length, map, string_bytes, vec_capacity};
 ghost use Rattle.mb_build.specs.declared.check.PlanError.TheVariants.{Actors};
 ghost use Rattle.mb_msg.specs.declared.pool_kind.PoolKind.TheVariants as pool_kind;
 ghost use Rattle.mb_msg.specs.declared.id.ActorId.{ActorId as Id};
@@ -20,7 +20,7 @@ use mb_build::PlanError;
 use mb_msg::limits::ACTORS;
 use mb_msg::{ActorId, ActorPlan, Order, Plan, PoolKind};
 use mb_report::Report;
-use std::alloc::Global;
+use std::alloc::{AllocError, Global};
 use std::sync::Wait;
 use std::thread::Threads;
 
@@ -121,14 +121,7 @@ impl<A: Actor> PlannedSystem<A> {
         ensures unused { All (λ actor. A.content actor ≡ A.after actor []) self.old.actors.items
             → All (λ actor. A.content actor ≡ A.after actor []) self.new.actors.items }
     {
-        if self.is_full() {
-            return Err(Error::BadPlan(PlanError::Actors));
-        }
-        let number = self.actors.len() + 1;
-        let alloc = *self.actors.allocator();
-        let Ok(name) = format!(in alloc; "${number}") else {
-            return Err(Error::NoMemory);
-        };
+        let name = self.default_name()?;
         self.push(name, plan, actor)
     }
 
@@ -153,6 +146,37 @@ impl<A: Actor> PlannedSystem<A> {
         ensures unused { All (λ actor. A.content actor ≡ A.after actor []) self.old.actors.items
             → All (λ actor. A.content actor ≡ A.after actor []) self.new.actors.items }
     {
+        let name = self.free_name(name)?;
+        self.push(name, plan, actor)
+    }
+
+    // The next actor's name, if it comes without one and there is room for it.
+    fn default_name(&self) -> Result<String, Error>
+        ensures not_full { OnOk result (length self.now.actors.items < 63) }
+        ensures named { IfOk result (λ name. string_bytes name ≡ name_by_default (length self.now.actors.items + 1)) }
+        ensures full { IsErrOf result (BadPlan Actors) ↔ (63 ≤ length self.now.actors.items) }
+        ensures errors { IfErr result (λ error. (error ≡ BadPlan Actors) ⊎ (error ≡ NoMemory)) }
+    {
+        if self.is_full() {
+            return Err(Error::BadPlan(PlanError::Actors));
+        }
+        let number = self.actors.len() + 1;
+        let alloc = *self.actors.allocator();
+        let Ok(name) = format!(in alloc; "${number}") else {
+            return Err(Error::NoMemory);
+        };
+        Ok(name)
+    }
+
+    // This name for the next actor, if there is room for it and no actor has the name.
+    fn free_name(&self, name: &str) -> Result<String, Error>
+        ensures not_full { OnOk result (length self.now.actors.items < 63) }
+        ensures named { IfOk result (λ free. string_bytes free ≡ name.now) }
+        ensures full { IsErrOf result (BadPlan Actors) ↔ (63 ≤ length self.now.actors.items) }
+        ensures taken { (id : Id) → IsErrOf result (NameTaken id)
+            ↔ ((length self.now.actors.items < 63) × (number_of self.now.names.texts.items name.now ≡ Some id.0)) }
+        ensures errors { IfErr result (λ error. (error ≡ BadPlan Actors) ⊎ (error ≡ NoMemory) ⊎ ((id : Id) × (error ≡ NameTaken id))) }
+    {
         if self.is_full() {
             return Err(Error::BadPlan(PlanError::Actors));
         }
@@ -162,7 +186,7 @@ impl<A: Actor> PlannedSystem<A> {
         let Ok(name) = String::from_str(*self.actors.allocator(), name) else {
             return Err(Error::NoMemory);
         };
-        self.push(name, plan, actor)
+        Ok(name)
     }
 
     // Whether there are as many actors as there may be.
@@ -184,16 +208,24 @@ impl<A: Actor> PlannedSystem<A> {
         ensures settings { self.new.plan ≡ record self.old.plan { actors = self.new.plan.actors } }
         ensures error { IfErr result (λ error. error ≡ NoMemory) }
     {
-        if self.plan.actors.reserve(1).is_err()
-            || self.actors.reserve(1).is_err()
-            || self.names.texts.reserve(1).is_err()
-        {
-            return Err(Error::NoMemory);
-        }
+        self.reserve_one()?;
         self.plan.actors.push_reserved(plan);
         self.actors.push_reserved(actor);
         self.names.texts.push_reserved(name);
         Ok(ActorId(self.actors.len() as u32))
+    }
+
+    // Makes room for one actor more, with its plan and its name.
+    fn reserve_one(&mut self) -> Result<(), AllocError>
+        ensures room { OnOk result ((length self.new.plan.actors.items < vec_capacity self.new.plan.actors)
+            × (length self.new.actors.items < vec_capacity self.new.actors) × (length self.new.names.texts.items < vec_capacity self.new.names.texts)) }
+        ensures same { (self.new.actors.items ≡ self.old.actors.items) × (self.new.names.texts.items ≡ self.old.names.texts.items) }
+        ensures settings { self.new.plan ≡ record self.old.plan { actors = self.new.plan.actors } }
+        ensures planned { self.new.plan.actors.items ≡ self.old.plan.actors.items }
+    {
+        self.plan.actors.reserve(1)?;
+        self.actors.reserve(1)?;
+        self.names.texts.reserve(1)
     }
 
     /// Runs it on this thread, as `run_here` does.

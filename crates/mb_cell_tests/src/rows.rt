@@ -1,7 +1,7 @@
 //! Whole runs of several actors, cell by cell: each gets its messages in the run's order, and its acts are what the
 //! others get.
 
-use crate::tables::each_case;
+use crate::tables::each_text;
 use std::test::Fail;
 
 /// A parent that starts a child, which is sent an add, a failure and an add.
@@ -343,11 +343,15 @@ create | handled | resume | live 0 0
 user add 9 | handled | - | live 0 1
 ";
 
+const TEXTS: &[(&str, u32)] = &[
+    (CHILD_THAT_FAILS, 31),
+    (FAILURES, 66),
+    (RETRIES, 26),
+    (TO_A_FULL_JOURNAL, 22),
+    (ENDS, 47),
+];
+
 #[test]
 fn stories(rt: HostRuntime) -> Result<(), Fail> {
-    each_case(&rt, rt.alloc(), CHILD_THAT_FAILS, 31)?;
-    each_case(&rt, rt.alloc(), FAILURES, 66)?;
-    each_case(&rt, rt.alloc(), RETRIES, 26)?;
-    each_case(&rt, rt.alloc(), TO_A_FULL_JOURNAL, 22)?;
-    each_case(&rt, rt.alloc(), ENDS, 47)
+    each_text(&rt, rt.alloc(), TEXTS)
 }

@@ -1,6 +1,6 @@
 //! What an actor does about a child that failed.
 
-use crate::tables::each_case;
+use crate::tables::each_text;
 use std::test::Fail;
 
 const DIRECTIVES: &str = "
@@ -90,9 +90,9 @@ create | handled: spawn 2, spawn 3 | resume, 2: create, 3: create | live 0 0
 failed 2 error 1 | none | 2: terminate, 3: terminate | live 0 0
 ";
 
+const TEXTS: &[(&str, u32)] = &[(DIRECTIVES, 22), (RETRIES, 8), (ALL_FOR_ONE, 15)];
+
 #[test]
 fn supervision(rt: HostRuntime) -> Result<(), Fail> {
-    each_case(&rt, rt.alloc(), DIRECTIVES, 22)?;
-    each_case(&rt, rt.alloc(), RETRIES, 8)?;
-    each_case(&rt, rt.alloc(), ALL_FOR_ONE, 15)
+    each_text(&rt, rt.alloc(), TEXTS)
 }

@@ -1,6 +1,6 @@
 //! How an actor is suspended and resumed, and what waits until then.
 
-use crate::tables::each_case;
+use crate::tables::each_text;
 use std::test::Fail;
 
 const SUSPENSIONS: &str = "
@@ -52,8 +52,9 @@ resume failure | none | resume, 2: resume | live 0 1
 kill | none | suspend, 2: suspend, 0: failed 1 killed | live 1 1
 ";
 
+const TEXTS: &[(&str, u32)] = &[(SUSPENSIONS, 14), (FAILURES, 16)];
+
 #[test]
 fn suspensions(rt: HostRuntime) -> Result<(), Fail> {
-    each_case(&rt, rt.alloc(), SUSPENSIONS, 14)?;
-    each_case(&rt, rt.alloc(), FAILURES, 16)
+    each_text(&rt, rt.alloc(), TEXTS)
 }

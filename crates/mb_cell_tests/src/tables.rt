@@ -21,7 +21,19 @@ pub(crate) fn each_case<R: Abort>(
         let (cases, _) = play(rt, alloc, story)?;
         found = found.wrapping_add(cases);
     }
-    assert!(rt; found == count, "{found} cases");
+    assert!(rt; found == count);
+    Ok(())
+}
+
+/// The same of several texts, each with its number of cases.
+pub(crate) fn each_text<R: Abort>(
+    rt: &R,
+    alloc: Global,
+    texts: &[(&str, u32)],
+) -> Result<(), Fail> {
+    for (stories, count) in texts {
+        each_case(rt, alloc, *stories, *count)?;
+    }
     Ok(())
 }
 
@@ -53,17 +65,18 @@ fn go_through<R: Abort, A: Actor, K: Behaviours>(
     head: &str,
     story: &str,
 ) -> (u32, bool) {
-    assert!(rt; stage.is_fresh(), "{head}");
+    assert!(rt; stage.is_fresh());
     let mut count: u32 = 0;
     for case in story.lines() {
         if case.contains(" | ") {
             count = count.wrapping_add(1);
-            let other = stage.other_than(rt, case);
-            assert!(rt;
-                other.is_empty(),
-                "another {other}: {case} (case {count} of {head})"
-            );
+            see_same(rt, stage.other_than(rt, case), case, head);
         }
     }
     (count, stage.was_refused())
+}
+
+/// Checks that nothing else came of a case.
+fn see_same<R: Abort>(rt: &R, other: &str, case: &str, head: &str) {
+    assert!(rt; other.is_empty(), "another {other}: {case} (of {head})");
 }

@@ -1,6 +1,6 @@
 //! How an actor watches others, and is watched.
 
-use crate::tables::each_case;
+use crate::tables::each_text;
 use std::test::Fail;
 
 const WATCHED: &str = "
@@ -75,8 +75,9 @@ resume | none | resume | live 0 0
 terminated 2 | handled | - | live 0 1
 ";
 
+const TEXTS: &[(&str, u32)] = &[(WATCHED, 7), (WATCHING, 37)];
+
 #[test]
 fn watches(rt: HostRuntime) -> Result<(), Fail> {
-    each_case(&rt, rt.alloc(), WATCHED, 7)?;
-    each_case(&rt, rt.alloc(), WATCHING, 37)
+    each_text(&rt, rt.alloc(), TEXTS)
 }

@@ -1,5 +1,5 @@
 -- For which reasons sending, work and a whole run are broken off.
-use Rattle.std.proofs.Common.{◌≡◌, ◌≤◌, ℕ, false, List, [], ◌∷◌, ◌<◌, length, refl, subst, sym, ◌∙◌, arith, inl, inr}
+use Rattle.std.proofs.Common.{◌≡◌, ◌≤◌, ℕ, false, List, [], ◌∷◌, ◌<◌, length, refl, subst, sym, ap, ◌∙◌, arith, inl, inr}
 use Rattle.std.specs.Prelude.{◌≢◌, ◌⊎◌, ⊤, Contains, Err, IfErr, IsErrOf, MatchResult, Ok, OnErr, OnOk, Result, Some}
 use Rattle.std.specs.Global.{Box}
 use Rattle.std.specs.List.{AllZip}
@@ -81,15 +81,15 @@ IsUnknown NoSuchActor = ⊤
 IsUnknown _ = ⊥
 
 -- a run of a mailbox was broken off by a full journal only where its own error says so, and never since there is no such actor
-pub full-of-ready : (error : ReadyError) → of_ready error ≡ JournalFull → error ≡ Ready.JournalFull
+full-of-ready : (error : ReadyError) → of_ready error ≡ JournalFull → error ≡ Ready.JournalFull
 full-of-ready Ready.NoMemory is = absurd (subst IsFull (sym is) tt)
 full-of-ready Ready.JournalFull is = refl
 
-pub short-of-ready : (error : ReadyError) → of_ready error ≡ NoMemory → error ≡ Ready.NoMemory
+short-of-ready : (error : ReadyError) → of_ready error ≡ NoMemory → error ≡ Ready.NoMemory
 short-of-ready Ready.NoMemory is = refl
 short-of-ready Ready.JournalFull is = absurd (subst IsFull is tt)
 
-pub ready-is-known : (error : ReadyError) → of_ready error ≢ NoSuchActor
+ready-is-known : (error : ReadyError) → of_ready error ≢ NoSuchActor
 ready-is-known Ready.NoMemory is = subst IsUnknown (sym is) tt
 ready-is-known Ready.JournalFull is = subst IsUnknown (sym is) tt
 
@@ -116,7 +116,7 @@ to-nobody P Q M (Err error) (p, inr m) memory e = absurd (subst IsOfMemory (sym 
 
 module _ {A K : Type 0} (gives : ℕ → Moment → Reply → Type 0) (system : System A K) where
   -- a run of a mailbox by this end was broken off
-  pub came-to-limit : (before : View) (end : WorkerEnd A K) (claim : Claim (Box Contents)) → IsFreshClaim gives (Some (origin_of system.gates)) claim
+  came-to-limit : (before : View) (end : WorkerEnd A K) (claim : Claim (Box Contents)) → IsFreshClaim gives (Some (origin_of system.gates)) claim
       → (result : Result Turn ReadyError)
       → (journal : List Entry) × MatchResult result
       (λ turn. (stopped : Stopped) × HadRoom stopped
@@ -138,7 +138,7 @@ module _ {A K : Type 0} (gives : ℕ → Moment → Reply → Type 0) (system : 
     no-run gives (origin_of system.gates) system.throughput before,
   )
 
-  pub came-short : (before : View) (end : WorkerEnd A K) (claim : Claim (Box Contents)) → IsFreshClaim gives (Some (origin_of system.gates)) claim
+  came-short : (before : View) (end : WorkerEnd A K) (claim : Claim (Box Contents)) → IsFreshClaim gives (Some (origin_of system.gates)) claim
       → (journal : List Entry) × (turn : Turn) × LeavesRun system.throughput claim before (pass_view end.registrar.pass) journal turn NoRoom
       × IsShortOfMemory claim.home.value.cell.who journal → BreaksWork gives system before end NoMemory
   came-short before end claim fresh ran = inl (
@@ -154,11 +154,29 @@ module _ {A K : Type 0} (gives : ℕ → Moment → Reply → Type 0) (system : 
     no-run gives (origin_of system.gates) system.throughput before,
   )
 
-  pub breaks-work : (before : View) (end : WorkerEnd A K) (fault : RunError) → (fault ≡ JournalFull → BreaksWork gives system before end JournalFull)
+  breaks-work : (before : View) (end : WorkerEnd A K) (fault : RunError) → (fault ≡ JournalFull → BreaksWork gives system before end JournalFull)
       → (fault ≡ NoMemory → BreaksWork gives system before end NoMemory) → fault ≢ NoSuchActor → BreaksWork gives system before end fault
   breaks-work before end NoMemory full short known = short refl
   breaks-work before end JournalFull full short known = full refl
   breaks-work before end NoSuchActor full short known = known refl
+
+  -- whatever its error says
+  pub breaks-mailbox : (before : View) (end : WorkerEnd A K) (claim : Claim (Box Contents)) → IsFreshClaim gives (Some (origin_of system.gates)) claim
+      → (result : Result Turn ReadyError) (error : ReadyError) → result ≡ Err error
+      → (journal : List Entry) × MatchResult result
+      (λ turn. (stopped : Stopped) × HadRoom stopped
+      × LeavesRun system.throughput claim before (pass_view end.registrar.pass) journal turn stopped)
+      (λ _. (turn : Turn) × LeavesRun system.throughput claim before (pass_view end.registrar.pass) journal turn NoRoom
+      × (IsErrOf result Ready.JournalFull → claim.home.value.cell.who.limit ≤ length journal))
+      → (IsErrOf result Ready.NoMemory → (journal : List Entry) × (turn : Turn)
+      × LeavesRun system.throughput claim before (pass_view end.registrar.pass) journal turn NoRoom
+      × IsShortOfMemory claim.home.value.cell.who journal)
+      → BreaksWork gives system before end (of_ready error)
+  breaks-mailbox before end claim fresh result error is ran short =
+      breaks-work before end (of_ready error)
+      (λ full. came-to-limit before end claim fresh result ran (is ∙ ap Err (full-of-ready error full)))
+      (λ memory. came-short before end claim fresh (short (is ∙ ap Err (short-of-ready error memory))))
+      (ready-is-known error)
 
   -- the pool refused again the claim of an actor to which a look is owed
   pub breaks-retry : (start : View) (end : WorkerEnd A K) (old : QueueAccount (Box Contents)) {T : Type 0} (P : T → Type 0) (r : Result T RunError)

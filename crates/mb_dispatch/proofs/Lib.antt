@@ -1,4 +1,5 @@
 pub mod Puts
+pub mod Counts
 pub mod Sending
 pub mod Sides
 pub mod Ended

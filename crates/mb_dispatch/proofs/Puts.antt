@@ -1,9 +1,9 @@
 -- What a view put into lists is what it sent.
-use Rattle.std.proofs.Common.{◌≡◌, ◌+◌, ◌==◌, ℕ, Bool, true, List, [], ◌∷◌, ◌++◌, Option, Some, None, ap, arith, if◌then◌else◌, refl, ◌∙◌}
+use Rattle.std.proofs.Common.{◌≡◌, ℕ, true, List, [], ◌∷◌, ◌++◌, Option, Some, None, ap, arith, refl, ◌∙◌}
 use Rattle.mb_ghost.proofs.SummedLemmas.{total_append}
 use Rattle.mb_ghost.specs.Seen.{Each}
 use Rattle.mb_ghost.specs.Summed.{total}
-use Rattle.mb_gate.specs.PutIn.{put_by, put_in}
+use Rattle.mb_gate.specs.PutIn.{put_in}
 use Rattle.mb_gate.specs.View.{Observation, SentSystem, View}
 use Rattle.mb_gate.specs.View.{Read, Saw, Counted, Looked, Sent, Unsent, Took, Pushed, Drained, Ended}
 use Rattle.mb_mailbox.specs.RunSends.{PutsAsSent, listed_measure}

@@ -1,10 +1,16 @@
 -- Chains of runs of mailboxes.
 use Rattle.std.proofs.Common.{ℕ, List, [], ◌∷◌, ◌++◌}
+use Rattle.std.specs.Prelude.{Some}
 use Rattle.std.specs.Global.{Box}
 use Rattle.mb_actor.specs.Behaviour.{Moment, Reply}
+use Rattle.mb_journal.specs.Entry.{Entry}
+use Rattle.mb_journal.specs.Run.{Stopped}
 use Rattle.mb_gate.specs.Untouched.{Origin}
 use Rattle.mb_gate.specs.View.{View}
+use Rattle.mb_gate.specs.declared.claim.Claim.{Claim}
 use Rattle.mb_home.specs.Contents.{Contents}
+use Rattle.mb_home.specs.Fresh.{IsFreshClaim}
+use Rattle.mb_mailbox.specs.Ran.{HadRoom, LeavesRun}
 use Rattle.mb_mailbox.specs.declared.turn.Turn.{Turn}
 use Rattle.mb_system.specs.OnlyLooks.{OnlyLooks}
 use Rattle.mb_system.proofs.Looking.{only-none, only-then}
@@ -34,12 +40,18 @@ module _ (gives : ℕ → Moment → Reply → Type 0) (origin : Origin (Box Con
   made-then u v w [] turns looks made = looks-runs u v w turns looks made
   made-then u v w (t ∷ before) turns first made = (first.0, first.1, first.2, first.3, made-then first.1 v w before turns first.4 made)
 
-  -- it did nothing, only read, or made one run
+  -- it did nothing, only read, or made one run, as a run of a mailbox answers it
   pub no-run : (v : View) → OnlyRuns gives origin throughput v v
   no-run v = record { turns = []; made = only-none v }
 
   pub of-looks : (u v : View) → OnlyLooks u v → OnlyRuns gives origin throughput u v
   of-looks u v looks = record { turns = []; made = looks }
+
+  pub ran-mailbox : (u v : View) (claim : Claim (Box Contents)) (turn : Turn) → IsFreshClaim gives (Some origin) claim
+      → (journal : List Entry) × ((stopped : Stopped) × HadRoom stopped × LeavesRun throughput claim u v journal turn stopped)
+      → RanMailbox gives origin throughput u v turn
+  ran-mailbox u v claim turn fresh ran =
+      record { claim = claim; fresh = fresh; journal = ran.0; stopped = ran.1.0; room = ran.1.1; left = ran.1.2 }
 
   pub one-run : (u v : View) (turn : Turn) → RanMailbox gives origin throughput u v turn → OnlyRuns gives origin throughput u v
   one-run u v turn ran = record { turns = turn ∷ []; made = (u, v, only-none u, ran, only-none v) }

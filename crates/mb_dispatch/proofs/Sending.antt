@@ -1,9 +1,10 @@
 -- A sender that carries out its orders, one after another.
 use Rattle.std.proofs.Common.{◌≡◌, ◌≢◌, ◌⊎◌, List, [], ◌∷◌, ◌++◌, Bool, true, false, ℕ, ap, sym, refl, ◌∙◌, subst, append_assoc, Option}
 use Rattle.std.proofs.Common.{◌+◌, ◌<◌, zero, suc, arith, take, drop, get_or, length}
-use Rattle.std.specs.Prelude.{Err, Result, reverse}
+use Rattle.std.specs.Prelude.{Err, Result, Some, reverse}
 use Rattle.std.proofs.lemmas.List.{append-nil, drop_more, map-append, reverse-append, take-append-drop}
 use Rattle.mb_msg.specs.declared.dead_letter.Why.{Why}
+use Rattle.mb_msg.specs.declared.dead_letter.Why.TheVariants as why
 use Rattle.mb_msg.specs.Payload.{body_of}
 use Rattle.mb_msg.specs.declared.envelope.Body.{Body}
 use Rattle.mb_msg.specs.declared.payload.Payload.{Payload}
@@ -37,7 +38,7 @@ use Rattle.mb_send.specs.declared.ticket.Look.{Look}
 use Rattle.mb_send.specs.declared.ticket.Look.TheVariants.{Open, Closed}
 use Rattle.mb_system.specs.Obligations.{KeepsObligations}
 use Rattle.mb_system.specs.Members.{sender_caller}
-use Rattle.mb_dispatch.specs.Orders.{HasSent, HasSentUpTo, StopsWithin, addressed, order_for, over, addressed_system, terminates_of, terminates_of_one}
+use Rattle.mb_dispatch.specs.Orders.{CountsQueued, HasSent, HasSentUpTo, StopsWithin, addressed, order_for, over, addressed_system, terminates_of, terminates_of_one}
 use Rattle.mb_dispatch.specs.Orders.{envelopes_of, envelopes_of_one}
 use Rattle.mb_system.specs.declared.sender.Sender.{Sender}
 use Rattle.mb_mailbox.specs.RunSends.{PutsAsSent, listed_measure}
@@ -45,6 +46,7 @@ use Rattle.mb_gate.specs.PutIn.{put_in}
 use Rattle.mb_ghost.specs.Summed.{total}
 use Rattle.mb_msg.specs.declared.system.SysMsg.{SysMsg}
 use Rattle.mb_system.specs.OnlyLooks.{OnlyLooks}
+use Rattle.mb_dispatch.proofs.Counts.{counts-none, counts-posting, counts-then, does-counts, looks-count}
 use Rattle.mb_dispatch.proofs.Puts.{counts-put-none, does-puts, looks-put, puts-none, puts-then}
 use Rattle.mb_system.proofs.Obligations.{obligations-at}
 use Rattle.mb_system.proofs.Saw.{saw-more, saw-same, saw-then}
@@ -83,6 +85,7 @@ module _ {A K : Type 0} where
     more = [];
     posted = sym (append-nil s.inner.send_log.posted);
     accepted_are = refl;
+    counted = counts-none (pass_view s.inner.registrar.pass);
     system_sent = refl;
     put = puts-none (pass_view s.inner.registrar.pass);
     log_kept = saw-same _;
@@ -97,6 +100,9 @@ module _ {A K : Type 0} where
     more = p.more ++ q.more;
     posted = q.posted ∙ ap (λ l. l ++ q.more) p.posted ∙ append_assoc a.inner.send_log.posted p.more q.more;
     accepted_are = accepted-append p.more q.more ∙ (λ i. p.accepted_are i ++ q.accepted_are i) ∙ sym (envelopes-append xs ys);
+    counted =
+        counts-then p.more q.more (pass_view a.inner.registrar.pass) (pass_view b.inner.registrar.pass) (pass_view c.inner.registrar.pass) p.counted
+        q.counted;
     system_sent =
         q.system_sent ∙ ap (λ l. reverse (terminates_of ys) ++ l) p.system_sent ∙ sym (append_assoc (reverse (terminates_of ys)) (reverse (terminates_of xs)) _)
         ∙ ap (λ l. l ++ addressed_system (pass_view a.inner.registrar.pass).sent_system)
@@ -114,6 +120,7 @@ module _ {A K : Type 0} where
     more = p.more;
     posted = p.posted;
     accepted_are = p.accepted_are ∙ envelopes;
+    counted = p.counted;
     system_sent = p.system_sent ∙ ap (λ l. reverse l ++ addressed_system (pass_view a.inner.registrar.pass).sent_system) terminates;
     put = p.put;
     log_kept = p.log_kept;
@@ -157,6 +164,10 @@ module _ {A K : Type 0} where
     more = p.more;
     posted = ap (λ k. k.posted) send_log ∙ p.posted;
     accepted_are = p.accepted_are;
+    counted =
+        subst (λ more. CountsQueued more (pass_view a.inner.registrar.pass) (pass_view c.inner.registrar.pass)) (append-nil p.more)
+        (counts-then p.more [] (pass_view a.inner.registrar.pass) (pass_view b.inner.registrar.pass) (pass_view c.inner.registrar.pass) p.counted
+        (looks-count (pass_view b.inner.registrar.pass) (pass_view c.inner.registrar.pass) only));
     system_sent = ap addressed_system only.sent_system ∙ p.system_sent;
     put =
         puts-then (pass_view a.inner.registrar.pass) (pass_view b.inner.registrar.pass) (pass_view c.inner.registrar.pass) p.put
@@ -195,30 +206,48 @@ then-at id a b c p q = record {
 
 -- an envelope was sent by a tell
 module _ (by : SenderId) (number : ℕ) (to : ActorId) (body : Body) (posted posted' : List SentEnvelope) where
-  abbrev pub IsOnePosted : Type 0
-  IsOnePosted = (refused : Option Why) × (posted' ≡ posted ++ posting (envelope_of by to number body) refused ∷ [])
+  abbrev pub IsOnePosted : View → View → Type 0
+  IsOnePosted old new = (refused : Option Why) × (posted' ≡ posted ++ posting (envelope_of by to number body) refused ∷ [])
+      × CountsQueued (posting (envelope_of by to number body) refused ∷ []) old new
 
   pub one-posted : (sends : List SendPassView) (old new : View) (put : Put) → IsTold by number to body posted posted' sends old new put
-      → IsOnePosted × (new.sent_system ≡ old.sent_system) × GoesOnAt to.0 old new
+      → IsOnePosted old new × (new.sent_system ≡ old.sent_system) × GoesOnAt to.0 old new
   one-posted sends old new put told = by_look told.look told.follows
     where
       same : told.between.sent_system ≡ old.sent_system
       same = ap (λ (v : View). v.sent_system) told.seen.read
 
+      looked : Does to.0 [] [] old told.between
+      looked = looks-read to.0 (word_of told.seen.seen) old told.between told.seen.read
+
       read : GoesOnAt to.0 old told.between
-      read = does-at to.0 [] [] old told.between (looks-read to.0 (word_of told.seen.seen) old told.between told.seen.read)
-          (λ id measure. refl)
+      read = does-at to.0 [] [] old told.between looked (λ id measure. refl)
+
+      reading-counts : (ps : List SentEnvelope) → CountsQueued ps told.between new → CountsQueued ps old new
+      reading-counts ps then = counts-then [] ps old told.between new (does-counts to.0 [] [] [] old told.between looked (λ actor. refl)) then
 
       by_look : (look : Look) → FollowsLook by number to body posted posted' sends told.between new put look
-          → IsOnePosted × (new.sent_system ≡ old.sent_system) × GoesOnAt to.0 old new
+          → IsOnePosted old new × (new.sent_system ≡ old.sent_system) × GoesOnAt to.0 old new
       by_look (Open ticket) sent = (
-        (sent.refused, sent.posted_is),
+        (
+          sent.refused,
+          sent.posted_is,
+          reading-counts (posting (envelope_of by to number body) sent.refused ∷ [])
+              (does-counts to.0 (counts to.0 sent.refused) [] (posting (envelope_of by to number body) sent.refused ∷ []) told.between new sent.counted
+              (counts-posting (envelope_of by to number body) sent.refused)),
+        ),
         sent.counted.sent_system ∙ same,
         then-at to.0 old told.between new read (does-at to.0 (counts to.0 sent.refused) [] told.between new sent.counted
             (counts-put-none to.0 sent.refused)),
       )
       by_look Closed is_dead = (
-        (_, is_dead.0.posted_is),
+        (
+          Some why.Closed,
+          is_dead.0.posted_is,
+          reading-counts (posting (envelope_of by to number body) (Some why.Closed) ∷ [])
+              (subst (CountsQueued (posting (envelope_of by to number body) (Some why.Closed) ∷ []) told.between) (sym is_dead.1)
+              (counts-none told.between)),
+        ),
         ap (λ (v : View). v.sent_system) is_dead.1 ∙ same,
         subst (GoesOnAt to.0 old) (sym is_dead.1) read,
       )
@@ -235,6 +264,7 @@ module _ {A K : Type 0} where
         more = posting (envelope_of a.inner.send_log.by to a.inner.send_log.sent (body_of payload)) one.0.0 ∷ [];
         posted = one.0.1;
         accepted_are = refl;
+        counted = one.0.2;
         system_sent = ap addressed_system one.1;
         put = one.2.put;
         log_kept = one.2.log_kept;
@@ -247,12 +277,14 @@ module _ {A K : Type 0} (to : ActorId) (a b : Sender A K) where
   sent-looked : OnlyLooked to a.inner b.inner → HasSent [] a b
   sent-looked looked =
       let old = pass_view a.inner.registrar.pass in let new = pass_view b.inner.registrar.pass in
-      let read = does-at to.0 [] [] old new (looks-read to.0 (word_of looked.seen.seen) old new looked.seen.read) (λ id measure. refl) in
+      let did = looks-read to.0 (word_of looked.seen.seen) old new looked.seen.read in
+      let read = does-at to.0 [] [] old new did (λ id measure. refl) in
       record {
         by = looked.send_log.by;
         more = [];
         posted = looked.send_log.posted ∙ sym (append-nil a.inner.send_log.posted);
         accepted_are = refl;
+        counted = does-counts to.0 [] [] [] old new did (λ actor. refl);
         system_sent = ap (λ (v : View). addressed_system v.sent_system) looked.seen.read;
         put = read.put;
         log_kept = read.log_kept;
@@ -267,9 +299,17 @@ module _ {A K : Type 0} (to : ActorId) (a b : Sender A K) where
 
 -- a Terminate was sent
 sent-terminate : (id : ℕ) (old new : View) (stopped : Bool) → Stops id old new stopped
-    → (addressed_system new.sent_system ≡ (id, Terminate) ∷ addressed_system old.sent_system) × GoesOnAt id old new
-sent-terminate id old new true s = (ap addressed_system s.1.sent_system, does-at id _ _ old new s.1 (λ to measure. refl))
-sent-terminate id old new false s = (ap addressed_system s.sent_system, does-at id _ _ old new s (λ to measure. refl))
+    → (addressed_system new.sent_system ≡ (id, Terminate) ∷ addressed_system old.sent_system) × GoesOnAt id old new × CountsQueued [] old new
+sent-terminate id old new true s = (
+  ap addressed_system s.1.sent_system,
+  does-at id _ _ old new s.1 (λ to measure. refl),
+  does-counts id _ _ [] old new s.1 (λ actor. refl),
+)
+sent-terminate id old new false s = (
+  ap addressed_system s.sent_system,
+  does-at id _ _ old new s (λ to measure. refl),
+  does-counts id _ _ [] old new s (λ actor. refl),
+)
 
 module _ {A K : Type 0} where
   pub sent-stopped : (to : ActorId) (stopped : Bool) (a b : Sender A K) → b.inner.send_log ≡ a.inner.send_log
@@ -279,6 +319,7 @@ module _ {A K : Type 0} where
     more = [];
     posted = ap (λ k. k.posted) send_log ∙ sym (append-nil a.inner.send_log.posted);
     accepted_are = refl;
+    counted = stop.2;
     system_sent = stop.0;
     put = stop.1.put;
     log_kept = stop.1.log_kept;

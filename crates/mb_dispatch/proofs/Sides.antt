@@ -1,6 +1,6 @@
 -- What holds of each task, or of one of them, holds of all tasks that are done in parallel, or of one; and the first of two errors.
-use Rattle.std.proofs.Common.{◌≡◌, suc, List, [], ◌∷◌, length, get_or, map, set, refl, sym, ap, ◌∙◌, subst, inl, inr}
-use Rattle.std.specs.Prelude.{All, Err, MatchResult, Ok, OnErr, OnOk, Result}
+use Rattle.std.proofs.Common.{◌≡◌, suc, List, [], ◌∷◌, length, get_or, map, set, refl, sym, ap, subst, inl, inr}
+use Rattle.std.specs.Prelude.{All, Err, IfNone, MatchResult, None, Ok, OnErr, OnOk, Option, Result, Some}
 use Rattle.std.specs.Global.{Box}
 use Rattle.std.specs.List.{AllZip}
 use Rattle.std.proofs.lemmas.List.Elements.{All-cons, All-nil, All-set}
@@ -52,15 +52,14 @@ module _ {T : Type 0} where
   zip_same R f [] = tt
   zip_same R f (x ∷ xs) = (f x, zip_same R f xs)
 
-  pub zip_first : (R : T → T → Type 0) → ((x : T) → R x x) → (xs : List T) (old new : T) → old ≡ get_or xs 0 old → R old new
-      → AllZip R xs (set xs 0 new)
-  zip_first R f [] old new there did = tt
-  zip_first R f (x ∷ xs) old new there did = (subst (λ y. R y new) there did, zip_same R f xs)
+  pub zip_first : (R : T → T → Type 0) → ((x : T) → R x x) → (xs : List T) (other new : T) → R (get_or xs 0 other) new → AllZip R xs (set xs 0 new)
+  zip_first R f [] other new did = tt
+  zip_first R f (x ∷ xs) other new did = (did, zip_same R f xs)
 
   -- another stands first, of which this is the same
-  pub same_first : {X : Type 0} (of : T → X) (xs : List T) (old new : T) → old ≡ get_or xs 0 old → of new ≡ of old → map of (set xs 0 new) ≡ map of xs
-  same_first of [] old new there same = refl
-  same_first of (x ∷ xs) old new there same = λ i. (same ∙ ap of there) i ∷ map of xs
+  pub same_first : {X : Type 0} (of : T → X) (xs : List T) (other new : T) → of new ≡ of (get_or xs 0 other) → map of (set xs 0 new) ≡ map of xs
+  same_first of [] other new same = refl
+  same_first of (x ∷ xs) other new same = λ i. same i ∷ map of xs
 
   -- the first that failed, after one thing was done with each
   pub first_then : (R D F : T → T → Type 0) → ((x y z : T) → R x y → D y z → D x z) → ((x y z : T) → R x y → F y z → F x z) → (xs ys zs : List T)
@@ -74,11 +73,11 @@ module _ {T : Type 0} where
 
 -- another end stands first, with the same number
 module _ {A K : Type 0} (gates : Gates (Box Contents)) where
-  pub first_changed : (ends : List (WorkerEnd A K)) (old new : WorkerEnd A K) → old ≡ get_or ends 0 old → AreEndsOf gates ends
-      → IsEndOf gates new.registrar → new.number ≡ old.number → AreEndsOf gates (set ends 0 new) × (ends_numbers (set ends 0 new) ≡ ends_numbers ends)
-  first_changed ends old new there all ours same = (
+  pub first_changed : (ends : List (WorkerEnd A K)) (other new : WorkerEnd A K) → AreEndsOf gates ends → IsEndOf gates new.registrar
+      → new.number ≡ (get_or ends 0 other).number → AreEndsOf gates (set ends 0 new) × (ends_numbers (set ends 0 new) ≡ ends_numbers ends)
+  first_changed ends other new all ours same = (
     All-set (λ (e : WorkerEnd A K). IsEndOf gates e.registrar) ends 0 new ours all,
-    same_first (λ (e : WorkerEnd A K). e.number) ends old new there same,
+    same_first (λ (e : WorkerEnd A K). e.number) ends other new same,
   )
 
 -- r is the first fault of a and b
@@ -91,11 +90,6 @@ module _ {E : Type 0} where
   on_err (Ok x) p = tt
   on_err (Err e) p = p
 
-  -- in either case
-  pub on_both : {P : Type 0} (r : Result (Unit {0}) E) → OnOk r P → OnErr r P → P
-  on_both (Ok x) p q = p
-  on_both (Err e) p q = q
-
   pub on_ok_and : {T : Type 0} (P Q : Type 0) (r : Result T E) → OnOk r P → OnOk r Q → OnOk r (P × Q)
   on_ok_and P Q (Ok x) p q = (p, q)
   on_ok_and P Q (Err e) p q = tt
@@ -107,3 +101,8 @@ module _ {E : Type 0} where
   pub ok_rest : (P : Type 0) (a b r : Result (Unit {0}) E) → MatchResult a (λ _. r ≡ b) (λ _. r ≡ a) → OnOk b P → OnOk r P
   ok_rest P (Ok x) b r is p = subst (λ (q : Result (Unit {0}) E). OnOk q P) (sym is) p
   ok_rest P (Err e) b r is p = subst (λ (q : Result (Unit {0}) E). OnOk q P) (sym is) tt
+
+-- it holds, so it holds of an answer of none
+pub if_none : {T P : Type 0} (r : Option T) → P → IfNone r P
+if_none None p = p
+if_none (Some x) p = tt

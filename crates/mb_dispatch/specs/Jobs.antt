@@ -1,15 +1,18 @@
 -- The jobs of a run, and what becomes of them.
-use Rattle.std.specs.Prelude.{◌≡◌, List, All, map}
+use Rattle.std.specs.Prelude.{◌≡◌, ℕ, ◌<◌, true, List, All, map}
 use Rattle.std.specs.Global.{Box}
 use Rattle.std.specs.List.{AllZip}
 use Rattle.mb_msg.specs.declared.id.SenderId.{SenderId}
 use Rattle.mb_gate.specs.Accessors.{actors_of}
 use Rattle.mb_gate.specs.declared.gates.Gates.{Gates}
 use Rattle.mb_home.specs.Contents.{Contents}
+use Rattle.mb_register.specs.Caller.{IsDischargedOrOwed}
+use Rattle.mb_register.specs.Owed.{is_owed}
 use Rattle.mb_system.specs.Obligations.{KeepsObligations, OwesNobody}
 use Rattle.mb_system.specs.Members.{IsSenderOf, sender_caller}
 use Rattle.mb_dispatch.specs.Orders.{HasSent}
 use Rattle.mb_dispatch.specs.declared.job.Job.{Job}
+use Rattle.mb_system.specs.declared.sender.Sender.{Sender}
 
 module _ {A K : Type 0} where
   -- Who the senders of these jobs are.
@@ -19,6 +22,11 @@ module _ {A K : Type 0} where
   -- The senders of these jobs are of the gates.
   abbrev pub AreJobsOf : Gates (Box Contents) → List (Job A K) → Type 0
   AreJobsOf gates = All (λ (j : Job A K). IsSenderOf gates j.sender.inner)
+
+  -- The sender forgot no actor of its set: each is owed nothing, or is in the set still.
+  abbrev pub ForgetsNobody : Gates (Box Contents) → Sender A K → Sender A K → Type 0
+  ForgetsNobody gates old new = (id : ℕ) → id < actors_of gates → is_owed old.inner.registrar.owed id ≡ true
+      → IsDischargedOrOwed id (sender_caller new.inner.registrar)
 
   -- The job was done by its sender, which forgot nothing that it owed, and owes nobody a look.
   pub record IsDone (gates : Gates (Box Contents)) (old new : Job A K) : Type 0 where

@@ -1,5 +1,5 @@
 -- What a sender is to send, and what it sent.
-use Rattle.std.specs.Prelude.{◌≡◌, ◌⊎◌, ℕ, zero, suc, ◌<◌, List, [], ◌∷◌, ◌++◌, map, reverse}
+use Rattle.std.specs.Prelude.{◌≡◌, ◌⊎◌, ℕ, zero, suc, ◌+◌, ◌<◌, List, [], ◌∷◌, ◌++◌, length, map, reverse}
 use Rattle.mb_msg.specs.Payload.{body_of}
 use Rattle.mb_msg.specs.declared.envelope.Body.{Body}
 use Rattle.mb_msg.specs.declared.envelope.Envelope.{Envelope}
@@ -7,13 +7,14 @@ use Rattle.mb_msg.specs.declared.id.ActorId.{ActorId}
 use Rattle.mb_msg.specs.declared.system.SysMsg.{SysMsg}
 use Rattle.mb_msg.specs.declared.system.SysMsg.TheVariants.{Terminate}
 use Rattle.mb_journal.specs.declared.sent_envelope.SentEnvelope.{SentEnvelope}
-use Rattle.mb_journal.specs.Accepted.{accepted}
+use Rattle.mb_journal.specs.Accepted.{accepted, queued, to_actor}
 use Rattle.mb_msg.specs.declared.order.Order.{Order}
 use Rattle.mb_msg.specs.declared.order.OrderKind.{OrderKind}
 use Rattle.mb_msg.specs.declared.order.OrderKind.TheVariants.{Tell, Stop}
 use Rattle.mb_gate.specs.Accessors.{pass_view}
 use Rattle.mb_gate.specs.Rule.{IsPart}
-use Rattle.mb_gate.specs.View.{SentSystem}
+use Rattle.mb_gate.specs.View.{SentSystem, View}
+use Rattle.mb_gate.specs.Waiting.{off_by, on_by}
 use Rattle.mb_mailbox.specs.RunSends.{PutsAsSent}
 use Rattle.mb_register.specs.Views.{GivesBackUnchanged}
 use Rattle.mb_system.specs.declared.sender.Sender.{Sender}
@@ -55,15 +56,23 @@ addressed = map (λ (e : Envelope). (e.to, e.body))
 abbrev pub addressed_system : List SentSystem → List (ℕ × SysMsg)
 addressed_system = map (λ (s : SentSystem). (s.to, s.message))
 
+-- Between these views a pass counted as waiting, of each actor, as many envelopes as it was answered "queued" for among these: what it counted beside
+-- them it took back.
+abbrev pub CountsQueued : List SentEnvelope → View → View → Type 0
+CountsQueued postings old new = (actor : ℕ)
+    → on_by actor new + off_by actor old ≡ on_by actor old + off_by actor new + length (to_actor actor (queued postings))
+
 module _ {A K : Type 0} where
-  -- The sender was answered for the envelopes of these orders, in order, after all that it was answered for before, and for nothing else. It sent
-  -- their Terminates, or found the list ended, in order, and sent no other system message; these stand newest first. What it put into lists is what it
-  -- sent so. It still knows what it saw before, kept its share, and gave each cell back as it was taken.
+  -- The sender was answered for the envelopes of these orders, in order, after all that it was answered for before, and for nothing else. It counted
+  -- as waiting those of them that were queued, and nothing else. It sent their Terminates, or found the list ended, in order, and sent no other system
+  -- message; these stand newest first. What it put into lists is what it sent so. It still knows what it saw before, kept its share, and gave each
+  -- cell back as it was taken.
   pub record HasSent (orders : List Order) (old new : Sender A K) : Type 0 where
     pub by : new.inner.send_log.by ≡ old.inner.send_log.by
     pub more : List SentEnvelope
     pub posted : new.inner.send_log.posted ≡ old.inner.send_log.posted ++ more
     pub accepted_are : addressed (accepted more) ≡ envelopes_of orders
+    pub counted : CountsQueued more (pass_view old.inner.registrar.pass) (pass_view new.inner.registrar.pass)
     pub system_sent : addressed_system (pass_view new.inner.registrar.pass).sent_system ≡ reverse (terminates_of orders) ++ addressed_system (pass_view old.inner.registrar.pass).sent_system
     pub put : PutsAsSent (pass_view old.inner.registrar.pass) (pass_view new.inner.registrar.pass)
     pub log_kept : IsPart (pass_view old.inner.registrar.pass).log (pass_view new.inner.registrar.pass).log

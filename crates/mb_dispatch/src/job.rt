@@ -4,6 +4,7 @@ ghost use Rattle.mb_gate.specs.Accessors.{actors_of};
 ghost use Rattle.mb_system.specs.Obligations.{KeepsObligations, OwesNobody};
 ghost use Rattle.mb_dispatch.specs.Faults.{BreaksSending};
 ghost use Rattle.mb_system.specs.Members.{IsSenderOf, sender_caller};
+ghost use Rattle.mb_dispatch.specs.Jobs.{ForgetsNobody};
 ghost use Rattle.mb_dispatch.specs.Orders.{HasSent, HasSentSome};
 
 use crate::order::send_all;
@@ -22,54 +23,35 @@ pub struct Job<A: Actor, K: Behaviours> {
     pub sends: Vec<Order>,
 }
 
-impl<A: Actor, K: Behaviours> Job<A, K> {
-    /// Sends all, in order, and then registers each actor again to which the sender owes a look. It stops at the first fault, and
-    /// what was sent before stays sent. Whatever comes of it, the job is done then.
-    pub(crate) fn send_job<R: Wait>(
-        &mut self,
-        rt: &R,
-        system: &System<A, K>,
-    ) -> Result<(), RunError>
-        requires same_gates { IsSenderOf system.now.gates self.old.sender.inner }
-        ensures same_gates { IsSenderOf system.now.gates self.new.sender.inner }
-        ensures same_sender { self.new.sender.inner.send_log.by ≡ self.old.sender.inner.send_log.by }
-        ensures sends { self.new.sends ≡ self.old.sends }
-        ensures sent { OnOk result (HasSent self.old.sends.items self.old.sender self.new.sender × OwesNobody system.now.gates self.new.sender) }
-        ensures obligations { OnOk result (KeepsObligations (actors_of system.now.gates) (sender_caller self.old.sender.inner.registrar)
-            (sender_caller self.new.sender.inner.registrar)) }
-        ensures stopped { OnErr result (HasSentSome self.old.sends.items self.old.sender self.new.sender) }
-        ensures fault { IfErr result (BreaksSending system.now.gates self.old.sends.items) }
-    {
-        let outcome = send_and_retry(rt, system, &mut self.sender, &self.sends);
-        system.going.close_job();
-        outcome
-    }
-}
-
 impl<A: Actor, K: Behaviours> Task<System<A, K>> for Job<A, K> {
     ghost use Rattle.std.specs.Prelude.{◌≡◌, IfErr, OnOk};
     ghost use Rattle.mb_dispatch.specs.Faults.{BreaksSending};
     ghost use Rattle.mb_system.specs.Members.{IsSenderOf};
-    ghost use Rattle.mb_dispatch.specs.Jobs.{IsDone};
+    ghost use Rattle.mb_dispatch.specs.Jobs.{ForgetsNobody, IsDone};
     ghost use Rattle.mb_dispatch.specs.Orders.{HasSentSome};
 
     ghost ready = { λ system job. IsSenderOf system.gates job.sender.inner };
 
     ghost keeps = { λ system old new. IsSenderOf system.gates new.sender.inner × (new.sender.inner.send_log.by ≡ old.sender.inner.send_log.by)
-        × HasSentSome old.sends.items old.sender new.sender };
+        × HasSentSome old.sends.items old.sender new.sender × ForgetsNobody system.gates old.sender new.sender × (new.sends ≡ old.sends) };
 
     ghost done = { λ system old new. IsDone system.gates old new };
 
     ghost fails = { λ system old new fault. BreaksSending system.gates old.sends.items fault };
 
+    /// Sends all, in order, and then registers each actor again to which the sender owes a look. It stops at the first fault, and
+    /// what was sent before stays sent. Whatever comes of it, the job is done then.
     fn perform<R: Wait>(&mut self, rt: &R, shared: &System<A, K>) -> Result<(), RunError>
         requires ready { IsSenderOf shared.now.gates self.old.sender.inner }
         ensures keeps { IsSenderOf shared.now.gates self.new.sender.inner × (self.new.sender.inner.send_log.by ≡ self.old.sender.inner.send_log.by)
-            × HasSentSome self.old.sends.items self.old.sender self.new.sender }
+            × HasSentSome self.old.sends.items self.old.sender self.new.sender
+            × ForgetsNobody shared.now.gates self.old.sender self.new.sender × (self.new.sends ≡ self.old.sends) }
         ensures done { OnOk result (IsDone shared.now.gates self.old self.new) }
         ensures fails { IfErr result (BreaksSending shared.now.gates self.old.sends.items) }
     {
-        self.send_job(rt, shared)
+        let outcome = send_and_retry(rt, shared, &mut self.sender, &self.sends);
+        shared.going.close_job();
+        outcome
     }
 }
 
@@ -86,6 +68,7 @@ fn send_and_retry<A: Actor, K: Behaviours, R: Wait>(
     ensures sent { OnOk result (HasSent orders.now sender.old sender.new × OwesNobody system.now.gates sender.new) }
     ensures obligations { OnOk result (KeepsObligations (actors_of system.now.gates) (sender_caller sender.old.inner.registrar)
         (sender_caller sender.new.inner.registrar)) }
+    ensures still { ForgetsNobody system.now.gates sender.old sender.new }
     ensures stopped { OnErr result (HasSentSome orders.now sender.old sender.new) }
     ensures fault { IfErr result (BreaksSending system.now.gates orders.now) }
 {

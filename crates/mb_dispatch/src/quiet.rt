@@ -10,8 +10,8 @@ ghost use Rattle.mb_dispatch.specs.Faults.{BreaksQuietRun};
 ghost use Rattle.mb_dispatch.specs.Found.{FoundPoolEmpty};
 ghost use Rattle.mb_dispatch.specs.Runs.{MadeRuns, turns_in};
 
+use crate::mailbox::run_mailbox;
 use crate::turns::Turns;
-use crate::working::run_one;
 use mb_actor::{Actor, Behaviours};
 use mb_system::{RunError, System, WorkerEnd};
 use std::sync::Wait;
@@ -47,7 +47,7 @@ pub fn run_quietly<A: Actor, K: Behaviours, R: Wait>(
             return Err(RunError::NoMemory);
         }
         match end.take(rt) {
-            Some(claim) => turns.push_reserved(run_one(rt, system, end, claim)?),
+            Some(claim) => turns.push_reserved(run_mailbox(rt, system, end, claim)?),
             None => {
                 if end.registrar.owed.is_empty() {
                     return Ok(Turns { list: turns });

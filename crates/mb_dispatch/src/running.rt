@@ -1,5 +1,5 @@
 //! A run of all workers and some senders, each on a thread of its own.
-ghost use Rattle.std.specs.Prelude.{◌≡◌, IfErr, OnOk, length};
+ghost use Rattle.std.specs.Prelude.{◌≡◌, IfErr, OnOk, length, map};
 ghost use Rattle.std.specs.List.{AllZip};
 ghost use Rattle.mb_gate.specs.Accessors.{pass_view};
 ghost use Rattle.mb_gate.specs.Untouched.{origin_of};
@@ -9,7 +9,7 @@ ghost use Rattle.mb_system.specs.Members.{AreEndsOf, OweNobody, StillSee, ends_n
 ghost use Rattle.mb_dispatch.specs.Faults.{BreaksRun, RunsOrBreaks};
 ghost use Rattle.mb_dispatch.specs.Found.{AllFoundPoolEmpty};
 ghost use Rattle.mb_dispatch.specs.Runs.{OnlyRuns};
-ghost use Rattle.mb_dispatch.specs.Jobs.{AreJobsOf, jobs_senders, AreDone};
+ghost use Rattle.mb_dispatch.specs.Jobs.{AreJobsOf, ForgetsNobody, jobs_senders, AreDone};
 ghost use Rattle.mb_dispatch.specs.Orders.{HasSentSome};
 
 use crate::job::Job;
@@ -47,6 +47,8 @@ pub fn run<A: Actor + Send, K: Behaviours + Send, R: Threads + Wait + Sync>(
         (pass_view n.registrar.pass)) ends.old ends.new) }
     ensures done { OnOk result (AreDone system.now.gates jobs.old jobs.new) }
     ensures sent { AllZip (λ o n. HasSentSome o.sends.items o.sender n.sender) jobs.old jobs.new }
+    ensures still { AllZip (λ o n. ForgetsNobody system.now.gates o.sender n.sender) jobs.old jobs.new }
+    ensures sends { map (λ j. j.sends) jobs.new ≡ map (λ j. j.sends) jobs.old }
     ensures fault { IfErr result (BreaksRun K.gives system.now ends.old ends.new jobs.old jobs.new) }
 {
     register_by_first(rt, system, ends);
@@ -67,7 +69,7 @@ fn register_by_first<A: Actor, K: Behaviours, R: Wait>(
     ensures discharged { FirstDischargedOrOwed system.now.gates ends.new }
     ensures looks { AllZip (λ o n. OnlyLooks (pass_view o.registrar.pass) (pass_view n.registrar.pass)) ends.old ends.new }
 {
-    if let Some(first) = ends.first_mut() {
+    if let [first, ..] = ends {
         first.register_all(rt, system);
     }
 }

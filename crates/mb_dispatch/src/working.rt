@@ -1,16 +1,17 @@
 //! A worker beside others.
-ghost use Rattle.std.specs.Prelude.{◌≡◌, ◌<◌, ℕ, false, true, IfErr, IfOk, Ok, OnOk, Some};
+ghost use Rattle.std.specs.Prelude.{◌≡◌, ◌<◌, ℕ, false, IfErr, IfNone, IfOk, IfSome, OnOk, Some};
 ghost use Rattle.mb_gate.specs.Accessors.{actors_of, pass_view};
 ghost use Rattle.mb_gate.specs.Rule.{IsPart};
 ghost use Rattle.mb_gate.specs.Untouched.{origin_of};
-ghost use Rattle.mb_register.specs.Caller.{LeavesCaller};
 ghost use Rattle.mb_home.specs.Fresh.{IsFreshClaim};
+ghost use Rattle.mb_pool.specs.Places.{gates_of};
 ghost use Rattle.mb_register.specs.Owed.{is_owed};
 ghost use Rattle.mb_system.specs.Obligations.{KeepsObligations};
 ghost use Rattle.mb_system.specs.Members.{IsEndOf, end_caller};
+ghost use Rattle.mb_system.specs.OnlyLooks.{OnlyLooks};
 ghost use Rattle.mb_dispatch.specs.Faults.{BreaksWork};
 ghost use Rattle.mb_dispatch.specs.Found.{FoundPoolEmpty};
-ghost use Rattle.mb_dispatch.specs.Runs.{OnlyRuns, RanMailbox};
+ghost use Rattle.mb_dispatch.specs.Runs.{OnlyRuns};
 
 use crate::mailbox::run_mailbox;
 use crate::parallel::Task;
@@ -18,8 +19,7 @@ use crossbeam_utils::Backoff;
 use mb_actor::{Actor, Behaviours};
 use mb_gate::Claim;
 use mb_home::BoxedHome;
-use mb_mailbox::Turn;
-use mb_system::{RunError, System, WorkerEnd};
+use mb_system::{RunActivity, RunError, System, WorkerEnd};
 use std::sync::Wait;
 
 /// Takes and runs claims until no claim exists and no job of a run is open. It owes no looks then, and its last look for a
@@ -67,91 +67,64 @@ fn work_on<A: Actor, K: Behaviours, R: Wait>(
     ensures fault { IfErr result (BreaksWork K.gives system.now (pass_view end.old.registrar.pass) end.new) }
 {
     for _ in rt.forever() {
-        run_all(rt, system, end)?;
-        if is_over(rt, system, end)? {
+        let Some(claim) = next_claim(rt, system, end)? else {
             return Ok(());
-        }
-    }
-    unreachable!()
-}
-
-// Runs claims until the pool gives none.
-fn run_all<A: Actor, K: Behaviours, R: Wait>(
-    rt: &R,
-    system: &System<A, K>,
-    end: &mut WorkerEnd<A, K>,
-) -> Result<(), RunError>
-    requires same_gates { IsEndOf system.now.gates end.old.registrar }
-    ensures same_gates { IsEndOf system.now.gates end.new.registrar }
-    ensures discharged { OnOk result ((id : ℕ) → id < actors_of system.now.gates → is_owed end.new.registrar.owed id ≡ false) }
-    ensures obligations { KeepsObligations (actors_of system.now.gates) (end_caller end.old.registrar) (end_caller end.new.registrar) }
-    ensures number { end.new.number ≡ end.old.number }
-    ensures log_kept { IsPart (pass_view end.old.registrar.pass).log (pass_view end.new.registrar.pass).log }
-    ensures ran { OnOk result (OnlyRuns K.gives (origin_of system.now.gates) system.now.throughput (pass_view end.old.registrar.pass)
-        (pass_view end.new.registrar.pass)) }
-    ensures fault { IfErr result (BreaksWork K.gives system.now (pass_view end.old.registrar.pass) end.new) }
-{
-    for _ in rt.forever() {
-        let Some(claim) = end.take(rt) else {
-            return end.retry_refused(rt, system);
         };
-        run_one(rt, system, end, claim)?;
+        run_mailbox(rt, system, end, claim)?;
     }
     unreachable!()
 }
 
-pub(crate) fn run_one<A: Actor, K: Behaviours, R: Wait>(
+// The next claim of the pool. Where the pool gives none, the end first looks after the actors to which it owes a look, and then
+// waits for a claim; the answer is `None` if none will come.
+fn next_claim<A: Actor, K: Behaviours, R: Wait>(
     rt: &R,
     system: &System<A, K>,
     end: &mut WorkerEnd<A, K>,
-    claim: Claim<BoxedHome<A, K>>,
-) -> Result<Turn, RunError>
+) -> Result<Option<Claim<BoxedHome<A, K>>>, RunError>
     requires same_gates { IsEndOf system.now.gates end.old.registrar }
-    requires untouched { IsFreshClaim K.gives (Some (origin_of system.now.gates)) claim }
     ensures same_gates { IsEndOf system.now.gates end.new.registrar }
-    ensures leaves { LeavesCaller (end_caller end.old.registrar) (end_caller end.new.registrar) }
-    ensures ran { IfOk result (RanMailbox K.gives (origin_of system.now.gates) system.now.throughput (pass_view end.old.registrar.pass)
-        (pass_view end.new.registrar.pass)) }
-    ensures number { end.new.number ≡ end.old.number }
-    ensures fault { IfErr result (BreaksWork K.gives system.now (pass_view end.old.registrar.pass) end.new) }
-{
-    let turn = run_mailbox(rt, system, end, claim)?;
-    Ok(turn)
-}
-
-// Waits for a claim, and runs it; or finds that none will come.
-fn is_over<A: Actor, K: Behaviours, R: Wait>(
-    rt: &R,
-    system: &System<A, K>,
-    end: &mut WorkerEnd<A, K>,
-) -> Result<bool, RunError>
-    requires same_gates { IsEndOf system.now.gates end.old.registrar }
-    requires discharged { (id : ℕ) → id < actors_of system.now.gates → is_owed end.old.registrar.owed id ≡ false }
-    ensures same_gates { IsEndOf system.now.gates end.new.registrar }
-    ensures discharged { OnOk result (result ≡ Ok true → (id : ℕ) → id < actors_of system.now.gates → is_owed end.new.registrar.owed id ≡ false) }
-    ensures empty { OnOk result (result ≡ Ok true → FoundPoolEmpty K.gives end.new) }
+    ensures untouched { IfOk result (λ next. IfSome next (IsFreshClaim K.gives (Some (origin_of system.now.gates)))) }
+    ensures discharged { IfOk result (λ next. IfNone next ((id : ℕ) → id < actors_of system.now.gates → is_owed end.new.registrar.owed id ≡ false)) }
+    ensures empty { IfOk result (λ next. IfNone next (FoundPoolEmpty K.gives end.new)) }
     ensures obligations { KeepsObligations (actors_of system.now.gates) (end_caller end.old.registrar) (end_caller end.new.registrar) }
     ensures number { end.new.number ≡ end.old.number }
+    ensures looks { OnlyLooks (pass_view end.old.registrar.pass) (pass_view end.new.registrar.pass) }
     ensures log_kept { IsPart (pass_view end.old.registrar.pass).log (pass_view end.new.registrar.pass).log }
-    ensures ran { OnOk result (OnlyRuns K.gives (origin_of system.now.gates) system.now.throughput (pass_view end.old.registrar.pass)
-        (pass_view end.new.registrar.pass)) }
     ensures fault { IfErr result (BreaksWork K.gives system.now (pass_view end.old.registrar.pass) end.new) }
 {
-    system.going.leave();
+    if let Some(claim) = end.take(rt) {
+        return Ok(Some(claim));
+    }
+    end.retry_refused(rt, system)?;
+    Ok(wait(rt, &system.going, end))
+}
+
+// Waits for a claim; or finds that none will come.
+fn wait<A: Actor, K: Behaviours, R: Wait>(
+    rt: &R,
+    going: &RunActivity,
+    end: &mut WorkerEnd<A, K>,
+) -> Option<Claim<BoxedHome<A, K>>>
+    ensures untouched { IfSome result (IsFreshClaim K.gives (gates_of end.old.registrar.run_queue.end)) }
+    ensures empty { IfNone result (FoundPoolEmpty K.gives end.new) }
+    ensures same { (end.new.registrar.pass ≡ end.old.registrar.pass) × (end.new.registrar.owed ≡ end.old.registrar.owed)
+        × (gates_of end.new.registrar.run_queue.end ≡ gates_of end.old.registrar.run_queue.end) × (end.new.number ≡ end.old.number) }
+{
+    going.leave();
     let backoff = Backoff::new();
     for _ in rt.forever() {
         // Read before the take: once it is over nobody brings a claim any more, so a take that then finds none has seen all. Read
         // after it, a claim that was pushed between the two would be left.
-        let is_over = system.going.is_over();
+        let is_over = going.is_over();
         if let Some(claim) = end.take(rt) {
-            system.going.enter();
-            run_one(rt, system, end, claim)?;
-            return Ok(false);
+            going.enter();
+            return Some(claim);
         }
         if is_over {
             // since `work` counts this worker off once more
-            system.going.enter();
-            return Ok(true);
+            going.enter();
+            return None;
         }
         backoff.snooze();
     }

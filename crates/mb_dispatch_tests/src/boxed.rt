@@ -1,12 +1,13 @@
 //! Boxed actors of two kinds in one planned system.
 ghost use Rattle.std.specs.Prelude.{◌≡◌, []};
 
+use crate::planned::orders_of;
 use crate::seen::see;
 use crate::shown::outcome_text;
 use heddleorange::{Actor, Error, PlannedSystem, SETTINGS};
 use mb_msg::{ActorId, ActorPlan};
 use mb_report::Report;
-use mb_testkit::{ADD, COUNTER, Order, TestActor, Watcher, poison, sends_of, tell};
+use mb_testkit::{ADD, COUNTER, Order, TestActor, Watcher, poison, tell};
 use std::alloc::Global;
 use std::sync::Wait;
 use std::test::Fail;
@@ -39,7 +40,7 @@ fn run_both<R: Wait>(
 
 #[test]
 fn a_boxed_actor_watches_one_of_another_kind(rt: HostRuntime) -> Result<(), Fail> {
-    let sends = vec![in rt.alloc(); sends_of(rt.alloc(), SENDS)?]?;
+    let sends = orders_of(rt.alloc(), SENDS)?;
     let first: Box<dyn Actor + Send> = Box::new(rt.alloc(), Watcher { of: ActorId(2) })?;
     let second: Box<dyn Actor + Send> = Box::new(rt.alloc(), TestActor::new(COUNTER))?;
     let outcome = run_both(&rt, rt.alloc(), &sends, first, second);

@@ -1,5 +1,5 @@
-//! Tests of whole runs, on threads and on one thread, each with the report that it must give, or with why there is none; and of
-//! systems that a test drives step by step.
+//! Tests of whole runs, on threads and on one thread, each with the report that it must give, or with why there is none; of systems
+//! that a test drives step by step; and of the program (`program`).
 #![tactic(auto)]
 
 #[cfg(test)]
@@ -28,6 +28,8 @@ mod meeting;
 mod ordered;
 #[cfg(test)]
 mod planned;
+#[cfg(test)]
+mod program;
 #[cfg(test)]
 mod reading;
 #[cfg(test)]

@@ -121,7 +121,7 @@ fn plan_of(alloc: Global, part: &TestActorPlan) -> ActorPlan {
 }
 
 /// What each sender is to send, where there is one.
-fn orders_of(alloc: Global, own: &[Order]) -> Result<Vec<Vec<Order>>, AllocError> {
+pub fn orders_of(alloc: Global, own: &[Order]) -> Result<Vec<Vec<Order>>, AllocError> {
     Ok(vec![in alloc; sends_of(alloc, own)?]?)
 }
 
@@ -138,12 +138,12 @@ fn read<R: Abort>(rt: &R, alloc: Global, report: &Report) {
 
 fn read_one<R: Abort>(rt: &R, alloc: Global, report: &Report, id: ActorId, due: &Due) {
     see_state(rt, report, id, due.state);
-    assert_eq!(rt; handled(report, id), Some(due.handled));
+    assert!(rt; handled(report, id) == Some(due.handled));
     see(rt, &read_journal(alloc, report, id), due.journal);
 }
 
 fn see_state<R: Abort>(rt: &R, report: &Report, id: ActorId, due: Option<i64>) {
-    assert_eq!(rt; state(report, id), due);
+    assert!(rt; state(report, id) == due);
 }
 
 fn read_journal(alloc: Global, report: &Report, id: ActorId) -> Option<String> {
@@ -153,7 +153,7 @@ fn read_journal(alloc: Global, report: &Report, id: ActorId) -> Option<String> {
 fn read_letters<R: Abort>(rt: &R, report: &Report) {
     let mut id = ActorId(0);
     for letters in LETTERS {
-        assert!(rt; has_letters(report, id, *letters), "the letters of {id:?}");
+        assert!(rt; has_letters(report, id, *letters));
         id = ActorId(id.0.wrapping_add(1));
     }
     assert!(rt; has_no_sender(report, id));

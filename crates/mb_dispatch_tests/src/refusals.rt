@@ -1,5 +1,6 @@
 //! Runs that are refused, or broken off: each error in which a whole run with ample memory was seen to end, on one thread and on
 //! threads.
+use crate::broken_off::entries_of;
 use crate::whole_run::{RunMode, run_whole};
 use heddleorange::{Error, FailedRun, PlanError, RunError, UnfinishedActor};
 use mb_msg::ActorId;
@@ -177,21 +178,22 @@ fn refused<R: Threads + Wait + Sync>(
     Ok(run_whole(rt, alloc, mode, plan, actors, &sends).err())
 }
 
-/// How many entries the journal of this actor has, if it is left.
-fn entries(actor: Option<&Option<UnfinishedActor>>) -> Option<usize> {
-    match actor {
-        Some(Some(actor)) => Some(actor.journal.len()),
-        _ => None,
+/// Whether these actors are left, each with as many entries in its journal as are due.
+fn are_left(actors: &[Option<UnfinishedActor>], due: &[usize]) -> bool {
+    let mut number = 0usize;
+    for entries in due {
+        if entries_of(actors, number) != Some(*entries) {
+            return false;
+        }
+        number = number.wrapping_add(1);
     }
+    number == actors.len()
 }
 
 /// The run has no report for the reason that is due, and what is left of its actors is as is due.
 fn see_refused<R: Abort>(rt: &R, refusal: &Refusal, failed: &FailedRun) {
-    assert_eq!(rt; failed.error, refusal.why);
-    assert_eq!(rt; failed.actors.len(), refusal.left.len());
-    for (number, due) in refusal.left.iter().enumerate() {
-        assert_eq!(rt; entries(failed.actors.get(number)), Some(*due));
-    }
+    assert!(rt; failed.error == refusal.why);
+    assert!(rt; are_left(&failed.actors, refusal.left));
 }
 
 /// Checks that each of these is refused as is due.

@@ -2,7 +2,7 @@
 use crate::end_call::EndAnswer;
 use crate::sender_call::SenderAnswer;
 use heddleorange::{Error, FailedRun};
-use mb_dispatch::{Look, SendError, Turn};
+use mb_dispatch::{Look, Put, RunError, SendError, Turn};
 use mb_report::Report;
 use mb_testkit::{add, text_of};
 use std::alloc::{AllocError, Global};
@@ -36,12 +36,21 @@ fn error_text(alloc: Global, error: Error) -> Option<String> {
 pub fn end_text(alloc: Global, answer: EndAnswer) -> Result<String, AllocError> {
     match answer {
         EndAnswer::Turns(Ok(turns)) => turns_text(alloc, turns.as_slice()),
-        EndAnswer::Turns(Err(error)) => format!(in alloc; "{error:?}"),
-        EndAnswer::Registered(is_done) => format!(in alloc; "{is_done}"),
+        EndAnswer::Turns(Err(error)) => broken_off_text(alloc, error),
+        EndAnswer::Registered(is_done) => done_text(alloc, is_done),
         EndAnswer::Turned(turn) => turn_text(alloc, &turn),
         EndAnswer::Worked(Ok(())) => String::from_str(alloc, "done"),
-        EndAnswer::Worked(Err(error)) => format!(in alloc; "{error:?}"),
+        EndAnswer::Worked(Err(error)) => broken_off_text(alloc, error),
     }
+}
+
+// Why runs were broken off.
+fn broken_off_text(alloc: Global, error: RunError) -> Result<String, AllocError> {
+    format!(in alloc; "{error:?}")
+}
+
+fn done_text(alloc: Global, is_done: bool) -> Result<String, AllocError> {
+    String::from_str(alloc, if is_done { "true" } else { "false" })
 }
 
 fn turn_text(alloc: Global, turn: &Turn) -> Result<String, AllocError> {
@@ -67,14 +76,18 @@ fn turns_text(alloc: Global, turns: &[Turn]) -> Result<String, AllocError> {
 /// What a sender answered: what became of the envelope, whether something was done, or how the receiver was seen.
 pub fn sender_text(alloc: Global, answer: SenderAnswer) -> Result<String, AllocError> {
     match answer {
-        SenderAnswer::Put(Ok(put)) => format!(in alloc; "{put:?}"),
+        SenderAnswer::Put(Ok(put)) => put_text(alloc, put),
         SenderAnswer::Put(Err(why)) => refusal_text(alloc, why),
-        SenderAnswer::Stopped(Ok(is_done)) => format!(in alloc; "{is_done}"),
+        SenderAnswer::Stopped(Ok(is_done)) => done_text(alloc, is_done),
         SenderAnswer::Stopped(Err(why)) => refusal_text(alloc, why),
         SenderAnswer::Seen(Ok(Look::Open(_))) => String::from_str(alloc, "Open"),
         SenderAnswer::Seen(Ok(Look::Closed)) => String::from_str(alloc, "Closed"),
         SenderAnswer::Seen(Err(why)) => refusal_text(alloc, why),
     }
+}
+
+fn put_text(alloc: Global, put: Put) -> Result<String, AllocError> {
+    format!(in alloc; "{put:?}")
 }
 
 fn refusal_text(alloc: Global, why: SendError) -> Result<String, AllocError> {

@@ -49,8 +49,8 @@ fn is_plan_of(plan: &Plan, case: &TestCase<'_>) -> bool {
 #[test]
 fn a_bad_plan_comes_back_with_its_actors(rt: HostRuntime) -> Result<(), Fail> {
     let own_child = refusal(&rt, rt.alloc(), &OWN_CHILD)?;
-    assert_eq!(rt; own_child, Some(PlanError::Parent(ActorId(2))));
+    assert!(rt; own_child == Some(PlanError::Parent(ActorId(2))));
     let too_many = refusal(&rt, rt.alloc(), &TOO_MANY_WORKERS)?;
-    assert_eq!(rt; too_many, Some(PlanError::Workers));
+    assert!(rt; too_many == Some(PlanError::Workers));
     Ok(())
 }

@@ -2,43 +2,45 @@
 use crate::order_check::{NOTHING, OrderCheck};
 use crate::single::Single;
 use crate::steps::{HeldStep, PassStep, SystemMessage};
-use crate::story::story;
+use crate::story::{Story, goes_so};
 use std::test::Fail;
 
-#[test]
-fn an_actor_is_scheduled_and_given_back(rt: HostRuntime) -> Result<(), Fail> {
-    let held = [
+const SCHEDULED: Story = Story {
+    before: &[PassStep::Word(4)],
+    held: &[
         HeldStep::IsOfGuardian,
         HeldStep::Look(PassStep::Word(6)),
         HeldStep::Look(PassStep::IsHeld),
         HeldStep::Resume(true),
         HeldStep::Look(PassStep::OtherWord(2)),
-    ];
-    assert!(rt;
-        story(
-            &rt,
-            rt.alloc(),
-            &[PassStep::Word(4)],
-            &held,
-            &[PassStep::Word(0)],
-            (0, 0)
-        )?
-    );
-    Ok(())
+    ],
+    after: &[PassStep::Word(0)],
+    word: 0,
+    given: 0,
+};
+
+#[test]
+fn an_actor_is_scheduled_and_given_back(rt: HostRuntime) -> Result<(), Fail> {
+    goes_so(&rt, rt.alloc(), &SCHEDULED)
 }
+
+const CLOSED: Story = Story {
+    before: &[],
+    held: &[
+        HeldStep::Close(NOTHING),
+        HeldStep::Look(PassStep::OtherWord(1)),
+    ],
+    after: &[
+        PassStep::IsClosed,
+        PassStep::Enqueue(SystemMessage::Terminate, None),
+    ],
+    word: 1,
+    given: 0,
+};
 
 #[test]
 fn a_closed_actor_stays_closed(rt: HostRuntime) -> Result<(), Fail> {
-    let held = [
-        HeldStep::Close(NOTHING),
-        HeldStep::Look(PassStep::OtherWord(1)),
-    ];
-    let after = [
-        PassStep::IsClosed,
-        PassStep::Enqueue(SystemMessage::Terminate, None),
-    ];
-    assert!(rt; story(&rt, rt.alloc(), &[], &held, &after, (1, 0))?);
-    Ok(())
+    goes_so(&rt, rt.alloc(), &CLOSED)
 }
 
 #[test]
@@ -49,72 +51,89 @@ fn a_held_cell_is_not_left(rt: HostRuntime) -> Result<(), Fail> {
     Ok(())
 }
 
-#[test]
-fn what_was_drained_is_counted(rt: HostRuntime) -> Result<(), Fail> {
-    let before = [PassStep::Enqueue(SystemMessage::Create, Some(0))];
-    let one = OrderCheck {
-        number: 1,
-        first: 0,
-        second: 0,
-        in_order: false,
-    };
-    assert!(rt;
-        story(
-            &rt,
-            rt.alloc(),
-            &before,
-            &[HeldStep::Drain(one)],
-            &[],
-            (4, 1)
-        )?
-    );
-    Ok(())
-}
+/// One message was drained that is of none of the senders.
+const ONE: OrderCheck = OrderCheck {
+    number: 1,
+    first: 0,
+    second: 0,
+    in_order: false,
+};
+
+const DRAINED: Story = Story {
+    before: &[PassStep::Enqueue(SystemMessage::Create, Some(0))],
+    held: &[HeldStep::Drain(ONE)],
+    after: &[],
+    word: 4,
+    given: 1,
+};
 
 #[test]
-fn messages_come_in_order(rt: HostRuntime) -> Result<(), Fail> {
-    let before = [
+fn what_was_drained_is_counted(rt: HostRuntime) -> Result<(), Fail> {
+    goes_so(&rt, rt.alloc(), &DRAINED)
+}
+
+/// The first message of each sender was drained.
+const BOTH: OrderCheck = OrderCheck {
+    number: 2,
+    first: 1,
+    second: 1,
+    in_order: true,
+};
+
+/// The last drain gave something, until one gives nothing.
+const ORDERED: Story = Story {
+    before: &[
         PassStep::HasSystem(false),
         PassStep::Enqueue(SystemMessage::Recreate, Some(0)),
         PassStep::Enqueue(SystemMessage::Failed, Some(1)),
         PassStep::HasSystem(true),
-    ];
-    let both = OrderCheck {
-        number: 2,
-        first: 1,
-        second: 1,
-        in_order: true,
-    };
-    // The last drain gave something, until one gives nothing.
-    let held = [
-        HeldStep::Drain(both),
+    ],
+    held: &[
+        HeldStep::Drain(BOTH),
         HeldStep::Look(PassStep::HasSystem(true)),
-        HeldStep::Drain(both),
+        HeldStep::Drain(BOTH),
         HeldStep::Look(PassStep::HasSystem(false)),
-    ];
-    assert!(rt; story(&rt, rt.alloc(), &before, &held, &[], (4, 2))?);
-    Ok(())
-}
+    ],
+    after: &[],
+    word: 4,
+    given: 2,
+};
 
 #[test]
-fn envelopes_are_counted(rt: HostRuntime) -> Result<(), Fail> {
-    let before = [PassStep::NoteSent, PassStep::NoteSent, PassStep::Waiting(2)];
-    let held = [
+fn messages_come_in_order(rt: HostRuntime) -> Result<(), Fail> {
+    goes_so(&rt, rt.alloc(), &ORDERED)
+}
+
+const COUNTED: Story = Story {
+    before: &[PassStep::NoteSent, PassStep::NoteSent, PassStep::Waiting(2)],
+    held: &[
         HeldStep::NoteTaken,
         HeldStep::Look(PassStep::Waiting(1)),
         HeldStep::Look(PassStep::NoteRefused),
         HeldStep::Look(PassStep::Waiting(1)),
-    ];
-    assert!(rt; story(&rt, rt.alloc(), &before, &held, &[], (4, 0))?);
-    Ok(())
+    ],
+    after: &[],
+    word: 4,
+    given: 0,
+};
+
+#[test]
+fn envelopes_are_counted(rt: HostRuntime) -> Result<(), Fail> {
+    goes_so(&rt, rt.alloc(), &COUNTED)
 }
+
+const SUSPENDED: Story = Story {
+    before: &[],
+    held: &[
+        HeldStep::Suspend(Some(false)),
+        HeldStep::Look(PassStep::Word(10)),
+    ],
+    after: &[PassStep::Word(8)],
+    word: 8,
+    given: 0,
+};
 
 #[test]
 fn suspensions_are_counted(rt: HostRuntime) -> Result<(), Fail> {
-    let held = [
-        HeldStep::Suspend(Some(false)),
-        HeldStep::Look(PassStep::Word(10)),
-    ];
-    assert!(rt; story(&rt, rt.alloc(), &[], &held, &[PassStep::Word(8)], (8, 0))?);
-    Ok(())
+    goes_so(&rt, rt.alloc(), &SUSPENDED)
 }

@@ -37,12 +37,6 @@ impl Single {
         ensures same { (gates_id self.new.gates ≡ gates_id self.old.gates) × (actors_of self.new.gates ≡ actors_of self.old.gates) }
     {
         match step {
-            PassStep::Word(word) => calls::word(&self.gates, &mut self.pass) == word,
-            PassStep::OtherWord(word) => calls::word(&self.gates, &mut self.other) == word,
-            PassStep::Waiting(count) => calls::waiting(&self.gates, &mut self.pass) == count,
-            PassStep::HasSystem(is_there) => {
-                calls::has_system(&self.gates, &mut self.pass) == is_there
-            }
             PassStep::NoteSent => {
                 calls::note_sent(&self.gates, &mut self.pass);
                 true
@@ -63,6 +57,22 @@ impl Single {
                 let message = message.of_system();
                 calls::enqueue(rt, alloc, &self.gates, &mut self.pass, message) == number
             }
+            read => self.shows(read),
+        }
+    }
+
+    /// Whether what is read of the actor is as the step says.
+    fn shows(&mut self, step: PassStep) -> bool
+        ensures same { (gates_id self.new.gates ≡ gates_id self.old.gates) × (actors_of self.new.gates ≡ actors_of self.old.gates) }
+    {
+        match step {
+            PassStep::Word(word) => calls::word(&self.gates, &mut self.pass) == word,
+            PassStep::OtherWord(word) => calls::word(&self.gates, &mut self.other) == word,
+            PassStep::Waiting(count) => calls::waiting(&self.gates, &mut self.pass) == count,
+            PassStep::HasSystem(is_there) => {
+                calls::has_system(&self.gates, &mut self.pass) == is_there
+            }
+            _ => false,
         }
     }
 

@@ -8,23 +8,28 @@ use std::process::Abort;
 use std::sync::Wait;
 use std::test::Fail;
 
-/// What is done before the actor is claimed, while it is held, and after its cell was given back. At last its status word has
-/// to be this one, and so many messages have to be given: answers whether that is so.
-pub fn story<R: Abort + Wait>(
-    rt: &R,
-    alloc: Global,
-    before: &[PassStep],
-    held: &[HeldStep],
-    after: &[PassStep],
-    left: (u64, u64),
-) -> Result<bool, Fail> {
+/// What is done before the actor is claimed, while it is held, and after its cell was given back; its status word at last, and how
+/// many messages its list gave.
+#[derive(Clone, Copy)]
+pub struct Story {
+    pub before: &'static [PassStep],
+    pub held: &'static [HeldStep],
+    pub after: &'static [PassStep],
+    pub word: u64,
+    pub given: u64,
+}
+
+/// Checks that all goes as the story says.
+pub fn goes_so<R: Abort + Wait>(rt: &R, alloc: Global, story: &Story) -> Result<(), Fail> {
     let mut single = Single::new(alloc)?;
-    play(rt, alloc, &mut single, before);
+    play(rt, alloc, &mut single, story.before);
     let mut holding = single.got(rt);
-    play_held(rt, alloc, &mut holding, held);
+    play_held(rt, alloc, &mut holding, story.held);
     let mut single = holding.give();
-    play(rt, alloc, &mut single, after);
-    Ok(single.left(alloc)? == Some(left))
+    play(rt, alloc, &mut single, story.after);
+    let left = single.left(alloc)?;
+    assert!(rt; left == Some((story.word, story.given)));
+    Ok(())
 }
 
 fn play<R: Abort + Wait>(rt: &R, alloc: Global, single: &mut Single, steps: &[PassStep]) {

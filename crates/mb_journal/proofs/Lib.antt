@@ -23,6 +23,7 @@ pub mod PhaseLemmas
 pub mod QueryLemmas
 pub mod RemainingLaw
 pub mod ResumeSteps
+pub mod RowLemmas
 pub mod SetAsideSteps
 pub mod SizeLemmas
 pub mod Steps

@@ -20,6 +20,7 @@ pub mod Phase
 pub mod Reading
 pub mod Remaining
 pub mod Retries
+pub mod Rows
 pub mod Run
 pub mod Stored
 pub mod Supervision

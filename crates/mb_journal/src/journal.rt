@@ -1,10 +1,13 @@
 //! The journal and its operations.
 ghost use Rattle.std.specs.Prelude.{◌≡◌, ◌↔◌, ◌+◌, ◌<◌, ◌≤◌, [], ◌∷◌, ◌++◌, false, true};
-ghost use Rattle.std.specs.Prelude.{length, reverse, slice_get, slice_range, vec_len, vec_capacity, Some, IsTrue, IsErrOf, IsOk, OnOk, OnErr};
+ghost use Rattle.std.specs.Prelude.{List, length, map, reverse, slice_get, slice_range, vec_len, vec_capacity, Some, IsTrue, IsErrOf, IsOk, OnOk, OnErr};
 ghost use Rattle.mb_msg.specs.Limits.{most_effects};
 ghost use Rattle.mb_journal.specs.Entry.Entry.{Handled, System, Dropped};
 ghost use Rattle.mb_journal.specs.Entry.Outcome.{Applied, SetAside};
 ghost use Rattle.mb_journal.specs.Stored as stored;
+ghost use Rattle.mb_journal.specs.Rows.{needs, whole};
+ghost use Rattle.mb_journal.specs.declared.entry.Received.{Received};
+ghost use Rattle.mb_journal.specs.declared.row.Row.TheVariants.{Wide};
 ghost use Rattle.mb_journal.specs.JournalView.{entry_of, entry_with};
 
 use crate::entry::{EntryRef, Received};
@@ -21,6 +24,8 @@ use std::marker::Model;
 /// `ready` makes room for an entry beforehand, so that adding one takes no memory.
 pub struct Journal {
     rows: Vec<Row>,
+    /// The entries that do not fit into a row.
+    wide: Vec<Received>,
     effects: Vec<Effect>,
     limit: u32,
     ready: bool,
@@ -31,6 +36,7 @@ impl Drop for Journal {
     fn drop(self) {
         let Journal {
             rows: _,
+            wide: _,
             effects: _,
             limit: _,
             ready: _,
@@ -44,9 +50,9 @@ impl Model for Journal {
 
     ghost Value = { JournalView };
 
-    ghost use Rattle.mb_journal.specs.Stored.{listed, IsStored};
+    ghost use Rattle.mb_journal.specs.Stored.{listed, rows_of, IsStored};
 
-    ghost view = { λ j. record { entries = reverse (listed 0 j.rows.items j.effects.items); limit = j.limit; is_ready = j.ready } };
+    ghost view = { λ j. record { entries = reverse (listed 0 (rows_of j) j.effects.items); limit = j.limit; is_ready = j.ready } };
 
     ghost invariant = { IsStored };
 }
@@ -58,6 +64,7 @@ impl Journal {
     {
         Journal {
             rows: Vec::new(alloc),
+            wide: Vec::new(alloc),
             effects: Vec::new(alloc),
             limit,
             ready: false,
@@ -101,6 +108,9 @@ impl Journal {
             return Err(ReadyError::JournalFull);
         }
         if self.rows.reserve(1).is_err() {
+            return Err(ReadyError::NoMemory);
+        }
+        if self.wide.reserve(1).is_err() {
             return Err(ReadyError::NoMemory);
         }
         if self.effects.reserve(EFFECTS).is_err() {
@@ -194,7 +204,8 @@ impl Journal {
         self.ready = false;
         add_all(&mut self.effects, effects);
         let end = self.effects.len();
-        self.rows.push_reserved(Row { arrival, end });
+        self.rows
+            .push_reserved(row_of(&mut self.wide, arrival, end));
     }
 
     /// The entry at this index, from 0.
@@ -205,8 +216,8 @@ impl Journal {
         let from = start_of(&self.rows, index);
         let row = self.rows[index];
         EntryRef {
-            arrival: row.arrival,
-            effects: part(&self.effects, from, row.end),
+            arrival: row.arrival(&self.wide),
+            effects: part(&self.effects, from, row.end()),
         }
     }
 }
@@ -222,12 +233,39 @@ fn add_all(list: &mut Vec<Effect>, effects: &[Effect])
     }
 }
 
+/// The row of this entry, whose effects end there. An entry that does not fit into a row is added to the list beside the
+/// rows. There is room for it.
+#[inline(always)]
+fn row_of(wide: &mut Vec<Received>, arrival: Received, end: usize) -> Row
+    requires { vec_len wide.old < vec_capacity wide.old }
+    ensures says { whole wide.new.items result ≡ record { arrival = arrival; end = end } }
+    ensures there { needs result ≤ length wide.new.items }
+    ensures kept { (more : List Received) × (wide.new.items ≡ wide.old.items ++ more) }
+{
+    match Row::of(arrival, end) {
+        Some(row) => row,
+        None => put_beside(wide, arrival, end),
+    }
+}
+
+/// Adds this entry, whose effects end there, to the list beside the rows. There is room for it.
+#[cold]
+fn put_beside(wide: &mut Vec<Received>, arrival: Received, end: usize) -> Row
+    requires { vec_len wide.old < vec_capacity wide.old }
+    ensures place { result ≡ Wide (vec_len wide.old) end }
+    ensures added { wide.new.items ≡ wide.old.items ++ arrival ∷ [] }
+{
+    let place = wide.len();
+    wide.push_reserved(arrival);
+    Row::Wide { place, end }
+}
+
 /// Where the effects of the row at this index begin.
 fn start_of(rows: &[Row], index: usize) -> usize
     requires { index < length rows.now }
-    ensures { result ≡ stored.start_of 0 rows.now index }
+    ensures { (wide : List Received) → result ≡ stored.start_of 0 (map (whole wide) rows.now) index }
 {
-    if index == 0 { 0 } else { rows[index - 1].end }
+    if index == 0 { 0 } else { rows[index - 1].end() }
 }
 
 /// The effects from one index up to another.

@@ -12,6 +12,7 @@ ghost use Rattle.mb_mailbox.specs.RunSends.{SendsDue};
 ghost use Rattle.mb_mailbox.specs.RunState.{run_state};
 ghost use Rattle.mb_mailbox.specs.Recorded.{SendsAsRecorded};
 ghost use Rattle.mb_mailbox.specs.Running.{IsRunning, BacklogAgrees, KeepsJournal};
+ghost use Rattle.mb_mailbox.specs.Sending.{IsToldRight};
 
 use crate::clean_up::clean_up;
 use crate::sending_system::send_system;
@@ -88,6 +89,7 @@ fn carry<A: Actor, K: Behaviours, W: RunQueue<BoxedHome<A, K>>, R: Wait>(
     ensures ended { OnErr result (closed claim.new.home.value.cell.who claim.new.home.value.cell.journal ≡ true) }
     ensures caller_advances { CallerAdvances (caller_of W.pushed W.refused registrar.old) (caller_of W.pushed W.refused registrar.new) }
     ensures sends { SendsAsRecorded registrar.old registrar.new claim.old claim.new }
+    ensures told { IsToldRight (act_of act) (pass_view registrar.old.pass) (pass_view registrar.new.pass) claim.old.home.value claim.new.home.value }
     ensures due { SendsDue (messages_of (act_of act ∷ [])) [] (run_state claim.old) (run_state claim.new) }
 {
     match act {

@@ -1,4 +1,5 @@
 //! Calls of an actor, as data.
+use crate::seen::see_nth;
 use mb_actor::{Actor, Answer, Call, Effect, Outbox, RecordedActor};
 use std::process::Abort;
 
@@ -8,9 +9,10 @@ pub(crate) type Step = (Call, Option<Answer>, &'static [Effect], i64);
 /// Makes each of these calls of the actor, and checks what comes of it.
 pub(crate) fn each_call<A: Actor>(rt: &impl Abort, actor: A, out: &mut Outbox, steps: &[Step]) {
     let mut called = RecordedActor::new(actor);
+    let mut number = 0u64;
     for step in steps {
-        let (call, ..) = *step;
-        assert!(rt; goes(&mut called, out, step), "{call:?}");
+        see_nth(rt, goes(&mut called, out, step), number);
+        number = number.wrapping_add(1);
     }
 }
 

@@ -4,6 +4,7 @@ ghost use Rattle.std.specs.Prelude.{◌≡◌, OnOk, IfOk, IsTrue, length};
 use crate::doubted::Twist::{
     Cleaned, Dead, Elsewhere, Left, Nothing, Overlooked, SentMore, StartedLate, Stopped, Suspended,
 };
+use crate::seen::see;
 use mb_actor::Answer;
 use mb_actor::Phase::{self, Broken, Ended, Live};
 use mb_journal::Journal;
@@ -201,6 +202,11 @@ fn handle_all(actor: &mut ActorReport, claim: &Claim) -> Result<(), AllocError> 
     for letter in handled {
         handle(&mut actor.journal, *letter, reading)?;
     }
+    do_otherwise(actor, twist)
+}
+
+/// Does what is special.
+fn do_otherwise(actor: &mut ActorReport, twist: Twist) -> Result<(), AllocError> {
     match twist {
         Left => actor.left.push(envelope(TWO))?,
         Cleaned => actor.cleaned.push(envelope(TWO))?,
@@ -288,10 +294,7 @@ fn find_out<R: Abort>(rt: &R, alloc: Global, claims: &[Claim], is_right: bool) {
     for claim in claims {
         let (what, ..) = *claim;
         let is_found_right = is_found_right(alloc, claim);
-        assert!(rt;
-            matches!(is_found_right, Ok(found) if found == is_right),
-            "{what}"
-        );
+        see(rt, is_found_right == Ok(is_right), what);
     }
 }
 

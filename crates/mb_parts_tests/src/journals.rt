@@ -1,7 +1,8 @@
 //! Tests of journals, which are read back entry by entry and keep to their limit, and of strategies, which decide by
 //! their first row that matches.
-ghost use Rattle.std.specs.Prelude.{◌≡◌, true};
+ghost use Rattle.std.specs.Prelude.{◌≡◌, ◌≤◌, true, length};
 
+use crate::seen::see_nth;
 use mb_actor::{Answer, Effect};
 use mb_journal::{EntryRef, Journal, ReadyError, Received};
 use mb_msg::{ActorId, Body, Cause, Directive, Envelope, Pattern, SenderId, Strategy, SysMsg};
@@ -89,6 +90,121 @@ const ENTRIES: &[Told] = &[
     ),
 ];
 
+/// Entries with the greatest numbers that fit into a row of 32 bytes, and after each some with one that does not.
+const GREAT: &[Told] = &[
+    (
+        Received::Handled {
+            envelope: GREATEST,
+            reading: 65_535,
+            answer: Some(Answer::Failed(255)),
+        },
+        TOLD,
+    ),
+    (
+        Received::Handled {
+            envelope: Envelope {
+                number: 4_294_967_296,
+                ..GREATEST
+            },
+            reading: 1,
+            answer: Some(Answer::Handled),
+        },
+        TOLD,
+    ),
+    (
+        Received::Handled {
+            envelope: ADDED,
+            reading: 65_536,
+            answer: None,
+        },
+        &[],
+    ),
+    (
+        Received::Handled {
+            envelope: ADDED,
+            reading: 4_294_967_296,
+            answer: Some(Answer::Unhandled),
+        },
+        &[],
+    ),
+    (
+        Received::System {
+            number: 4_294_967_295,
+            message: SysMsg::Failed(ActorId(4_294_967_295), Cause::Error(4_294_967_295)),
+            answer: None,
+        },
+        TOLD,
+    ),
+    (
+        Received::System {
+            number: 4_294_967_296,
+            message: SysMsg::Terminate,
+            answer: None,
+        },
+        &[],
+    ),
+    (
+        Received::System {
+            number: 0,
+            message: SysMsg::Create,
+            answer: Some(Answer::Failed(256)),
+        },
+        TOLD,
+    ),
+    (
+        Received::SetAside {
+            number: 4_294_967_295,
+            message: SysMsg::Suspend,
+        },
+        &[],
+    ),
+    (
+        Received::SetAside {
+            number: 18_446_744_073_709_551_615,
+            message: SysMsg::Died(ActorId(256)),
+        },
+        &[],
+    ),
+    (Received::Dropped { envelope: GREATEST }, &[]),
+    (
+        Received::Dropped {
+            envelope: Envelope {
+                by: SenderId(256),
+                ..ADDED
+            },
+        },
+        &[],
+    ),
+    (
+        Received::Dropped {
+            envelope: Envelope {
+                to: ActorId(256),
+                ..ADDED
+            },
+        },
+        &[],
+    ),
+    (
+        Received::Handled {
+            envelope: ADDED,
+            reading: 2,
+            answer: Some(Answer::Handled),
+        },
+        TOLD,
+    ),
+];
+
+/// An envelope with the greatest numbers that fit into a row.
+const GREATEST: Envelope = Envelope {
+    by: SenderId(255),
+    number: 4_294_967_295,
+    to: ActorId(255),
+    body: Body::Control {
+        kind: 4_294_967_295,
+        value: -1,
+    },
+};
+
 fn push(rt: &impl Abort, journal: &mut Journal, told: &Told) {
     let (arrival, effects) = *told;
     assert!(rt; effects.len() <= 16);
@@ -109,23 +225,41 @@ fn push(rt: &impl Abort, journal: &mut Journal, told: &Told) {
     }
 }
 
-/// Checks that an entry is as it was added.
-fn is_read_back(rt: &impl Abort, entry: &EntryRef<'_>, told: &Told) {
+/// A journal with these entries.
+fn journal_of(rt: &impl Abort, alloc: Global, entries: &[Told]) -> Journal {
+    let mut journal = Journal::new(alloc, 100);
+    assert!(rt; journal.is_empty() && !journal.is_full());
+    for told in entries {
+        push(rt, &mut journal, told);
+    }
+    journal
+}
+
+/// Whether the entry of this number is as it was added.
+fn is_read_back(journal: &Journal, index: usize, told: &Told) -> bool {
+    if index >= journal.len() {
+        return false;
+    }
     let (arrival, effects) = *told;
-    assert!(rt; entry.arrival == arrival && entry.effects == effects);
+    let entry = journal.get(index);
+    entry.arrival == arrival && entry.effects == effects
 }
 
 #[test]
 fn entries_are_read_back(rt: HostRuntime) {
-    let mut journal = Journal::new(rt.alloc(), 100);
-    assert!(rt; journal.is_empty() && !journal.is_full());
-    for told in ENTRIES {
-        push(&rt, &mut journal, told);
-    }
-    assert!(rt; journal.len() == 5);
-    for (index, told) in ENTRIES.iter().enumerate() {
-        assert!(rt; index < journal.len());
-        is_read_back(&rt, &journal.get(index), told);
+    are_read_back(&rt, &journal_of(&rt, rt.alloc(), ENTRIES), ENTRIES);
+}
+
+#[test]
+fn entries_with_great_numbers_are_read_back(rt: HostRuntime) {
+    are_read_back(&rt, &journal_of(&rt, rt.alloc(), GREAT), GREAT);
+}
+
+/// Checks that the journal has these entries, and no others.
+fn are_read_back(rt: &impl Abort, journal: &Journal, entries: &[Told]) {
+    assert!(rt; journal.len() == entries.len());
+    for (index, told) in entries.iter().enumerate() {
+        assert!(rt; is_read_back(journal, index, told));
     }
 }
 
@@ -139,8 +273,7 @@ fn the_limit_is_kept(rt: HostRuntime) {
 fn is_full_after(rt: &impl Abort, journal: &mut Journal, entries: u64) {
     for number in 0..entries {
         assert!(rt; !journal.is_full());
-        make_ready(rt, journal);
-        journal.push_handled(add(number, 1), 2, Some(Answer::Handled), &[]);
+        handle(rt, journal, add(number, 1), &[]);
     }
     assert!(rt; journal.is_full());
     assert!(rt; journal.ready() == Err(ReadyError::JournalFull));
@@ -150,13 +283,20 @@ fn is_full_after(rt: &impl Abort, journal: &mut Journal, entries: u64) {
 fn a_long_journal_keeps_its_entries(rt: HostRuntime) {
     let mut journal = Journal::new(rt.alloc(), 4_294_967_295);
     for number in 0..200 {
-        make_ready(&rt, &mut journal);
-        journal.push_handled(add(number, 5), 2, Some(Answer::Handled), TOLD);
+        handle(&rt, &mut journal, add(number, 5), TOLD);
     }
     assert!(rt; journal.len() == 200);
     for index in 0..journal.len() {
         tells_of(&rt, &journal.get(index), index as u64);
     }
+}
+
+/// Adds the entry of an envelope that was handled, with at most 16 effects.
+fn handle(rt: &impl Abort, journal: &mut Journal, envelope: Envelope, effects: &[Effect])
+    requires { length effects.now ≤ 16 }
+{
+    make_ready(rt, journal);
+    journal.push_handled(envelope, 2, Some(Answer::Handled), effects);
 }
 
 const TOLD: &[Effect] = &[Effect::Tell {
@@ -202,9 +342,11 @@ fn decides(rt: &impl Abort, rows: Vec<(Pattern, Directive)>, cases: &[(Cause, Di
         retries: -1,
         all_for_one: false,
     };
+    let mut number = 0u64;
     for case in cases {
         let (cause, directive) = *case;
-        assert!(rt; strategy.decide(cause) == directive, "{cause:?}");
+        see_nth(rt, strategy.decide(cause) == directive, number);
+        number = number.wrapping_add(1);
     }
 }
 

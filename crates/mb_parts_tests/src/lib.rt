@@ -1,5 +1,5 @@
 //! The tests of the lower crates: statuses, ids and limits, outboxes and calls of actors, lists of system messages,
-//! journals, scripts and reports, the machine, and the checks of reports.
+//! journals, scripts and reports, the machine, the checks of reports, and the reader of scenarios (`scenarios`).
 #![tactic(auto)]
 
 #[cfg(test)]
@@ -19,6 +19,10 @@ mod messages;
 #[cfg(test)]
 mod reports;
 #[cfg(test)]
+mod scenarios;
+#[cfg(test)]
 mod scripts;
+#[cfg(test)]
+mod seen;
 #[cfg(test)]
 mod statuses;

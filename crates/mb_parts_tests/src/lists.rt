@@ -2,6 +2,7 @@
 //! thread.
 ghost use Rattle.std.specs.Prelude.{◌≡◌};
 
+use crate::seen::see_nth;
 use mb_msg::{ActorId, Cause, SysMsg};
 use mb_syslist::{Chain, ListClosed, Node, SysList};
 use std::alloc::Global;
@@ -24,12 +25,12 @@ fn node_of(rt: &impl Abort, alloc: Global, message: SysMsg) -> Node
 
 /// Pushes a node; its number has to be this one.
 fn push(rt: &impl Abort, list: &mut SysList, node: Node, number: u64) {
-    assert!(rt; list.push(node).ok() == Some(number), "{number}");
+    see_nth(rt, list.push(node).ok() == Some(number), number);
 }
 
 /// Takes a node out of a chain; it has to have this number and this message.
 fn take(rt: &impl Abort, chain: &mut Chain, number: u64, message: SysMsg) {
-    assert!(rt; next_of(chain) == Some((number, message)), "{number}");
+    see_nth(rt, next_of(chain) == Some((number, message)), number);
 }
 
 /// The number and the message of the next node of a chain.
@@ -107,13 +108,8 @@ const FAILED: SysMsg = SysMsg::Failed(ActorId(3), Cause::Error(7));
 
 fn goes(rt: &impl Abort, alloc: Global, list: &mut SysList, chain: &mut Chain, step: Step) -> bool {
     match step {
-        Step::Listed(message, number) => {
-            list.push(node_of(rt, alloc, message)).ok() == Some(number)
-        }
-        Step::Back(message) => match list.push(node_of(rt, alloc, message)) {
-            Ok(_) => false,
-            Err(ListClosed(node)) => node.msg() == message,
-        },
+        Step::Listed(message, number) => listed(rt, alloc, list, message) == Some(number),
+        Step::Back(message) => is_back(rt, alloc, list, message),
         Step::Drained => {
             *chain = list.drain();
             true
@@ -127,7 +123,20 @@ fn goes(rt: &impl Abort, alloc: Global, list: &mut SysList, chain: &mut Chain, s
         Step::Stands(is_listed, is_left, given) => {
             list.is_empty() != is_listed && chain.is_empty() != is_left && list.given() == given
         }
-        Step::End => chain.next().is_none(),
+        Step::End => next_of(chain).is_none(),
+    }
+}
+
+/// The number under which a new node with this message is listed.
+fn listed(rt: &impl Abort, alloc: Global, list: &mut SysList, message: SysMsg) -> Option<u64> {
+    list.push(node_of(rt, alloc, message)).ok()
+}
+
+/// Whether a new node with this message comes back.
+fn is_back(rt: &impl Abort, alloc: Global, list: &mut SysList, message: SysMsg) -> bool {
+    match list.push(node_of(rt, alloc, message)) {
+        Ok(_) => false,
+        Err(ListClosed(node)) => node.msg() == message,
     }
 }
 
@@ -142,10 +151,10 @@ fn relisted(list: &mut SysList, chain: &mut Chain, message: SysMsg) -> Option<u6
 fn goes_so(rt: &impl Abort, alloc: Global, course: &[Step]) {
     let mut list = SysList::new();
     let mut chain = list.drain();
-    let mut number = 0u32;
+    let mut number = 0u64;
     for step in course {
         let is_so = goes(rt, alloc, &mut list, &mut chain, *step);
-        assert!(rt; is_so, "step {number}");
+        see_nth(rt, is_so, number);
         number = number.wrapping_add(1);
     }
 }

@@ -34,10 +34,21 @@ fn quiet(alloc: Global, phase: Phase, state: Option<i64>, journal: Journal) -> A
 /// A journal with two envelopes, of which one was dropped, and one restart.
 fn journal_of_one_restart(alloc: Global) -> Option<Journal> {
     let mut journal = Journal::new(alloc, 9);
+    start_and_fail(&mut journal)?;
+    restart(&mut journal)?;
+    Some(journal)
+}
+
+fn start_and_fail(journal: &mut Journal) -> Option<()> {
     journal.ready().ok()?;
     journal.push_system(0, SysMsg::Create, Some(Answer::Handled), &[]);
     journal.ready().ok()?;
     journal.push_handled(envelope(1, 0), 0, Some(Answer::Failed(1)), &[]);
+    Some(())
+}
+
+/// Restarts the actor, which drops an envelope then.
+fn restart(journal: &mut Journal) -> Option<()> {
     journal.ready().ok()?;
     journal.push_system(
         1,
@@ -49,7 +60,7 @@ fn journal_of_one_restart(alloc: Global) -> Option<Journal> {
     journal.push_system(2, SysMsg::Resume { of_failure: false }, None, &[]);
     journal.ready().ok()?;
     journal.push_dropped(envelope(1, 1));
-    Some(journal)
+    Some(())
 }
 
 /// An actor that has ended, of which an envelope was cleaned up.
@@ -146,6 +157,6 @@ fn printed_at_last(alloc: Global) -> Option<String> {
 #[test]
 fn a_refused_text_can_be_written_again(rt: HostRuntime) -> Result<(), Fail> {
     let text = printed_at_last(rt.alloc()).ok_or(AllocError)?;
-    assert!(rt; text.as_str() == TEXT, "{text}");
+    assert!(rt; text.as_str() == TEXT);
     Ok(())
 }

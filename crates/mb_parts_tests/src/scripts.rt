@@ -6,7 +6,7 @@ use mb_actor::{Answer, Call, Effect, Message, Outbox, RecordedActor};
 use mb_msg::{ActorId, Cause};
 use mb_script::{Hooks, Operation, Row, Script};
 use std::alloc::{AllocError, Global};
-use std::test::Fail;
+use std::process::Abort;
 
 const HANDLED: Option<Answer> = Some(Answer::Handled);
 
@@ -27,6 +27,34 @@ fn with_rows(alloc: Global, initial: i64, rows: Vec<Row>) -> Result<Script, Allo
     Script::new(alloc, initial, hooks, rows)
 }
 
+/// A row of a script: its kind, and what it does.
+type Does = (u32, &'static [Operation]);
+
+/// An actor with these rows that does nothing else.
+fn script_of(alloc: Global, initial: i64, rows: &[Does]) -> Result<Script, AllocError> {
+    let mut made = Vec::new(alloc);
+    for (kind, operations) in rows {
+        made.push(row_of(alloc, *kind, *operations)?)?;
+    }
+    with_rows(alloc, initial, made)
+}
+
+fn row_of(alloc: Global, kind: u32, operations: &[Operation]) -> Result<Row, AllocError> {
+    let operations = operations.to_vec(alloc)?;
+    Ok(Row { kind, operations })
+}
+
+/// Checks what comes of these calls of an actor.
+fn goes_so(
+    rt: &impl Abort,
+    alloc: Global,
+    script: Script,
+    steps: &[Step],
+) -> Result<(), AllocError> {
+    each_call(rt, script, &mut outbox(alloc)?, steps);
+    Ok(())
+}
+
 /// An outbox among three actors, of which number 2 may be spawned.
 fn outbox(alloc: Global) -> Result<Outbox, AllocError>
     ensures { IfOk result (λ out. out ≡ record { effects = []; actors = 3; unspawned = (record { 0 = 2 }) ∷ [] }) }
@@ -35,26 +63,16 @@ fn outbox(alloc: Global) -> Result<Outbox, AllocError>
     Ok(Outbox::new(3, &prepared))
 }
 
+const OF_A_KIND: &[Does] = &[
+    (2, &[Operation::Add, Operation::Add]),
+    (1, &[Operation::Add]),
+    (2, &[]),
+];
+
 #[test]
-fn does_the_first_row_of_a_kind(rt: HostRuntime) -> Result<(), Fail> {
-    let alloc = rt.alloc();
-    let rows = vec![in alloc;
-        Row {
-            kind: 2,
-            operations: vec![in alloc; Operation::Add, Operation::Add]?
-        },
-        Row {
-            kind: 1,
-            operations: vec![in alloc; Operation::Add]?
-        },
-        Row {
-            kind: 2,
-            operations: Vec::new(alloc)
-        },
-    ]?;
-    let script = with_rows(alloc, 10, rows)?;
-    each_call(&rt, script, &mut outbox(alloc)?, BY_KIND);
-    Ok(())
+fn does_the_first_row_of_a_kind(rt: HostRuntime) -> Result<(), AllocError> {
+    let script = script_of(rt.alloc(), 10, OF_A_KIND)?;
+    goes_so(&rt, rt.alloc(), script, BY_KIND)
 }
 
 /// What comes of it. The first row of kind 2 adds twice; nothing is done for kind 3, or at a Terminated.
@@ -91,21 +109,9 @@ const BY_KIND: &[Step] = &[
 ];
 
 #[test]
-fn does_each_operation(rt: HostRuntime) -> Result<(), Fail> {
-    let alloc = rt.alloc();
-    let script = with_row(alloc, EACH)?;
-    each_call(&rt, script, &mut outbox(alloc)?, BY_EACH);
-    Ok(())
-}
-
-/// An actor that does this at a message of kind 1.
-fn with_row(alloc: Global, operations: &[Operation]) -> Result<Script, AllocError> {
-    let operations = operations.to_vec(alloc)?;
-    let row = Row {
-        kind: 1,
-        operations,
-    };
-    with_rows(alloc, 0, vec![in alloc; row]?)
+fn does_each_operation(rt: HostRuntime) -> Result<(), AllocError> {
+    let script = script_of(rt.alloc(), 0, &[(1, EACH)])?;
+    goes_so(&rt, rt.alloc(), script, BY_EACH)
 }
 
 /// The actor that messages are sent to, and that is watched and stopped.
@@ -156,18 +162,29 @@ const ASKED: &[Effect] = &[
 ];
 
 #[test]
-fn does_what_its_hooks_say(rt: HostRuntime) -> Result<(), Fail> {
-    let alloc = rt.alloc();
-    let id = ActorId(1);
-    let hooks = Hooks {
-        start: vec![in alloc; Operation::Tell { to: id, kind: 1 }]?,
-        restart: vec![in alloc; Operation::Fail(3)]?,
-        stop: vec![in alloc; Operation::Tell { to: id, kind: 2 }]?,
-        terminated: Some(vec![in alloc; Operation::Tell { to: id, kind: 3 }]?),
-    };
-    let script = Script::new(alloc, 5, hooks, Vec::new(alloc))?;
-    each_call(&rt, script, &mut outbox(alloc)?, BY_HOOK);
-    Ok(())
+fn does_what_its_hooks_say(rt: HostRuntime) -> Result<(), AllocError> {
+    let hooks = hooks_of(rt.alloc())?;
+    let script = Script::new(rt.alloc(), 5, hooks, Vec::new(rt.alloc()))?;
+    goes_so(&rt, rt.alloc(), script, BY_HOOK)
+}
+
+/// Hooks that tell the other actor 1, 2 or 3, or fail.
+fn hooks_of(alloc: Global) -> Result<Hooks, AllocError> {
+    let start = telling(alloc, 1)?;
+    let restart = [Operation::Fail(3)].to_vec(alloc)?;
+    let stop = telling(alloc, 2)?;
+    let terminated = Some(telling(alloc, 3)?);
+    Ok(Hooks {
+        start,
+        restart,
+        stop,
+        terminated,
+    })
+}
+
+/// To tell the other actor something of this kind.
+fn telling(alloc: Global, kind: u32) -> Result<Vec<Operation>, AllocError> {
+    [Operation::Tell { to: OTHER, kind }].to_vec(alloc)
 }
 
 /// What comes of it: the value that is sent is 0, and at a Terminated the number of the actor that has ended.
@@ -205,30 +222,18 @@ const BY_HOOK: &[Step] = &[
     ),
 ];
 
-/// An actor with two rows of a kind, of which the first adds, and with one of another kind.
-fn adder(alloc: Global) -> Result<Script, AllocError> {
-    let rows = vec![in alloc;
-        Row {
-            kind: 7,
-            operations: vec![in alloc; Operation::Add]?
-        },
-        Row {
-            kind: 7,
-            operations: vec![in alloc; Operation::Fail(1)]?
-        },
-        Row {
-            kind: 0,
-            operations: vec![in alloc; Operation::Ignore]?
-        },
-    ]?;
-    with_rows(alloc, 1, rows)
-}
+/// Two rows of a kind, of which the first adds, and one of another kind.
+const ADDER: &[Does] = &[
+    (7, &[Operation::Add]),
+    (7, &[Operation::Fail(1)]),
+    (0, &[Operation::Ignore]),
+];
 
-/// The same; retried where memory was refused.
+/// An actor with these rows; retried where memory was refused.
 fn adder_at_last(alloc: Global) -> Result<Script, AllocError> {
-    match adder(alloc) {
+    match script_of(alloc, 1, ADDER) {
         Ok(script) => Ok(script),
-        Err(_) => adder(alloc),
+        Err(_) => script_of(alloc, 1, ADDER),
     }
 }
 
@@ -244,11 +249,10 @@ fn outbox_at_last(alloc: Global) -> Result<Outbox, AllocError>
 
 /// `tools/refuse_each_allocation script` runs this with each allocation refused in turn.
 #[test]
-fn a_refused_script_can_be_made_again(rt: HostRuntime) -> Result<(), Fail> {
-    let alloc = rt.alloc();
-    let script = adder_at_last(alloc)?;
+fn a_refused_script_can_be_made_again(rt: HostRuntime) -> Result<(), AllocError> {
+    let script = adder_at_last(rt.alloc())?;
     assert!(rt; script.rows().len() == 3 && script.hooks().start.is_empty());
-    each_call(&rt, script, &mut outbox_at_last(alloc)?, BY_ADDER);
+    each_call(&rt, script, &mut outbox_at_last(rt.alloc())?, BY_ADDER);
     Ok(())
 }
 
@@ -274,27 +278,38 @@ const BY_ADDER: &[Step] = &[
 ];
 
 /// The state of an actor with this many rows, each of which adds, after a million messages of all kinds in turn.
-fn after_a_million(alloc: Global, kinds: u32) -> Result<i64, Fail>
+fn after_a_million(alloc: Global, kinds: u32) -> Result<i64, AllocError>
     requires { 0 < kinds }
 {
+    let script = with_rows(alloc, 0, adding(alloc, kinds)?)?;
+    let mut out = outbox(alloc)?;
+    Ok(run_a_million(script, &mut out, kinds))
+}
+
+/// A row that adds, for each of this many kinds.
+fn adding(alloc: Global, kinds: u32) -> Result<Vec<Row>, AllocError> {
     let mut rows = Vec::new(alloc);
     for kind in 0..kinds {
-        let operations = vec![in alloc; Operation::Add]?;
-        rows.push(Row { kind, operations })?;
+        rows.push(row_of(alloc, kind, &[Operation::Add])?)?;
     }
-    let mut script = RecordedActor::new(with_rows(alloc, 0, rows)?);
-    let mut out = outbox(alloc)?;
+    Ok(rows)
+}
+
+fn run_a_million(script: Script, out: &mut Outbox, kinds: u32) -> i64
+    requires { 0 < kinds }
+{
+    let mut script = RecordedActor::new(script);
     for number in 0..1_000_000u32 {
         out.clear();
-        let _ = script.receive(&user(number % kinds, 1), &mut out);
+        let _ = script.receive(&user(number % kinds, 1), out);
     }
-    Ok(script.state())
+    script.state()
 }
 
 #[test]
-fn finds_a_row_among_ten_and_a_thousand(rt: HostRuntime) -> Result<(), Fail> {
+fn finds_a_row_among_ten_and_a_thousand(rt: HostRuntime) -> Result<(), AllocError> {
     for kinds in [10, 1_000] {
-        assert!(rt; after_a_million(rt.alloc(), kinds)? == 1_000_000, "{kinds}");
+        assert!(rt; after_a_million(rt.alloc(), kinds)? == 1_000_000);
     }
     Ok(())
 }

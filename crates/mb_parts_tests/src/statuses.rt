@@ -1,5 +1,6 @@
 //! Tests of each transition on the first status words, by the table of `akka.dispatch.Mailbox`.
 
+use crate::seen::see_nth;
 use mb_status::Status;
 use std::process::Abort;
 
@@ -29,62 +30,58 @@ const ROWS: [Row; 5] = [
 fn transitions(rt: HostRuntime) {
     for row in ROWS.iter() {
         let status = Status::of(row.word).expect(&rt, "a valid word");
-        is_scheduled(&rt, row, status);
-        is_suspended_and_resumed(&rt, row, status);
-        is_closed(&rt, row, status);
-        is_asked(&rt, row, status);
+        see_nth(&rt, is_scheduled(row, status), row.word);
+        see_nth(&rt, is_suspended(&rt, row, status), row.word);
+        see_nth(&rt, is_resumed(row, status), row.word);
+        see_nth(&rt, is_closed(row, status), row.word);
+        see_nth(&rt, is_asked(row, status), row.word);
     }
 }
 
-fn is_scheduled(rt: &impl Abort, row: &Row, status: Status) {
-    let word = row.word;
-    let scheduled = status.with_scheduled().map(|s| s.word());
-    assert!(rt; scheduled == row.with_scheduled, "{scheduled:?} at {word}");
-    let idle = status.idle().word();
-    assert!(rt; idle == row.idle, "idle {idle} at {word}");
+fn is_scheduled(row: &Row, status: Status) -> bool {
+    scheduled(status) == row.with_scheduled && status.idle().word() == row.idle
 }
 
-fn is_suspended_and_resumed(rt: &impl Abort, row: &Row, status: Status) {
-    let word = row.word;
+/// The word once the actor is scheduled, where it can be.
+fn scheduled(status: Status) -> Option<u64> {
+    Some(status.with_scheduled()?.word())
+}
+
+fn is_suspended(rt: &impl Abort, row: &Row, status: Status) -> bool {
     let mut suspended = status;
     assert!(rt; suspended.count() < 2);
     let first = suspended.suspend();
-    assert!(rt;
-        (suspended.word(), first) == row.suspend,
-        "suspended at {word}"
-    );
+    (suspended.word(), first) == row.suspend
+}
+
+fn is_resumed(row: &Row, status: Status) -> bool {
     let mut resumed = status;
     let last = resumed.resume();
-    assert!(rt; (resumed.word(), last) == row.resume, "resumed at {word}");
+    (resumed.word(), last) == row.resume
 }
 
-fn is_closed(rt: &impl Abort, row: &Row, status: Status) {
-    let word = row.word;
+fn is_closed(row: &Row, status: Status) -> bool {
     let mut closed = status;
     let closes = closed.close();
-    assert!(rt;
-        (closed.word(), closes) == (1, row.close),
-        "closed at {word}"
-    );
+    closed.word() == 1 && closes == row.close
 }
 
-fn is_asked(rt: &impl Abort, row: &Row, status: Status) {
-    let word = row.word;
-    let asked = (
-        status.should_process(),
-        status.can_schedule(true, false),
-        status.can_schedule(false, true),
-    );
-    let expected = (row.should_process, row.by_messages, row.by_system);
-    assert!(rt; asked == expected, "asked at {word}");
+fn is_asked(row: &Row, status: Status) -> bool {
+    status.should_process() == row.should_process
+        && status.can_schedule(true, false) == row.by_messages
+        && status.can_schedule(false, true) == row.by_system
 }
 
 #[test]
 fn first_words(rt: HostRuntime) {
     let fresh = Status::fresh();
     assert!(rt; fresh.word() == 4 && fresh.count() == 1);
-    assert!(rt; Status::of(3).is_none() && Status::of((1 << 34) + 4).is_none());
-    assert!(rt; Status::of(1 << 34).is_some());
+    for (word, is_valid) in WORDS {
+        assert!(rt; Status::of(*word).is_some() == *is_valid);
+    }
     let mut twice = Status::of(8).expect(&rt, "a valid word");
     assert!(rt; !twice.resume() && twice.word() == 4);
 }
+
+/// Words, and whether they are a status.
+const WORDS: &[(u64, bool)] = &[(3, false), ((1 << 34) + 4, false), (1 << 34, true)];

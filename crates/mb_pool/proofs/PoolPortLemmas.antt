@@ -1,6 +1,7 @@
 -- What a push and a take through a port do to what was pushed through it.
-use Rattle.std.proofs.Common.{◌≡◌, List, [], ◌∷◌, ◌++◌, refl, sym, ap, ◌∙◌, Option, Some, None, MatchOption}
+use Rattle.std.proofs.Common.{◌≡◌, List, [], ◌∷◌, ◌++◌, map, refl, sym, ap, ◌∙◌, Option, Some, None, MatchOption}
 use Rattle.std.specs.Prelude.{IfNone, IfSome}
+use Rattle.std.specs.declared.snapshot.Snapshot.{Snapshot}
 use Rattle.std.proofs.lemmas.List.{map-append}
 use Rattle.mb_gate.specs.declared.claim.Claim.{Claim}
 use Rattle.mb_gate.specs.Untouched.{Origin}
@@ -13,6 +14,13 @@ module _ {H : Type 0} where
   -- of the same ports it is of the same gates
   pub same-gates : (old new : PoolEndpoint H) → parts_of new ≡ parts_of old → gates_of new ≡ gates_of old
   same-gates old new same = ap (λ (p : Parts H). p.shared_port.gates) same
+
+  -- after one claim more was refused
+  pub refused-more : (old new : List (Snapshot (Claim H))) (s : Snapshot (Claim H)) (c : Claim H) → new ≡ old ++ s ∷ [] → s.value ≡ c
+      → map (λ (x : Snapshot (Claim H)). x.value) new ≡ map (λ (x : Snapshot (Claim H)). x.value) old ++ c ∷ []
+  refused-more old new s c added same =
+      ap (λ l. map (λ (x : Snapshot (Claim H)). x.value) l) added ∙ map-append (λ (x : Snapshot (Claim H)). x.value) old (s ∷ [])
+      ∙ ap (λ d. map (λ (x : Snapshot (Claim H)). x.value) old ++ d ∷ []) same
 
   same-first : (before rest : List (PoolPort H)) (pool_port pool_port' : PoolPort H) → claims_in pool_port'.ledger.pushed ≡ claims_in pool_port.ledger.pushed
       → pushed_first (before ++ pool_port' ∷ rest) ≡ pushed_first (before ++ pool_port ∷ rest)

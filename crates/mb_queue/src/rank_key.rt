@@ -1,10 +1,9 @@
 //! What the heap of a priority mailbox orders: rank, then arrival.
 ghost use Rattle.std.specs.Prelude.{◌≡◌, ◌+◌, ◌*◌, ◌^◌};
 ghost use Rattle.std.specs.Ordering.{as_partial_cmp, eq_by_cmp, nat_cmp, ordering_then};
-ghost use Rattle.std.specs.Cmp.{partial_order_from_own_ties};
-ghost use Rattle.std.specs.Cmp.Rules.{comparing};
-ghost use Rattle.std.proofs.Common.{refl, rules};
-ghost use Rattle.mb_queue.specs.RankKey.{rank_key_order};
+ghost use Rattle.std.specs.Cmp.{eq_by_cmp_equiv, partial_equiv_from_equiv, partial_order_from_total};
+ghost use Rattle.std.proofs.Common.{refl};
+ghost use Rattle.mb_queue.specs.RankKey.{rank_key_order, rank_key_total};
 
 use mb_msg::Envelope;
 use std::cmp::Ordering;
@@ -26,7 +25,7 @@ pub(crate) struct RankKey {
 impl PartialEq for RankKey {
     ghost eq = { eq_by_cmp rank_key_order };
 
-    ghost laws = { Prim.search (comparing, rules) };
+    ghost laws = { partial_equiv_from_equiv (eq_by_cmp_equiv rank_key_total) };
 
     fn eq(&self, other: &RankKey) -> bool {
         self.cmp(other).is_eq()
@@ -34,13 +33,13 @@ impl PartialEq for RankKey {
 }
 
 impl Eq for RankKey {
-    ghost laws = { Prim.search (comparing, rules) };
+    ghost laws = { eq_by_cmp_equiv rank_key_total };
 }
 
 impl PartialOrd for RankKey {
     ghost partial_cmp = { as_partial_cmp rank_key_order };
 
-    ghost laws = { partial_order_from_own_ties (Prim.search (comparing, rules)) (Prim.search (comparing, rules)) };
+    ghost laws = { partial_order_from_total rank_key_total };
 
     fn partial_cmp(&self, other: &RankKey) -> Option<Ordering> {
         Some(self.cmp(other))
@@ -50,7 +49,7 @@ impl PartialOrd for RankKey {
 impl Ord for RankKey {
     ghost cmp = { rank_key_order };
 
-    ghost total = { Prim.search (comparing, rules) };
+    ghost total = { rank_key_total };
 
     ghost matches_partial_cmp = { λ x y. refl };
 

@@ -1,5 +1,5 @@
 -- The effects of a call, one more at the front.
-use Rattle.std.proofs.Common.{◌≡◌, ℕ, ◌+◌, ◌<◌, Bool, true, false, List, [], ◌∷◌, ◌++◌, length, get_or, drop}
+use Rattle.std.proofs.Common.{◌≡◌, ℕ, ◌+◌, ◌-◌, ◌*◌, ◌^◌, ◌<◌, ◌≤◌, arith, Bool, true, false, List, [], ◌∷◌, ◌++◌, length, get_or, drop}
 use Rattle.std.proofs.Common.{drop-cons, add-one, append_assoc, refl, ap, sym, ◌∙◌, rules}
 use Rattle.std.proofs.lemmas.List.{append-nil}
 use Rattle.std.specs.Prelude.{not, ◌||◌, if◌then◌else◌, cond}
@@ -122,3 +122,31 @@ pub acts-done : (this : ActorId) (acts whole : List Act) (list : List ActorId) (
     acts ++ effect_acts this list all ≡ whole → acts ≡ whole
 acts-done this acts whole list all none before =
     sym (ap (λ es. acts ++ effect_acts this list es) none ∙ (ap (λ more. acts ++ more) (effect_acts-none this list) ∙ append-nil acts)) ∙ before
+
+-- ---- room for what is left
+
+pub act-fits : (first now steps count : ℕ) → first ≤ now + steps → count ≤ first → steps < count → 0 < now
+act-fits first now steps count so_far enough more = omega arith
+
+pub place-fits : (first now steps count before capacity : ℕ) → now ≤ first + steps → first + count ≤ before → before ≤ capacity → steps < count →
+    now < capacity
+place-fits first now steps count before capacity so_far enough same more = omega arith
+
+-- ---- room for the effects of a call, and for what follows them
+
+pub acts-fit : (effects others room now : ℕ) → effects ≤ 16 → others + 40 ≤ room → now ≡ room - 1 → effects ≤ now
+acts-fit effects others room now few enough is = omega arith
+
+pub some-act-fits : (others room : ℕ) → others + 40 ≤ room → 0 < room
+some-act-fits others room enough = omega arith
+
+pub spawned-fit : (effects children fanout capacity : ℕ) → effects ≤ 16 → children + (16 + fanout) ≤ capacity → children + effects ≤ capacity
+spawned-fit effects children fanout capacity few enough = omega arith
+
+pub watched-fit : (effects watching capacity : ℕ) → effects ≤ 16 → watching + 16 ≤ capacity → watching + effects ≤ capacity
+watched-fit effects watching capacity few enough = omega arith
+
+pub acts-below : (children watchers watching fanout n m k : ℕ) → n ≡ children → m ≡ watchers → k ≡ watching →
+    children < 2 ^ 44 → watchers < 2 ^ 44 → watching < 2 ^ 44 → fanout < 2 ^ 44 →
+    2 * n + m + k + fanout + 40 < 2 ^ 48
+acts-below children watchers watching fanout n m k a b c few_children few_watchers few_watched small = omega arith

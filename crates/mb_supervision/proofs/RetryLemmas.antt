@@ -1,14 +1,15 @@
 -- Which requests are made, and whether all are permitted, child by child.
-use Rattle.std.proofs.Common.{◌≡◌, ℕ, ℤ, pos, ◌+◌, ◌<◌, List, [], ◌∷◌, ◌++◌, length, get_or, take, drop, drop-cons, add-one, append_assoc}
+use Rattle.std.proofs.Common.{◌≡◌, ℕ, ℤ, pos, ◌+◌, ◌*◌, ◌<◌, ◌≤◌, List, [], ◌∷◌, ◌++◌, length, get_or, take, drop, drop-cons, add-one, append_assoc}
 use Rattle.std.proofs.Common.{Bool, true, false, refl, ap, sym, ◌∙◌, ◌==◌, not, filter, cond, arith}
 use Rattle.std.specs.Prelude.{negsuc, ◌&&◌, if◌then◌else◌}
 use Rattle.std.proofs.lemmas.List.{take_more}
+use Rattle.std.proofs.lemmas.List.Sums.{sum_by-append}
 use Rattle.std.specs.List.{list_all}
 use Rattle.mb_msg.specs.declared.id.ActorId.{ActorId}
 use Rattle.mb_actor.specs.ActorList.{is_same}
 use Rattle.mb_journal.specs.Identity.{Identity}
 use Rattle.mb_journal.specs.Supervision.{directive_of}
-use Rattle.mb_journal.specs.Retries.{is_restart_directive, permits, through_refusal}
+use Rattle.mb_journal.specs.Retries.{is_restart_directive, permits, through_refusal, times_in}
 use Rattle.mb_msg.specs.declared.supervision.Cause.{Cause}
 use Rattle.mb_msg.specs.declared.supervision.Directive.TheVariants as directive
 use Rattle.mb_supervision.specs.CellStateRecord.{CellState}
@@ -123,6 +124,16 @@ module _ (child : ActorId) (n : ℕ) (y : ActorId) where
           ∙ (plus_none (retry_count_of counts y)
           ∙ ap (λ b. retry_count_of counts y + (0 + cond b 1 0)) (sym is))
 
+-- one request more of a list was counted
+pub requests-next : (list : List ActorId) (i : ℕ) (d : ActorId) → i < length list → (y : ActorId) (first before after : ℕ) →
+    after ≡ before + times_in (get_or list i d ∷ []) y → before ≡ first + times_in (take i list) y →
+    after ≡ first + times_in (take (i + 1) list) y
+requests-next list i d within y first before after one so_far =
+    let more : times_in (take (i + 1) list) y ≡ times_in (take i list) y + times_in (get_or list i d ∷ []) y =
+    ap (λ l. times_in l y) (take_more list i d within)
+    ∙ sum_by-append (λ z. cond (is_same y z) 1 0) (take i list) (get_or list i d ∷ []) in
+    omega (arith, more)
+
 -- without a limit nothing is counted
 pub counted-unlimited : (limit : ℤ) (asked : List ActorId) (counts : ActorId → ℕ) → ((n : ℕ) → limit ≡ pos n → ⊥) →
     (λ x. counts x) ≡ counted_more limit asked counts
@@ -140,3 +151,17 @@ counted-restart who b x c limit meant later own restarts same counted =
     ∙ (λ i. if is_restart_directive (sym restarts i)
     then counted_more (own i) (through_refusal (λ y. permits (own i) (retry_count_of b.retries y + 1)) (same i)) (λ y. retry_count_of b.retries y)
     else (λ y. retry_count_of b.retries y))
+
+-- ---- room for a decision
+
+pub meant-few : (all : Bool) (meant children : List ActorId) (x : ActorId) → meant ≡ (if all then children else x ∷ []) →
+    length meant ≤ length children + 1
+meant-few true meant children x same = let as_many : length meant ≡ length children = ap length same in omega (arith, as_many)
+meant-few false meant children x same = let one : length meant ≡ 1 = ap length same in omega (arith, one)
+
+pub requests-fit : (meant children retries capacity : ℕ) → meant ≤ children + 1 → retries + (children + 1) ≤ capacity → retries + meant ≤ capacity
+requests-fit meant children retries capacity few room = omega arith
+
+pub restarts-fit : (meant children watchers watching fanout room : ℕ) → meant ≤ children + 1 →
+    2 * children + watchers + watching + fanout + 40 ≤ room → 2 * meant ≤ room
+restarts-fit meant children watchers watching fanout room few enough = omega arith

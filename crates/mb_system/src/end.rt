@@ -40,11 +40,7 @@ pub struct WorkerEnd<A: Actor, K: Behaviours> {
 
 impl<A: Actor, K: Behaviours> Drop for WorkerEnd<A, K> {
     fn drop(self) {
-        let WorkerEnd {
-            number: _,
-            registrar,
-        } = self;
-        let _ = pass_of(registrar);
+        let _ = self.into_pass();
     }
 }
 

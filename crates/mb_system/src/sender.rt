@@ -39,8 +39,7 @@ pub struct Sender<A: Actor, K: Behaviours> {
 
 impl<A: Actor, K: Behaviours> Drop for Sender<A, K> {
     fn drop(self) {
-        let Sender { inner } = self;
-        let _ = parts_of(inner);
+        let _ = self.into_parts();
     }
 }
 

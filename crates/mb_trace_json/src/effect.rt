@@ -1,12 +1,14 @@
 //! What an actor asked for.
-ghost use Rattle.std.specs.Prelude.{◌≡◌, IfOk, map, string_bytes};
-ghost use Rattle.serde_json.specs.View.{view};
+ghost use Rattle.std.specs.Prelude.{◌≡◌, codes, IfOk, map, string_bytes};
+ghost use Rattle.serde_json.specs.Data.{string, member, no_members};
+ghost use Rattle.serde_json.specs.View.{view, members_view};
 ghost use Rattle.mb_trace_json.specs.Effects.{tell_data, ask_data, effect_data, effects_data};
+ghost use Rattle.mb_trace_json.specs.Names.{name_data};
 
 use crate::names::name_value;
 use mb_actor::Effect;
 use mb_msg::ActorId;
-use serde_json::{Value, json};
+use serde_json::{Map, Value, put};
 use std::alloc::{AllocError, Global};
 
 /// The effects, in order.
@@ -51,8 +53,10 @@ fn tell_value(
 ) -> Result<Value, AllocError>
     ensures { IfOk result (λ v. view v ≡ tell_data what.now (map string_bytes names.now) to.0 kind value) }
 {
-    let receiver = name_value(alloc, names, to.0)?;
-    json!(in alloc; {"value": value, "to": receiver, "kind": kind, "do": what})
+    let mut members = about_members(alloc, what, names, to)?;
+    put(&mut members, alloc, "kind", Value::from(kind))?;
+    put(&mut members, alloc, "value", Value::from(value))?;
+    Ok(Value::Object(members))
 }
 
 /// Something about another actor.
@@ -64,6 +68,24 @@ fn about_value(
 ) -> Result<Value, AllocError>
     ensures { IfOk result (λ v. view v ≡ ask_data what.now (map string_bytes names.now) id.0) }
 {
-    let receiver = name_value(alloc, names, id.0)?;
-    json!(in alloc; {"to": receiver, "do": what})
+    let members = about_members(alloc, what, names, id)?;
+    Ok(Value::Object(members))
+}
+
+/// What is asked for, and of which actor.
+fn about_members(
+    alloc: Global,
+    what: &str,
+    names: &[String],
+    id: ActorId,
+) -> Result<Map<String, Value>, AllocError>
+    ensures { IfOk result (λ members. members_view members.entries
+        ≡ member (codes "do") (string what.now) (member (codes "to") (name_data (map string_bytes names.now) id.0) no_members)) }
+{
+    let mut members = Map::new(alloc);
+    let name = name_value(alloc, names, id.0)?;
+    put(&mut members, alloc, "to", name)?;
+    let what = Value::try_from_str(alloc, what)?;
+    put(&mut members, alloc, "do", what)?;
+    Ok(members)
 }

@@ -1,7 +1,7 @@
 //! An entry of a journal.
-ghost use Rattle.std.specs.Prelude.{◌≡◌, IfOk, map, string_bytes};
-ghost use Rattle.serde_json.specs.Data.{null};
-ghost use Rattle.serde_json.specs.View.{view};
+ghost use Rattle.std.specs.Prelude.{◌≡◌, codes, IfOk, OnOk, map, string_bytes};
+ghost use Rattle.serde_json.specs.Data.{null, number, string, unsigned, put as with_member};
+ghost use Rattle.serde_json.specs.View.{view, members_view};
 ghost use Rattle.mb_journal.specs.JournalView.{entry_of};
 ghost use Rattle.mb_trace_json.specs.Effects.{effects_data};
 ghost use Rattle.mb_trace_json.specs.Entries.{answer_text, answer_error, whole_data, entry_data};
@@ -14,7 +14,7 @@ use crate::names::name_value;
 use mb_actor::{Answer, Effect};
 use mb_journal::{EntryRef, Received};
 use mb_msg::{ActorId, Envelope, SysMsg};
-use serde_json::{Value, json};
+use serde_json::{Map, Value, put};
 use std::alloc::{AllocError, Global};
 
 /// Whose journal has an entry, and where: from 0.
@@ -150,23 +150,62 @@ fn whole_value(
         (view came.sender) came.number told.outcome.now (view told.error) (effects_data (map string_bytes names.now) effects.now)
         (view told.status)) }
 {
-    let actor = name_value(alloc, names, place.actor.0)?;
-    let entry = place.index;
+    let mut members = Map::new(alloc);
+    put_told(alloc, &mut members, told)?;
+    put_came(alloc, &mut members, came)?;
     let effects = effects_value(alloc, names, effects)?;
-    let Came {
-        message,
-        sender,
-        number,
-    } = came;
+    put(&mut members, alloc, "effects", effects)?;
+    put_place(alloc, &mut members, names, place)?;
+    Ok(Value::Object(members))
+}
+
+fn put_told(alloc: Global, members: &mut Map<String, Value>, told: Told) -> Result<(), AllocError>
+    ensures { OnOk result (members_view members.new.entries ≡ with_member (codes "error") (view told.error)
+        (with_member (codes "outcome") (string told.outcome.now)
+        (with_member (codes "status") (view told.status) (members_view members.old.entries)))) }
+{
     let Told {
         outcome,
         error,
         status,
     } = told;
-    json!(in alloc; {
-        "status": status, "sender": sender, "outcome": outcome, "number": number, "message": message, "line": "entry",
-        "error": error, "entry": entry, "effects": effects, "actor": actor
-    })
+    put(members, alloc, "status", status)?;
+    let outcome = Value::try_from_str(alloc, outcome)?;
+    put(members, alloc, "outcome", outcome)?;
+    put(members, alloc, "error", error)
+}
+
+fn put_came(alloc: Global, members: &mut Map<String, Value>, came: Came) -> Result<(), AllocError>
+    ensures { OnOk result (members_view members.new.entries ≡ with_member (codes "message") (view came.message)
+        (with_member (codes "number") (number (unsigned came.number))
+        (with_member (codes "sender") (view came.sender) (members_view members.old.entries)))) }
+{
+    let Came {
+        message,
+        sender,
+        number,
+    } = came;
+    put(members, alloc, "sender", sender)?;
+    put(members, alloc, "number", Value::from(number))?;
+    put(members, alloc, "message", message)
+}
+
+/// Where an entry stands.
+fn put_place(
+    alloc: Global,
+    members: &mut Map<String, Value>,
+    names: &[String],
+    place: Place,
+) -> Result<(), AllocError>
+    ensures { OnOk result (members_view members.new.entries ≡ with_member (codes "actor") (name_data (map string_bytes names.now) place.actor.0)
+        (with_member (codes "entry") (number (unsigned place.index))
+        (with_member (codes "line") (string (codes "entry")) (members_view members.old.entries)))) }
+{
+    let line = Value::try_from_str(alloc, "entry")?;
+    put(members, alloc, "line", line)?;
+    put(members, alloc, "entry", Value::from(place.index))?;
+    let actor = name_value(alloc, names, place.actor.0)?;
+    put(members, alloc, "actor", actor)
 }
 
 /// What the actor answered; `applied` where it was not called.

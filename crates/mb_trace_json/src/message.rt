@@ -1,12 +1,13 @@
 //! What comes to an actor.
-ghost use Rattle.std.specs.Prelude.{◌≡◌, IfOk, map, string_bytes};
-ghost use Rattle.serde_json.specs.View.{view};
+ghost use Rattle.std.specs.Prelude.{◌≡◌, codes, IfOk, map, string_bytes};
+ghost use Rattle.serde_json.specs.Data.{string, member, no_members};
+ghost use Rattle.serde_json.specs.View.{view, members_view};
 ghost use Rattle.mb_trace_json.specs.Messages.{plain_data, user_data, about_data, cause_text, cause_error, restart_data, failed_data};
 ghost use Rattle.mb_trace_json.specs.Messages.{resume_data, body_data, system_data};
 
 use crate::names::name_value;
 use mb_msg::{ActorId, Body, Cause, SysMsg};
-use serde_json::{Value, json};
+use serde_json::{Map, Value, json, put};
 use std::alloc::{AllocError, Global};
 
 /// What an envelope carries.
@@ -79,9 +80,8 @@ fn resume_value(alloc: Global, of_failure: bool) -> Result<Value, AllocError>
 fn restart_value(alloc: Global, cause: Cause) -> Result<Value, AllocError>
     ensures { IfOk result (λ v. view v ≡ restart_data cause) }
 {
-    let word = cause_word(cause);
-    let error = error_value(cause);
-    json!(in alloc; {"what": "restart", "error": error, "cause": word})
+    let members = cause_members(alloc, "restart", cause)?;
+    Ok(Value::Object(members))
 }
 
 fn failed_value(
@@ -92,10 +92,24 @@ fn failed_value(
 ) -> Result<Value, AllocError>
     ensures { IfOk result (λ v. view v ≡ failed_data (map string_bytes names.now) id.0 cause) }
 {
+    let mut members = cause_members(alloc, "failed", cause)?;
     let actor = name_value(alloc, names, id.0)?;
-    let word = cause_word(cause);
-    let error = error_value(cause);
-    json!(in alloc; {"what": "failed", "error": error, "cause": word, "actor": actor})
+    put(&mut members, alloc, "actor", actor)?;
+    Ok(Value::Object(members))
+}
+
+/// What such a message says of its cause.
+fn cause_members(alloc: Global, what: &str, cause: Cause) -> Result<Map<String, Value>, AllocError>
+    ensures { IfOk result (λ members. members_view members.entries ≡ member (codes "cause") (string (cause_text cause))
+        (member (codes "error") (cause_error cause) (member (codes "what") (string what.now) no_members))) }
+{
+    let mut members = Map::new(alloc);
+    let what = Value::try_from_str(alloc, what)?;
+    put(&mut members, alloc, "what", what)?;
+    put(&mut members, alloc, "error", error_value(cause))?;
+    let word = Value::try_from_str(alloc, cause_word(cause))?;
+    put(&mut members, alloc, "cause", word)?;
+    Ok(members)
 }
 
 /// The kind of a cause.

@@ -57,11 +57,14 @@ impl Actor for Adder {
                 if self.tells {
                     let _ = out.tell(ACTOR, kind, value);
                 }
+                Answer::Handled
             }
-            Message::Control { value, .. } => self.sum = self.sum.saturating_add(value),
-            Message::Terminated(_) => return Answer::Unhandled,
+            Message::Control { value, .. } => {
+                self.sum = self.sum.saturating_add(value);
+                Answer::Handled
+            }
+            Message::Terminated(_) => Answer::Unhandled,
         }
-        Answer::Handled
     }
 
     fn restart(&mut self, _cause: Cause, _out: &mut Outbox, _: CallPermit) -> Answer {

@@ -1,5 +1,6 @@
 //! Tests of the refusals of an outbox, each at its limit and one past it.
 
+use crate::seen::see_nth;
 use mb_actor::{Effect, Outbox, OutboxError};
 use mb_msg::ActorId;
 use std::process::Abort;
@@ -179,9 +180,9 @@ fn goes(out: &mut Outbox, step: Step) -> bool {
 
 /// Checks these steps on an outbox.
 fn goes_so(rt: &impl Abort, out: &mut Outbox, course: &[Step]) {
-    let mut number = 0u32;
+    let mut number = 0u64;
     for step in course {
-        assert!(rt; goes(out, *step), "step {number}");
+        see_nth(rt, goes(out, *step), number);
         number = number.wrapping_add(1);
     }
 }

@@ -5,7 +5,8 @@
 //! is shown by its status word, the number counted as waiting, the numbers of its envelopes, its system messages, who
 //! holds it, what the parties 0 and 1 owe it (`s` a check of the system messages, `m` one of the envelopes, `g` that it
 //! is sending), and `!` where a worker should take it.
-use crate::machine::words::{ACTOR, event_of, events_of, shows};
+use crate::machine::words::{add_event, events_of, shows};
+use crate::seen::see;
 use mb_core::{Event, replay};
 use std::alloc::Global;
 use std::process::Abort;
@@ -188,15 +189,21 @@ struct Case<'a> {
 
 /// The case of a line; a line without bars is a heading, and none.
 fn case_of(line: &str) -> Option<Case<'_>> {
-    let (word, rest) = line.split_once('|')?;
-    let (before, rest) = rest.split_once('|')?;
-    let (step, after) = rest.split_once('|')?;
+    let (word, rest) = column_of(line)?;
+    let (before, rest) = column_of(rest)?;
+    let (step, after) = column_of(rest)?;
     Some(Case {
-        word: word.trim().parse::<u64>().ok()?,
-        before: before.trim(),
-        step: step.trim(),
-        after: after.trim(),
+        word: word.parse::<u64>().ok()?,
+        before,
+        step,
+        after,
     })
+}
+
+/// The text before a bar, and that behind it.
+fn column_of(line: &str) -> Option<(&str, &str)> {
+    let (column, rest) = line.split_once('|')?;
+    Some((column.trim(), rest.trim()))
 }
 
 /// Whether these steps leave the actor so, or are no run where it is `no`.
@@ -209,11 +216,17 @@ fn leave(alloc: Global, word: u64, events: &[Event], after: &str) -> Option<bool
 
 /// Whether the steps before are a run, and the case's step leaves what it says.
 fn is_right(alloc: Global, case: Case<'_>) -> Option<bool> {
-    let mut events = events_of(alloc, case.before)?;
+    let events = events_of(alloc, case.before)?;
     if leave(alloc, case.word, &events, "no")? {
         return Some(false);
     }
-    events.push(event_of(alloc, ACTOR, case.step)?).ok()?;
+    leads_on(alloc, case, events)
+}
+
+/// Whether the case's step leaves what it says, after these.
+fn leads_on(alloc: Global, case: Case<'_>, events: Vec<Event>) -> Option<bool> {
+    let mut events = events;
+    add_event(&mut events, alloc, case.step)?;
     leave(alloc, case.word, &events, case.after)
 }
 
@@ -222,17 +235,19 @@ fn try_each<R: Abort>(rt: &R, alloc: Global, table: &str, cases: u64) {
     let mut count = 0u64;
     for line in table.lines() {
         if let Some(case) = case_of(line) {
-            assert!(rt; is_right(alloc, case) == Some(true), "{line}");
+            see(rt, matches!(is_right(alloc, case), Some(true)), line);
             count = count.wrapping_add(1);
         }
     }
-    assert!(rt; count == cases, "{count} cases");
+    assert!(rt; count == cases);
 }
+
+/// The tables, each with its number of cases.
+const TABLES: &[(&str, u64)] = &[(STATUS, 55), (ENVELOPES, 44), (SYSTEM, 25), (RUNS, 8)];
 
 #[test]
 fn each_step_by_its_table(rt: HostRuntime) {
-    try_each(&rt, rt.alloc(), STATUS, 55);
-    try_each(&rt, rt.alloc(), ENVELOPES, 44);
-    try_each(&rt, rt.alloc(), SYSTEM, 25);
-    try_each(&rt, rt.alloc(), RUNS, 8);
+    for (table, cases) in TABLES {
+        try_each(&rt, rt.alloc(), *table, *cases);
+    }
 }

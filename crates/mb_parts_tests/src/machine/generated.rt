@@ -145,7 +145,7 @@ fn every_generated_run_is_lawful(rt: HostRuntime) {
         runnable: 0,
     };
     for _ in 0..100u64 {
-        assert_eq!(rt; tally.run(rt.alloc(), &mut numbers), Some(true));
+        assert!(rt; matches!(tally.run(rt.alloc(), &mut numbers), Some(true)));
     }
     assert!(rt; tally.runs > 2000 && tally.held > 500 && tally.runnable > 500);
 }

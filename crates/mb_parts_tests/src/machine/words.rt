@@ -3,6 +3,7 @@
 use mb_core::{ActorState, Event, Messages, Step, WakeObligation};
 use mb_msg::{ActorId, Body, Envelope, SenderId, SysMsg};
 use std::alloc::Global;
+use std::str::SplitWhitespace;
 
 /// The actor of the tables.
 pub const ACTOR: ActorId = ActorId(0);
@@ -18,9 +19,14 @@ pub fn events_of(alloc: Global, text: &str) -> Option<Vec<Event>> {
 
 fn add_events(events: &mut Vec<Event>, alloc: Global, text: &str) -> Option<()> {
     for step in text.split(',') {
-        events.push(event_of(alloc, ACTOR, step.trim())?).ok()?;
+        add_event(events, alloc, step.trim())?;
     }
     Some(())
+}
+
+/// Adds a step of the actor of the tables.
+pub fn add_event(events: &mut Vec<Event>, alloc: Global, text: &str) -> Option<()> {
+    events.push(event_of(alloc, ACTOR, text)?).ok()
 }
 
 /// A step with its party: `1 add terminate`.
@@ -49,12 +55,18 @@ pub fn step_of(alloc: Global, actor: ActorId, text: &str) -> Option<Step> {
 fn step_with(alloc: Global, actor: ActorId, text: &str) -> Option<Step> {
     let (name, rest) = text.split_once(' ').unwrap_or((text, ""));
     match name {
-        "idle" => Some(Step::Idle(Messages::new(messages_of(alloc, rest)?))),
+        "idle" => idle_with(alloc, rest),
         "push" => Some(Step::Push(envelope_of(actor, number(rest)?))),
         "take" => Some(Step::Take(number(rest)? as usize)),
         "add" => Some(Step::SysAdd(message_of(rest)?)),
         _ => None,
     }
+}
+
+/// The holder gives the actor back, with these messages.
+fn idle_with(alloc: Global, messages: &str) -> Option<Step> {
+    let messages = messages_of(alloc, messages)?;
+    Some(Step::Idle(Messages::new(messages)))
 }
 
 fn envelope_of(to: ActorId, number: u32) -> Envelope {
@@ -74,6 +86,13 @@ fn plain_step(name: &str) -> Option<Step> {
         "suspend" => Step::Suspend,
         "resume" => Step::Resume,
         "close" => Step::Close,
+        _ => return list_step(name),
+    })
+}
+
+/// One that is on a list.
+fn list_step(name: &str) -> Option<Step> {
+    Some(match name {
         "sent" => Step::Sent,
         "unsent" => Step::Unsent,
         "taken" => Step::Taken,
@@ -113,21 +132,32 @@ fn add_messages(messages: &mut Vec<SysMsg>, text: &str) -> Option<()> {
 /// Whether this text shows the actor.
 pub fn shows(actor: &ActorState, text: &str) -> bool {
     let mut words = text.split_whitespace();
-    is_number(words.next(), actor.status().word())
-        && is_number(words.next(), actor.waiting())
-        && are_numbers(words.next().unwrap_or(""), actor.envelopes())
-        && are_messages(words.next().unwrap_or(""), actor.system())
-        && words.next() == Some(holder(actor))
-        && words.next() == actor.owed().first().map(owed)
-        && words.next() == actor.owed().get(1).map(owed)
-        && words.next().is_some() == actor.is_runnable()
+    shows_work(actor, &mut words) && shows_parties(actor, &mut words)
 }
 
-fn is_number(word: Option<&str>, number: u64) -> bool {
-    match word {
-        Some(word) => word.parse::<u64>().ok() == Some(number),
-        None => false,
-    }
+/// Whether the next words show the status, the count of what waits, the envelopes and the system messages.
+fn shows_work(actor: &ActorState, words: &mut SplitWhitespace<'_>) -> bool {
+    is_number(next(words), actor.status().word())
+        && is_number(next(words), actor.waiting())
+        && are_numbers(next(words), actor.envelopes())
+        && are_messages(next(words), actor.system())
+}
+
+/// Whether the next words show who holds the actor, what both parties owe it, and whether a worker should take it.
+fn shows_parties(actor: &ActorState, words: &mut SplitWhitespace<'_>) -> bool {
+    next(words) == holder(actor)
+        && next(words) == owed_by(actor, 0)
+        && next(words) == owed_by(actor, 1)
+        && next(words).is_empty() != actor.is_runnable()
+}
+
+/// The next word; empty where none is left.
+fn next<'a>(words: &mut SplitWhitespace<'a>) -> &'a str {
+    words.next().unwrap_or("")
+}
+
+fn is_number(word: &str, number: u64) -> bool {
+    word.parse::<u64>().ok() == Some(number)
 }
 
 fn are_numbers(text: &str, envelopes: &[Envelope]) -> bool {
@@ -136,7 +166,7 @@ fn are_numbers(text: &str, envelopes: &[Envelope]) -> bool {
     }
     let mut numbers = text.split('+');
     for envelope in envelopes {
-        if !is_number(numbers.next(), envelope.number) {
+        if !is_number(numbers.next().unwrap_or(""), envelope.number) {
             return false;
         }
     }
@@ -151,6 +181,11 @@ pub fn are_messages(text: &str, system: Option<&[SysMsg]>) -> bool {
     if listed.is_empty() {
         return text == "-";
     }
+    are_names(text, listed)
+}
+
+/// Whether these are the names of the system messages.
+fn are_names(text: &str, listed: &[SysMsg]) -> bool {
     let mut names = text.split('+');
     for message in listed {
         if names.next() != Some(name_of(message)) {
@@ -173,6 +208,14 @@ fn holder(actor: &ActorState) -> &'static str {
         None => "-",
         Some(0) => "0",
         Some(_) => "1",
+    }
+}
+
+/// What this party owes; nothing of a party that there is not.
+fn owed_by(actor: &ActorState, party: usize) -> &'static str {
+    match actor.owed().get(party) {
+        Some(debt) => owed(debt),
+        None => "",
     }
 }
 

@@ -1,12 +1,14 @@
-use Rattle.std.proofs.Common.{sym, ◌∙◌, subst, inr, length}
+use Rattle.std.proofs.Common.{◌<◌, ◌∙◌, inl, inr, length, refl, subst, sym}
 use Rattle.std.specs.Prelude.{All}
 use Rattle.std.proofs.lemmas.List.{with_items_is}
 use Rattle.mb_system.specs.Members.{IsSenderOf}
+use Rattle.mb_system.specs.Obligations.{OwesNobody}
 use Rattle.heddleorange.specs.Orders.{lists_of}
-use Rattle.heddleorange.specs.Sent.{HaveSent}
+use Rattle.heddleorange.specs.Sent.{BreaksOff, BreaksOne, HaveSent}
 use Rattle.heddleorange.proofs.InOrder.{length-lists, many-from}
 use Rattle.heddleorange.proofs.Covering.{all-turns-since}
-use Rattle.heddleorange.proofs.Sent.{err-weaker, on-ok, together-kept}
+use Rattle.heddleorange.proofs.PassedOn.{none-of-err}
+use Rattle.heddleorange.proofs.Sent.{err-of, err-weaker, on-ok, together-kept}
 use Rattle.heddleorange.proofs.MadeTurns.{ok-weaker}
 use Rattle.heddleorange.proofs.sending.send_in_order_and_run.Goals as goal
 
@@ -51,3 +53,68 @@ returns-clause-covers g c =
     let items = with_items_is old.senders now (sent.same_count ∙ sym old.senders.ok.0) in
     ok-weaker _ _ c.run_first.result (λ turns all. all-turns-since gates orders old.ends.items old.senders.items _ now many sent items _ all)
     c.run_first.ensures.covers
+
+pub send_in_order-requires : goal.send_in_order-requires
+send_in_order-requires g c =
+    let system = c.args.built.now.system in let is = sym c.deref_mut.ensures.value in record {
+      same_gates = subst (All (λ s. IsSenderOf system.gates s.inner)) is c.requires.together.senders;
+      owes_nobody = subst (All (OwesNobody system.gates)) is c.requires.owes_nobody;
+      from = subst (λ l. All (λ s. s.from < length l) c.args.sends.now) is c.requires.from;
+    }
+
+pub run_first-requires : goal.run_first-requires
+run_first-requires g c = record { same_gates = c.requires.together.ends; not_empty = c.requires.not_empty }
+
+pub returns-in_err-send_in_order-clause-system : goal.returns-in_err-send_in_order-clause-system
+returns-in_err-send_in_order-clause-system g c = refl
+
+pub returns-in_err-send_in_order-clause-ends : goal.returns-in_err-send_in_order-clause-ends
+returns-in_err-send_in_order-clause-ends g c = refl
+
+pub returns-in_err-send_in_order-clause-same_gates : goal.returns-in_err-send_in_order-clause-same_gates
+returns-in_err-send_in_order-clause-same_gates g c = c.requires.together.ends
+
+pub returns-in_err-send_in_order-clause-together : goal.returns-in_err-send_in_order-clause-together
+returns-in_err-send_in_order-clause-together g c = none-of-err _ c.from_residual.result c.in_err-send_in_order.field-0.0 c.from_residual.ensures.1
+
+pub returns-in_err-send_in_order-clause-sent : goal.returns-in_err-send_in_order-clause-sent
+returns-in_err-send_in_order-clause-sent g c = none-of-err _ c.from_residual.result c.in_err-send_in_order.field-0.0 c.from_residual.ensures.1
+
+pub returns-in_err-send_in_order-clause-log_kept : goal.returns-in_err-send_in_order-clause-log_kept
+returns-in_err-send_in_order-clause-log_kept g c = none-of-err _ c.from_residual.result c.in_err-send_in_order.field-0.0 c.from_residual.ensures.1
+
+pub returns-in_err-send_in_order-clause-runs : goal.returns-in_err-send_in_order-clause-runs
+returns-in_err-send_in_order-clause-runs g c = none-of-err _ c.from_residual.result c.in_err-send_in_order.field-0.0 c.from_residual.ensures.1
+
+pub returns-in_err-send_in_order-clause-found_nothing : goal.returns-in_err-send_in_order-clause-found_nothing
+returns-in_err-send_in_order-clause-found_nothing g c = none-of-err _ c.from_residual.result c.in_err-send_in_order.field-0.0 c.from_residual.ensures.1
+
+pub returns-in_err-send_in_order-clause-turns : goal.returns-in_err-send_in_order-clause-turns
+returns-in_err-send_in_order-clause-turns g c = none-of-err _ c.from_residual.result c.in_err-send_in_order.field-0.0 c.from_residual.ensures.1
+
+pub returns-in_err-send_in_order-clause-stretches : goal.returns-in_err-send_in_order-clause-stretches
+returns-in_err-send_in_order-clause-stretches g c = none-of-err _ c.from_residual.result c.in_err-send_in_order.field-0.0 c.from_residual.ensures.1
+
+pub returns-in_err-send_in_order-clause-covers : goal.returns-in_err-send_in_order-clause-covers
+returns-in_err-send_in_order-clause-covers g c = none-of-err _ c.from_residual.result c.in_err-send_in_order.field-0.0 c.from_residual.ensures.1
+
+pub returns-in_err-send_in_order-clause-fault : goal.returns-in_err-send_in_order-clause-fault
+returns-in_err-send_in_order-clause-fault g c =
+    let built = c.args.built.now in let error = c.in_err-send_in_order.field-0.0 in
+    err-of (BreaksOff g.K.Behaviours.gives built.system built.ends.items (lists_of (length c.args.built.now.senders.items) c.args.sends.now)) c.from_residual.result error c.from_residual.ensures.1
+    (inl (subst (λ l. BreaksOne built.system.gates (lists_of (length l) c.args.sends.now) error) c.deref_mut.ensures.value c.in_err-send_in_order.ensures.fault))
+
+pub returns-clause-system : goal.returns-clause-system
+returns-clause-system g c = c.run_first.ensures.system
+
+pub returns-clause-ends : goal.returns-clause-ends
+returns-clause-ends g c = c.run_first.ensures.ends
+
+pub returns-clause-same_gates : goal.returns-clause-same_gates
+returns-clause-same_gates g c = c.run_first.ensures.same_gates
+
+pub returns-clause-log_kept : goal.returns-clause-log_kept
+returns-clause-log_kept g c = on-ok c.run_first.result c.run_first.ensures.log_kept
+
+pub returns-clause-found_nothing : goal.returns-clause-found_nothing
+returns-clause-found_nothing g c = c.run_first.ensures.found_nothing

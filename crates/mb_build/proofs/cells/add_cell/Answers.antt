@@ -1,5 +1,6 @@
 use Rattle.std.proofs.Common.{rules, ◌≡◌, ◌<◌, ◌+◌, ◌++◌, ◌∷◌, [], length, sym, ap, ◌∙◌, subst, arith}
 use Rattle.std.specs.Prelude.{All}
+use Rattle.std.proofs.lemmas.Result.{IfOk-from_err}
 use Rattle.mb_msg.specs.declared.id.ActorId.{ActorId}
 use Rattle.mb_actor.specs.Behaviour.{AllowsSame}
 use Rattle.mb_build.proofs.CellLemmas.{cell-is, children-below, children-few}
@@ -33,3 +34,9 @@ returns-clause-cell g c =
     c.push_reserved.ensures.items
     ∙ ap (λ x. cells ++ x ∷ []) (cell-is (length parents + 1) c.args.journal_limit parents c.len.result (length cells) c.args.plan.parent
     c.args.plan.strategy c.in_ok-prepared.prepared.items c.new.result c.new.ensures.fresh c.in_ok-prepared.ensures place)
+
+pub returns-in_err-prepared-clause-room : goal.returns-in_err-prepared-clause-room
+returns-in_err-prepared-clause-room g c = IfOk-from_err c.from_residual.result _ c.from_residual.ensures.0
+
+pub returns-in_err-prepared-clause-cell : goal.returns-in_err-prepared-clause-cell
+returns-in_err-prepared-clause-cell g c = IfOk-from_err c.from_residual.result _ c.from_residual.ensures.0

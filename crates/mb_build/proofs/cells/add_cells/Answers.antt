@@ -1,6 +1,7 @@
 use Rattle.std.proofs.Common.{◌≡◌, ◌+◌, ◌++◌, ◌∷◌, [], length, sym, ap, ◌∙◌, subst, append-nil, arith}
 use Rattle.std.specs.Vec.Iter.{into_iter_items}
 use Rattle.std.proofs.lemmas.List.{length_push, nil_from_length}
+use Rattle.std.proofs.lemmas.Result.{IfOk-from_err}
 use Rattle.mb_build.specs.BehavesAsPlanned.{BehaveAsPlanned}
 use Rattle.mb_build.proofs.CellLemmas.{cell-more, cells_from}
 use Rattle.mb_build.proofs.cells.add_cells.Goals as goal
@@ -62,3 +63,6 @@ returns g c =
     sym (append-nil at.cells.items)
     ∙ ap (λ l. at.cells.items ++ cells_from (length parents + 1) c.args.journal_limit parents (length at.cells.items) l) (sym over)
     ∙ at.invariant.whole
+
+pub returns-in_err-add_cell : goal.returns-in_err-add_cell
+returns-in_err-add_cell g c = IfOk-from_err c.from_residual.result _ c.from_residual.ensures.0

@@ -1,5 +1,6 @@
 use Rattle.std.proofs.Common.{◌+◌, length, map, sym, ap, ◌∙◌, arith}
 use Rattle.std.proofs.lemmas.List.{length-map}
+use Rattle.std.proofs.lemmas.Result.{IfOk-from_err}
 use Rattle.mb_build.proofs.CellLemmas.{all-cells}
 use Rattle.mb_build.proofs.cells.cells.Goals as goal
 
@@ -25,3 +26,12 @@ returns g c =
     let are = c.in_ok-parents.ensures ∙ ap (map (λ a. a.parent)) c.deref.ensures.value in
     all-cells c.args.journal_limit c.args.plans.items c.deref-2.result.now c.deref-3.result.now c.in_ok-cells.cells.items c.add_cells.new.cells.items
     (c.deref-2.ensures.value ∙ are) (c.deref-3.ensures.value ∙ are) c.in_ok-cells.ensures.first c.in_ok-add_cells.ensures
+
+pub returns-in_err-parents : goal.returns-in_err-parents
+returns-in_err-parents g c = IfOk-from_err c.from_residual.result _ c.from_residual.ensures.0
+
+pub returns-in_err-cells : goal.returns-in_err-cells
+returns-in_err-cells g c = IfOk-from_err c.from_residual-in_err-cells.result _ c.from_residual-in_err-cells.ensures.0
+
+pub returns-in_err-add_cells : goal.returns-in_err-add_cells
+returns-in_err-add_cells g c = IfOk-from_err c.from_residual-in_err-add_cells.result _ c.from_residual-in_err-add_cells.ensures.0

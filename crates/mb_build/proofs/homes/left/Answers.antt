@@ -1,6 +1,7 @@
 use Rattle.std.proofs.Common.{◌≡◌, ◌++◌, ◌∷◌, [], append-nil, append_assoc, sym, ap, ◌∙◌}
 use Rattle.std.specs.Vec.Iter.{into_iter_items}
 use Rattle.std.proofs.lemmas.List.{nil_from_length}
+use Rattle.std.proofs.lemmas.Result.{IfOk-from_err}
 use Rattle.mb_build.proofs.homes.left.Goals as goal
 
 pub loop-row-init : goal.loop-row-init
@@ -20,3 +21,9 @@ returns c =
     let none : into_iter_items at.row-iterator ≡ [] =
     nil_from_length (into_iter_items at.row-iterator) (sym at.row-iterator.rest.ok.0 ∙ c.in-None.ensures.steps.0) in
     sym (append-nil at.left.items) ∙ ap (λ l. at.left.items ++ l) (sym none) ∙ at.invariant
+
+pub returns-in_err-left : goal.returns-in_err-left
+returns-in_err-left c = IfOk-from_err c.from_residual.result _ c.from_residual.ensures.0
+
+pub returns-in_err-push : goal.returns-in_err-push
+returns-in_err-push c = IfOk-from_err c.from_residual-in_err-push.result _ c.from_residual-in_err-push.ensures.0

@@ -1,5 +1,6 @@
 use Rattle.std.proofs.Common.{◌<◌, ◌+◌, ◌∷◌, length, drop, sym, ap, ◌∙◌, arith}
 use Rattle.std.proofs.lemmas.List.{at_drop_more, drop_more, length_push}
+use Rattle.std.proofs.lemmas.Result.{IfOk-from_err}
 use Rattle.mb_cell.specs.CellView.{CellView}
 use Rattle.mb_queue.specs.Passes.{TakePassView}
 use Rattle.mb_build.proofs.HomeLemmas.{whose}
@@ -36,3 +37,6 @@ pub push_reserved-requires : goal.push_reserved-requires
 push_reserved-requires g c =
     let at = c.loop-number in let test = c.loop-number-test.true in let many = at.invariant.1 in let room = at.invariant.2 in
     omega (arith, test, many, room)
+
+pub returns-in_err-directory : goal.returns-in_err-directory
+returns-in_err-directory g c = IfOk-from_err c.from_residual.result _ c.from_residual.ensures.0

@@ -1,4 +1,5 @@
 use Rattle.std.proofs.Common.{◌≡◌, ◌+◌, ◌∷◌, length, map, drop, sym, ap, ◌∙◌, subst, arith}
+use Rattle.std.proofs.lemmas.Result.{IfOk-from_err}
 use Rattle.mb_build.specs.NewHomes.{AreAtFirst, directory_of}
 use Rattle.mb_build.specs.Kinds.{AreKindsOf}
 use Rattle.mb_build.specs.Made.{AreAllMade, AreMade}
@@ -76,3 +77,18 @@ returns g c =
             c.in_ok-housed.ensures.outside;
       },
     )
+
+pub returns-in_err-kinds : goal.returns-in_err-kinds
+returns-in_err-kinds g c = IfOk-from_err c.from_residual.result _ c.from_residual.ensures.0
+
+pub returns-in_err-queues : goal.returns-in_err-queues
+returns-in_err-queues g c = IfOk-from_err c.from_residual-in_err-queues.result _ c.from_residual-in_err-queues.ensures.0
+
+pub returns-in_err-cells : goal.returns-in_err-cells
+returns-in_err-cells g c = IfOk-from_err c.from_residual-in_err-cells.result _ c.from_residual-in_err-cells.ensures.0
+
+pub returns-in_err-directory : goal.returns-in_err-directory
+returns-in_err-directory g c = IfOk-from_err c.from_residual-in_err-directory.result _ c.from_residual-in_err-directory.ensures.0
+
+pub returns-in_err-housed : goal.returns-in_err-housed
+returns-in_err-housed g c = IfOk-from_err c.from_residual-in_err-housed.result _ c.from_residual-in_err-housed.ensures.0

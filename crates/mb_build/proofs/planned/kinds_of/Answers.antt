@@ -1,4 +1,5 @@
 use Rattle.std.proofs.Common.{◌+◌, ◌∷◌, [], length, length-append, sym, ap, subst, ◌∙◌}
+use Rattle.std.proofs.lemmas.Result.{IfOk-from_err}
 use Rattle.mb_build.specs.Kinds.{AreKindsOf, IsKindOf}
 use Rattle.mb_build.proofs.KindLemmas.{queues-next}
 use Rattle.mb_build.proofs.planned.kinds_of.Goals as goal
@@ -15,3 +16,9 @@ loop-plan-preserved c =
 pub loop-plan-init : goal.loop-plan-init
 loop-plan-init c =
     let none = c.in_ok-kinds.ensures.items in (subst (AreKindsOf []) (sym none) tt, ap length none, c.in_ok-kinds.ensures.exact)
+
+pub returns-in_err-kinds : goal.returns-in_err-kinds
+returns-in_err-kinds c = IfOk-from_err c.from_residual.result _ c.from_residual.ensures.0
+
+pub returns-in_err-kind : goal.returns-in_err-kind
+returns-in_err-kind c = IfOk-from_err c.from_residual-in_err-kind.result _ c.from_residual-in_err-kind.ensures.0

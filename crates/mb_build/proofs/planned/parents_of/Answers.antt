@@ -1,5 +1,6 @@
 use Rattle.std.proofs.Common.{◌+◌, ◌++◌, ◌∷◌, [], length, length-append, sym, ap, ◌∙◌}
 use Rattle.std.proofs.lemmas.List.{map_more}
+use Rattle.std.proofs.lemmas.Result.{IfOk-from_err}
 use Rattle.mb_msg.specs.declared.actor_plan.ActorPlan.{ActorPlan}
 use Rattle.mb_build.proofs.planned.parents_of.Goals as goal
 
@@ -14,3 +15,6 @@ loop-plan-preserved c =
       ap length c.push_reserved.ensures.items ∙ length-append at.parents.items (plan.parent ∷ []) ∙ ap (λ n. n + 1) at.invariant.1,
       c.push_reserved.ensures.capacity ∙ at.invariant.2,
     )
+
+pub returns-in_err-parents : goal.returns-in_err-parents
+returns-in_err-parents c = IfOk-from_err c.from_residual.result _ c.from_residual.ensures.0

@@ -3,6 +3,7 @@ use Rattle.std.specs.Prelude.{All}
 use Rattle.std.specs.Vec.Iter.{into_iter_items}
 use Rattle.std.proofs.lemmas.List.{append-nil, length-append, length-map, nil_from_length}
 use Rattle.std.proofs.lemmas.List.Elements.{All-rest}
+use Rattle.std.proofs.lemmas.Result.{IfOk-from_err}
 use Rattle.mb_queue.specs.Made.{IsEmpty, IsMakeable, numbers_of, unused}
 use Rattle.mb_build.specs.Handed.{passes_of}
 use Rattle.mb_build.specs.Made.{AreEmpty}
@@ -55,3 +56,6 @@ returns-clause-made c =
     nil_from_length (into_iter_items at.kind-iterator) (sym at.kind-iterator.rest.ok.0 ∙ c.in-None.ensures.steps.0) in
     let all : at.yielded ≡ c.args.kinds.items = sym (append-nil at.yielded) ∙ ap (λ l. at.yielded ++ l) (sym none) ∙ at.invariant.4 in
     (at.invariant.0, at.invariant.1, subst (λ l. AreEmpty l 1 (numbers_of c.args.senders.now) at.invariant.0) all at.invariant.2, at.invariant.3)
+
+pub returns-in_err-add_queue-clause-made : goal.returns-in_err-add_queue-clause-made
+returns-in_err-add_queue-clause-made c = IfOk-from_err c.from_residual.result _ c.from_residual.ensures.0

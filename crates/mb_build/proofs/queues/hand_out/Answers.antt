@@ -1,6 +1,7 @@
 use Rattle.std.proofs.Common.{rules, ◌≡◌, ◌<◌, ◌++◌, ◌∷◌, [], suc, length, map, get_or, sym, ap, ◌∙◌, arith}
 use Rattle.std.specs.Prelude.{slice_set}
 use Rattle.std.proofs.lemmas.List.{length-append, length-set}
+use Rattle.std.proofs.lemmas.Result.{IfOk-from_err}
 use Rattle.mb_build.specs.Handed.{handed}
 use Rattle.mb_build.proofs.HandedLemmas.{handed-last, handed-none}
 use Rattle.mb_build.proofs.queues.hand_out.Goals as goal
@@ -26,3 +27,6 @@ returns-clause-handed c =
     let at = c.loop-send in
     let none : at.sends.items ≡ [] = search rules in
     sym (handed-none (map (λ r. r.items) at.rows)) ∙ ap (handed (map (λ r. r.items) at.rows)) (sym none) ∙ at.invariant.0
+
+pub returns-in_err-push-clause-handed : goal.returns-in_err-push-clause-handed
+returns-in_err-push-clause-handed c = IfOk-from_err c.from_residual.result _ c.from_residual.ensures.0

@@ -1,6 +1,7 @@
 use Rattle.std.proofs.Common.{rules, ◌≡◌, ◌≢◌, ◌+◌, ◌++◌, ℕ, length, map, sym, ap, ◌∙◌, subst, arith}
 use Rattle.std.specs.Prelude.{AllPairs}
 use Rattle.std.proofs.lemmas.List.{length-map}
+use Rattle.std.proofs.lemmas.Result.{IfOk-from_err}
 use Rattle.mb_queue.specs.Made.{numbers_of}
 use Rattle.mb_build.specs.Numbers.{sender_numbers}
 use Rattle.mb_build.proofs.NumberLemmas.{senders-different}
@@ -35,3 +36,12 @@ returns c =
     let rows = ap (map (λ r. r.items)) (refilled old.len old.items new (c.add_queues.ensures.same_count ∙ c.deref_mut.ensures.len)) ∙ made.3 in
     all-made-of c.args.kinds.items numbers _ first.0 c.add_queues.new.takes.items made.0 _
     (made.1 ∙ ap (λ l. l ++ made.0) first.1) first.2 made.2 rows who
+
+pub returns-in_err-senders : goal.returns-in_err-senders
+returns-in_err-senders c = IfOk-from_err c.from_residual.result _ c.from_residual.ensures.0
+
+pub returns-in_err-queues : goal.returns-in_err-queues
+returns-in_err-queues c = IfOk-from_err c.from_residual-in_err-queues.result _ c.from_residual-in_err-queues.ensures.0
+
+pub returns-in_err-add_queues : goal.returns-in_err-add_queues
+returns-in_err-add_queues c = IfOk-from_err c.from_residual-in_err-add_queues.result _ c.from_residual-in_err-add_queues.ensures.0

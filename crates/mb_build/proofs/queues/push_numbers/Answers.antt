@@ -1,4 +1,5 @@
 use Rattle.std.proofs.Common.{arith}
+use Rattle.std.proofs.lemmas.Result.{IfOk-from_err}
 use Rattle.mb_build.proofs.NumberLemmas.{one-number-more}
 use Rattle.mb_build.proofs.queues.push_numbers.Goals as goal
 
@@ -9,3 +10,6 @@ loop-number-preserved c =
           c.in_ok-push.ensures.items,
       omega (arith, le),
     )
+
+pub returns-in_err-push : goal.returns-in_err-push
+returns-in_err-push c = IfOk-from_err c.from_residual.result _ c.from_residual.ensures.0

@@ -1,5 +1,6 @@
 use Rattle.std.proofs.Common.{◌+◌, ◌++◌, ◌∷◌, [], length, length-append, map, sym, ap, ◌∙◌}
 use Rattle.std.proofs.lemmas.List.{map-append, replicate_more}
+use Rattle.std.proofs.lemmas.Result.{IfOk-from_err}
 use Rattle.mb_build.proofs.queues.rows.Goals as goal
 
 pub loop-row-init : goal.loop-row-init
@@ -14,3 +15,6 @@ loop-row-preserved c =
       ap length c.push_reserved.ensures.items ∙ length-append at.rows.items (c.new.result ∷ []) ∙ ap (λ n. n + 1) at.invariant.1,
       c.push_reserved.ensures.capacity ∙ at.invariant.2,
     )
+
+pub returns-in_err-rows : goal.returns-in_err-rows
+returns-in_err-rows c = IfOk-from_err c.from_residual.result _ c.from_residual.ensures.0

@@ -1,6 +1,6 @@
 use Rattle.std.proofs.lemmas.Result.{on_ok_weaker, err_from_is_err_and}
 use Rattle.mb_gate.specs.Accessors.{actors_of}
-use Rattle.std.proofs.Common.{◌∙◌, inl, inr, subst, sym}
+use Rattle.std.proofs.Common.{◌≡◌, ◌⊎◌, ◌∙◌, Bool, false, inl, inr, subst, sym, true}
 use Rattle.std.specs.Prelude.{Err, IfErr, IsErrOf, Ok, OnErr, Result}
 use Rattle.mb_system.specs.Members.{sender_caller}
 use Rattle.mb_dispatch.specs.Orders.{HasSent}
@@ -65,3 +65,16 @@ returns-clause-stopped g c =
 
 pub returns-in_err-send_all-clause-stopped : goal.returns-in_err-send_all-clause-stopped
 returns-in_err-send_all-clause-stopped g c = on_err c.from_residual.result (inr c.in_err-send_all.ensures.stopped)
+
+-- who was in the set, and was not forgotten
+not-forgotten : {P Q : Type 0} (owed : Bool) → P ⊎ ((owed ≡ false) × Q) → owed ≡ true → P
+not-forgotten owed (inl p) was = p
+not-forgotten owed (inr kept) was = let clash : true ≡ false = sym was ∙ kept.0 in absurd (cc)
+
+pub returns-clause-still : goal.returns-clause-still
+returns-clause-still g c =
+    let kept = c.retry_refused.ensures.obligations in
+    λ id lt was. not-forgotten _ (kept id lt) (c.send_all.ensures.owed.still id was)
+
+pub returns-in_err-send_all-clause-still : goal.returns-in_err-send_all-clause-still
+returns-in_err-send_all-clause-still g c = λ id lt was. inr (c.send_all.ensures.owed.still id was)

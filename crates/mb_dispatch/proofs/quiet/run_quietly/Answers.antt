@@ -13,12 +13,13 @@ use Rattle.mb_system.specs.Members.{end_caller}
 use Rattle.mb_system.proofs.Obligations.{obligations-left, obligations-same, owes-nothing, discharged-still}
 use Rattle.mb_system.proofs.Saw.{saw-then}
 use Rattle.mb_system.specs.OnlyLooks.{OnlyLooks}
+use Rattle.mb_system.specs.RunErrors.{of_ready}
 use Rattle.mb_dispatch.specs.Faults.{BreaksQuietRun, BreaksWork}
 use Rattle.mb_dispatch.specs.Found.{FoundPoolEmpty}
-use Rattle.mb_dispatch.proofs.Breaking.{breaks-after, breaks-retry}
+use Rattle.mb_dispatch.proofs.Breaking.{breaks-after, breaks-mailbox, breaks-retry}
 use Rattle.mb_system.proofs.RunErrors.{on-error}
 use Rattle.mb_dispatch.specs.Runs.{MadeRuns, RanMailbox}
-use Rattle.mb_dispatch.proofs.Runs.{runs-looks, runs-more}
+use Rattle.mb_dispatch.proofs.Runs.{ran-mailbox, runs-looks, runs-more}
 use Rattle.mb_dispatch.proofs.quiet.run_quietly.Goals as goal
 
 pub loop-init : goal.loop-init
@@ -36,19 +37,22 @@ loop-init g c =
 pub loop-preserved-in-Some-take : goal.loop-preserved-in-Some-take
 loop-preserved-in-Some-take g c =
     let gives = g.K.Behaviours.gives in let system = c.args.system.now in let first = end_caller c.args.end.now.registrar in
-    let turn = c.in_ok-run_one-in-Some-take.field-0 in let did = c.run_one.ensures in let same = c.take.ensures.same in let actors = actors_of c.args.system.now.gates in
-    let old = end_caller c.loop.end.registrar in let between = end_caller c.take.new.self.registrar in let new = end_caller c.run_one.new.end.registrar in (
+    let turn = c.in_ok-run_mailbox-in-Some-take.field-0 in let did = c.run_mailbox.ensures in let same = c.take.ensures.same in let actors = actors_of c.args.system.now.gates in
+    let old = end_caller c.loop.end.registrar in let between = end_caller c.take.new.self.registrar in let new = end_caller c.run_mailbox.new.end.registrar in (
       did.same_gates,
       did.number ∙ same.3 ∙ c.loop.invariant.1,
       saw-then _ _ _ c.loop.invariant.2
-          (subst (λ p. IsPart (pass_view p).log (pass_view c.run_one.new.end.registrar.pass).log) same.0 did.leaves.log),
+          (subst (λ p. IsPart (pass_view p).log (pass_view c.run_mailbox.new.end.registrar.pass).log) same.0 did.leaves.log),
       discharged-still actors between new
           (discharged-still actors old between c.loop.invariant.3 (obligations-same actors old between (ap pass_view same.0) same.1))
           (obligations-left actors between new did.leaves),
       subst (λ turns. MadeRuns gives (origin_of system.gates) system.throughput first.view turns new.view)
           (sym {A = List Turn} (◌∙◌ {A = List Turn} c.push_reserved.ensures.items (ap {A = List Turn} {B = List Turn} (λ turns. turns ++ turn ∷ []) c.reserve.ensures.items)))
           (runs-more gives (origin_of system.gates) system.throughput first.view old.view new.view c.loop.turns.items turn c.loop.invariant.4
-          (subst (λ p. RanMailbox gives (origin_of system.gates) system.throughput (pass_view p) new.view turn) same.0 c.in_ok-run_one-in-Some-take.ensures.ran)),
+          (subst (λ p. RanMailbox gives (origin_of system.gates) system.throughput (pass_view p) new.view turn) same.0
+          (ran-mailbox gives (origin_of system.gates) system.throughput between.view new.view c.in-Some-take.claim turn
+          (subst (λ (o : Option (Origin (Box Contents))). IsFreshClaim gives o c.in-Some-take.claim) c.loop.invariant.0.1 c.in-Some-take.ensures.untouched)
+          c.in_ok-run_mailbox-in-Some-take.ensures.ran))),
     )
 
 pub loop-preserved : goal.loop-preserved
@@ -67,23 +71,23 @@ loop-preserved g c =
           (subst (λ p. OnlyLooks (pass_view p) new.view) same.0 did.looks)),
     )
 
-pub returns-in_err-run_one-in-Some-take-clause-log_kept : goal.returns-in_err-run_one-in-Some-take-clause-log_kept
-returns-in_err-run_one-in-Some-take-clause-log_kept g c =
+pub returns-in_err-run_mailbox-in-Some-take-clause-log_kept : goal.returns-in_err-run_mailbox-in-Some-take-clause-log_kept
+returns-in_err-run_mailbox-in-Some-take-clause-log_kept g c =
     saw-then _ _ _ c.loop.invariant.2
-    (subst (λ p. IsPart (pass_view p).log (pass_view c.run_one.new.end.registrar.pass).log) c.take.ensures.same.0 c.run_one.ensures.leaves.log)
+    (subst (λ p. IsPart (pass_view p).log (pass_view c.run_mailbox.new.end.registrar.pass).log) c.take.ensures.same.0 c.run_mailbox.ensures.leaves.log)
 
 pub returns-in_err-retry_refused-in-None-take-clause-log_kept : goal.returns-in_err-retry_refused-in-None-take-clause-log_kept
 returns-in_err-retry_refused-in-None-take-clause-log_kept g c =
     saw-then _ _ _ c.loop.invariant.2
     (subst (λ p. IsPart (pass_view p).log (pass_view c.retry_refused.new.self.registrar.pass).log) c.take.ensures.same.0 c.retry_refused.ensures.log_kept)
 
-pub returns-in_err-run_one-in-Some-take-clause-obligations : goal.returns-in_err-run_one-in-Some-take-clause-obligations
-returns-in_err-run_one-in-Some-take-clause-obligations g c =
+pub returns-in_err-run_mailbox-in-Some-take-clause-obligations : goal.returns-in_err-run_mailbox-in-Some-take-clause-obligations
+returns-in_err-run_mailbox-in-Some-take-clause-obligations g c =
     let same = c.take.ensures.same in let actors = actors_of c.args.system.now.gates in
-    let old = end_caller c.loop.end.registrar in let between = end_caller c.take.new.self.registrar in let new = end_caller c.run_one.new.end.registrar in
+    let old = end_caller c.loop.end.registrar in let between = end_caller c.take.new.self.registrar in let new = end_caller c.run_mailbox.new.end.registrar in
     discharged-still actors between new
     (discharged-still actors old between c.loop.invariant.3 (obligations-same actors old between (ap pass_view same.0) same.1))
-    (obligations-left actors between new c.run_one.ensures.leaves)
+    (obligations-left actors between new c.run_mailbox.ensures.leaves)
 
 pub returns-in_err-retry_refused-in-None-take-clause-obligations : goal.returns-in_err-retry_refused-in-None-take-clause-obligations
 returns-in_err-retry_refused-in-None-take-clause-obligations g c =
@@ -107,8 +111,8 @@ returns-then-is_empty-clause-runs g c =
 pub returns-then-is_err-clause-runs : goal.returns-then-is_err-clause-runs
 returns-then-is_err-clause-runs g c = tt
 
-pub returns-in_err-run_one-in-Some-take-clause-runs : goal.returns-in_err-run_one-in-Some-take-clause-runs
-returns-in_err-run_one-in-Some-take-clause-runs g c = IfOk-from_err c.from_residual.result _ c.from_residual.ensures.0
+pub returns-in_err-run_mailbox-in-Some-take-clause-runs : goal.returns-in_err-run_mailbox-in-Some-take-clause-runs
+returns-in_err-run_mailbox-in-Some-take-clause-runs g c = IfOk-from_err c.from_residual.result _ c.from_residual.ensures.0
 
 pub returns-in_err-retry_refused-in-None-take-clause-runs : goal.returns-in_err-retry_refused-in-None-take-clause-runs
 returns-in_err-retry_refused-in-None-take-clause-runs g c =
@@ -125,12 +129,12 @@ returns-then-is_empty-clause-settled g c =
     owes-nothing actors new (discharged-still actors old new c.loop.invariant.3 (obligations-same actors old new (ap pass_view same.0) same.1))
     (λ id lt. c.is_empty.ensures.nobody c.if-is_empty.true id)
 
-pub run_one-requires-clause-same_gates : goal.run_one-requires-clause-same_gates
-run_one-requires-clause-same_gates g c =
+pub run_mailbox-requires-clause-same_gates : goal.run_mailbox-requires-clause-same_gates
+run_mailbox-requires-clause-same_gates g c =
     let same = c.take.ensures.same in let ours = c.loop.invariant.0 in (ap pass_id same.0 ∙ ours.0, same.2 ∙ ours.1, ours.2)
 
-pub run_one-requires-clause-untouched : goal.run_one-requires-clause-untouched
-run_one-requires-clause-untouched g c =
+pub run_mailbox-requires-clause-untouched : goal.run_mailbox-requires-clause-untouched
+run_mailbox-requires-clause-untouched g c =
     subst (λ (o : Option (Origin (Box Contents))). IsFreshClaim g.K.Behaviours.gives o c.in-Some-take.claim) c.loop.invariant.0.1 c.in-Some-take.ensures.untouched
 
 pub returns-then-is_err-clause-same_gates : goal.returns-then-is_err-clause-same_gates
@@ -157,13 +161,17 @@ returns-then-is_err-clause-log_kept g c = c.loop.invariant.2
 pub returns-then-is_err-clause-fault : goal.returns-then-is_err-clause-fault
 returns-then-is_err-clause-fault g c = inl (refl, record { turns = c.loop.turns.items; made = c.loop.invariant.4 })
 
-pub returns-in_err-run_one-in-Some-take-clause-fault : goal.returns-in_err-run_one-in-Some-take-clause-fault
-returns-in_err-run_one-in-Some-take-clause-fault g c =
-    let gives = g.K.Behaviours.gives in let system = c.args.system.now in let new = c.run_one.new.end in
+pub returns-in_err-run_mailbox-in-Some-take-clause-fault : goal.returns-in_err-run_mailbox-in-Some-take-clause-fault
+returns-in_err-run_mailbox-in-Some-take-clause-fault g c =
+    let gives = g.K.Behaviours.gives in let system = c.args.system.now in let new = c.run_mailbox.new.end in
     let start = pass_view c.args.end.now.registrar.pass in let old = pass_view c.loop.end.registrar.pass in
-    on-error c.from_residual.result (BreaksQuietRun gives system start new) _ c.from_residual.ensures.1
-    (inr (breaks-after gives system start old new c.in_err-run_one-in-Some-take.field-0.0 (record { turns = c.loop.turns.items; made = c.loop.invariant.4 })
-    (subst (λ p. BreaksWork gives system (pass_view p) new c.in_err-run_one-in-Some-take.field-0.0) c.take.ensures.same.0 c.in_err-run_one-in-Some-take.ensures.fault)))
+    let failed = c.in_err-run_mailbox-in-Some-take in let error = of_ready failed.field-0.0 in
+    let fresh = subst (λ (o : Option (Origin (Box Contents))). IsFreshClaim gives o c.in-Some-take.claim) c.loop.invariant.0.1 c.in-Some-take.ensures.untouched in
+    on-error c.from_residual.result (BreaksQuietRun gives system start new) error c.from_residual.ensures.1
+    (inr (breaks-after gives system start old new error (record { turns = c.loop.turns.items; made = c.loop.invariant.4 })
+    (subst (λ p. BreaksWork gives system (pass_view p) new error) c.take.ensures.same.0
+    (breaks-mailbox gives system (pass_view c.take.new.self.registrar.pass) new c.in-Some-take.claim fresh c.run_mailbox.result failed.field-0.0 failed.was
+    c.run_mailbox.ensures.ran c.run_mailbox.ensures.out_of_memory))))
 
 pub returns-in_err-retry_refused-in-None-take-clause-fault : goal.returns-in_err-retry_refused-in-None-take-clause-fault
 returns-in_err-retry_refused-in-None-take-clause-fault g c =
@@ -177,12 +185,12 @@ returns-in_err-retry_refused-in-None-take-clause-fault g c =
     (breaks-retry gives system start end (end_caller c.take.new.self.registrar).account _ c.retry_refused.result retried.stops retried.refused
     (record { turns = c.loop.turns.items; made = made }))))
 
-pub returns-in_err-run_one-in-Some-take-clause-same_gates : goal.returns-in_err-run_one-in-Some-take-clause-same_gates
-returns-in_err-run_one-in-Some-take-clause-same_gates g c = c.run_one.ensures.same_gates
+pub returns-in_err-run_mailbox-in-Some-take-clause-same_gates : goal.returns-in_err-run_mailbox-in-Some-take-clause-same_gates
+returns-in_err-run_mailbox-in-Some-take-clause-same_gates g c = c.run_mailbox.ensures.same_gates
 
-pub returns-in_err-run_one-in-Some-take-clause-number : goal.returns-in_err-run_one-in-Some-take-clause-number
-returns-in_err-run_one-in-Some-take-clause-number g c =
-    c.run_one.ensures.number ∙ c.take.ensures.same.3 ∙ c.loop.invariant.1
+pub returns-in_err-run_mailbox-in-Some-take-clause-number : goal.returns-in_err-run_mailbox-in-Some-take-clause-number
+returns-in_err-run_mailbox-in-Some-take-clause-number g c =
+    c.run_mailbox.ensures.number ∙ c.take.ensures.same.3 ∙ c.loop.invariant.1
 
 pub returns-in_err-retry_refused-in-None-take-clause-same_gates : goal.returns-in_err-retry_refused-in-None-take-clause-same_gates
 returns-in_err-retry_refused-in-None-take-clause-same_gates g c = c.retry_refused.ensures.same_gates
@@ -206,3 +214,24 @@ returns-then-is_empty-clause-log_kept g c =
 
 pub returns-then-is_empty-clause-fault : goal.returns-then-is_empty-clause-fault
 returns-then-is_empty-clause-fault g c = tt
+
+pub returns-in_err-run_mailbox-in-Some-take-clause-discharged : goal.returns-in_err-run_mailbox-in-Some-take-clause-discharged
+returns-in_err-run_mailbox-in-Some-take-clause-discharged g c = IfOk-from_err c.from_residual.result _ c.from_residual.ensures.0
+
+pub returns-in_err-retry_refused-in-None-take-clause-discharged : goal.returns-in_err-retry_refused-in-None-take-clause-discharged
+returns-in_err-retry_refused-in-None-take-clause-discharged g c =
+    let left = c.from_residual-in_err-retry_refused-in-None-take in IfOk-from_err left.result _ left.ensures.0
+
+pub returns-in_err-run_mailbox-in-Some-take-clause-settled : goal.returns-in_err-run_mailbox-in-Some-take-clause-settled
+returns-in_err-run_mailbox-in-Some-take-clause-settled g c = IfOk-from_err c.from_residual.result _ c.from_residual.ensures.0
+
+pub returns-in_err-retry_refused-in-None-take-clause-settled : goal.returns-in_err-retry_refused-in-None-take-clause-settled
+returns-in_err-retry_refused-in-None-take-clause-settled g c =
+    let left = c.from_residual-in_err-retry_refused-in-None-take in IfOk-from_err left.result _ left.ensures.0
+
+pub returns-in_err-run_mailbox-in-Some-take-clause-empty : goal.returns-in_err-run_mailbox-in-Some-take-clause-empty
+returns-in_err-run_mailbox-in-Some-take-clause-empty g c = IfOk-from_err c.from_residual.result _ c.from_residual.ensures.0
+
+pub returns-in_err-retry_refused-in-None-take-clause-empty : goal.returns-in_err-retry_refused-in-None-take-clause-empty
+returns-in_err-retry_refused-in-None-take-clause-empty g c =
+    let left = c.from_residual-in_err-retry_refused-in-None-take in IfOk-from_err left.result _ left.ensures.0

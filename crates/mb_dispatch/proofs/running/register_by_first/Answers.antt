@@ -1,4 +1,4 @@
-use Rattle.std.proofs.Common.{refl}
+use Rattle.std.proofs.Common.{get_or, refl}
 use Rattle.mb_gate.specs.Accessors.{actors_of, pass_view}
 use Rattle.mb_system.specs.Members.{end_caller}
 use Rattle.mb_system.proofs.Obligations.{obligations-left, obligations-same}
@@ -8,27 +8,25 @@ use Rattle.mb_dispatch.proofs.Firsts.{first-discharged}
 use Rattle.mb_dispatch.proofs.Sides.{first_changed, zip_first}
 use Rattle.mb_dispatch.proofs.running.register_by_first.Goals as goal
 
-pub returns-in-Some-clause-ends : goal.returns-in-Some-clause-ends
-returns-in-Some-clause-ends g c =
-    first_changed c.args.system.now.gates c.args.ends.now c.in-Some.first.now c.register_all.new.self c.in-Some.ensures.item.1 c.requires
-    c.register_all.ensures.same_gates c.register_all.ensures.number
+pub returns-in-len1-up-clause-ends : goal.returns-in-len1-up-clause-ends
+returns-in-len1-up-clause-ends g c =
+    first_changed c.args.system.now.gates c.args.ends.now c.index-ends-0.result c.register_all.new.self c.requires c.register_all.ensures.same_gates
+    c.register_all.ensures.number
 
-pub returns-in-Some-clause-log_kept : goal.returns-in-Some-clause-log_kept
-returns-in-Some-clause-log_kept g c =
-    zip_first _ (λ x. saw-same (pass_view x.registrar.pass).log) c.args.ends.now c.in-Some.first.now c.register_all.new.self
-    c.in-Some.ensures.item.1 c.register_all.ensures.log_kept
+pub returns-in-len1-up-clause-log_kept : goal.returns-in-len1-up-clause-log_kept
+returns-in-len1-up-clause-log_kept g c =
+    zip_first _ (λ x. saw-same (pass_view x.registrar.pass).log) c.args.ends.now c.index-ends-0.result c.register_all.new.self c.register_all.ensures.log_kept
 
-pub returns-in-Some-clause-obligations : goal.returns-in-Some-clause-obligations
-returns-in-Some-clause-obligations g c =
-    let actors = actors_of c.args.system.now.gates in let old = c.in-Some.first.now in let new = c.register_all.new.self in
-    zip_first _ (λ x. obligations-same actors (end_caller x.registrar) (end_caller x.registrar) refl refl) c.args.ends.now old new
-    c.in-Some.ensures.item.1 (obligations-left actors (end_caller old.registrar) (end_caller new.registrar) c.register_all.ensures.leaves)
+pub returns-in-len1-up-clause-obligations : goal.returns-in-len1-up-clause-obligations
+returns-in-len1-up-clause-obligations g c =
+    let actors = actors_of c.args.system.now.gates in let first = get_or c.args.ends.now 0 c.index-ends-0.result in let new = c.register_all.new.self in
+    zip_first _ (λ x. obligations-same actors (end_caller x.registrar) (end_caller x.registrar) refl refl) c.args.ends.now c.index-ends-0.result new
+    (obligations-left actors (end_caller first.registrar) (end_caller new.registrar) c.register_all.ensures.leaves)
 
-pub returns-in-Some-clause-discharged : goal.returns-in-Some-clause-discharged
-returns-in-Some-clause-discharged g c =
+pub returns-in-len1-up-clause-discharged : goal.returns-in-len1-up-clause-discharged
+returns-in-len1-up-clause-discharged g c =
     first-discharged c.args.system.now.gates c.args.ends.now c.register_all.new.self c.register_all.ensures.discharged
 
-pub returns-in-Some-clause-looks : goal.returns-in-Some-clause-looks
-returns-in-Some-clause-looks g c =
-    zip_first _ (λ x. only-none (pass_view x.registrar.pass)) c.args.ends.now c.in-Some.first.now c.register_all.new.self c.in-Some.ensures.item.1
-    c.register_all.ensures.looks
+pub returns-in-len1-up-clause-looks : goal.returns-in-len1-up-clause-looks
+returns-in-len1-up-clause-looks g c =
+    zip_first _ (λ x. only-none (pass_view x.registrar.pass)) c.args.ends.now c.index-ends-0.result c.register_all.new.self c.register_all.ensures.looks

@@ -103,3 +103,9 @@ both_in_parallel-of_jobs-requires-clause-those_ready g c κs within = c.register
 
 pub returns-clause-sent : goal.returns-clause-sent
 returns-clause-sent g c = zip_weaker _ _ (λ old new kept. kept.2) _ _ c.both_in_parallel-of_jobs.ensures.keeps.0
+
+pub returns-clause-still : goal.returns-clause-still
+returns-clause-still g c = zip_weaker _ _ (λ old new kept. kept.3) _ _ c.both_in_parallel-of_jobs.ensures.keeps.0
+
+pub returns-clause-sends : goal.returns-clause-sends
+returns-clause-sends g c = same_after _ _ (λ old new kept. kept.4) _ _ c.both_in_parallel-of_jobs.ensures.keeps.0

@@ -1,14 +1,30 @@
-use Rattle.std.proofs.Common.{◌∙◌, refl}
+use Rattle.std.proofs.Common.{◌≡◌, ◌∙◌, ℕ, refl, subst}
+use Rattle.std.proofs.lemmas.Result.{IfOk-from_err}
+use Rattle.std.specs.Global.{Box}
+use Rattle.std.specs.Prelude.{IfNone, IfSome, None, Option, Some}
+use Rattle.mb_actor.specs.Behaviour.{Moment, Reply}
 use Rattle.mb_gate.specs.Accessors.{actors_of, pass_view}
-use Rattle.mb_gate.specs.Untouched.{origin_of}
+use Rattle.mb_gate.specs.Untouched.{Origin, origin_of}
+use Rattle.mb_gate.specs.declared.claim.Claim.{Claim}
+use Rattle.mb_home.specs.Contents.{Contents}
+use Rattle.mb_home.specs.Fresh.{IsFreshClaim}
 use Rattle.mb_system.specs.Members.{end_caller}
-use Rattle.mb_system.proofs.Obligations.{obligations-same, obligations-then}
+use Rattle.mb_system.specs.RunErrors.{of_ready}
+use Rattle.mb_system.proofs.Obligations.{obligations-left, obligations-same, obligations-then}
 use Rattle.mb_system.proofs.Saw.{saw-same, saw-then}
 use Rattle.mb_system.proofs.RunErrors.{on-error}
 use Rattle.mb_dispatch.specs.Faults.{BreaksWork}
-use Rattle.mb_dispatch.proofs.Breaking.{breaks-after}
-use Rattle.mb_dispatch.proofs.Runs.{no-run, runs-then}
+use Rattle.mb_dispatch.proofs.Breaking.{breaks-after, breaks-mailbox}
+use Rattle.mb_dispatch.proofs.Runs.{no-run, of-looks, one-run, ran-mailbox, runs-then}
 use Rattle.mb_dispatch.proofs.working.work_on.Goals as goal
+
+-- what was said of the claim that there is, or where there is none
+fresh : (gives : ℕ → Moment → Reply → Type 0) (origin : Origin (Box Contents)) (next : Option (Claim (Box Contents))) (claim : Claim (Box Contents))
+    → next ≡ Some claim → IfSome next (IsFreshClaim gives (Some origin)) → IsFreshClaim gives (Some origin) claim
+fresh gives origin next claim is told = subst (λ (o : Option (Claim (Box Contents))). IfSome o (IsFreshClaim gives (Some origin))) is told
+
+none-left : (P : Type 0) (next : Option (Claim (Box Contents))) → next ≡ None → IfNone next P → P
+none-left P next is told = subst (λ (o : Option (Claim (Box Contents))). IfNone o P) is told
 
 pub loop-init : goal.loop-init
 loop-init g c =
@@ -22,98 +38,129 @@ loop-init g c =
 
 pub loop-preserved : goal.loop-preserved
 loop-preserved g c =
-    let at = c.loop.invariant in let actors = actors_of c.args.system.now.gates in
+    let at = c.loop.invariant in let next = c.next_claim.ensures in let did = c.run_mailbox.ensures in let actors = actors_of c.args.system.now.gates in
     let gives = g.K.Behaviours.gives in let origin = origin_of c.args.system.now.gates in let throughput = c.args.system.now.throughput in
     let first = end_caller c.args.end.now.registrar in let old = end_caller c.loop.end.registrar in
-    let between = end_caller c.run_all.new.end.registrar in let new = end_caller c.is_over.new.end.registrar in (
-      c.is_over.ensures.same_gates,
-      c.is_over.ensures.number ∙ c.run_all.ensures.number ∙ at.1,
-      saw-then _ _ _ (saw-then _ _ _ at.2 c.run_all.ensures.log_kept) c.is_over.ensures.log_kept,
-      obligations-then actors first between new (obligations-then actors first old between at.3 c.run_all.ensures.obligations)
-          c.is_over.ensures.obligations,
+    let between = end_caller c.next_claim.new.end.registrar in let new = end_caller c.run_mailbox.new.end.registrar in
+    let turn = c.in_ok-run_mailbox.field-0 in (
+      did.same_gates,
+      did.number ∙ next.number ∙ at.1,
+      saw-then _ _ _ (saw-then _ _ _ at.2 next.log_kept) did.leaves.log,
+      obligations-then actors first between new (obligations-then actors first old between at.3 next.obligations) (obligations-left actors between new did.leaves),
       runs-then gives origin throughput first.view between.view new.view
-          (runs-then gives origin throughput first.view old.view between.view at.4 c.in_ok-run_all.ensures.ran) c.in_ok-is_over.ensures.ran,
+          (runs-then gives origin throughput first.view old.view between.view at.4 (of-looks gives origin throughput old.view between.view next.looks))
+          (one-run gives origin throughput between.view new.view turn
+          (ran-mailbox gives origin throughput between.view new.view c.in-Some-2.claim turn (fresh g.K.Behaviours.gives (origin_of c.args.system.now.gates) _ _ c.in-Some-2.is c.in_ok-claim.ensures.untouched) c.in_ok-run_mailbox.ensures.ran)),
     )
 
-pub returns-then-branch-clause-log_kept : goal.returns-then-branch-clause-log_kept
-returns-then-branch-clause-log_kept g c =
-    saw-then _ _ _ (saw-then _ _ _ c.loop.invariant.2 c.run_all.ensures.log_kept) c.is_over.ensures.log_kept
+pub run_mailbox-requires-clause-same_gates : goal.run_mailbox-requires-clause-same_gates
+run_mailbox-requires-clause-same_gates g c = c.next_claim.ensures.same_gates
 
-pub returns-then-branch-clause-obligations : goal.returns-then-branch-clause-obligations
-returns-then-branch-clause-obligations g c =
+pub run_mailbox-requires-clause-untouched : goal.run_mailbox-requires-clause-untouched
+run_mailbox-requires-clause-untouched g c =
+    fresh g.K.Behaviours.gives (origin_of c.args.system.now.gates) _ _ c.in-Some-2.is c.in_ok-claim.ensures.untouched
+
+pub returns-in_default-clause-same_gates : goal.returns-in_default-clause-same_gates
+returns-in_default-clause-same_gates g c = c.next_claim.ensures.same_gates
+
+pub returns-in_default-clause-number : goal.returns-in_default-clause-number
+returns-in_default-clause-number g c = c.next_claim.ensures.number ∙ c.loop.invariant.1
+
+pub returns-in_default-clause-log_kept : goal.returns-in_default-clause-log_kept
+returns-in_default-clause-log_kept g c = saw-then _ _ _ c.loop.invariant.2 c.next_claim.ensures.log_kept
+
+pub returns-in_default-clause-obligations : goal.returns-in_default-clause-obligations
+returns-in_default-clause-obligations g c =
     let actors = actors_of c.args.system.now.gates in
-    let first = end_caller c.args.end.now.registrar in let old = end_caller c.loop.end.registrar in
-    let between = end_caller c.run_all.new.end.registrar in let new = end_caller c.is_over.new.end.registrar in
-    obligations-then actors first between new (obligations-then actors first old between c.loop.invariant.3 c.run_all.ensures.obligations)
-    c.is_over.ensures.obligations
+    let first = end_caller c.args.end.now.registrar in let old = end_caller c.loop.end.registrar in let between = end_caller c.next_claim.new.end.registrar in
+    obligations-then actors first old between c.loop.invariant.3 c.next_claim.ensures.obligations
 
-pub returns-in_err-run_all-clause-log_kept : goal.returns-in_err-run_all-clause-log_kept
-returns-in_err-run_all-clause-log_kept g c = saw-then _ _ _ c.loop.invariant.2 c.run_all.ensures.log_kept
+pub returns-in_default-clause-discharged : goal.returns-in_default-clause-discharged
+returns-in_default-clause-discharged g c = none-left _ _ c.in_default.is c.in_ok-claim.ensures.discharged
 
-pub returns-in_err-is_over-clause-log_kept : goal.returns-in_err-is_over-clause-log_kept
-returns-in_err-is_over-clause-log_kept g c =
-    saw-then _ _ _ (saw-then _ _ _ c.loop.invariant.2 c.run_all.ensures.log_kept) c.is_over.ensures.log_kept
+pub returns-in_default-clause-empty : goal.returns-in_default-clause-empty
+returns-in_default-clause-empty g c = none-left _ _ c.in_default.is c.in_ok-claim.ensures.empty
 
-pub returns-in_err-run_all-clause-obligations : goal.returns-in_err-run_all-clause-obligations
-returns-in_err-run_all-clause-obligations g c =
-    obligations-then (actors_of c.args.system.now.gates) (end_caller c.args.end.now.registrar) (end_caller c.loop.end.registrar)
-    (end_caller c.run_all.new.end.registrar) c.loop.invariant.3 c.run_all.ensures.obligations
-
-pub returns-in_err-is_over-clause-obligations : goal.returns-in_err-is_over-clause-obligations
-returns-in_err-is_over-clause-obligations g c =
-    let actors = actors_of c.args.system.now.gates in
-    let first = end_caller c.args.end.now.registrar in let old = end_caller c.loop.end.registrar in
-    let between = end_caller c.run_all.new.end.registrar in let new = end_caller c.is_over.new.end.registrar in
-    obligations-then actors first between new (obligations-then actors first old between c.loop.invariant.3 c.run_all.ensures.obligations) c.is_over.ensures.obligations
-
-pub is_over-requires-clause-same_gates : goal.is_over-requires-clause-same_gates
-is_over-requires-clause-same_gates g c = c.run_all.ensures.same_gates
-
-pub is_over-requires-clause-discharged : goal.is_over-requires-clause-discharged
-is_over-requires-clause-discharged g c = c.in_ok-run_all.ensures.discharged
-
-pub returns-then-branch-clause-same_gates : goal.returns-then-branch-clause-same_gates
-returns-then-branch-clause-same_gates g c = c.is_over.ensures.same_gates
-
-pub returns-then-branch-clause-number : goal.returns-then-branch-clause-number
-returns-then-branch-clause-number g c = c.is_over.ensures.number ∙ c.run_all.ensures.number ∙ c.loop.invariant.1
-
-pub returns-then-branch-clause-fault : goal.returns-then-branch-clause-fault
-returns-then-branch-clause-fault g c = tt
-
-pub returns-then-branch-clause-ran : goal.returns-then-branch-clause-ran
-returns-then-branch-clause-ran g c =
-    let gives = g.K.Behaviours.gives in let origin = origin_of c.args.system.now.gates in let throughput = c.args.system.now.throughput in
-    let first = pass_view c.args.end.now.registrar.pass in let old = pass_view c.loop.end.registrar.pass in
-    let between = pass_view c.run_all.new.end.registrar.pass in let new = pass_view c.is_over.new.end.registrar.pass in
-    runs-then gives origin throughput first between new
-    (runs-then gives origin throughput first old between c.loop.invariant.4 c.in_ok-run_all.ensures.ran) c.in_ok-is_over.ensures.ran
-
-pub returns-in_err-run_all-clause-fault : goal.returns-in_err-run_all-clause-fault
-returns-in_err-run_all-clause-fault g c =
-    let gives = g.K.Behaviours.gives in let system = c.args.system.now in let new = c.run_all.new.end in
+pub returns-in_default-clause-ran : goal.returns-in_default-clause-ran
+returns-in_default-clause-ran g c =
+    let gives = g.K.Behaviours.gives in let system = c.args.system.now in let origin = origin_of system.gates in let throughput = system.throughput in
     let start = pass_view c.args.end.now.registrar.pass in let old = pass_view c.loop.end.registrar.pass in
+    let between = pass_view c.next_claim.new.end.registrar.pass in
+    runs-then gives origin throughput start old between c.loop.invariant.4 (of-looks gives origin throughput old between c.next_claim.ensures.looks)
+
+pub returns-in_default-clause-fault : goal.returns-in_default-clause-fault
+returns-in_default-clause-fault g c = tt
+
+pub returns-in_err-claim-clause-same_gates : goal.returns-in_err-claim-clause-same_gates
+returns-in_err-claim-clause-same_gates g c = c.next_claim.ensures.same_gates
+
+pub returns-in_err-claim-clause-number : goal.returns-in_err-claim-clause-number
+returns-in_err-claim-clause-number g c = c.next_claim.ensures.number ∙ c.loop.invariant.1
+
+pub returns-in_err-claim-clause-log_kept : goal.returns-in_err-claim-clause-log_kept
+returns-in_err-claim-clause-log_kept g c = saw-then _ _ _ c.loop.invariant.2 c.next_claim.ensures.log_kept
+
+pub returns-in_err-claim-clause-obligations : goal.returns-in_err-claim-clause-obligations
+returns-in_err-claim-clause-obligations g c =
+    let actors = actors_of c.args.system.now.gates in
+    let first = end_caller c.args.end.now.registrar in let old = end_caller c.loop.end.registrar in let between = end_caller c.next_claim.new.end.registrar in
+    obligations-then actors first old between c.loop.invariant.3 c.next_claim.ensures.obligations
+
+pub returns-in_err-claim-clause-discharged : goal.returns-in_err-claim-clause-discharged
+returns-in_err-claim-clause-discharged g c = IfOk-from_err c.from_residual.result _ c.from_residual.ensures.0
+
+pub returns-in_err-claim-clause-empty : goal.returns-in_err-claim-clause-empty
+returns-in_err-claim-clause-empty g c = IfOk-from_err c.from_residual.result _ c.from_residual.ensures.0
+
+pub returns-in_err-claim-clause-ran : goal.returns-in_err-claim-clause-ran
+returns-in_err-claim-clause-ran g c = IfOk-from_err c.from_residual.result _ c.from_residual.ensures.0
+
+pub returns-in_err-claim-clause-fault : goal.returns-in_err-claim-clause-fault
+returns-in_err-claim-clause-fault g c =
+    let gives = g.K.Behaviours.gives in let system = c.args.system.now in let origin = origin_of system.gates in let throughput = system.throughput in
+    let start = pass_view c.args.end.now.registrar.pass in let old = pass_view c.loop.end.registrar.pass in
+    let between = pass_view c.next_claim.new.end.registrar.pass in let new = c.next_claim.new.end in
     on-error c.from_residual.result (BreaksWork gives system start new) _ c.from_residual.ensures.1
-    (breaks-after gives system start old new _ c.loop.invariant.4 c.in_err-run_all.ensures.fault)
+    (breaks-after gives system start old new _ c.loop.invariant.4 c.in_err-claim.ensures.fault)
 
-pub returns-in_err-is_over-clause-fault : goal.returns-in_err-is_over-clause-fault
-returns-in_err-is_over-clause-fault g c =
-    let gives = g.K.Behaviours.gives in let system = c.args.system.now in let new = c.is_over.new.end in
+pub returns-in_err-run_mailbox-clause-same_gates : goal.returns-in_err-run_mailbox-clause-same_gates
+returns-in_err-run_mailbox-clause-same_gates g c = c.run_mailbox.ensures.same_gates
+
+pub returns-in_err-run_mailbox-clause-number : goal.returns-in_err-run_mailbox-clause-number
+returns-in_err-run_mailbox-clause-number g c =
+    c.run_mailbox.ensures.number ∙ c.next_claim.ensures.number ∙ c.loop.invariant.1
+
+pub returns-in_err-run_mailbox-clause-log_kept : goal.returns-in_err-run_mailbox-clause-log_kept
+returns-in_err-run_mailbox-clause-log_kept g c =
+    saw-then _ _ _ (saw-then _ _ _ c.loop.invariant.2 c.next_claim.ensures.log_kept) c.run_mailbox.ensures.leaves.log
+
+pub returns-in_err-run_mailbox-clause-obligations : goal.returns-in_err-run_mailbox-clause-obligations
+returns-in_err-run_mailbox-clause-obligations g c =
+    let actors = actors_of c.args.system.now.gates in
+    let first = end_caller c.args.end.now.registrar in let old = end_caller c.loop.end.registrar in let between = end_caller c.next_claim.new.end.registrar in let new = end_caller c.run_mailbox.new.end.registrar in
+    obligations-then actors first between new (obligations-then actors first old between c.loop.invariant.3 c.next_claim.ensures.obligations)
+    (obligations-left actors between new c.run_mailbox.ensures.leaves)
+
+pub returns-in_err-run_mailbox-clause-discharged : goal.returns-in_err-run_mailbox-clause-discharged
+returns-in_err-run_mailbox-clause-discharged g c =
+    IfOk-from_err c.from_residual-in_err-run_mailbox.result _ c.from_residual-in_err-run_mailbox.ensures.0
+
+pub returns-in_err-run_mailbox-clause-empty : goal.returns-in_err-run_mailbox-clause-empty
+returns-in_err-run_mailbox-clause-empty g c =
+    IfOk-from_err c.from_residual-in_err-run_mailbox.result _ c.from_residual-in_err-run_mailbox.ensures.0
+
+pub returns-in_err-run_mailbox-clause-ran : goal.returns-in_err-run_mailbox-clause-ran
+returns-in_err-run_mailbox-clause-ran g c =
+    IfOk-from_err c.from_residual-in_err-run_mailbox.result _ c.from_residual-in_err-run_mailbox.ensures.0
+
+pub returns-in_err-run_mailbox-clause-fault : goal.returns-in_err-run_mailbox-clause-fault
+returns-in_err-run_mailbox-clause-fault g c =
+    let gives = g.K.Behaviours.gives in let system = c.args.system.now in let origin = origin_of system.gates in let throughput = system.throughput in
     let start = pass_view c.args.end.now.registrar.pass in let old = pass_view c.loop.end.registrar.pass in
-    let between = pass_view c.run_all.new.end.registrar.pass in
-    on-error c.from_residual-in_err-is_over.result (BreaksWork gives system start new) _ c.from_residual-in_err-is_over.ensures.1
-    (breaks-after gives system start between new _
-    (runs-then gives (origin_of system.gates) system.throughput start old between c.loop.invariant.4 c.in_ok-run_all.ensures.ran)
-    c.in_err-is_over.ensures.fault)
-
-pub returns-in_err-run_all-clause-same_gates : goal.returns-in_err-run_all-clause-same_gates
-returns-in_err-run_all-clause-same_gates g c = c.run_all.ensures.same_gates
-
-pub returns-in_err-run_all-clause-number : goal.returns-in_err-run_all-clause-number
-returns-in_err-run_all-clause-number g c = c.run_all.ensures.number ∙ c.loop.invariant.1
-
-pub returns-in_err-is_over-clause-same_gates : goal.returns-in_err-is_over-clause-same_gates
-returns-in_err-is_over-clause-same_gates g c = c.is_over.ensures.same_gates
-
-pub returns-in_err-is_over-clause-number : goal.returns-in_err-is_over-clause-number
-returns-in_err-is_over-clause-number g c = c.is_over.ensures.number ∙ c.run_all.ensures.number ∙ c.loop.invariant.1
+    let between = pass_view c.next_claim.new.end.registrar.pass in let new = c.run_mailbox.new.end in let error = c.in_err-run_mailbox.field-0.0 in
+    let passed = c.from_residual-in_err-run_mailbox in
+    on-error passed.result (BreaksWork gives system start new) (of_ready error) passed.ensures.1
+    (breaks-after gives system start between new (of_ready error)
+    (runs-then gives origin throughput start old between c.loop.invariant.4 (of-looks gives origin throughput old between c.next_claim.ensures.looks))
+    (breaks-mailbox gives system between new c.in-Some-2.claim (fresh g.K.Behaviours.gives (origin_of c.args.system.now.gates) _ _ c.in-Some-2.is c.in_ok-claim.ensures.untouched) c.run_mailbox.result error c.in_err-run_mailbox.was
+    c.run_mailbox.ensures.ran c.run_mailbox.ensures.out_of_memory))

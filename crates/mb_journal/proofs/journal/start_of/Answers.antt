@@ -1,17 +1,19 @@
-use Rattle.std.proofs.Common.{◌≡◌, refl, ap, sym, ◌∙◌, arith, ℕ}
-use Rattle.std.proofs.Common.{suc, ◌-◌}
-use Rattle.mb_journal.proofs.StoredLemmas.{start_of-suc}
+use Rattle.std.proofs.Common.{◌≡◌, ℕ, suc, ◌-◌, refl, ap, sym, ◌∙◌, arith}
+use Rattle.std.specs.Prelude.{map}
+use Rattle.mb_journal.proofs.RowLemmas.{start-after}
+use Rattle.mb_journal.specs.Rows.{whole}
 use Rattle.mb_journal.specs.Stored.{start_of}
 use Rattle.mb_journal.proofs.journal.start_of.Goals as goal
 
 pub returns-then-index-eq0 : goal.returns-then-index-eq0
 unfolding start_of
-returns-then-index-eq0 c = rw c.if-index-eq0.true refl
+returns-then-index-eq0 c wide = rw c.if-index-eq0.true refl
 
 one_before : (i : ℕ) → (i ≡ 0 → ⊥) → i ≡ suc (i - 1)
 one_before i h = omega arith
 
 pub returns-else-index-eq0 : goal.returns-else-index-eq0
-returns-else-index-eq0 c =
-    sym (ap (λ n. start_of 0 c.args.rows.now n) (one_before c.args.index c.if-index-eq0.false)
-    ∙ start_of-suc 0 c.args.rows.now (c.args.index - 1) _ (omega arith))
+returns-else-index-eq0 c wide =
+    c.end.ensures wide
+    ∙ sym (ap (λ n. start_of 0 (map (whole wide) c.args.rows.now) n) (one_before c.args.index c.if-index-eq0.false)
+    ∙ start-after wide c.args.rows.now (c.args.index - 1) _ (omega arith))

@@ -18,6 +18,7 @@ use Rattle.mb_mailbox.proofs.StatusLemmas.{keeps-written, backlog-written, runni
 use Rattle.mb_mailbox.proofs.RecordedLemmas.{alike-still}
 use Rattle.mb_mailbox.proofs.RunSendsLemmas.{due-none}
 use Rattle.mb_mailbox.specs.RunSends.{SendsDue}
+use Rattle.mb_mailbox.specs.Sending.{IsToldRight}
 use Rattle.mb_mailbox.proofs.acts.carry.Goals as goal
 
 -- ---- a tell, and a system message
@@ -275,3 +276,31 @@ pub returns-in-CloseSelf-clause-due : goal.returns-in-CloseSelf-clause-due
 returns-in-CloseSelf-clause-due g c =
     let old = run_state c.args.claim.now in
     subst (λ (a : Handed). SendsDue (messages_of (act_of a ∷ [])) [] old (run_state c.close.new.claim)) (sym c.in-CloseSelf.is) c.close.ensures.due
+
+-- ---- a tell ended rightly
+
+pub returns-in-Tell-clause-told : goal.returns-in-Tell-clause-told
+returns-in-Tell-clause-told g c =
+    let told = c.tell.ensures.told in
+    subst (λ (a : Handed). IsToldRight (act_of a) (pass_view c.args.registrar.now.pass) (pass_view c.tell.new.registrar.pass)
+    c.args.claim.now.home.value c.tell.new.claim.home.value) (sym c.in-Tell.is) told
+
+pub returns-in-Sys-clause-told : goal.returns-in-Sys-clause-told
+returns-in-Sys-clause-told g c =
+    subst (λ (a : Handed). IsToldRight (act_of a) (pass_view c.args.registrar.now.pass) (pass_view c.send_system.new.registrar.pass)
+    c.args.claim.now.home.value c.send_system.new.claim.home.value) (sym c.in-Sys.is) tt
+
+pub returns-in-SuspendSelf-clause-told : goal.returns-in-SuspendSelf-clause-told
+returns-in-SuspendSelf-clause-told g c =
+    subst (λ (a : Handed). IsToldRight (act_of a) (pass_view c.args.registrar.now.pass) (pass_view c.args.registrar.now.pass)
+    c.args.claim.now.home.value c.suspend.new.claim.home.value) (sym c.in-SuspendSelf.is) tt
+
+pub returns-in-ResumeSelf-clause-told : goal.returns-in-ResumeSelf-clause-told
+returns-in-ResumeSelf-clause-told g c =
+    subst (λ (a : Handed). IsToldRight (act_of a) (pass_view c.args.registrar.now.pass) (pass_view c.args.registrar.now.pass)
+    c.args.claim.now.home.value c.resume.new.claim.home.value) (sym c.in-ResumeSelf.is) tt
+
+pub returns-in-CloseSelf-clause-told : goal.returns-in-CloseSelf-clause-told
+returns-in-CloseSelf-clause-told g c =
+    subst (λ (a : Handed). IsToldRight (act_of a) (pass_view c.args.registrar.now.pass) (pass_view c.close.new.registrar.pass)
+    c.args.claim.now.home.value c.close.new.claim.home.value) (sym c.in-CloseSelf.is) tt

@@ -1,4 +1,5 @@
-use Rattle.std.proofs.Common.{length, map, ap, ◌∙◌, subst, Vec}
+use Rattle.std.proofs.Common.{length, map, ap, ◌∙◌, subst, sym, Vec}
+use Rattle.std.proofs.lemmas.Result.{IfOk-from_err}
 use Rattle.std.specs.Global.{Global}
 use Rattle.mb_msg.specs.declared.order.Order.{Order}
 use Rattle.heddleorange.specs.NoReport.{IsErrorOfRun}
@@ -40,3 +41,88 @@ returns-in_default-clause-fault g c =
     without-memory (gives_at c.args.actors.items g.A.Actor.gives) c.args.plan (length c.args.actors.items)
     (lists_of c.args.plan.senders c.args.sends.now) c.without_actors.result c.requires.right
     (c.without_actors.ensures.error, c.without_actors.ensures.actors)
+
+pub returns-in_err-report-clause-ran : goal.returns-in_err-report-clause-ran
+returns-in_err-report-clause-ran g c = IfOk-from_err c.from_residual.result _ c.from_residual.ensures.0
+
+pub returns-in_err-report-clause-headline : goal.returns-in_err-report-clause-headline
+returns-in_err-report-clause-headline g c = IfOk-from_err c.from_residual.result _ c.from_residual.ensures.0
+
+pub returns-in_err-report-clause-lines : goal.returns-in_err-report-clause-lines
+returns-in_err-report-clause-lines g c = IfOk-from_err c.from_residual.result _ c.from_residual.ensures.0
+
+pub returns-in_err-report-clause-turns : goal.returns-in_err-report-clause-turns
+returns-in_err-report-clause-turns g c = IfOk-from_err c.from_residual.result _ c.from_residual.ensures.0
+
+pub returns-in_err-report-clause-covers : goal.returns-in_err-report-clause-covers
+returns-in_err-report-clause-covers g c = IfOk-from_err c.from_residual.result _ c.from_residual.ensures.0
+
+pub returns-in_err-report-clause-fault : goal.returns-in_err-report-clause-fault
+returns-in_err-report-clause-fault g c =
+    err-of (IsErrorOfRun (gives_at c.args.actors.items g.A.Actor.gives) c.args.plan (length c.args.actors.items) (lists_of c.args.plan.senders c.args.sends.now))
+    c.from_residual.result c.in_err-report.field-0.0 c.from_residual.ensures.1 c.in_err-report.ensures.refused
+
+pub returns-then-is_quiet-clause-ran : goal.returns-then-is_quiet-clause-ran
+returns-then-is_quiet-clause-ran g c = c.in_ok-report.ensures.story
+
+pub returns-then-is_quiet-clause-headline : goal.returns-then-is_quiet-clause-headline
+returns-then-is_quiet-clause-headline g c = c.in_ok-report.ensures.headline
+
+pub returns-then-is_quiet-clause-lines : goal.returns-then-is_quiet-clause-lines
+returns-then-is_quiet-clause-lines g c = c.in_ok-report.ensures.lines
+
+pub returns-then-is_quiet-clause-turns : goal.returns-then-is_quiet-clause-turns
+returns-then-is_quiet-clause-turns g c = sym c.if-is_quiet.true
+
+pub returns-then-is_quiet-clause-covers : goal.returns-then-is_quiet-clause-covers
+returns-then-is_quiet-clause-covers g c = c.in_ok-report.ensures.covers
+
+pub returns-then-is_quiet-clause-fault : goal.returns-then-is_quiet-clause-fault
+returns-then-is_quiet-clause-fault g c = tt
+
+pub returns-in_default-clause-ran : goal.returns-in_default-clause-ran
+returns-in_default-clause-ran g c = tt
+
+pub returns-in_default-clause-headline : goal.returns-in_default-clause-headline
+returns-in_default-clause-headline g c = tt
+
+pub returns-in_default-clause-lines : goal.returns-in_default-clause-lines
+returns-in_default-clause-lines g c = tt
+
+pub returns-in_default-clause-turns : goal.returns-in_default-clause-turns
+returns-in_default-clause-turns g c = tt
+
+pub returns-in_default-clause-covers : goal.returns-in_default-clause-covers
+returns-in_default-clause-covers g c = tt
+
+pub returns-in_err-report-2-clause-ran : goal.returns-in_err-report-2-clause-ran
+returns-in_err-report-2-clause-ran g c =
+    IfOk-from_err c.from_residual-in_err-report-2.result _ c.from_residual-in_err-report-2.ensures.0
+
+pub returns-in_err-report-2-clause-headline : goal.returns-in_err-report-2-clause-headline
+returns-in_err-report-2-clause-headline g c =
+    IfOk-from_err c.from_residual-in_err-report-2.result _ c.from_residual-in_err-report-2.ensures.0
+
+pub returns-in_err-report-2-clause-lines : goal.returns-in_err-report-2-clause-lines
+returns-in_err-report-2-clause-lines g c =
+    IfOk-from_err c.from_residual-in_err-report-2.result _ c.from_residual-in_err-report-2.ensures.0
+
+pub returns-in_err-report-2-clause-turns : goal.returns-in_err-report-2-clause-turns
+returns-in_err-report-2-clause-turns g c =
+    IfOk-from_err c.from_residual-in_err-report-2.result _ c.from_residual-in_err-report-2.ensures.0
+
+pub returns-in_err-report-2-clause-covers : goal.returns-in_err-report-2-clause-covers
+returns-in_err-report-2-clause-covers g c =
+    IfOk-from_err c.from_residual-in_err-report-2.result _ c.from_residual-in_err-report-2.ensures.0
+
+pub returns-clause-lines : goal.returns-clause-lines
+returns-clause-lines g c = c.in_ok-report-2.ensures.lines
+
+pub returns-clause-turns : goal.returns-clause-turns
+returns-clause-turns g c = sym c.if-is_quiet.false
+
+pub returns-clause-covers : goal.returns-clause-covers
+returns-clause-covers g c = tt
+
+pub returns-clause-fault : goal.returns-clause-fault
+returns-clause-fault g c = tt

@@ -1,8 +1,8 @@
-use Rattle.std.proofs.Common.{◌≡◌, ◌+◌, ◌∷◌, get_or, drop, pos, arith}
+use Rattle.std.proofs.Common.{◌≡◌, ◌+◌, ◌∷◌, get_or, drop, length, pos, vec_capacity, vec_len, arith}
 use Rattle.std.proofs.lemmas.List.{drop_all}
 use Rattle.mb_actor.specs.declared.effect.Effect.{Effect}
 use Rattle.mb_actor.specs.declared.effect.Effect.TheVariants as effect
-use Rattle.mb_supervision.proofs.EffectLemmas.{acts-step, children-step, watching-step, due-step, acts-done, from-next}
+use Rattle.mb_supervision.proofs.EffectLemmas.{acts-step, children-step, watching-step, due-step, acts-done, from-next, act-fits, place-fits}
 use Rattle.mb_supervision.proofs.effects.carry_out.Goals as goal
 
 -- the effect that is carried out
@@ -30,3 +30,20 @@ loop-effect-preserved c = record {
 
 pub returns-clause-acts : goal.returns-clause-acts
 returns-clause-acts c = acts-done c.args.this _ _ _ _ (drop_all _ _ c.loop-effect-test.false) c.loop-effect.invariant.acts
+
+pub carry_out_one-requires-clause-room : goal.carry_out_one-requires-clause-room
+carry_out_one-requires-clause-room c =
+    act-fits c.args.acts.now.room c.loop-effect.acts.room c.loop-effect.effect-index (length c.args.effects.now) c.loop-effect.invariant.few_acts
+    c.requires.room c.loop-effect-test.true
+
+pub carry_out_one-requires-clause-children_room : goal.carry_out_one-requires-clause-children_room
+carry_out_one-requires-clause-children_room c =
+    place-fits (vec_len c.args.children.now) (vec_len c.loop-effect.children) c.loop-effect.effect-index (length c.args.effects.now)
+    (vec_capacity c.args.children.now) (vec_capacity c.loop-effect.children) c.loop-effect.invariant.few_children c.requires.children_room
+    c.loop-effect.invariant.children_capacity c.loop-effect-test.true
+
+pub carry_out_one-requires-clause-watching_room : goal.carry_out_one-requires-clause-watching_room
+carry_out_one-requires-clause-watching_room c =
+    place-fits (vec_len c.args.watching.now) (vec_len c.loop-effect.watching) c.loop-effect.effect-index (length c.args.effects.now)
+    (vec_capacity c.args.watching.now) (vec_capacity c.loop-effect.watching) c.loop-effect.invariant.few_watched c.requires.watching_room
+    c.loop-effect.invariant.watching_capacity c.loop-effect-test.true

@@ -1,9 +1,59 @@
-use Rattle.std.proofs.Common.{inl}
-use Rattle.std.proofs.lemmas.Result.{on_ok_weaker}
-use Rattle.mb_dispatch.proofs.Sides.{on_both}
+use Rattle.std.proofs.Common.{◌≡◌, List, inl, refl, subst}
+use Rattle.std.specs.Global.{Box}
+use Rattle.std.specs.Prelude.{Err, IfErr, Ok, OnErr, OnOk, Result}
+use Rattle.mb_msg.specs.declared.order.Order.{Order}
+use Rattle.mb_gate.specs.Accessors.{actors_of}
+use Rattle.mb_gate.specs.declared.gates.Gates.{Gates}
+use Rattle.mb_home.specs.Contents.{Contents}
+use Rattle.mb_system.specs.Members.{sender_caller}
+use Rattle.mb_system.specs.Obligations.{KeepsObligations, OwesNobody}
+use Rattle.mb_system.specs.declared.failure.RunError.{RunError}
+use Rattle.mb_system.specs.declared.sender.Sender.{Sender}
+use Rattle.mb_dispatch.specs.Faults.{BreaksSending}
+use Rattle.mb_dispatch.specs.Jobs.{IsDone}
+use Rattle.mb_dispatch.specs.Orders.{HasSent, HasSentSome}
+use Rattle.mb_dispatch.specs.declared.job.Job.{Job}
 use Rattle.mb_dispatch.proofs.job.JobTaskSystem.perform.Goals as goal
+
+is-done : {A K : Type 0} (gates : Gates (Box Contents)) (old new : Job A K) (orders : List Order) (r : Result (Unit {0}) RunError)
+    → orders ≡ old.sends.items → new.sends ≡ old.sends → OnOk r (HasSent orders old.sender new.sender × OwesNobody gates new.sender)
+    → OnOk r (KeepsObligations (actors_of gates) (sender_caller old.sender.inner.registrar) (sender_caller new.sender.inner.registrar))
+    → OnOk r (IsDone gates old new)
+is-done gates old new orders (Ok x) are same sent kept =
+    record {
+      sent = subst (λ (l : List Order). HasSent l old.sender new.sender) are sent.0;
+      nobody = sent.1;
+      obligations = kept;
+      sends = same;
+    }
+is-done gates old new orders (Err error) are same sent kept = tt
+
+sent-some : {A K : Type 0} (orders : List Order) (old new : Sender A K) (N : Type 0) (r : Result (Unit {0}) RunError)
+    → OnOk r (HasSent orders old new × N) → OnErr r (HasSentSome orders old new) → HasSentSome orders old new
+sent-some orders old new N (Ok x) sent stopped = inl sent.0
+sent-some orders old new N (Err error) sent stopped = stopped
+
+pub send_and_retry-outcome-requires : goal.send_and_retry-outcome-requires
+send_and_retry-outcome-requires g c = record { same_gates = c.requires.ready }
 
 pub returns-clause-keeps : goal.returns-clause-keeps
 returns-clause-keeps g c =
-    let did = c.send_job.ensures in
-    (did.same_gates, did.same_sender, on_both c.send_job.result (on_ok_weaker _ (λ sent. inl sent.0) did.sent) did.stopped)
+    let did = c.send_and_retry-outcome.ensures in let old = c.args.self.now.sender in let new = c.send_and_retry-outcome.new.sender in (
+      did.same_gates,
+      did.same_sender,
+      subst (λ (l : List Order). HasSentSome l old new) c.deref.ensures.value
+          (sent-some c.deref.result.now old new (OwesNobody c.args.shared.now.gates new) c.send_and_retry-outcome.result did.sent did.stopped),
+      did.still,
+      refl,
+    )
+
+pub returns-clause-done : goal.returns-clause-done
+returns-clause-done g c =
+    let did = c.send_and_retry-outcome.ensures in let old = c.args.self.now in
+    is-done c.args.shared.now.gates old (record old { sender = c.send_and_retry-outcome.new.sender }) c.deref.result.now c.send_and_retry-outcome.result
+    c.deref.ensures.value refl did.sent did.obligations
+
+pub returns-clause-fails : goal.returns-clause-fails
+returns-clause-fails g c =
+    subst (λ (l : List Order). IfErr c.send_and_retry-outcome.result (BreaksSending c.args.shared.now.gates l)) c.deref.ensures.value
+    c.send_and_retry-outcome.ensures.fault

@@ -1,0 +1,48 @@
+use Rattle.std.proofs.Common.{◌≡◌, ◌⊎◌, ◌<◌, ◌≤◌, [], Some, arith, inl, inr, length, refl}
+use Rattle.mb_msg.specs.declared.id.ActorId.{ActorId}
+use Rattle.mb_build.specs.declared.check.PlanError.TheVariants.{Actors}
+use Rattle.heddleorange.specs.declared.error.Error.TheVariants.{BadPlan, NameTaken, NoMemory}
+use Rattle.heddleorange.specs.Names.{number_of}
+use Rattle.heddleorange.proofs.Adding.{all-unused, another-error, name-added}
+use Rattle.heddleorange.proofs.PassedOn.{none-of-err, same-error, unchanged}
+use Rattle.heddleorange.proofs.Sent.{err-of, err-weaker}
+use Rattle.heddleorange.proofs.planned_system.PlannedSystem.add_named.Goals as goal
+
+pub returns-in_err-name : goal.returns-in_err-name
+returns-in_err-name g c =
+    let result = c.from_residual.result in let error = c.in_err-name.field-0.0 in let passed = c.from_residual.ensures.1 in
+    let named = c.free_name in record {
+      id = none-of-err _ result error passed;
+      actors = none-of-err _ result error passed;
+      planned = none-of-err _ result error passed;
+      named = none-of-err _ result error passed;
+      same = unchanged result error passed (refl, refl);
+      same_names = unchanged result error passed refl;
+      settings = refl;
+      full = same-error _ named.result result error (BadPlan Actors) c.in_err-name.was passed named.ensures.full;
+      taken = λ id. same-error _ named.result result error (NameTaken id) c.in_err-name.was passed (named.ensures.taken id);
+      errors = err-of (λ e. (e ≡ BadPlan Actors) ⊎ (e ≡ NoMemory) ⊎ ((id : ActorId) × (e ≡ NameTaken id))) result error passed c.in_err-name.ensures.errors;
+      unused = λ all. all;
+    }
+
+pub push-requires : goal.push-requires
+push-requires g c = record { not_full = c.in_ok-name.ensures.not_full }
+
+pub returns : goal.returns
+returns g c =
+    let named = c.in_ok-name.ensures in let pushed = c.push.ensures in let result = c.push.result in
+    let old = c.args.self.now in let new = c.push.new.self in let few = named.not_full in record {
+      id = pushed.id;
+      actors = pushed.actors;
+      planned = pushed.planned;
+      named = name-added result old.names.texts.items new.names.texts.items c.in_ok-name.name _ named.named pushed.named;
+      same = pushed.same;
+      same_names = pushed.same_names;
+      settings = pushed.settings;
+      full = another-error (63 ≤ length old.actors.items) result (BadPlan Actors) pushed.error (λ q. absurd (cc)) (λ many. omega (arith, many, few));
+      taken = λ id. another-error ((length c.args.self.now.actors.items < 63) × (number_of c.args.self.now.names.texts.items c.args.name.now ≡ Some id.0)) result
+          (NameTaken id) pushed.error (λ q. absurd (cc)) (λ held. let there = (named.taken id).1 held in absurd (cc));
+      errors = err-weaker (λ e. e ≡ NoMemory) (λ e. (e ≡ BadPlan Actors) ⊎ (e ≡ NoMemory) ⊎ ((id : ActorId) × (e ≡ NameTaken id))) result (λ e is. inr (inl is)) pushed.error;
+      unused = all-unused (λ actor. g.A.Actor.content actor ≡ g.A.Actor.after actor []) (new.plan.actors.items ≡ old.plan.actors.items) result old.actors.items new.actors.items c.args.actor
+          c.requires.unused pushed.actors pushed.same;
+    }

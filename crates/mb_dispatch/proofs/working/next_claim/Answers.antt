@@ -1,0 +1,131 @@
+use Rattle.std.proofs.Common.{◌∙◌, subst, sym, ap}
+use Rattle.std.proofs.lemmas.Result.{IfOk-from_err}
+use Rattle.std.specs.Global.{Box}
+use Rattle.std.specs.Prelude.{IfErr, IfSome, Option}
+use Rattle.mb_gate.specs.Accessors.{actors_of, pass_id, pass_view}
+use Rattle.mb_gate.specs.Rule.{IsPart}
+use Rattle.mb_gate.specs.Untouched.{Origin, origin_of}
+use Rattle.mb_home.specs.Contents.{Contents}
+use Rattle.mb_home.specs.Fresh.{IsFreshClaim}
+use Rattle.mb_register.specs.Owed.{is_owed}
+use Rattle.mb_system.specs.Members.{end_caller}
+use Rattle.mb_system.specs.OnlyLooks.{OnlyLooks}
+use Rattle.mb_system.proofs.Looking.{only-none}
+use Rattle.mb_system.proofs.Obligations.{obligations-same, obligations-then}
+use Rattle.mb_system.proofs.RunErrors.{on-error}
+use Rattle.mb_system.proofs.Saw.{saw-same}
+use Rattle.mb_dispatch.specs.Faults.{BreaksWork}
+use Rattle.mb_dispatch.proofs.Breaking.{breaks-retry}
+use Rattle.mb_dispatch.proofs.Runs.{of-looks}
+use Rattle.mb_dispatch.proofs.Sides.{if_none}
+use Rattle.mb_dispatch.proofs.working.next_claim.Goals as goal
+
+pub returns-in-Some-clause-same_gates : goal.returns-in-Some-clause-same_gates
+returns-in-Some-clause-same_gates g c =
+    let same = c.take.ensures.same in let ours = c.requires.same_gates in (ap pass_id same.0 ∙ ours.0, same.2 ∙ ours.1, ours.2)
+
+pub returns-in-Some-clause-untouched : goal.returns-in-Some-clause-untouched
+returns-in-Some-clause-untouched g c =
+    subst (λ (o : Option (Origin (Box Contents))). IsFreshClaim g.K.Behaviours.gives o c.in-Some.claim) c.requires.same_gates.1 c.in-Some.ensures.untouched
+
+pub returns-in-Some-clause-discharged : goal.returns-in-Some-clause-discharged
+returns-in-Some-clause-discharged g c = tt
+
+pub returns-in-Some-clause-empty : goal.returns-in-Some-clause-empty
+returns-in-Some-clause-empty g c = tt
+
+pub returns-in-Some-clause-obligations : goal.returns-in-Some-clause-obligations
+returns-in-Some-clause-obligations g c =
+    let same = c.take.ensures.same in let actors = actors_of c.args.system.now.gates in let first = end_caller c.args.end.now.registrar in
+    let taken = end_caller c.take.new.self.registrar in obligations-same actors first taken (ap pass_view same.0) same.1
+
+pub returns-in-Some-clause-number : goal.returns-in-Some-clause-number
+returns-in-Some-clause-number g c = c.take.ensures.same.3
+
+pub returns-in-Some-clause-looks : goal.returns-in-Some-clause-looks
+returns-in-Some-clause-looks g c =
+    let start = pass_view c.args.end.now.registrar.pass in subst (λ p. OnlyLooks start (pass_view p)) (sym c.take.ensures.same.0) (only-none start)
+
+pub returns-in-Some-clause-log_kept : goal.returns-in-Some-clause-log_kept
+returns-in-Some-clause-log_kept g c =
+    subst (λ p. IsPart (pass_view c.args.end.now.registrar.pass).log (pass_view p).log) (sym c.take.ensures.same.0) (saw-same _)
+
+pub returns-in-Some-clause-fault : goal.returns-in-Some-clause-fault
+returns-in-Some-clause-fault g c = tt
+
+pub returns-in_err-retry_refused-clause-same_gates : goal.returns-in_err-retry_refused-clause-same_gates
+returns-in_err-retry_refused-clause-same_gates g c = c.retry_refused.ensures.same_gates
+
+pub returns-in_err-retry_refused-clause-untouched : goal.returns-in_err-retry_refused-clause-untouched
+returns-in_err-retry_refused-clause-untouched g c = IfOk-from_err c.from_residual.result _ c.from_residual.ensures.0
+
+pub returns-in_err-retry_refused-clause-discharged : goal.returns-in_err-retry_refused-clause-discharged
+returns-in_err-retry_refused-clause-discharged g c = IfOk-from_err c.from_residual.result _ c.from_residual.ensures.0
+
+pub returns-in_err-retry_refused-clause-empty : goal.returns-in_err-retry_refused-clause-empty
+returns-in_err-retry_refused-clause-empty g c = IfOk-from_err c.from_residual.result _ c.from_residual.ensures.0
+
+pub returns-in_err-retry_refused-clause-obligations : goal.returns-in_err-retry_refused-clause-obligations
+returns-in_err-retry_refused-clause-obligations g c =
+    let same = c.take.ensures.same in let actors = actors_of c.args.system.now.gates in let first = end_caller c.args.end.now.registrar in
+    let taken = end_caller c.take.new.self.registrar in let retried = end_caller c.retry_refused.new.self.registrar in
+    obligations-then actors first taken retried (obligations-same actors first taken (ap pass_view same.0) same.1) c.retry_refused.ensures.obligations
+
+pub returns-in_err-retry_refused-clause-number : goal.returns-in_err-retry_refused-clause-number
+returns-in_err-retry_refused-clause-number g c = c.retry_refused.ensures.number ∙ c.take.ensures.same.3
+
+pub returns-in_err-retry_refused-clause-looks : goal.returns-in_err-retry_refused-clause-looks
+returns-in_err-retry_refused-clause-looks g c =
+    subst (λ p. OnlyLooks (pass_view p) (pass_view c.retry_refused.new.self.registrar.pass)) c.take.ensures.same.0 c.retry_refused.ensures.looks
+
+pub returns-in_err-retry_refused-clause-log_kept : goal.returns-in_err-retry_refused-clause-log_kept
+returns-in_err-retry_refused-clause-log_kept g c =
+    subst (λ p. IsPart (pass_view p).log (pass_view c.retry_refused.new.self.registrar.pass).log) c.take.ensures.same.0 c.retry_refused.ensures.log_kept
+
+pub returns-in_err-retry_refused-clause-fault : goal.returns-in_err-retry_refused-clause-fault
+returns-in_err-retry_refused-clause-fault g c =
+    let gives = g.K.Behaviours.gives in let system = c.args.system.now in let end = c.retry_refused.new.self in
+    let did = c.retry_refused.ensures in let start = pass_view c.args.end.now.registrar.pass in let new = pass_view end.registrar.pass in
+    let looks = subst (λ p. OnlyLooks (pass_view p) new) c.take.ensures.same.0 did.looks in
+    on-error c.from_residual.result (BreaksWork gives system start end) _ c.from_residual.ensures.1
+    (subst (λ r. IfErr r (BreaksWork gives system start end)) c.in_err-retry_refused.was
+    (breaks-retry gives system start end (end_caller c.take.new.self.registrar).account _ c.retry_refused.result did.stops did.refused
+    (of-looks gives (origin_of system.gates) system.throughput start new looks)))
+
+pub returns-clause-same_gates : goal.returns-clause-same_gates
+returns-clause-same_gates g c =
+    let same = c.wait.ensures.same in let ours = c.retry_refused.ensures.same_gates in (ap pass_id same.0 ∙ ours.0, same.2 ∙ ours.1, ours.2)
+
+pub returns-clause-untouched : goal.returns-clause-untouched
+returns-clause-untouched g c =
+    subst (λ (o : Option (Origin (Box Contents))). IfSome c.wait.result (IsFreshClaim g.K.Behaviours.gives o)) c.retry_refused.ensures.same_gates.1 c.wait.ensures.untouched
+
+pub returns-clause-discharged : goal.returns-clause-discharged
+returns-clause-discharged g c =
+    if_none c.wait.result (λ id lt. ap (λ o. is_owed o id) c.wait.ensures.same.1 ∙ c.in_ok-retry_refused.ensures.done id lt)
+
+pub returns-clause-empty : goal.returns-clause-empty
+returns-clause-empty g c = c.wait.ensures.empty
+
+pub returns-clause-obligations : goal.returns-clause-obligations
+returns-clause-obligations g c =
+    let same = c.take.ensures.same in let waited = c.wait.ensures.same in let actors = actors_of c.args.system.now.gates in let first = end_caller c.args.end.now.registrar in
+    let taken = end_caller c.take.new.self.registrar in let retried = end_caller c.retry_refused.new.self.registrar in let new = end_caller c.wait.new.end.registrar in
+    obligations-then actors first taken new (obligations-same actors first taken (ap pass_view same.0) same.1)
+    (obligations-then actors taken retried new c.retry_refused.ensures.obligations (obligations-same actors retried new (ap pass_view waited.0) waited.1))
+
+pub returns-clause-number : goal.returns-clause-number
+returns-clause-number g c = c.wait.ensures.same.3 ∙ c.retry_refused.ensures.number ∙ c.take.ensures.same.3
+
+pub returns-clause-looks : goal.returns-clause-looks
+returns-clause-looks g c =
+    subst (λ p. OnlyLooks (pass_view c.args.end.now.registrar.pass) (pass_view p)) (sym c.wait.ensures.same.0)
+    (subst (λ p. OnlyLooks (pass_view p) (pass_view c.retry_refused.new.self.registrar.pass)) c.take.ensures.same.0 c.retry_refused.ensures.looks)
+
+pub returns-clause-log_kept : goal.returns-clause-log_kept
+returns-clause-log_kept g c =
+    subst (λ p. IsPart (pass_view c.args.end.now.registrar.pass).log (pass_view p).log) (sym c.wait.ensures.same.0)
+    (subst (λ p. IsPart (pass_view p).log (pass_view c.retry_refused.new.self.registrar.pass).log) c.take.ensures.same.0 c.retry_refused.ensures.log_kept)
+
+pub returns-clause-fault : goal.returns-clause-fault
+returns-clause-fault g c = tt

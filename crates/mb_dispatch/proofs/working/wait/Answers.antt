@@ -1,0 +1,37 @@
+use Rattle.std.proofs.Common.{◌∙◌, subst, sym, refl}
+use Rattle.std.specs.Global.{Box}
+use Rattle.std.specs.Prelude.{Option}
+use Rattle.mb_gate.specs.Untouched.{Origin}
+use Rattle.mb_home.specs.Contents.{Contents}
+use Rattle.mb_home.specs.Fresh.{IsFreshClaim}
+use Rattle.mb_dispatch.specs.Found.{FoundPoolEmpty}
+use Rattle.mb_dispatch.proofs.working.wait.Goals as goal
+
+pub loop-init : goal.loop-init
+loop-init g c = (refl, refl, refl, refl)
+
+pub loop-preserved : goal.loop-preserved
+loop-preserved g c =
+    let same = c.take.ensures.same in let at = c.loop.invariant in (same.0 ∙ at.0, same.1 ∙ at.1, same.2 ∙ at.2, same.3 ∙ at.3)
+
+pub returns-in-Some-take-clause-untouched : goal.returns-in-Some-take-clause-untouched
+returns-in-Some-take-clause-untouched g c =
+    subst (λ (o : Option (Origin (Box Contents))). IsFreshClaim g.K.Behaviours.gives o c.in-Some-take.claim) c.loop.invariant.2 c.in-Some-take.ensures.untouched
+
+pub returns-in-Some-take-clause-empty : goal.returns-in-Some-take-clause-empty
+returns-in-Some-take-clause-empty g c = tt
+
+pub returns-in-Some-take-clause-same : goal.returns-in-Some-take-clause-same
+returns-in-Some-take-clause-same g c =
+    let same = c.take.ensures.same in let at = c.loop.invariant in (same.0 ∙ at.0, same.1 ∙ at.1, same.2 ∙ at.2, same.3 ∙ at.3)
+
+pub returns-then-is_over-clause-untouched : goal.returns-then-is_over-clause-untouched
+returns-then-is_over-clause-untouched g c = tt
+
+pub returns-then-is_over-clause-empty : goal.returns-then-is_over-clause-empty
+returns-then-is_over-clause-empty g c =
+    let none = c.in_default.ensures.none in subst (FoundPoolEmpty g.K.Behaviours.gives) (sym none.0) none.1
+
+pub returns-then-is_over-clause-same : goal.returns-then-is_over-clause-same
+returns-then-is_over-clause-same g c =
+    let same = c.take.ensures.same in let at = c.loop.invariant in (same.0 ∙ at.0, same.1 ∙ at.1, same.2 ∙ at.2, same.3 ∙ at.3)
