@@ -1,23 +1,32 @@
--- In a run that gave a report, no system message came into an actor's list that was not asked for.
-use Rattle.std.proofs.Common.{◌≡◌, ◌≤◌, ◌+◌, ◌%◌, ◌^◌, ℕ, List, [], ◌∷◌, ◌++◌, ap, arith, length, map, refl, subst, sym, ◌∙◌}
-use Rattle.std.specs.Prelude.{slice_get}
+-- In a run that gave a report, no system message came into an actor's list that was not asked for, and each that was asked for came into the list of
+-- an actor that did not end.
+use Rattle.std.proofs.Common.{◌≡◌, ◌≢◌, ◌≤◌, ◌+◌, ◌%◌, ◌^◌, ◌==◌, ℕ, Bool, true, false, if◌then◌else◌, List, [], ◌∷◌, ◌++◌, ap, arith, length, map, refl, subst}
+use Rattle.std.proofs.Common.{Some, sym, ◌∙◌}
+use Rattle.std.specs.Prelude.{All, slice_get}
 use Rattle.std.specs.Global.{Box}
 use Rattle.std.specs.List.{flat_map}
+use Rattle.std.proofs.lemmas.Bool.{eqb-true}
+use Rattle.std.proofs.lemmas.List.Elements.{All-head, All-tail}
 use Rattle.mb_actor.specs.Behaviour.{Moment, Reply}
+use Rattle.mb_actor.specs.declared.phase.Phase.TheVariants.{Ended as EndedPhase}
 use Rattle.mb_build.specs.Planned.{actors_in}
 use Rattle.mb_dispatch.specs.Orders.{terminates_of}
 use Rattle.mb_gate.specs.Accessors.{first_home}
 use Rattle.mb_gate.specs.PutIn.{IsAllPut, put_in}
 use Rattle.mb_gate.specs.Releases.{ReleasesAddUp}
 use Rattle.mb_gate.specs.Untouched.{Origin, origin_of}
-use Rattle.mb_gate.specs.View.{Pushed, View}
+use Rattle.mb_gate.specs.View.{View, Observation, Read, Saw, Counted, Looked, Sent, Unsent, Took, Pushed, Drained, Ended as EndedSight}
 use Rattle.mb_gate.specs.declared.gates.Gates.{Gates}
 use Rattle.mb_ghost.proofs.SummedLemmas.{total_append}
+use Rattle.mb_ghost.specs.Seen.{Each}
 use Rattle.mb_ghost.specs.Shares.{IsWhole}
 use Rattle.mb_ghost.specs.Summed.{total}
 use Rattle.mb_home.specs.Contents.{Contents}
 use Rattle.mb_home.specs.Directory.{DirectoryEntry}
 use Rattle.mb_journal.specs.Identity.{Identity}
+use Rattle.mb_journal.specs.Life.{closed, phase}
+use Rattle.mb_journal.specs.Phase.{phase_is}
+use Rattle.mb_mailbox.specs.RunSends.{ended_in}
 use Rattle.mb_msg.specs.Limits.{most_actors}
 use Rattle.mb_msg.specs.declared.id.ActorId.{ActorId}
 use Rattle.mb_msg.specs.declared.order.Order.{Order}
@@ -28,6 +37,8 @@ use Rattle.mb_queue.specs.Passes.{SendPassView}
 use Rattle.mb_report.specs.declared.report.ActorReport.{ActorReport}
 use Rattle.mb_report.specs.declared.report.Report.{Report}
 use Rattle.mb_shutdown.proofs.Lists.{from-mapped, length-mapped}
+use Rattle.mb_shutdown.specs.CompleteReport.{CountsSystems}
+use Rattle.mb_shutdown.specs.Seen.{ReportExtends, ReportExtendsAll}
 use Rattle.mb_shutdown.specs.Refused.{CountsAllPut, PutAddsUpTo, ReleasesAddUpTo}
 use Rattle.mb_startup.proofs.Directories.{of-plan, still-planned}
 use Rattle.mb_startup.proofs.There.{senders-there}
@@ -37,15 +48,32 @@ use Rattle.mb_system.specs.Shares.{shares_of, shares_of_ends, views_of}
 use Rattle.mb_system.specs.declared.built.Built.{Built}
 use Rattle.mb_system.specs.declared.end.WorkerEnd.{WorkerEnd}
 use Rattle.mb_system.specs.declared.sender.Sender.{Sender}
-use Rattle.heddleorange.specs.Asked.{GetsOnlyAskedFor, AllGetOnlyAskedFor, asked_for, due_by, due_in, measure_to}
+use Rattle.heddleorange.specs.Asked.{GetsAskedFor, AllGetAskedFor, asked_for, due_by, due_in, measure_to}
 use Rattle.heddleorange.specs.Sent.{HaveSent}
+use Rattle.heddleorange.specs.WholeRun.{CountsAllPutBy}
 use Rattle.heddleorange.specs.Workers.{AllOnlyRuns}
 use Rattle.heddleorange.proofs.Covering.{runs-share}
 use Rattle.heddleorange.proofs.Due.{due_to}
+use Rattle.heddleorange.proofs.Identified.{number-at}
 use Rattle.heddleorange.proofs.Put.{AllPutAtMost, back, ends-put, put, senders-put, taken}
+use Rattle.heddleorange.proofs.PutAll.{AllPutAll, ended, ends-put-all, once, senders-put-all}
 use Rattle.heddleorange.proofs.Returns.{all-add-up, none-back, none-taken, reported}
 use Rattle.heddleorange.proofs.Unchanged.{of-end, of-sender, shares-kept}
 use Rattle.heddleorange.proofs.WholeRun.{new-at}
+
+-- what a report counts, without what was seen
+abbrev unlogged : {log : List Observation} {who : Identity} {a : ActorReport} → CountsSystems log who a → CountsSystems [] who a
+unlogged counts = record {
+  pushed = counts.pushed;
+  few = counts.few;
+  known = tt;
+  entered = counts.entered;
+  once = counts.once;
+  later = counts.later;
+  all = counts.all;
+  open_has_none = counts.open_has_none;
+  dead = counts.dead;
+}
 
 -- numbers do not matter to a measure of messages
 pub unnumbered : (measure : SysMsg → ℕ) (pushed : List SysMsg) (number : ℕ)
@@ -114,6 +142,61 @@ module _ (to : ℕ) (measure : SysMsg → ℕ) where
         let takens = total_append (taken to measure whos) new_ends new_senders in
         omega (arith, e, e_back, e_taken, s, s_back, s_taken, puts, backs, takens, by_ends, by_senders)
 
+    -- and where nobody found the actor's list ended, all of it was put there
+    all-put-on : (ends senders new_ends new_senders : List View) (create orders : ℕ) → HavePut create ends → HavePut 0 senders
+        → AllPutAll to measure whos 0 ends new_ends → AllPutAll to measure whos orders senders new_senders
+        → total (ended to measure whos) (new_ends ++ new_senders) ≡ 0
+        → create + orders + total (back to measure whos) (new_ends ++ new_senders)
+        ≤ total (put to measure whos) (new_ends ++ new_senders) + total (taken to measure whos) (new_ends ++ new_senders)
+    all-put-on ends senders new_ends new_senders create orders first other by_ends by_senders never =
+        let found = total_append (ended to measure whos) new_ends new_senders in
+        let of_ends = by_ends (omega (arith, never, found)) in let of_senders = by_senders (omega (arith, never, found)) in
+        let e = first.all_put in let e_back = first.none_back in let e_taken = first.none_taken in
+        let s = other.all_put in let s_back = other.none_back in let s_taken = other.none_taken in
+        let puts = total_append (put to measure whos) new_ends new_senders in
+        let backs = total_append (back to measure whos) new_ends new_senders in
+        let takens = total_append (taken to measure whos) new_ends new_senders in
+        omega (arith, e, e_back, e_taken, s, s_back, s_taken, puts, backs, takens, of_ends, of_senders)
+
+-- ---- who was not found ended
+
+module _ (report : Report) (id : ℕ) (a : ActorReport) (here : slice_get report.actors.items id ≡ Some a) (open_yet : a.phase ≢ EndedPhase) where
+  -- it was not this actor's list
+  another : (b : ℕ) → ((r : ActorReport) → slice_get report.actors.items b ≡ Some r → r.phase ≡ EndedPhase) → once (b == id) ≡ 0
+  another b all = by_test (b == id) refl
+    where
+      by_test : (same : Bool) → (b == id) ≡ same → once same ≡ 0
+      by_test true is = absurd (open_yet (all a (ap (slice_get report.actors.items) (eqb-true b id is) ∙ here)))
+      by_test false is = refl
+
+  never-in : (log : List Observation) → Each (ReportExtends report) log → total (ended_in id) log ≡ 0
+  never-in [] each = refl
+  never-in (Read b word ∷ log) each = let rest = never-in log each.1 in omega (arith, rest)
+  never-in (Saw b journal ∷ log) each = let rest = never-in log each.1 in omega (arith, rest)
+  never-in (Counted b waiting ∷ log) each = let rest = never-in log each.1 in omega (arith, rest)
+  never-in (Looked b has_work ∷ log) each = let rest = never-in log each.1 in omega (arith, rest)
+  never-in (Sent b n ∷ log) each = let rest = never-in log each.1 in omega (arith, rest)
+  never-in (Unsent b n ∷ log) each = let rest = never-in log each.1 in omega (arith, rest)
+  never-in (Took b n ∷ log) each = let rest = never-in log each.1 in omega (arith, rest)
+  never-in (Pushed b n m ∷ log) each = let rest = never-in log each.1 in omega (arith, rest)
+  never-in (Drained b given ∷ log) each = let rest = never-in log each.1 in omega (arith, rest)
+  never-in (EndedSight b given ∷ log) each = let one = another b each.0 in let rest = never-in log each.1 in omega (arith, one, rest)
+
+  module _ {E : Type 0} (knows : E → View) where
+    never-seen : (es : List E) → All (λ (e : E). ReportExtendsAll report (knows e)) es → total (λ (v : View). total (ended_in id) v.log) (map knows es) ≡ 0
+    never-seen [] all = refl
+    never-seen (e ∷ es) all =
+        let one = never-in (knows e).log (All-head (λ (x : E). ReportExtendsAll report (knows x)) e es all) in
+        let rest = never-seen es (All-tail (λ (x : E). ReportExtendsAll report (knows x)) e es all) in omega (arith, one, rest)
+
+  module _ {A K : Type 0} (now : Built A K) (ends_seen : All (λ (e : WorkerEnd A K). ReportExtendsAll report (of-end e)) now.ends.items)
+      (senders_seen : All (λ (s : Sender A K). ReportExtendsAll report (of-sender s)) now.senders.items) where
+    pub never-found : total (λ (v : View). total (ended_in id) v.log) (views_of now) ≡ 0
+    never-found =
+        let both = total_append (λ (v : View). total (ended_in id) v.log) (map of-end now.ends.items) (map of-sender now.senders.items) in
+        let ends = never-seen of-end now.ends.items ends_seen in let senders = never-seen of-sender now.senders.items senders_seen in
+        omega (arith, both, ends, senders)
+
 -- ends that only made runs kept their shares
 ends-shares : {A K : Type 0} (gives : ℕ → Moment → Reply → Type 0) (origin : Origin (Box Contents)) (throughput : ℕ) (old new : List (WorkerEnd A K))
     → AllOnlyRuns gives origin throughput old new → shares_of_ends new ≡ shares_of_ends old
@@ -137,7 +220,12 @@ module _ {A K : Type 0} (gives : ℕ → Moment → Reply → Type 0) (plan : Pl
       let senders = shares-kept first.system.gates orders first.senders.items now.senders.items as_many sent in
       subst IsWhole (λ i. sym ends i ++ sym senders i) begun.whole
 
-  module _ (to : ℕ) (measure : SysMsg → ℕ) (silent : (ended : ActorId) → measure (Died ended) ≡ 0) where
+  -- the journals of the report are what came of the cells that these ends and senders gave back
+  pub all-released : (report : Report) → ReleasesAddUpTo now report → (id : ℕ) (a : ActorReport) → slice_get report.actors.items id ≡ Some a
+      → ReleasesAddUp id a.journal.entries (views_of now)
+  all-released report released = released whole-still
+
+  module _ (to : ℕ) (measure : SysMsg → ℕ) where
     abbrev whos : List Identity
     whos = actors_in plan
 
@@ -150,24 +238,40 @@ module _ {A K : Type 0} (gives : ℕ → Moment → Reply → Type 0) (plan : Pl
         subst (λ n. HavePut to measure whos n (map of-end first.ends.items)) (let same : create + 0 ≡ create = omega arith in same)
         (subst (λ l. HavePut to measure whos (create + 0) (map of-end l)) (sym begun.ends_are) all)
 
+    first-senders : HavePut to measure whos 0 (map of-sender first.senders.items)
+    first-senders = new-senders-put to measure whos first.system.gates most_actors begun.outside first.senders.items begun.senders
+
     -- all that came into the list, and all that the journals have to send
-    came : total (put to measure whos) (views_of now) + total (taken to measure whos) (views_of now)
+    came : ((ended : ActorId) → measure (Died ended) ≡ 0) → total (put to measure whos) (views_of now) + total (taken to measure whos) (views_of now)
         ≤ measure_to to measure (0, Create) + total (measure_to to measure) (flat_map terminates_of orders) + total (back to measure whos) (views_of now)
-    came =
+    came silent =
         all-put to measure whos (map of-end first.ends.items) (map of-sender first.senders.items) (map of-end now.ends.items)
         (map of-sender now.senders.items) (measure_to to measure (0, Create)) (total (measure_to to measure) (flat_map terminates_of orders)) first-ends
-        (new-senders-put to measure whos first.system.gates most_actors begun.outside first.senders.items begun.senders)
+        first-senders
         (ends-put to measure whos silent gives (origin_of first.system.gates) plan.throughput (of-plan gives plan first begun).who of-end
         first.ends.items now.ends.items runs)
         (senders-put to measure whos orders first.senders.items now.senders.items as_many sent.same_count
         (λ place of before next is was now_is. (sent.each place of before next is was now_is).0)
         (λ place s was. (new-at first.system.gates most_actors begun.outside first.senders.items place s begun.senders was).2))
 
+    came-all : total (ended to measure whos) (views_of now) ≡ 0
+        → measure_to to measure (0, Create) + total (measure_to to measure) (flat_map terminates_of orders) + total (back to measure whos) (views_of now)
+        ≤ total (put to measure whos) (views_of now) + total (taken to measure whos) (views_of now)
+    came-all =
+        all-put-on to measure whos (map of-end first.ends.items) (map of-sender first.senders.items) (map of-end now.ends.items)
+        (map of-sender now.senders.items) (measure_to to measure (0, Create)) (total (measure_to to measure) (flat_map terminates_of orders)) first-ends
+        first-senders
+        (ends-put-all to measure whos gives (origin_of first.system.gates) plan.throughput (of-plan gives plan first begun).who of-end
+        first.ends.items now.ends.items runs)
+        (senders-put-all to measure whos orders first.senders.items now.senders.items as_many sent.same_count
+        (λ place of before next is was now_is. (sent.each place of before next is was now_is).0)
+        (λ place s was. (new-at first.system.gates most_actors begun.outside first.senders.items place s begun.senders was).2))
+
     -- what all put into the list is asked for
-    at-most : (report : Report) → length report.actors.items ≡ length (actors_in plan) → ReleasesAddUpTo now report → (pushed : List SysMsg)
+    at-most : ((ended : ActorId) → measure (Died ended) ≡ 0) → (report : Report) → length report.actors.items ≡ length (actors_in plan) → ReleasesAddUpTo now report → (pushed : List SysMsg)
         → IsAllPut to pushed (views_of now) → total measure pushed ≤ total (measure_to to measure) (asked_for plan orders report)
-    at-most report many released pushed all =
-        let sum = all (λ m. measure m.1) in let plain = unnumbered measure pushed 0 in let most = came in
+    at-most silent report many released pushed all =
+        let sum = all (λ m. measure m.1) in let plain = unnumbered measure pushed 0 in let most = came silent in
         let up = all-add-up (due_to to measure) (λ who. refl) 0 whos report.actors.items (views_of now) many
         (λ place a at. subst (λ n. ReleasesAddUp n a.journal.entries (views_of now)) (let same : place ≡ 0 + place = omega arith in same)
         (released whole-still place a at)) in
@@ -175,30 +279,62 @@ module _ {A K : Type 0} (gives : ℕ → Moment → Reply → Type 0) (plan : Pl
         let both = total_append (measure_to to measure) (flat_map terminates_of orders) (due_by whos report.actors.items) in
         omega (arith, sum, plain, most, up, due, both)
 
-  gets-only-asked : (report : Report) (who : Identity) (a : ActorReport) → length report.actors.items ≡ length (actors_in plan)
-      → ReleasesAddUpTo now report → CountsAllPut now who a → GetsOnlyAskedFor (asked_for plan orders report) who a
-  gets-only-asked report who a many released counted =
+    -- and all that is asked for was put there, where nobody found the list ended
+    at-least : (report : Report) → length report.actors.items ≡ length (actors_in plan) → ReleasesAddUpTo now report → (pushed : List SysMsg)
+        → IsAllPut to pushed (views_of now) → total (ended to measure whos) (views_of now) ≡ 0
+        → total (measure_to to measure) (asked_for plan orders report) ≤ total measure pushed
+    at-least report many released pushed all never =
+        let sum = all (λ m. measure m.1) in let plain = unnumbered measure pushed 0 in let least = came-all never in
+        let up = all-add-up (due_to to measure) (λ who. refl) 0 whos report.actors.items (views_of now) many
+        (λ place a at. subst (λ n. ReleasesAddUp n a.journal.entries (views_of now)) (let same : place ≡ 0 + place = omega arith in same)
+        (released whole-still place a at)) in
+        let due = reported-due to measure whos report.actors.items in
+        let both = total_append (measure_to to measure) (flat_map terminates_of orders) (due_by whos report.actors.items) in
+        omega (arith, sum, plain, least, up, due, both)
+
+  gets-asked : (report : Report) (who : Identity) (a : ActorReport) → length report.actors.items ≡ length (actors_in plan)
+      → ReleasesAddUpTo now report → CountsAllPut now who a
+      → (closed who a.journal.entries ≡ false → total (λ (v : View). total (ended_in who.this.0) v.log) (views_of now) ≡ 0)
+      → GetsAskedFor (asked_for plan orders report) who a
+  gets-asked report who a many released counted never =
       let counts = counted.counts in record {
-        counts = record {
-          pushed = counts.pushed;
-          known = tt;
-          entered = counts.entered;
-          once = counts.once;
-          later = counts.later;
-          all = counts.all;
-          open_has_none = counts.open_has_none;
-          dead = counts.dead;
-        };
+        counts = unlogged counts;
         at_most = λ measure silent. at-most who.this.0 measure silent report many released counts.pushed counted.put;
+        at_least = λ open_yet measure. at-least who.this.0 measure report many released counts.pushed counted.put (never open_yet);
       }
 
-  pub all-get-only-asked : (report : Report) → length report.actors.items ≡ length (first_home now.system.gates).value.directory → PutAddsUpTo now report
-      → ReleasesAddUpTo now report → AllGetOnlyAskedFor plan orders report
-  all-get-only-asked report many counted released = λ id who a at here.
+  -- what the report counts of each actor's list is what these ends and senders put there
+  pub all-put-counted : (report : Report) → PutAddsUpTo now report → CountsAllPutBy plan report (views_of now)
+  all-put-counted report counted id who a at here =
+      let planned = still-planned gives plan first begun now system in
+      let directory = (first_home now.system.gates).value.directory in
+      let e = from-mapped (λ (e : DirectoryEntry). e.who) directory id who (ap (λ l. slice_get l id) planned.who ∙ at) in
+      let all = counted whole-still id e.0 a e.1 here in
+      subst (λ w. (counts : CountsSystems [] w a) × IsAllPut id counts.pushed (views_of now)) e.2 (
+        unlogged all.counts,
+        subst (λ n. IsAllPut n all.counts.pushed (views_of now)) (ap (λ w. w.this.0) e.2 ∙ number-at plan id who at) all.put,
+      )
+
+  pub all-get-asked : (report : Report) → length report.actors.items ≡ length (first_home now.system.gates).value.directory → PutAddsUpTo now report
+      → ReleasesAddUpTo now report
+      → ((id : ℕ) (e : DirectoryEntry) (a : ActorReport) → slice_get (first_home now.system.gates).value.directory id ≡ Some e
+      → slice_get report.actors.items id ≡ Some a → a.phase ≡ phase e.who a.journal.entries)
+      → All (λ (e : WorkerEnd A K). ReportExtendsAll report (of-end e)) now.ends.items
+      → All (λ (s : Sender A K). ReportExtendsAll report (of-sender s)) now.senders.items → AllGetAskedFor plan orders report
+  all-get-asked report many counted released phases ends_seen senders_seen = λ id who a at here.
       (let planned = still-planned gives plan first begun now system in
       let directory = (first_home now.system.gates).value.directory in
       let all : length report.actors.items ≡ length (actors_in plan) =
       many ∙ sym (length-mapped (λ (e : DirectoryEntry). e.who) directory) ∙ ap length planned.who in
       let e = from-mapped (λ (e : DirectoryEntry). e.who) directory id who (ap (λ l. slice_get l id) planned.who ∙ at) in
-      subst (λ w. GetsOnlyAskedFor (asked_for plan orders report) w a) e.2
-      (gets-only-asked report (e.0).who a all released (counted whole-still id e.0 a e.1 here)))
+      let open_phase : closed (e.0).who a.journal.entries ≡ false → a.phase ≢ EndedPhase =
+      λ open_yet is. false_true
+      (sym open_yet ∙ ap (λ p. phase_is p EndedPhase) (sym (phases id e.0 a e.1 here) ∙ is)) in
+      subst (λ w. GetsAskedFor (asked_for plan orders report) w a) e.2
+      (gets-asked report (e.0).who a all released (counted whole-still id e.0 a e.1 here)
+      (λ open_yet. subst (λ n. total (λ (v : View). total (ended_in n) v.log) (views_of now) ≡ 0)
+      (sym (ap (λ w. w.this.0) e.2 ∙ number-at plan id who at))
+      (never-found report id a here (open_phase open_yet) now ends_seen senders_seen))))
+    where
+      false_true : false ≡ true → ⊥
+      false_true e = cc

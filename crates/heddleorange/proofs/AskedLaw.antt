@@ -1,8 +1,8 @@
 -- Each system message that has an entry in a journal of a report was asked for.
 use Rattle.std.proofs.Common.{◌≡◌, ◌≤◌, ◌+◌, ◌==◌, ◌⊎◌, inl, inr, ℕ, zero, suc, Bool, true, false, if◌then◌else◌, List, [], ◌∷◌, ◌++◌, Some, ap, arith, length, refl, subst, sym, ◌∙◌, ℤ}
-use Rattle.std.specs.Prelude.{◌&&◌, Contains, slice_get}
+use Rattle.std.specs.Prelude.{Contains, slice_get}
 use Rattle.std.specs.List.{flat_map}
-use Rattle.std.proofs.lemmas.Bool.{and_parts, eq-eqb, eqb-true}
+use Rattle.std.proofs.lemmas.Bool.{eqb-true}
 use Rattle.mb_actor.specs.Behaviour.{Moment, Reply}
 use Rattle.mb_actor.specs.declared.message.Message.{Message}
 use Rattle.mb_build.specs.Planned.{actors_in}
@@ -17,95 +17,17 @@ use Rattle.mb_journal.specs.Identity.{Identity}
 use Rattle.mb_msg.specs.declared.id.ActorId.{ActorId}
 use Rattle.mb_msg.specs.declared.order.Order.{Order}
 use Rattle.mb_msg.specs.declared.plan.Plan.{Plan}
-use Rattle.mb_msg.specs.declared.supervision.Cause.{Cause}
-use Rattle.mb_msg.specs.declared.supervision.Cause.TheVariants.{DeathPact, Error, Init, Killed}
 use Rattle.mb_msg.specs.declared.system.SysMsg.{SysMsg}
-use Rattle.mb_msg.specs.declared.system.SysMsg.TheVariants.{Create, Died, Failed, Recreate, Resume, Suspend, Terminate, Unwatch, Watch}
+use Rattle.mb_msg.specs.declared.system.SysMsg.TheVariants.{Create, Died}
 use Rattle.mb_report.specs.declared.report.ActorReport.{ActorReport}
 use Rattle.mb_report.specs.declared.report.Report.{Report}
 use Rattle.mb_shutdown.proofs.Lists.{length-mapped, there, within}
 use Rattle.mb_syslist.specs.MessageList.{numbered}
-use Rattle.heddleorange.specs.Asked.{EachIsAskedFor, GetsOnlyAskedFor, IsAskedFor, IsDue, IsNotice, IsOrdered, asked_for, due_by, due_in, measure_to}
+use Rattle.heddleorange.specs.Asked.{EachIsAskedFor, GetsAskedFor, IsAskedFor, IsDue, IsNotice, IsOrdered, asked_for, due_by, due_in, measure_to}
 use Rattle.heddleorange.specs.WholeRun.{IsReportOfRun}
 use Rattle.heddleorange.proofs.AskedFor.{unnumbered}
 use Rattle.heddleorange.proofs.Identified.{number-at}
-
--- ---- one message counted
-
--- whether this is that cause
-abbrev is_cause : Cause → Cause → Bool
-is_cause (Error n) (Error k) = n == k
-is_cause Init Init = true
-is_cause Killed Killed = true
-is_cause DeathPact DeathPact = true
-is_cause _ _ = false
-
-is-cause-same : (c : Cause) → is_cause c c ≡ true
-is-cause-same (Error n) = eq-eqb n n refl
-is-cause-same Init = refl
-is-cause-same Killed = refl
-is-cause-same DeathPact = refl
-
-is-cause-true : (c d : Cause) → is_cause c d ≡ true → c ≡ d
-is-cause-true (Error n) (Error k) is = ap Error (eqb-true n k is)
-is-cause-true Init Init is = refl
-is-cause-true Killed Killed is = refl
-is-cause-true DeathPact DeathPact is = refl
-is-cause-true _ _ is = absurd (cc)
-
--- whether this is that message, where neither is a notice of an end
-abbrev is_message : SysMsg → SysMsg → Bool
-is_message Create Create = true
-is_message (Recreate c) (Recreate d) = is_cause c d
-is_message Suspend Suspend = true
-is_message (Resume true) (Resume true) = true
-is_message (Resume false) (Resume false) = true
-is_message Terminate Terminate = true
-is_message (Watch x) (Watch y) = x.0 == y.0
-is_message (Unwatch x) (Unwatch y) = x.0 == y.0
-is_message (Failed x c) (Failed y d) = (x.0 == y.0) && is_cause c d
-is_message _ _ = false
-
-same-id : (x y : ActorId) → (x.0 == y.0) ≡ true → x ≡ y
-same-id x y is = λ i. record { 0 = eqb-true x.0 y.0 is i }
-
-is-message-true : (m n : SysMsg) → is_message m n ≡ true → m ≡ n
-is-message-true Create Create is = refl
-is-message-true (Recreate c) (Recreate d) is = ap Recreate (is-cause-true c d is)
-is-message-true Suspend Suspend is = refl
-is-message-true (Resume true) (Resume true) is = refl
-is-message-true (Resume false) (Resume false) is = refl
-is-message-true Terminate Terminate is = refl
-is-message-true (Watch x) (Watch y) is = ap Watch (same-id x y is)
-is-message-true (Unwatch x) (Unwatch y) is = ap Unwatch (same-id x y is)
-is-message-true (Failed x c) (Failed y d) is =
-    let both = and_parts (x.0 == y.0) (is_cause c d) is in λ i. Failed (same-id x y both.0 i) (is-cause-true c d both.1 i)
-is-message-true _ _ is = absurd (cc)
-
-is-no-notice : (m : SysMsg) (ended : ActorId) → is_message m (Died ended) ≡ false
-is-no-notice Create ended = refl
-is-no-notice (Recreate c) ended = refl
-is-no-notice Suspend ended = refl
-is-no-notice (Resume true) ended = refl
-is-no-notice (Resume false) ended = refl
-is-no-notice Terminate ended = refl
-is-no-notice (Watch x) ended = refl
-is-no-notice (Unwatch x) ended = refl
-is-no-notice (Failed x c) ended = refl
-is-no-notice (Died x) ended = refl
-
--- a message is itself, or a notice of an end
-itself : (m : SysMsg) → IsNotice m ⊎ (is_message m m ≡ true)
-itself Create = inr refl
-itself (Recreate c) = inr (is-cause-same c)
-itself Suspend = inr refl
-itself (Resume true) = inr refl
-itself (Resume false) = inr refl
-itself Terminate = inr refl
-itself (Watch x) = inr (eq-eqb x.0 x.0 refl)
-itself (Unwatch x) = inr (eq-eqb x.0 x.0 refl)
-itself (Failed x c) = inr (λ i. eq-eqb x.0 x.0 refl i && is-cause-same c i)
-itself (Died x) = inl (x, refl)
+use Rattle.heddleorange.proofs.OneMessage.{is-message-true, is-no-notice, is_message, itself}
 
 -- ---- a message that counts is there
 
@@ -201,7 +123,7 @@ module _ (m : SysMsg) where
 -- ---- the law
 
 module _ (plan : Plan) (orders : List (List Order)) (report : Report) (who : Identity) (a : ActorReport)
-    (only : GetsOnlyAskedFor (asked_for plan orders report) who a) where
+    (only : GetsAskedFor (asked_for plan orders report) who a) where
   -- a message to this actor, which was put into its list
   abbrev IsRight : ℕ → ℕ × SysMsg → Type 0
   IsRight to m = IsNotice m.1 ⊎ IsAskedFor plan orders report (to, m.1)

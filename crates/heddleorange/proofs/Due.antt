@@ -35,7 +35,7 @@ unless false n = omega arith
 -- ---- what journals have to send
 
 -- what a journal has to send is what the one before has to send, and what the new entries have
-due-split : (who : Identity) (newer before : List Entry) → due_since who (newer ++ before) [] ≡ due_since who before [] ++ due_since who newer before
+pub due-split : (who : Identity) (newer before : List Entry) → due_since who (newer ++ before) [] ≡ due_since who before [] ++ due_since who newer before
 due-split who [] before = sym (append-nil (due_since who before []))
 due-split who (e ∷ newer) before =
     let same : messages_of (acts who ((newer ++ before) ++ []) e) ≡ messages_of (acts who (newer ++ before) e) =

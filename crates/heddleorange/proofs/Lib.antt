@@ -30,7 +30,12 @@ pub mod Covering
 pub mod Due
 pub mod Returns
 pub mod Put
+pub mod PutAll
 pub mod AskedFor
+pub mod OneMessage
 pub mod AskedLaw
+pub mod Came
+pub mod Started
+pub mod ArrivedLaw
 pub mod PassedOn
 pub mod Adding

@@ -12,6 +12,7 @@ use Rattle.mb_actor.specs.declared.message.Message.{Message}
 use Rattle.mb_journal.specs.Accepted.{accepted}
 use Rattle.mb_journal.specs.declared.sent_envelope.SentEnvelope.{SentEnvelope}
 use Rattle.mb_gate.specs.Accessors.{actors_of, first_home, pass_view}
+use Rattle.mb_gate.specs.Releases.{ReleasesAddUp}
 use Rattle.mb_gate.specs.Rule.{IsPart}
 use Rattle.mb_gate.specs.Untouched.{origin_of}
 use Rattle.mb_gate.specs.View.{Observation, View}
@@ -19,6 +20,7 @@ use Rattle.mb_gate.specs.declared.gates.Gates.{Gates}
 use Rattle.mb_home.specs.Contents.{Contents}
 use Rattle.mb_msg.specs.declared.plan.Plan.{Plan}
 use Rattle.mb_queue.specs.Passes.{SendPassView}
+use Rattle.mb_report.specs.declared.report.ActorReport.{ActorReport}
 use Rattle.mb_report.specs.declared.report.Report.{Report}
 use Rattle.mb_build.specs.Numbers.{numbers}
 use Rattle.mb_shutdown.specs.Homes.{HomesReturned}
@@ -29,6 +31,7 @@ use Rattle.mb_startup.specs.Begun.{AreNewEnds, AreNewSenders, IsBegun}
 use Rattle.mb_system.specs.Belonging.{senders_numbers}
 use Rattle.mb_system.specs.Members.{StillSee, ends_numbers}
 use Rattle.mb_dispatch.specs.Orders.{addressed, addressed_system, terminates_of}
+use Rattle.mb_system.specs.Shares.{views_of}
 use Rattle.mb_system.specs.declared.built.Built.{Built}
 use Rattle.mb_system.specs.declared.end.WorkerEnd.{WorkerEnd}
 use Rattle.mb_msg.specs.declared.order.Order.{Order}
@@ -38,9 +41,9 @@ use Rattle.mb_shutdown.specs.Belonging.{AreAnswers, AreThere, HasAllSeen}
 use Rattle.mb_shutdown.specs.Refused.{HasHomesReturned}
 use Rattle.mb_shutdown.proofs.Parts.{part-trans}
 use Rattle.mb_startup.proofs.There.{ends-there, length-numbers, number-at, senders-there}
-use Rattle.heddleorange.specs.Asked.{AllGetOnlyAskedFor}
+use Rattle.heddleorange.specs.Asked.{AllGetAskedFor}
 use Rattle.heddleorange.specs.Sent.{HaveSent}
-use Rattle.heddleorange.specs.WholeRun.{DidOrders, IsReportOfRun}
+use Rattle.heddleorange.specs.WholeRun.{CountsAllPutBy, DidOrders, IsReportOfRun}
 use Rattle.heddleorange.specs.Workers.{AllOnlyRuns, AreNewViews}
 use Rattle.mb_dispatch.specs.Runs.{OnlyRuns}
 use Rattle.heddleorange.proofs.Sent.{numbers-kept}
@@ -138,8 +141,10 @@ module _ {A K : Type 0} (gives : ℕ → Moment → Reply → Type 0) (plan : Pl
         → IsCompleteReport after gives (first_home now.system.gates).value.directory log answers report
         → All (λ (e : WorkerEnd A K). ReportExtendsAll report (pass_view e.registrar.pass)) now.ends.items
         → All (λ (s : Sender A K). ReportExtendsAll report (pass_view s.inner.registrar.pass)) now.senders.items
-        → HasHomesReturned gives now report → AllGetOnlyAskedFor plan orders report → IsReportOfRun after gives plan orders report
-    story after report log answers saw runs seen answered whole ends_seen senders_seen home asked =
+        → HasHomesReturned gives now report
+        → ((id : ℕ) (a : ActorReport) → slice_get report.actors.items id ≡ Some a → ReleasesAddUp id a.journal.entries (views_of now))
+        → CountsAllPutBy plan report (views_of now) → AllGetAskedFor plan orders report → IsReportOfRun after gives plan orders report
+    story after report log answers saw runs seen answered whole ends_seen senders_seen home releases put asked =
         let knows = λ (s : Sender A K). pass_view s.inner.registrar.pass in
         let knew = λ (e : WorkerEnd A K). pass_view e.registrar.pass in
         let IsTold = λ (v : View). IsPart v.log log × ReportExtendsAll report v in record {
@@ -174,6 +179,8 @@ module _ {A K : Type 0} (gives : ℕ → Moment → Reply → Type 0) (plan : Pl
           began_new = subst (λ (l : List (WorkerEnd A K)). AreNewViews (map knew l)) (sym begun.ends_are)
               (begun.created, all-blank built.system.gates 1 begun.others begun.others_are);
           runs = zip-mapped (OnlyRuns gives (origin_of built.system.gates) plan.throughput) knew built.ends.items now.ends.items runs;
+          releases = releases;
+          put = put;
           created = (
             begun.created.0,
             subst (λ l. IsPart l log) begun.created.1

@@ -1,5 +1,5 @@
 -- Who asked for the system messages of a run (this project's own profile: Akka keeps no record of system messages that were sent).
-use Rattle.std.specs.Prelude.{◌≡◌, ◌≤◌, ◌==◌, ◌⊎◌, if◌then◌else◌, ℕ, Contains, List, [], ◌∷◌, ◌++◌, Some, slice_get}
+use Rattle.std.specs.Prelude.{◌≡◌, ◌≤◌, ◌==◌, ◌⊎◌, if◌then◌else◌, ℕ, false, Contains, List, [], ◌∷◌, ◌++◌, Some, slice_get}
 use Rattle.std.specs.List.{flat_map}
 use Rattle.mb_build.specs.Planned.{actors_in}
 use Rattle.mb_dispatch.specs.Orders.{terminates_of}
@@ -9,6 +9,7 @@ use Rattle.mb_ghost.specs.Summed.{total}
 use Rattle.mb_home.specs.AtHome.{system_entries}
 use Rattle.mb_journal.specs.Entry.{Entry}
 use Rattle.mb_journal.specs.Identity.{Identity}
+use Rattle.mb_journal.specs.Life.{closed}
 use Rattle.mb_msg.specs.declared.id.ActorId.{ActorId}
 use Rattle.mb_msg.specs.declared.order.Order.{Order}
 use Rattle.mb_msg.specs.declared.plan.Plan.{Plan}
@@ -37,19 +38,23 @@ asked_for plan orders report = (0, Create) ∷ (flat_map terminates_of orders ++
 abbrev pub measure_to : ℕ → (SysMsg → ℕ) → ℕ × SysMsg → ℕ
 measure_to to measure m = if m.0 == to then measure m.1 else 0
 
--- Each system message that was put into the actor's list was one of those that are asked for, and none was put there more often: by any measure of
--- messages, those that were put there come to at most as much as those that are asked for to this actor. Notices of an end have no measure here: such a
--- notice also answers a message that found its receiver's list ended, and no journal asks for that answer. Of what was put there the report counts all,
--- and each message that has an entry is among it, under the entry's number.
-pub record GetsOnlyAskedFor (asked : List (ℕ × SysMsg)) (who : Identity) (a : ActorReport) : Type 0 where
+-- What was put into the actor's list is what is asked for to it. No more was put there: each message that was put there is one of those that are asked
+-- for, and none was put there more often. By any measure of messages, those that were put there come to at most as much as those that are asked for to
+-- this actor. Notices of an end have no measure here: such a notice also answers a message that found its receiver's list ended, and no journal asks for
+-- that answer. No less was put there, unless the actor has ended: each message that is asked for to it was put there, as often as it is asked for; so
+-- was each notice of an end that a journal has to send. Of what was put there the report counts all, and each message that has an entry is among it,
+-- under the entry's number.
+pub record GetsAskedFor (asked : List (ℕ × SysMsg)) (who : Identity) (a : ActorReport) : Type 0 where
   pub counts : CountsSystems [] who a
   pub at_most : (measure : SysMsg → ℕ) → ((ended : ActorId) → measure (Died ended) ≡ 0)
       → total measure counts.pushed ≤ total (measure_to who.this.0 measure) asked
+  pub at_least : closed who a.journal.entries ≡ false → (measure : SysMsg → ℕ)
+      → total (measure_to who.this.0 measure) asked ≤ total measure counts.pushed
 
 -- This is so of each actor of the report of a run of this plan with these orders.
-abbrev pub AllGetOnlyAskedFor : Plan → List (List Order) → Report → Type 0
-AllGetOnlyAskedFor plan orders report = (id : ℕ) (who : Identity) (a : ActorReport) → slice_get (actors_in plan) id ≡ Some who
-    → slice_get report.actors.items id ≡ Some a → GetsOnlyAskedFor (asked_for plan orders report) who a
+abbrev pub AllGetAskedFor : Plan → List (List Order) → Report → Type 0
+AllGetAskedFor plan orders report = (id : ℕ) (who : Identity) (a : ActorReport) → slice_get (actors_in plan) id ≡ Some who
+    → slice_get report.actors.items id ≡ Some a → GetsAskedFor (asked_for plan orders report) who a
 
 -- One of the senders outside is to send this message to this actor.
 abbrev pub IsOrdered : List (List Order) → ℕ × SysMsg → Type 0

@@ -1,6 +1,7 @@
 pub mod Sent
 pub mod Workers
 pub mod Asked
+pub mod Arrived
 pub mod WholeRun
 pub mod Remains
 pub mod NoReport

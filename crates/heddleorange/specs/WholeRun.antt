@@ -1,11 +1,14 @@
 -- A whole run, from the plan and the actors to the report.
-use Rattle.std.specs.Prelude.{◌≡◌, ℕ, zero, suc, ℤ, pos, List, [], ◌∷◌, All, Option, Some, None, length, reverse, slice_get}
+use Rattle.std.specs.Prelude.{◌≡◌, ℕ, zero, suc, ℤ, pos, List, [], ◌∷◌, ◌++◌, All, Option, Some, None, length, reverse, slice_get}
 use Rattle.std.specs.Global.{Box}
 use Rattle.std.specs.List.{AllZip}
 use Rattle.mb_actor.specs.Behaviour.{Moment, Reply}
 use Rattle.mb_actor.specs.declared.message.Message.{Message}
 use Rattle.mb_journal.specs.Accepted.{accepted}
+use Rattle.mb_journal.specs.Identity.{Identity}
 use Rattle.mb_journal.specs.declared.sent_envelope.SentEnvelope.{SentEnvelope}
+use Rattle.mb_gate.specs.PutIn.{IsAllPut}
+use Rattle.mb_gate.specs.Releases.{ReleasesAddUp}
 use Rattle.mb_gate.specs.Rule.{IsPart}
 use Rattle.mb_gate.specs.Untouched.{Origin}
 use Rattle.mb_gate.specs.View.{Pushed, Observation, View}
@@ -14,14 +17,15 @@ use Rattle.mb_home.specs.Directory.{DirectoryEntry}
 use Rattle.mb_msg.specs.declared.system.SysMsg.TheVariants.{Create}
 use Rattle.mb_msg.specs.declared.plan.Plan.{Plan}
 use Rattle.mb_shutdown.specs.Seen.{ReportExtendsAll}
-use Rattle.mb_shutdown.specs.CompleteReport.{IsCompleteReport}
+use Rattle.mb_shutdown.specs.CompleteReport.{CountsSystems, IsCompleteReport}
+use Rattle.mb_report.specs.declared.report.ActorReport.{ActorReport}
 use Rattle.mb_report.specs.declared.report.Report.{Report}
 use Rattle.mb_dispatch.specs.Orders.{addressed, addressed_system, terminates_of, envelopes_of}
-use Rattle.mb_build.specs.Planned.{IsDirectoryOf}
+use Rattle.mb_build.specs.Planned.{IsDirectoryOf, actors_in}
 use Rattle.mb_msg.specs.declared.order.Order.{Order}
 use Rattle.mb_shutdown.specs.ReportedHomes.{IsOfHomes}
 use Rattle.mb_dispatch.specs.Runs.{OnlyRuns}
-use Rattle.heddleorange.specs.Asked.{AllGetOnlyAskedFor}
+use Rattle.heddleorange.specs.Asked.{AllGetAskedFor}
 use Rattle.heddleorange.specs.Workers.{AreNewViews}
 
 -- The actor that was handed in for this number: the first for number 1, since 0 is the guardian's.
@@ -53,11 +57,18 @@ pub record DidOrders (orders : List Order) (postings : List SentEnvelope) (knew 
   pub accepted_are : addressed (accepted postings) ≡ envelopes_of orders
   pub sent_system : addressed_system knew.sent_system ≡ reverse (terminates_of orders)
 
+-- What came into an actor's list of system messages, of which the report counts all, is what these seats put there.
+abbrev pub CountsAllPutBy : Plan → Report → List View → Type 0
+CountsAllPutBy plan report vs = (id : ℕ) (who : Identity) (a : ActorReport) → slice_get (actors_in plan) id ≡ Some who
+    → slice_get report.actors.items id ≡ Some a → (counts : CountsSystems [] who a) × IsAllPut id counts.pushed vs
+
 -- The report of a whole run. It tells of all actors of this plan, and of the plan's senders outside, each of which carried out the orders of its
 -- place. It tells of all that the senders and the workers' ends saw, and extends that; and they saw that a Create went into the guardian's list. It
 -- is made of what gates with this directory gave back. From what it knew in the new system to what it saw, each end only made runs of mailboxes of
--- these gates, by the plan's throughput. No system message came into an actor's list that an order, an entry of a journal or the start of the guardian
--- did not ask for.
+-- these gates, by the plan's throughput. The journal of each actor is what came of an empty one in the cells that these ends and senders gave back, so
+-- what these runs added. What came into an actor's list of system messages is what these ends and senders put there, the answers for lists that had ended
+-- too. But for such answers it is what orders, entries of journals and the start of the guardian asked for; into the list of an actor which has ended came
+-- no more than that.
 pub record IsReportOfRun (after : ℕ → List Message → ℤ) (gives : ℕ → Moment → Reply → Type 0) (plan : Plan) (orders : List (List Order)) (report : Report)
     : Type 0 where
   pub directory : List DirectoryEntry
@@ -77,7 +88,9 @@ pub record IsReportOfRun (after : ℕ → List Message → ℤ) (gives : ℕ →
   pub began : List View
   pub began_new : AreNewViews began
   pub runs : AllZip (OnlyRuns gives origin plan.throughput) began ends
+  pub releases : (id : ℕ) (a : ActorReport) → slice_get report.actors.items id ≡ Some a → ReleasesAddUp id a.journal.entries (ends ++ knew)
+  pub put : CountsAllPutBy plan report (ends ++ knew)
   pub created : (number : ℕ) × IsPart (Pushed 0 number Create ∷ []) log
-  pub asked : AllGetOnlyAskedFor plan orders report
+  pub asked : AllGetAskedFor plan orders report
   pub did : (place : ℕ) (of : List Order) (postings : List SentEnvelope) (view : View) → slice_get orders place ≡ Some of
       → slice_get outside place ≡ Some postings → slice_get knew place ≡ Some view → DidOrders of postings view

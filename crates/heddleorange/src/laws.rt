@@ -13,6 +13,8 @@ ghost use Rattle.mb_msg.specs.declared.order.Order.{Order};
 ghost use Rattle.mb_msg.specs.declared.plan.Plan.{Plan};
 ghost use Rattle.mb_report.specs.Counts.{tells_of_restart};
 ghost use Rattle.mb_report.specs.declared.report.Report.{Report};
+ghost use Rattle.heddleorange.specs.Arrived.{EachAskedForArrives, EachGetsWhatIsAskedFor, EachOfTheGuardianIsStarted};
+ghost use Rattle.heddleorange.specs.Arrived.{EachSpawnedIsStarted, EachStopArrives, GuardianIsStarted};
 ghost use Rattle.heddleorange.specs.Asked.{EachIsAskedFor};
 ghost use Rattle.heddleorange.specs.Reading.{handled_messages};
 ghost use Rattle.heddleorange.specs.WholeRun.{IsReportOfRun, after_at, gives_at};
@@ -45,4 +47,50 @@ pub fn an_actor_without_a_restart_has_handled_all<K: Behaviours>()
 pub fn each_system_message_is_asked_for<A: Actor>()
     ensures { (actors : List A) (plan : Plan) (orders : List (List Order)) (report : Report)
         → IsReportOfRun (after_at actors A.after) (gives_at actors A.gives) plan orders report → EachIsAskedFor plan orders report }
+{}
+
+/// A law: in a run, each system message that was asked for arrives. It has an entry in the journal of the actor that
+/// it was for, unless that actor has ended. That is so of the guardian's Create, of each Terminate that a sender
+/// outside was to send, and of each message that an actor has to send, as its journal says; so it is of each notice
+/// that an actor has ended.
+pub fn each_system_message_asked_for_arrives<A: Actor>()
+    ensures { (actors : List A) (plan : Plan) (orders : List (List Order)) (report : Report)
+        → IsReportOfRun (after_at actors A.after) (gives_at actors A.gives) plan orders report
+        → EachAskedForArrives plan orders report }
+{}
+
+/// A law: in a run, what came to an actor is what was asked for to it, unless the actor has ended: no system message
+/// was lost, none came twice, and none was invented. The notices that an actor has ended are left out: such a notice
+/// also answers a message that found its receiver's list ended.
+pub fn each_actor_gets_what_is_asked_for<A: Actor>()
+    ensures { (actors : List A) (plan : Plan) (orders : List (List Order)) (report : Report)
+        → IsReportOfRun (after_at actors A.after) (gives_at actors A.gives) plan orders report
+        → EachGetsWhatIsAskedFor plan orders report }
+{}
+
+/// A law: in a run, the guardian is started, unless it has ended.
+pub fn the_guardian_is_started<A: Actor>()
+    ensures { (actors : List A) (plan : Plan) (orders : List (List Order)) (report : Report)
+        → IsReportOfRun (after_at actors A.after) (gives_at actors A.gives) plan orders report
+        → GuardianIsStarted report }
+{}
+
+/// A law: in a run, each actor that was to be stopped applied a Terminate, so that it is ending or has ended. That is
+/// so whoever was to stop it: a sender outside, or an actor, as its journal says. An actor that takes a PoisonPill
+/// stops itself.
+pub fn each_stop_arrives<A: Actor>()
+    ensures { (actors : List A) (plan : Plan) (orders : List (List Order)) (report : Report)
+        → IsReportOfRun (after_at actors A.after) (gives_at actors A.gives) plan orders report
+        → EachStopArrives plan orders report }
+{}
+
+/// A law: in a run, each child that an actor spawned is started, unless the child has ended. So is each actor that
+/// the plan puts under the guardian, unless the guardian or that actor has ended.
+pub fn each_spawned_actor_is_started<A: Actor>()
+    ensures by_actors { (actors : List A) (plan : Plan) (orders : List (List Order)) (report : Report)
+        → IsReportOfRun (after_at actors A.after) (gives_at actors A.gives) plan orders report
+        → EachSpawnedIsStarted plan report }
+    ensures by_guardian { (actors : List A) (plan : Plan) (orders : List (List Order)) (report : Report)
+        → IsReportOfRun (after_at actors A.after) (gives_at actors A.gives) plan orders report
+        → EachOfTheGuardianIsStarted plan report }
 {}

@@ -1,6 +1,6 @@
 -- The directory of actors, and what stands at one place of it.
 use Rattle.std.proofs.Common.{◌≡◌, ℕ, zero, suc, ◌+◌, List, [], ◌∷◌, ◌++◌, length, map, take, drop, refl, sym, ap, ◌∙◌}
-use Rattle.std.proofs.Common.{subst, append_assoc, arith}
+use Rattle.std.proofs.Common.{subst, append-nil, append_assoc, arith}
 use Rattle.std.specs.Prelude.{slice_get, Some}
 use Rattle.std.proofs.lemmas.List.{map_push}
 use Rattle.mb_journal.specs.Identity.{Identity}
@@ -38,6 +38,16 @@ pub enrolled-more : (here there : List Identity) (this that : List TakePassView)
 enrolled-more here there this that who t old new whole front own pushed before =
     ap (λ l. l ++ directory_of there that) pushed ∙ append_assoc old (the_enrolled who t ∷ []) (directory_of there that)
     ∙ ap (λ l. old ++ directory_of (who ∷ there) l) (sym own) ∙ ap (λ l. old ++ directory_of l this) (sym front) ∙ before
+
+-- nobody is, to begin with
+pub enrolled-none : {X : Type 0} (view : X → DirectoryEntry) (old : List X) (whole : List DirectoryEntry) → old ≡ [] → map view old ++ whole ≡ whole
+enrolled-none view old whole none = ap (λ l. map view l ++ whole) none
+
+-- where nobody is left, all are
+pub enrolled-done : (old whole : List DirectoryEntry) (here : List Identity) (this : List TakePassView) → here ≡ []
+    → old ++ directory_of here this ≡ whole → old ≡ whole
+enrolled-done old whole here this none before =
+    sym (append-nil old) ∙ ap (λ l. old ++ directory_of l this) (sym none) ∙ before
 
 pub length-enrolled : (whos : List Identity) (takes : List TakePassView) → length takes ≡ length whos → length (directory_of whos takes) ≡ length whos
 length-enrolled [] takes many = refl

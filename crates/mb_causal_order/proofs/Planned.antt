@@ -35,7 +35,7 @@ fresh who a one c at is = record {
 }
 
 module _ (plan : Plan) (parents : List ActorId) (are : parents ≡ map (λ (a : ActorPlan). a.parent) plan.actors.items) where
-  count : length parents ≡ length plan.actors.items
+  pub count : length parents ≡ length plan.actors.items
   count = ap length are ∙ length-map plan.actors.items (λ (a : ActorPlan). a.parent)
 
   -- the guardian's cell

@@ -24,7 +24,7 @@ use Rattle.mb_send.specs.declared.send_error.SendError.TheVariants as Refusal
 use Rattle.mb_home.specs.Fresh.{IsFreshClaim}
 use Rattle.mb_mailbox.specs.Ran.{HadRoom, IsShortOfMemory, LeavesRun}
 use Rattle.mb_mailbox.specs.declared.turn.Turn.{Turn}
-use Rattle.mb_dispatch.specs.Faults.{BreaksRun, BreaksWork, BreaksSending, HasWorked, IsToNobody, OnlyRunsBySystem, RunsOrBreaks}
+use Rattle.mb_dispatch.specs.Faults.{BreaksRun, BreaksWork, BreaksSending, HasWorked, IsRefusedFor, IsToNobody, IsToSomebody, OnlyRunsBySystem, RunsOrBreaks}
 use Rattle.mb_dispatch.specs.Found.{FoundPoolEmpty}
 use Rattle.mb_dispatch.specs.Jobs.{IsDone}
 use Rattle.mb_dispatch.specs.Orders.{order_for}
@@ -113,6 +113,17 @@ unfolding IsOfMemory
 to-nobody {T} P Q M (Ok x) refused memory e = absurd (subst (λ (r : Result T SendError). OnErr r ⊥) e tt)
 to-nobody P Q M (Err error) (p, inl q) memory e = q.1
 to-nobody P Q M (Err error) (p, inr m) memory e = absurd (subst IsOfMemory (sym (memory m) ∙ e) tt)
+
+-- and each reason is that of its receiver
+pub refused-for : (gates : Gates (Box Contents)) {T : Type 0} (to : ActorId) (what : OrderKind) (P M : Type 0) (result : Result T SendError)
+    → OnErr result (P × ((IsErrOf result Refusal.NoSuchActor × IsToNobody gates to what) ⊎ M)) → (M → IsErrOf result Refusal.NoMemory)
+    → (M → IsToSomebody gates to what) → (error : SendError) → result ≡ Err error → IsRefusedFor gates to what (of_send error)
+unfolding IsOfMemory
+refused-for gates {T} to what P M (Ok x) refused memory known error e = absurd (subst (λ (r : Result T SendError). OnErr r ⊥) e tt)
+refused-for gates to what P M (Err x) (p, inl nobody) memory known Refusal.NoMemory e = absurd (subst IsOfMemory (sym e ∙ nobody.0) tt)
+refused-for gates to what P M (Err x) (p, inl nobody) memory known Refusal.NoSuchActor e = nobody.1
+refused-for gates to what P M (Err x) (p, inr m) memory known Refusal.NoMemory e = known m
+refused-for gates to what P M (Err x) (p, inr m) memory known Refusal.NoSuchActor e = absurd (subst IsOfMemory (sym (memory m) ∙ e) tt)
 
 module _ {A K : Type 0} (gives : ℕ → Moment → Reply → Type 0) (system : System A K) where
   -- a run of a mailbox by this end was broken off

@@ -2,6 +2,7 @@
 use Rattle.std.proofs.Common.{◌≡◌, ◌≢◌, ◌⊎◌, List, [], ◌∷◌, ◌++◌, Bool, true, false, ℕ, ap, sym, refl, ◌∙◌, subst, append_assoc, Option}
 use Rattle.std.proofs.Common.{◌+◌, ◌<◌, zero, suc, arith, take, drop, get_or, length}
 use Rattle.std.specs.Prelude.{Err, Result, Some, reverse}
+use Rattle.std.specs.Global.{Box}
 use Rattle.std.proofs.lemmas.List.{append-nil, drop_more, map-append, reverse-append, take-append-drop}
 use Rattle.mb_msg.specs.declared.dead_letter.Why.{Why}
 use Rattle.mb_msg.specs.declared.dead_letter.Why.TheVariants as why
@@ -20,6 +21,8 @@ use Rattle.mb_msg.specs.declared.order.OrderKind.TheVariants.{Tell, Stop}
 use Rattle.mb_gate.specs.Accessors.{pass_view}
 use Rattle.mb_gate.specs.Rule.{IsPart}
 use Rattle.mb_gate.specs.View.{SentSystem, Observation, View, obligation_to}
+use Rattle.mb_gate.specs.declared.gates.Gates.{Gates}
+use Rattle.mb_home.specs.Contents.{Contents}
 use Rattle.mb_status.specs.Mailbox.{word_of}
 use Rattle.mb_register.specs.Owed.{is_owed}
 use Rattle.mb_core.specs.Actor.{nothing}
@@ -40,14 +43,16 @@ use Rattle.mb_system.specs.Obligations.{KeepsObligations}
 use Rattle.mb_system.specs.Members.{sender_caller}
 use Rattle.mb_dispatch.specs.Orders.{CountsQueued, HasSent, HasSentUpTo, StopsWithin, addressed, order_for, over, addressed_system, terminates_of, terminates_of_one}
 use Rattle.mb_dispatch.specs.Orders.{envelopes_of, envelopes_of_one}
+use Rattle.mb_dispatch.specs.Faults.{IsRefusedFor, StopsFor}
+use Rattle.mb_system.specs.declared.failure.RunError.{RunError}
 use Rattle.mb_system.specs.declared.sender.Sender.{Sender}
-use Rattle.mb_mailbox.specs.RunSends.{PutsAsSent, listed_measure}
+use Rattle.mb_mailbox.specs.RunSends.{ended_in, listed_measure, refused_of}
 use Rattle.mb_gate.specs.PutIn.{put_in}
 use Rattle.mb_ghost.specs.Summed.{total}
 use Rattle.mb_msg.specs.declared.system.SysMsg.{SysMsg}
 use Rattle.mb_system.specs.OnlyLooks.{OnlyLooks}
 use Rattle.mb_dispatch.proofs.Counts.{counts-none, counts-posting, counts-then, does-counts, looks-count}
-use Rattle.mb_dispatch.proofs.Puts.{counts-put-none, does-puts, looks-put, puts-none, puts-then}
+use Rattle.mb_dispatch.proofs.Puts.{LogsAsSent, counts-end-none, counts-put-none, does-log, logs-none, logs-then, looks-log}
 use Rattle.mb_system.proofs.Obligations.{obligations-at}
 use Rattle.mb_system.proofs.Saw.{saw-more, saw-same, saw-then}
 
@@ -87,11 +92,21 @@ module _ {A K : Type 0} where
     accepted_are = refl;
     counted = counts-none (pass_view s.inner.registrar.pass);
     system_sent = refl;
-    put = puts-none (pass_view s.inner.registrar.pass);
+    put = (logs-none (pass_view s.inner.registrar.pass)).put;
+    refused = (logs-none (pass_view s.inner.registrar.pass)).refused;
     log_kept = saw-same _;
     share = refl;
     gives_back = unchanged-none _ _ refl;
   }
+
+  logs-of : (xs : List Order) (a b : Sender A K) → HasSent xs a b → LogsAsSent (pass_view a.inner.registrar.pass) (pass_view b.inner.registrar.pass)
+  logs-of xs a b p = record { put = p.put; refused = p.refused }
+
+  logs-on : {xs ys : List Order} (a b c : Sender A K) → HasSent xs a b → HasSent ys b c
+      → LogsAsSent (pass_view a.inner.registrar.pass) (pass_view c.inner.registrar.pass)
+  logs-on {xs} {ys} a b c p q =
+      logs-then (pass_view a.inner.registrar.pass) (pass_view b.inner.registrar.pass) (pass_view c.inner.registrar.pass) (logs-of xs a b p)
+      (logs-of ys b c q)
 
   -- first this was sent, and then that
   pub sent-then : (xs ys : List Order) (a b c : Sender A K) → HasSent xs a b → HasSent ys b c → HasSent (xs ++ ys) a c
@@ -107,7 +122,8 @@ module _ {A K : Type 0} where
         q.system_sent ∙ ap (λ l. reverse (terminates_of ys) ++ l) p.system_sent ∙ sym (append_assoc (reverse (terminates_of ys)) (reverse (terminates_of xs)) _)
         ∙ ap (λ l. l ++ addressed_system (pass_view a.inner.registrar.pass).sent_system)
         (sym (reverse-append (terminates_of xs) (terminates_of ys)) ∙ ap reverse (sym (terminates-append xs ys)));
-    put = puts-then (pass_view a.inner.registrar.pass) (pass_view b.inner.registrar.pass) (pass_view c.inner.registrar.pass) p.put q.put;
+    put = (logs-on a b c p q).put;
+    refused = (logs-on a b c p q).refused;
     log_kept = saw-then _ _ _ p.log_kept q.log_kept;
     share = q.share ∙ p.share;
     gives_back = unchanged-then _ _ _ p.gives_back q.gives_back;
@@ -123,6 +139,7 @@ module _ {A K : Type 0} where
     counted = p.counted;
     system_sent = p.system_sent ∙ ap (λ l. reverse l ++ addressed_system (pass_view a.inner.registrar.pass).sent_system) terminates;
     put = p.put;
+    refused = p.refused;
     log_kept = p.log_kept;
     share = p.share;
     gives_back = p.gives_back;
@@ -141,54 +158,65 @@ module _ {A K : Type 0} where
       (sent-then (order_for to what n ∷ []) (order_for to what 1 ∷ []) a b c before more)
 
   -- it stopped at the order of this place
-  pub stops-within : (orders : List Order) (i : ℕ) (d : Order) (a b c : Sender A K) → i < length orders → HasSent (take i orders) a b
-      → HasSentUpTo [] (get_or orders i d) b c → StopsWithin orders a c
-  stops-within orders i d a b c within before part =
-      let next = get_or orders i d in record {
-        done = take i orders;
-        next = next;
-        left = drop (i + 1) orders;
-        are = sym (take-append-drop i orders) ∙ ap (λ l. take i orders ++ l) (drop_more orders i d within);
-        sent = record {
-          times = part.times;
-          fewer = part.fewer;
-          sent = sent-then (take i orders) (order_for next.to next.what part.times ∷ []) a b c before part.sent;
-        };
-      }
+  module _ (orders : List Order) (i : ℕ) (d : Order) (a b c : Sender A K) (within : i < length orders) (before : HasSent (take i orders) a b)
+      (part : HasSentUpTo [] (get_or orders i d) b c) where
+    abbrev stops-at : StopsWithin orders a c
+    stops-at =
+        let next = get_or orders i d in record {
+          done = take i orders;
+          next = next;
+          left = drop (i + 1) orders;
+          are = sym (take-append-drop i orders) ∙ ap (λ l. take i orders ++ l) (drop_more orders i d within);
+          sent = record {
+            times = part.times;
+            fewer = part.fewer;
+            sent = sent-then (take i orders) (order_for next.to next.what part.times ∷ []) a b c before part.sent;
+          };
+        }
+
+    pub stops-within : StopsWithin orders a c
+    stops-within = stops-at
+
+    -- for this reason
+    pub stops-for : (gates : Gates (Box Contents)) (fault : RunError) → IsRefusedFor gates (get_or orders i d).to (get_or orders i d).what fault
+        → StopsFor gates orders a c fault
+    stops-for gates fault why = (stops-at, why)
 
   -- it sent no envelope and no system message since, kept its share, and gave each cell back as it was taken
   pub sent-still : (xs : List Order) (a b c : Sender A K) → c.inner.send_log ≡ b.inner.send_log
       → OnlyLooks (pass_view b.inner.registrar.pass) (pass_view c.inner.registrar.pass) → HasSent xs a b → HasSent xs a c
-  sent-still xs a b c send_log only p = record {
-    by = ap (λ k. k.by) send_log ∙ p.by;
-    more = p.more;
-    posted = ap (λ k. k.posted) send_log ∙ p.posted;
-    accepted_are = p.accepted_are;
-    counted =
-        subst (λ more. CountsQueued more (pass_view a.inner.registrar.pass) (pass_view c.inner.registrar.pass)) (append-nil p.more)
-        (counts-then p.more [] (pass_view a.inner.registrar.pass) (pass_view b.inner.registrar.pass) (pass_view c.inner.registrar.pass) p.counted
-        (looks-count (pass_view b.inner.registrar.pass) (pass_view c.inner.registrar.pass) only));
-    system_sent = ap addressed_system only.sent_system ∙ p.system_sent;
-    put =
-        puts-then (pass_view a.inner.registrar.pass) (pass_view b.inner.registrar.pass) (pass_view c.inner.registrar.pass) p.put
-        (looks-put (pass_view b.inner.registrar.pass) (pass_view c.inner.registrar.pass) only);
-    log_kept = saw-then _ _ _ p.log_kept (saw-more only.looks _ _ only.log);
-    share = only.share ∙ p.share;
-    gives_back = unchanged-then _ _ _ p.gives_back only.gives_back;
-  }
+  sent-still xs a b c send_log only p =
+      let logs = logs-then (pass_view a.inner.registrar.pass) (pass_view b.inner.registrar.pass) (pass_view c.inner.registrar.pass) (logs-of xs a b p)
+      (looks-log (pass_view b.inner.registrar.pass) (pass_view c.inner.registrar.pass) only) in record {
+        by = ap (λ k. k.by) send_log ∙ p.by;
+        more = p.more;
+        posted = ap (λ k. k.posted) send_log ∙ p.posted;
+        accepted_are = p.accepted_are;
+        counted =
+            subst (λ more. CountsQueued more (pass_view a.inner.registrar.pass) (pass_view c.inner.registrar.pass)) (append-nil p.more)
+            (counts-then p.more [] (pass_view a.inner.registrar.pass) (pass_view b.inner.registrar.pass) (pass_view c.inner.registrar.pass) p.counted
+            (looks-count (pass_view b.inner.registrar.pass) (pass_view c.inner.registrar.pass) only));
+        system_sent = ap addressed_system only.sent_system ∙ p.system_sent;
+        put = logs.put;
+        refused = logs.refused;
+        log_kept = saw-then _ _ _ p.log_kept (saw-more only.looks _ _ only.log);
+        share = only.share ∙ p.share;
+        gives_back = unchanged-then _ _ _ p.gives_back only.gives_back;
+      }
 
 -- it put what it sent, sees still what it saw, owes the others what it did, has the share that it had, and gave each cell back as it was taken
 pub record GoesOnAt (id : ℕ) (old new : View) : Type 0 where
-  pub put : PutsAsSent old new
+  pub logs : LogsAsSent old new
   pub log_kept : IsPart old.log new.log
   pub others : (other : ℕ) → other ≢ id → obligation_to other new ≡ obligation_to other old
   pub share : new.share ≡ old.share
   pub gives_back : GivesBackUnchanged old new
 
 does-at : (id : ℕ) (did : List Observation) (sent : List SentSystem) (old new : View) → Does id did sent old new
-    → ((to : ℕ) (measure : SysMsg → ℕ) → total (put_in to (λ m. measure m.1)) did ≡ total (listed_measure to measure) sent) → GoesOnAt id old new
-does-at id did sent old new does same = record {
-  put = does-puts id did sent old new does same;
+    → ((to : ℕ) (measure : SysMsg → ℕ) → total (put_in to (λ m. measure m.1)) did ≡ total (listed_measure to measure) sent)
+    → ((to : ℕ) → total (ended_in to) did ≡ total (refused_of to) sent) → GoesOnAt id old new
+does-at id did sent old new does same noted = record {
+  logs = does-log id did sent old new does same noted;
   log_kept = saw-more (does.looks ++ did) old.log new.log does.log;
   others = does.others;
   share = does.share;
@@ -197,7 +225,7 @@ does-at id did sent old new does same = record {
 
 then-at : (id : ℕ) (a b c : View) → GoesOnAt id a b → GoesOnAt id b c → GoesOnAt id a c
 then-at id a b c p q = record {
-  put = puts-then a b c p.put q.put;
+  logs = logs-then a b c p.logs q.logs;
   log_kept = saw-then a.log b.log c.log p.log_kept q.log_kept;
   others = λ other ne. q.others other ne ∙ p.others other ne;
   share = q.share ∙ p.share;
@@ -221,7 +249,7 @@ module _ (by : SenderId) (number : ℕ) (to : ActorId) (body : Body) (posted pos
       looked = looks-read to.0 (word_of told.seen.seen) old told.between told.seen.read
 
       read : GoesOnAt to.0 old told.between
-      read = does-at to.0 [] [] old told.between looked (λ id measure. refl)
+      read = does-at to.0 [] [] old told.between looked (λ id measure. refl) (λ id. refl)
 
       reading-counts : (ps : List SentEnvelope) → CountsQueued ps told.between new → CountsQueued ps old new
       reading-counts ps then = counts-then [] ps old told.between new (does-counts to.0 [] [] [] old told.between looked (λ actor. refl)) then
@@ -238,7 +266,7 @@ module _ (by : SenderId) (number : ℕ) (to : ActorId) (body : Body) (posted pos
         ),
         sent.counted.sent_system ∙ same,
         then-at to.0 old told.between new read (does-at to.0 (counts to.0 sent.refused) [] told.between new sent.counted
-            (counts-put-none to.0 sent.refused)),
+            (counts-put-none to.0 sent.refused) (counts-end-none to.0 sent.refused)),
       )
       by_look Closed is_dead = (
         (
@@ -266,7 +294,8 @@ module _ {A K : Type 0} where
         accepted_are = refl;
         counted = one.0.2;
         system_sent = ap addressed_system one.1;
-        put = one.2.put;
+        put = one.2.logs.put;
+        refused = one.2.logs.refused;
         log_kept = one.2.log_kept;
         share = one.2.share;
         gives_back = one.2.gives_back;
@@ -278,7 +307,7 @@ module _ {A K : Type 0} (to : ActorId) (a b : Sender A K) where
   sent-looked looked =
       let old = pass_view a.inner.registrar.pass in let new = pass_view b.inner.registrar.pass in
       let did = looks-read to.0 (word_of looked.seen.seen) old new looked.seen.read in
-      let read = does-at to.0 [] [] old new did (λ id measure. refl) in
+      let read = does-at to.0 [] [] old new did (λ id measure. refl) (λ id. refl) in
       record {
         by = looked.send_log.by;
         more = [];
@@ -286,7 +315,8 @@ module _ {A K : Type 0} (to : ActorId) (a b : Sender A K) where
         accepted_are = refl;
         counted = does-counts to.0 [] [] [] old new did (λ actor. refl);
         system_sent = ap (λ (v : View). addressed_system v.sent_system) looked.seen.read;
-        put = read.put;
+        put = read.logs.put;
+        refused = read.logs.refused;
         log_kept = read.log_kept;
         share = read.share;
         gives_back = read.gives_back;
@@ -302,12 +332,12 @@ sent-terminate : (id : ℕ) (old new : View) (stopped : Bool) → Stops id old n
     → (addressed_system new.sent_system ≡ (id, Terminate) ∷ addressed_system old.sent_system) × GoesOnAt id old new × CountsQueued [] old new
 sent-terminate id old new true s = (
   ap addressed_system s.1.sent_system,
-  does-at id _ _ old new s.1 (λ to measure. refl),
+  does-at id _ _ old new s.1 (λ to measure. refl) (λ to. refl),
   does-counts id _ _ [] old new s.1 (λ actor. refl),
 )
 sent-terminate id old new false s = (
   ap addressed_system s.sent_system,
-  does-at id _ _ old new s (λ to measure. refl),
+  does-at id _ _ old new s (λ to measure. refl) (λ to. refl),
   does-counts id _ _ [] old new s (λ actor. refl),
 )
 
@@ -321,7 +351,8 @@ module _ {A K : Type 0} where
     accepted_are = refl;
     counted = stop.2;
     system_sent = stop.0;
-    put = stop.1.put;
+    put = stop.1.logs.put;
+    refused = stop.1.logs.refused;
     log_kept = stop.1.log_kept;
     share = stop.1.share;
     gives_back = stop.1.gives_back;

@@ -22,8 +22,10 @@ use Rattle.mb_mailbox.specs.declared.turn.Turn.{Turn}
 use Rattle.mb_system.specs.declared.end.WorkerEnd.{WorkerEnd}
 use Rattle.mb_system.specs.declared.failure.RunError.{RunError}
 use Rattle.mb_system.specs.declared.failure.RunError.TheVariants.{JournalFull, NoMemory, NoSuchActor}
+use Rattle.mb_system.specs.declared.sender.Sender.{Sender}
 use Rattle.mb_dispatch.specs.Found.{FoundPoolEmpty}
 use Rattle.mb_dispatch.specs.Jobs.{IsDone}
+use Rattle.mb_dispatch.specs.Orders.{StopsWithin}
 use Rattle.mb_dispatch.specs.Parallel.{FirstZip}
 use Rattle.mb_dispatch.specs.Runs.{OnlyRuns}
 use Rattle.mb_dispatch.specs.declared.job.Job.{Job}
@@ -34,11 +36,27 @@ abbrev pub IsToNobody : Gates (Box Contents) → ActorId → OrderKind → Type 
 IsToNobody gates to (Tell payload) = (to.0 ≡ 0) ⊎ (actors_of gates ≤ to.0)
 IsToNobody gates to Stop = actors_of gates ≤ to.0
 
+-- This can go to an actor.
+abbrev pub IsToSomebody : Gates (Box Contents) → ActorId → OrderKind → Type 0
+IsToSomebody gates to (Tell payload) = (0 < to.0) × (to.0 < actors_of gates)
+IsToSomebody gates to Stop = to.0 < actors_of gates
+
+-- Sending this was refused for this reason: `NoSuchActor` only if it can go to no actor, and `NoMemory` only if it can go to one.
+abbrev pub IsRefusedFor : Gates (Box Contents) → ActorId → OrderKind → RunError → Type 0
+IsRefusedFor gates to what NoMemory = IsToSomebody gates to what
+IsRefusedFor gates to what JournalFull = ⊥
+IsRefusedFor gates to what NoSuchActor = IsToNobody gates to what
+
 -- Sending these orders is broken off for this reason: `NoSuchActor` only if one of them can go to no actor.
 abbrev pub BreaksSending : Gates (Box Contents) → List Order → RunError → Type 0
 BreaksSending gates orders NoMemory = Unit {0}
 BreaksSending gates orders JournalFull = ⊥
 BreaksSending gates orders NoSuchActor = (order : Order) × Contains orders order × (0 < order.times) × IsToNobody gates order.to order.what
+
+module _ {A K : Type 0} where
+  -- The sender stopped at one of these orders, which was refused for this reason.
+  abbrev pub StopsFor : Gates (Box Contents) → List Order → Sender A K → Sender A K → RunError → Type 0
+  StopsFor gates orders old new fault = (stops : StopsWithin orders old new) × IsRefusedFor gates stops.next.to stops.next.what fault
 
 module _ {A K : Type 0} (gives : ℕ → Moment → Reply → Type 0) (system : System A K) where
   -- A run of a mailbox by this end had no room, since the actor's journal had come to its limit.

@@ -15,7 +15,7 @@ use Rattle.mb_gate.specs.Accessors.{pass_view}
 use Rattle.mb_gate.specs.Rule.{IsPart}
 use Rattle.mb_gate.specs.View.{SentSystem, View}
 use Rattle.mb_gate.specs.Waiting.{off_by, on_by}
-use Rattle.mb_mailbox.specs.RunSends.{PutsAsSent}
+use Rattle.mb_mailbox.specs.RunSends.{FindsEndedAsSent, PutsAsSent}
 use Rattle.mb_register.specs.Views.{GivesBackUnchanged}
 use Rattle.mb_system.specs.declared.sender.Sender.{Sender}
 
@@ -65,7 +65,7 @@ CountsQueued postings old new = (actor : ℕ)
 module _ {A K : Type 0} where
   -- The sender was answered for the envelopes of these orders, in order, after all that it was answered for before, and for nothing else. It counted
   -- as waiting those of them that were queued, and nothing else. It sent their Terminates, or found the list ended, in order, and sent no other system
-  -- message; these stand newest first. What it put into lists is what it sent so. It still knows what it saw before, kept its share, and gave each
+  -- message; these stand newest first. What it put into lists is what it sent so, and each that found its list ended is noted. It still knows what it saw before, kept its share, and gave each
   -- cell back as it was taken.
   pub record HasSent (orders : List Order) (old new : Sender A K) : Type 0 where
     pub by : new.inner.send_log.by ≡ old.inner.send_log.by
@@ -75,6 +75,7 @@ module _ {A K : Type 0} where
     pub counted : CountsQueued more (pass_view old.inner.registrar.pass) (pass_view new.inner.registrar.pass)
     pub system_sent : addressed_system (pass_view new.inner.registrar.pass).sent_system ≡ reverse (terminates_of orders) ++ addressed_system (pass_view old.inner.registrar.pass).sent_system
     pub put : PutsAsSent (pass_view old.inner.registrar.pass) (pass_view new.inner.registrar.pass)
+    pub refused : FindsEndedAsSent (pass_view old.inner.registrar.pass) (pass_view new.inner.registrar.pass)
     pub log_kept : IsPart (pass_view old.inner.registrar.pass).log (pass_view new.inner.registrar.pass).log
     pub share : (pass_view new.inner.registrar.pass).share ≡ (pass_view old.inner.registrar.pass).share
     pub gives_back : GivesBackUnchanged (pass_view old.inner.registrar.pass) (pass_view new.inner.registrar.pass)

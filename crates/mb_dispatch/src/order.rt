@@ -1,6 +1,6 @@
 //! Carrying out what a sender outside the actors is to send.
 ghost use Rattle.std.specs.Prelude.{◌≡◌, [], ◌∷◌, IfErr, OnErr, OnOk};
-ghost use Rattle.mb_dispatch.specs.Faults.{BreaksSending};
+ghost use Rattle.mb_dispatch.specs.Faults.{BreaksSending, IsRefusedFor, StopsFor};
 ghost use Rattle.mb_gate.specs.Accessors.{actors_of};
 ghost use Rattle.mb_system.specs.Obligations.{KeepsObligations};
 ghost use Rattle.mb_system.specs.Members.{IsSenderOf, sender_caller};
@@ -31,6 +31,7 @@ pub fn send_all<A: Actor, K: Behaviours, R: Wait>(
     ensures owed { OwesForRefusals (sender_caller sender.old.inner.registrar).account (sender_caller sender.new.inner.registrar).account }
     ensures stopped { OnErr result (StopsWithin orders.now sender.old sender.new) }
     ensures fault { IfErr result (BreaksSending system.now.gates orders.now) }
+    ensures reason { IfErr result (StopsFor system.now.gates orders.now sender.old sender.new) }
 {
     for order in orders {
         send_often(rt, system, sender, *order)?;
@@ -54,6 +55,7 @@ fn send_often<A: Actor, K: Behaviours, R: Wait>(
     ensures owed { OwesForRefusals (sender_caller sender.old.inner.registrar).account (sender_caller sender.new.inner.registrar).account }
     ensures stopped { OnErr result (HasSentUpTo [] order sender.old sender.new) }
     ensures fault { IfErr result (BreaksSending system.now.gates (order ∷ [])) }
+    ensures reason { IfErr result (IsRefusedFor system.now.gates order.to order.what) }
 {
     for _ in 0..order.times {
         send(rt, system, sender, order.to, order.what)?;
@@ -79,6 +81,7 @@ fn send<A: Actor, K: Behaviours, R: Wait>(
     ensures owed { OwesForRefusals (sender_caller sender.old.inner.registrar).account (sender_caller sender.new.inner.registrar).account }
     ensures unsent { OnErr result (HasSent [] sender.old sender.new) }
     ensures fault { IfErr result (BreaksSending system.now.gates (order_for to what 1 ∷ [])) }
+    ensures reason { IfErr result (IsRefusedFor system.now.gates to what) }
 {
     match what {
         OrderKind::Tell(payload) => {

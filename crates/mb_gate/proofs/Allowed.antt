@@ -580,15 +580,16 @@ module _ {H : Type 0} (is_of : ℕ → H → Type 0) (facts : H → HomeFacts) w
           1,
       Listing (with_last l.listed m),
     ) ∷ tail_of me.1
-        → new ≡ gate_word false (with_last l.listed m) l.gave → l.listed.closed ≡ false → NamesBelow n m → Allows (Rule n) slots id me i (λ _. new) (λ _. Enlists (step slots i
+        → new ≡ gate_word false (with_last l.listed m) l.gave → l.listed.closed ≡ false → NamesBelow n m → pushed l.listed + 1 < 2 ^ 64
+        → Allows (Rule n) slots id me i (λ _. new) (λ _. Enlists (step slots i
         new 0 none) me new)
-    enlists_allowed l m new e has of carried word unended names =
+    enlists_allowed l m new e has of carried word unended names few =
         subst (λ j. Allows (Rule n) slots id me j (λ _. new) (λ _. Enlists (step slots j new 0 none) me new)) (sym e)
         (allows word_offset slot_offset words_few slots_few n (F n) slots id me actor Gate (λ _. new) (λ _. Enlists (step slots (word_at actor 9) new
         0 none) me new) inside
         (λ x vs f at fits. enlists is_of facts n actor id new me l m (Enlists (step slots
         (word_at actor 9) new 0 none) me new) x
-        vs f at has of carried word names
+        vs f at has of carried word names few
         (told_enlist l m (step slots (word_at actor 9) new 0 none) new has of carried word unended)))
 
     pub drains_allowed : (c : Held) (l : Lent) (new : ℕ) → i ≡ word_at actor 9 → slots ≡ 2 * n → me.0.claim ≡ Some c → c.actor ≡ actor

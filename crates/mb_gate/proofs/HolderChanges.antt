@@ -1,30 +1,5 @@
 -- What the holder makes of a mailbox, it makes of the mailbox of its word.
-use Rattle.std.proofs.Common.{
-  ◌≡◌,
-  ℕ,
-  ◌+◌,
-  ◌*◌,
-  ◌/◌,
-  ◌%◌,
-  ◌<◌,
-  ◌==◌,
-  if◌then◌else◌,
-  ◌⊎◌,
-  inl,
-  inr,
-  ⊎_elim,
-  Bool,
-  true,
-  false,
-  sym,
-  refl,
-  ap,
-  ◌∙◌,
-  subst,
-  eq-eqb,
-  ne_eqb,
-  arith,
-}
+use Rattle.std.proofs.Common.{◌≡◌, ℕ, ◌+◌, ◌*◌, ◌/◌, ◌%◌, ◌<◌, if◌then◌else◌, inl, inr, ⊎_elim, Bool, true, false, sym, refl, ap, ◌∙◌, subst, eq-eqb, ne_eqb, arith}
 use Rattle.mb_status.specs.Mailbox.{Mailbox, word_of, mailbox_of, most_suspensions, suspend, resume, idle, closed_mailbox}
 use Rattle.mb_gate.specs.TableSteps.{IsHolderChange}
 use Rattle.mb_gate.proofs.Wins.{open_word, closed_word}

@@ -4,6 +4,8 @@ use Rattle.std.proofs.Common.{
   ℕ,
   ◌+◌,
   ◌%◌,
+  ◌^◌,
+  ◌<◌,
   if◌then◌else◌,
   ◌⊎◌,
   ⊎_elim,
@@ -54,7 +56,7 @@ use Rattle.mb_gate.specs.Lists.{may_lock_list}
 use Rattle.mb_gate.specs.NamedActors.{NamesBelow}
 use Rattle.mb_gate.specs.declared.slot.Slot.{Slot}
 use Rattle.mb_gate.specs.declared.slot.Slot.TheVariants.{List as Listing}
-use Rattle.mb_gate.specs.View.{View, Observation, Read, Pushed, Held, Lent, obligation_to, lending, enlisting, refusing, given_after, regiven, unloading}
+use Rattle.mb_gate.specs.View.{View, Observation, Read, Pushed, Ended, Held, Lent, obligation_to, lending, enlisting, refusing, given_after, regiven, unloading}
 use Rattle.mb_gate.specs.Rule.{
   Word,
   Status,
@@ -223,9 +225,9 @@ module _ {H : Type 0} (is_of : ℕ → H → Type 0) (facts : H → HomeFacts) (
   pub enlists : (actor id n : ℕ) (me : M) (l : Lent) (m : SysMsg) (tell : M → Type 0) (x : Place) (vs : List View) → F actor x vs → get_elem? vs
       id ≡ some me.0 → me.0.list ≡ Some l → l.actor ≡ actor
       → me.1 ≡ (slot_at actor 1, Listing (with_last l.listed m)) ∷ tail_of me.1 → n ≡ gate_word false (with_last l.listed m) l.gave
-      → NamesBelow actors m
+      → NamesBelow actors m → pushed l.listed + 1 < 2 ^ 64
       → tell (enlisting actor (pushed l.listed) m me.0, tail_of me.1) → RuledStep word_offset slot_offset F actor id me Gate n tell x vs
-  enlists actor id n me l m tell x vs f at has of carried word names told =
+  enlists actor id n me l m tell x vs f at has of carried word names few told =
       let v = me.0 in
       let h = is_lent actor id x vs v l f at has of in
       let w = enlisting actor (pushed l.listed) m v in
@@ -268,6 +270,13 @@ module _ {H : Type 0} (is_of : ℕ → H → Type 0) (facts : H → HomeFacts) (
             joined = ap (λ z. z ++ m ∷ []) f.listing.joined ∙ (append_assoc f.listing.given x.ghost.listed.messages (m ∷ []) ∙ ap (λ (z :
                 MessageList). f.listing.given ++ (z.messages ++ m ∷ [])) (sym h.1.taken));
             counted = ap (λ (z : MessageList). z.given) h.1.taken ∙ f.listing.counted;
+            few =
+                let all = ap length f.listing.joined ∙ length-append f.listing.given x.ghost.listed.messages in
+                let more = length-append x.ghost.pushed (m ∷ []) in
+                let given_is = ap (λ (z : MessageList). z.given) h.1.taken in
+                let many_is = ap (λ (z : MessageList). length z.messages) h.1.taken in
+                let before = f.listing.counted in let some_few = f.listing.few in
+                omega (arith, all, more, given_is, many_is, before, some_few, few);
           };
           named = All-push (NamesBelow actors) l.listed.messages m (subst (λ (z : MessageList). All (NamesBelow actors) z.messages) (sym h.1.taken)
               f.named) names;
@@ -370,6 +379,7 @@ module _ {H : Type 0} (is_of : ℕ → H → Type 0) (facts : H → HomeFacts) (
                 let many = length_numbered l.listed.given l.listed.messages in
                 let listed_many = ap (λ (z : MessageList). length z.messages) k.1.taken in
                 let before = f.listing.counted in omega arith;
+            few = f.listing.few;
           };
           named = subst (All (NamesBelow actors)) (sym empty) (All-nil (NamesBelow actors));
           put = still_put actor x.ghost.pushed vs id v w at (counts_no_more actor s v w refl (uncounted actor) refl refl refl (λ q. (refl, refl))).put f.put;
@@ -414,19 +424,19 @@ module _ {H : Type 0} (is_of : ℕ → H → Type 0) (facts : H → HomeFacts) (
     kept = x.ghost;
     is_able = tt;
     holds = load_here is_of facts actors actor x (set vs id w) Gate (views_change is_of facts actors actor x vs id v w at refl
-        refl (record { on = refl; off = refl; put = λ q. refl; share = refl; got = refl; back = refl; releases = λ q. (refl, refl) }) (λ _ p. p) (λ _ p. p) (λ k. record {
-          seen = k.seen;
+        refl (counts_no_more actor (Ended actor []) v w refl (refl, refl, λ q. refl) refl refl refl (λ q. (refl, refl))) (λ _ p. p) (λ _ p. p) (λ k. record {
+          seen = ((λ _. (shut, record { before = []; after = all_numbered x.ghost; joined = refl })), k.seen);
           sent_system =
               ((λ _. ((λ _. shut), (λ e. absurd (cc)))), k.sent_system);
-        }) (λ b p. p) f);
+        }) (λ b. among_more (Read b 1) (Ended actor []) v.log) f);
     others = λ a n y g. elsewhere is_of facts actors a y vs id v w at (record {
       claim = refl;
       list = refl;
       debt = refl;
-      account = record { on = refl; off = refl; put = λ q. refl; share = refl; got = refl; back = refl; releases = λ q. (refl, refl) };
-      vouches = λ b p. p;
+      account = counts_no_more a (Ended actor []) v w refl (refl, refl, λ q. refl) refl refl refl (λ q. (refl, refl));
+      vouches = λ b. among_more (Read b 1) (Ended actor []) v.log;
       knows = λ _ t.
-          record { seen = t.seen; sent_system = ((λ e. absurd (n (sym e))), t.sent_system) };
+          record { seen = ((λ e. absurd (n (sym e))), t.seen); sent_system = ((λ e. absurd (n (sym e))), t.sent_system) };
     }) g;
     tells = told;
   }

@@ -169,10 +169,10 @@ module _ {H : Type 0} (is_of : ℕ → H → Type 0) (facts : H → HomeFacts) w
   shows_balance n s r actor inside = (r.each actor inside).balance
 
   pub shows_numbers : ShowsNumbers is_of facts
-  shows_numbers n s r actor inside few p q v w number put given all at there pushes gives in_all =
+  shows_numbers n s r actor inside p q v w number put given all at there pushes gives in_all =
       let x = spot_of word_offset slot_offset s r.ghosts actor in
       let f = r.each actor inside in
       let listed = each_among (ObservationHolds actor x) (Pushed actor number put) v.log (f.seen p v at).seen pushes refl in
       let part = ⊎_elim (λ d. each_among (ObservationHolds actor x) (Drained actor all) w.log (f.seen q w there).seen d refl)
       (λ e. (each_among (ObservationHolds actor x) (Ended actor all) w.log (f.seen q w there).seen e refl).1) gives in
-      one_message x.ghost.pushed number put given few listed (among_part (number, given) all (all_numbered x.ghost) part in_all)
+      one_message x.ghost.pushed number put given (let few = f.listing.few in omega arith) listed (among_part (number, given) all (all_numbered x.ghost) part in_all)

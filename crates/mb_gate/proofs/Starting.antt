@@ -169,7 +169,7 @@ module _ {H : Type 0} (is_of : ℕ → H → Type 0) (facts : H → HomeFacts) w
           lists = nobody_has (list_for a) refl;
           list_place = record { present = b.1.list; word = b.1.gate };
           ended = λ e. absurd (cc);
-          listing = record { given = []; joined = refl; counted = refl };
+          listing = record { given = []; joined = refl; counted = refl; few = omega arith };
           named = All-nil (NamesBelow n);
           put = λ q. refl;
           releases = λ q. ap (λ j. 0 + q j) (sym (b.1.tale ∙ f.not_run));

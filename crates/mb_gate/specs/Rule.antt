@@ -202,11 +202,12 @@ pub record Knows {H : Type 0} (actor : ℕ) (x : Spot Word SlotName (Slot H) Gho
   pub seen : Each (ObservationHolds actor x) v.log
   pub sent_system : Each (SentSystemHolds actor x) v.sent_system
 
--- All that was ever listed is what was given and what is listed still; how many were given is known modulo 2^64.
+-- All that was ever listed is what was given and what is listed still; how many were given is known. A list takes fewer than 2^64 messages.
 pub record IsListing (pushed : List SysMsg) (listed : MessageList) : Type 0 where
   pub given : List SysMsg
   pub joined : pushed ≡ given ++ listed.messages
   pub counted : listed.given ≡ length given % 2 ^ 64
+  pub few : length pushed < 2 ^ 64
 
 -- The view has seen the actor closed.
 abbrev pub HasSeenClosed : ℕ → View → Type 0

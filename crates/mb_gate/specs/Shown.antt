@@ -1,6 +1,6 @@
 -- The state of the abstract machine that the table shows of an actor (this project's own profile): its words, and what all views owe it. The
 -- envelopes are no part of the table.
-use Rattle.std.specs.Prelude.{◌≡◌, ◌≢◌, ◌↔◌, ◌⊎◌, ℕ, ◌^◌, ◌<◌, ◌≤◌, false, if◌then◌else◌, List, [], ◌++◌, length, map, Option, Some, None, IsNone}
+use Rattle.std.specs.Prelude.{◌≡◌, ◌≢◌, ◌↔◌, ◌⊎◌, ℕ, ◌<◌, false, if◌then◌else◌, List, [], ◌++◌, map, Option, Some, None, IsNone}
 use mathlib.Core.Option.{some}
 use lib.ListN.{get_elem?}
 use Rattle.atomic_table.specs.Table.{State}
@@ -107,13 +107,11 @@ ShowsBalance {H} is_of facts =
     (n : ℕ) (s : State (Slot H) View) (r : Ruled word_offset slot_offset n (Fact is_of facts n) s) (actor : ℕ)
     → actor < n → IsBalance actor ((spot_of word_offset slot_offset s r.ghosts actor).row Waiting) s.views
 
--- A number names one message of an actor's list, while no more than 2^64 were ever listed: what any seat put into the list under a number
--- is what any seat took out of it under that number.
+-- A number names one message of an actor's list: what any seat put into the list under a number is what any seat took out of it under that number.
 abbrev pub ShowsNumbers : {H : Type 0} → (ℕ → H → Type 0) → (H → HomeFacts) → Type 0
 ShowsNumbers {H} is_of facts =
     (n : ℕ) (s : State (Slot H) View) (r : Ruled word_offset slot_offset n (Fact is_of facts n) s) (actor : ℕ)
-    → actor < n → length (spot_of word_offset slot_offset s r.ghosts actor).ghost.pushed ≤ 2 ^ 64
-    → (p q : ℕ) (v w : View) (number : ℕ) (put given : SysMsg) (all : List (ℕ × SysMsg)) → get_elem? s.views p ≡ some v → get_elem? s.views q ≡
+    → actor < n → (p q : ℕ) (v w : View) (number : ℕ) (put given : SysMsg) (all : List (ℕ × SysMsg)) → get_elem? s.views p ≡ some v → get_elem? s.views q ≡
     some w → IsAmong (Pushed actor number put) v.log → IsAmong (Drained actor all) w.log ⊎ IsAmong (Ended actor all) w.log → IsAmong (number, given)
     all → put ≡ given
 

@@ -13,7 +13,7 @@ use Rattle.mb_ghost.specs.Shares.{halved, half_of}
 -- One thing that a seat saw or did at an actor, whose number stands first. It read the status word; it saw the journal; it read how many envelopes
 -- are counted as waiting; it read the list's gate, which showed system work or none (to the actor's holder, a list that is out is work too); it counted
 -- so many envelopes as waiting, took so many back that were refused, or counted so many as taken; it put a message last into the list, under this
--- number; it drained the list, which gave these numbered messages; or it ended the list, which gave these.
+-- number; it drained the list, which gave these numbered messages; or it ended the list, which gave these, or found it ended, which gave none.
 pub data Observation : Type 0 where
   Read : ℕ → ℕ → Observation
   Saw : ℕ → List Entry → Observation
@@ -240,7 +240,10 @@ enlisting actor number message v =
 
 -- The view after it found the list ended, so that this message went nowhere.
 abbrev pub refusing : ℕ → SysMsg → View → View
-refusing actor message v = record v { sent_system = record { to = actor; message = message; was_ended = true } ∷ v.sent_system }
+refusing actor message v = record v {
+  log = Ended actor [] ∷ v.log;
+  sent_system = record { to = actor; message = message; was_ended = true } ∷ v.sent_system;
+}
 
 -- How many messages were given, modulo 2^64, once these are.
 abbrev pub given_after : ℕ → List (ℕ × SysMsg) → ℕ

@@ -48,8 +48,8 @@ pub fn waiting_is_sent_less_taken<H: MailboxState>()
     ensures { (first : H) → ShowsBalance (H.is_of first) H.facts }
 {}
 
-/// A law: a number names one message of an actor's list, while no more than 2^64 were ever listed. What `sys_enqueue` put into
-/// the list under the number that it answered is what a drain gives under that number.
+/// A law: a number names one message of an actor's list. What `sys_enqueue` put into the list under the number that it answered
+/// is what a drain gives under that number.
 pub fn a_number_names_one_message<H: MailboxState>()
     ensures { (first : H) → ShowsNumbers (H.is_of first) H.facts }
 {}

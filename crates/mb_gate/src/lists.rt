@@ -143,10 +143,11 @@ impl<H: MailboxState> Gates<H> {
         unreachable!()
     }
 
-    /// Puts a node last into the actor's list (`systemEnqueue`), and records that. It answers the message's number: how many
-    /// were put into the list before, modulo 2^64. A drain gives the message with this number. From now on the pass owes the
-    /// actor a look at it. The call takes no memory, and may wait for the list's gate. The message has to name actors of these
-    /// gates alone, so that who drains it can send to each that it names.
+    /// Puts a node last into the actor's list (`systemEnqueue`), and records that. It answers the message's number: how
+    /// many were put into the list before. (After 2^64 - 1 messages it waits for ever.) A drain gives the message with
+    /// this number. From now on the pass owes the actor a look at it. The call takes no memory, and may wait for the
+    /// list's gate. The message has to name actors of these gates alone, so that who drains it can send to each that it
+    /// names.
     ///
     /// It answers `ListClosed` with the same node if the list is ended, and records that too. For a pass that has taken in all
     /// others, or beside which there never was another, a list is ended only if this pass got a claim of its actor.
@@ -166,7 +167,7 @@ impl<H: MailboxState> Gates<H> {
         ensures held { IfErr result (λ _. WasHeldBy id.0 (pass_view pass.old)) }
     {
         match self.lock_open_list(rt, &mut pass.seat, id, node.msg()) {
-            Some((word, list)) => Ok(self.enlist(&mut pass.seat, id, word, list, node)),
+            Some((word, list)) => Ok(self.enlist(rt, &mut pass.seat, id, word, list, node)),
             None => Err(ListClosed(node)),
         }
     }
@@ -195,9 +196,11 @@ impl<H: MailboxState> Gates<H> {
         answer
     }
 
-    // Puts the node last into the list that is out, and puts the list back.
-    fn enlist(
+    // Puts the node last into the list that is out, and puts the list back. It waits for ever where the list has taken 2^64 - 1
+    // messages: no run comes there, and so no two messages have the same number.
+    fn enlist<R: Wait>(
         &self,
+        rt: &R,
         seat: &mut Seat<Slot<H>, SeatView>,
         id: ActorId,
         word: ListWord,
@@ -212,6 +215,12 @@ impl<H: MailboxState> Gates<H> {
         ensures same_gates { seat.new.table_id ≡ seat.old.table_id }
         ensures listed { seat.new.me ≡ (enlisting id.0 result node seat.old.me.0, rest seat.old.me.1) }
     {
+        if list.is_full() {
+            for _ in rt.forever() {
+                thread::yield_now();
+            }
+            unreachable!()
+        }
         let gate = word_index(id, GATE);
         let new = word.with_listed();
         let number = match list.push(node) {

@@ -24,6 +24,11 @@ answer_of short.Handled = Some answer.Handled
 answer_of short.Unhandled = Some answer.Unhandled
 answer_of (short.Failed error) = Some (answer.Failed error)
 
+-- the error of an answer; 0 where it has none
+abbrev pub error_of : Option Answer → ℕ
+error_of (Some (answer.Failed error)) = error
+error_of _ = 0
+
 -- the envelope with these numbers
 abbrev pub envelope_of : ℕ → ℕ → ℕ → Body → Envelope
 envelope_of by to number body = record { by = record { 0 = by }; to = record { 0 = to }; number = number; body = body }

@@ -1,6 +1,6 @@
 //! How an entry is stored.
-ghost use Rattle.std.specs.Prelude.{◌≡◌, List, length, ◌≤◌, IfSome};
-ghost use Rattle.mb_journal.specs.Rows.{answer_of, needs, whole};
+ghost use Rattle.std.specs.Prelude.{◌≡◌, List, length, ◌<◌, ◌≤◌, IfSome, IsTrue};
+ghost use Rattle.mb_journal.specs.Rows.{answer_of, error_of, needs, whole};
 
 use crate::entry::Received;
 use mb_actor::{Answer, Effect};
@@ -67,16 +67,17 @@ const _: () = prove!(size_of::<Row>() <= 32);
 const _: () = prove!(size_of::<Effect>() <= 32);
 
 impl ShortAnswer {
-    /// This answer; `None` if it does not fit.
+    /// This answer, whose error fits.
     #[inline(always)]
-    fn of(answer: Option<Answer>) -> Option<ShortAnswer>
-        ensures { IfSome result (λ short. answer_of short ≡ answer) }
+    fn of(answer: Option<Answer>) -> ShortAnswer
+        requires { error_of answer < 256 }
+        ensures { answer_of result ≡ answer }
     {
         match answer {
-            None => Some(ShortAnswer::NotCalled),
-            Some(Answer::Handled) => Some(ShortAnswer::Handled),
-            Some(Answer::Unhandled) => Some(ShortAnswer::Unhandled),
-            Some(Answer::Failed(error)) => Some(ShortAnswer::Failed(u8::try_from(error).ok()?)),
+            None => ShortAnswer::NotCalled,
+            Some(Answer::Handled) => ShortAnswer::Handled,
+            Some(Answer::Unhandled) => ShortAnswer::Unhandled,
+            Some(Answer::Failed(error)) => ShortAnswer::Failed(error as u8),
         }
     }
 
@@ -100,43 +101,74 @@ impl Row {
         ensures says { IfSome result (λ row. (wide : List Received) → whole wide row ≡ record { arrival = arrival; end = end }) }
         ensures alone { IfSome result (λ row. needs row ≡ 0) }
     {
-        let end = u32::try_from(end).ok()?;
         match arrival {
             Received::Handled {
                 answer,
                 envelope,
                 reading,
-            } => Some(Row::Handled {
-                by: u8::try_from(envelope.by.0).ok()?,
-                to: u8::try_from(envelope.to.0).ok()?,
-                answer: ShortAnswer::of(answer)?,
-                reading: u16::try_from(reading).ok()?,
-                number: u32::try_from(envelope.number).ok()?,
-                end,
-                body: envelope.body,
-            }),
+            } => {
+                let Envelope {
+                    by,
+                    to,
+                    number,
+                    body,
+                } = envelope;
+                if !fits(by.0, to.0, error_in(answer), reading, number, end) {
+                    return None;
+                }
+                Some(Row::Handled {
+                    by: by.0 as u8,
+                    to: to.0 as u8,
+                    answer: ShortAnswer::of(answer),
+                    reading: reading as u16,
+                    number: number as u32,
+                    end: end as u32,
+                    body,
+                })
+            }
             Received::System {
                 answer,
                 number,
                 message,
-            } => Some(Row::System {
-                answer: ShortAnswer::of(answer)?,
-                number: u32::try_from(number).ok()?,
-                end,
-                message,
-            }),
-            Received::SetAside { number, message } => Some(Row::SetAside {
-                number: u32::try_from(number).ok()?,
-                end,
-                message,
-            }),
-            Received::Dropped { envelope } => Some(Row::Dropped {
-                by: u8::try_from(envelope.by.0).ok()?,
-                to: u8::try_from(envelope.to.0).ok()?,
-                number: u32::try_from(envelope.number).ok()?,
-                end,
-                body: envelope.body,
-            }),
+            } => {
+                if !fits(0, 0, error_in(answer), 0, number, end) {
+                    return None;
+                }
+                Some(Row::System {
+                    answer: ShortAnswer::of(answer),
+                    number: number as u32,
+                    end: end as u32,
+                    message,
+                })
+            }
+            Received::SetAside { number, message } => {
+                if !fits(0, 0, 0, 0, number, end) {
+                    return None;
+                }
+                Some(Row::SetAside {
+                    number: number as u32,
+                    end: end as u32,
+                    message,
+                })
+            }
+            Received::Dropped { envelope } => {
+                let Envelope {
+                    by,
+                    to,
+                    number,
+                    body,
+                } = envelope;
+                if !fits(by.0, to.0, 0, 0, number, end) {
+                    return None;
+                }
+                Some(Row::Dropped {
+                    by: by.0 as u8,
+                    to: to.0 as u8,
+                    number: number as u32,
+                    end: end as u32,
+                    body,
+                })
+            }
         }
     }
 
@@ -201,6 +233,32 @@ impl Row {
             | Row::Dropped { end, .. } => end as usize,
             Row::Wide { end, .. } => end,
         }
+    }
+}
+
+/// Whether these numbers fit into a row: those of two actors and an error into one byte each, a reading into two, the
+/// number of a message and where its effects end into four. (All are tested together, with no branch for each.)
+#[inline(always)]
+fn fits(by: u32, to: u32, error: u32, reading: u64, number: u64, end: usize) -> bool
+    ensures { IsTrue result → (by < 256) × (to < 256) × (error < 256) × (reading < 65536)
+        × (number < 4294967296) × (end < 4294967296) }
+{
+    (by < 256)
+        & (to < 256)
+        & (error < 256)
+        & (reading < 65_536)
+        & (number < 4_294_967_296)
+        & (end < 4_294_967_296)
+}
+
+/// The error of this answer; 0 where it has none.
+#[inline(always)]
+fn error_in(answer: Option<Answer>) -> u32
+    ensures { result ≡ error_of answer }
+{
+    match answer {
+        Some(Answer::Failed(error)) => error,
+        None | Some(Answer::Handled | Answer::Unhandled) => 0,
     }
 }
 

@@ -14,6 +14,7 @@ use Rattle.mb_journal.specs.Run.{IsReason, AreBlocks, Stopped, most_envelopes}
 use Rattle.mb_journal.specs.Run.Stopped.{UsedUp, NotOpen, NoEnvelope, AtClosing, NoRoom}
 use Rattle.mb_queue.specs.Passes.{TakePassView}
 use Rattle.mb_ghost.specs.Summed.{total}
+use Rattle.mb_ghost.proofs.SummedLemmas.{total_append}
 use Rattle.mb_journal.specs.Fates.{begun}
 use Rattle.mb_gate.specs.declared.claim.Claim.{Claim}
 use Rattle.mb_gate.specs.Accessors.{held_actor, claim_view, recorded_by, status_of, taken_with, gave_last}
@@ -41,7 +42,7 @@ use Rattle.mb_mailbox.specs.Loaded.{loaded_words, BeginsAt}
 use Rattle.mb_mailbox.specs.OnlyDrained.{TakesOnlyDrained}
 use Rattle.mb_mailbox.specs.Emptied.{FindsNoMore, IsCleared}
 use Rattle.mb_mailbox.specs.RunState.{RunState, run_state}
-use Rattle.mb_mailbox.specs.RunSends.{IsSentByRun, given_by, listed_by, listed_of}
+use Rattle.mb_mailbox.specs.RunSends.{IsSentByRun, ended_in, given_by, listed_by, listed_of, refused_of}
 use Rattle.mb_mailbox.specs.Ran.{LastTakeFoundNone, LastTakeHadRoom, EndsDrained, EndsEmpty, GivesBackOne, HadRoom, CountsRun, LeavesRun, systems_in, taken_of}
 use Rattle.mb_mailbox.specs.Recorded.{GrowAlike}
 use Rattle.mb_mailbox.specs.Running.{IsRunning, BacklogAgrees, SameRun}
@@ -136,13 +137,23 @@ module _ (actor : ℕ) (journal : List Entry) (v w mid : View) (obligations : v.
         ∙ ap (λ l. given_by (w.log ++ v.log) ++ l) (given-append looks.looks [] ∙ looks-give-none actor looks.looks looks.only)
         ∙ append-nil (given_by (w.log ++ v.log)) ∙ given-append w.log v.log
 
-    -- what the pass put into lists, and the claim nothing
-    pub listed-after : listed_by v.log ≡ [] → listed_by new.log ≡ listed_by w.log
-    listed-after none =
+    puts-after : listed_by v.log ≡ [] → listed_by new.log ≡ listed_by w.log
+    puts-after none =
         ap listed_by log-after ∙ listed-append (looks.looks ++ []) (Saw actor journal ∷ (w.log ++ v.log))
         ∙ ap (λ l. l ++ listed_by (w.log ++ v.log))
         (listed-append looks.looks [] ∙ append-nil (listed_by looks.looks) ∙ looks-list-none actor looks.looks looks.only)
         ∙ listed-append w.log v.log ∙ ap (λ l. listed_by w.log ++ l) none ∙ append-nil (listed_by w.log)
+
+    -- what the pass put into lists, and the claim nothing; and what the pass found ended
+    pub listed-after : listed_by v.log ≡ [] → (listed_by new.log ≡ listed_by w.log)
+        × ((to : ℕ) → total (ended_in to) w.log ≤ total (ended_in to) new.log)
+    listed-after none = (
+      puts-after none,
+      λ to.
+          (let all = ap (total (ended_in to)) log-after in
+          let one = total_append (ended_in to) (looks.looks ++ []) (Saw actor journal ∷ (w.log ++ v.log)) in
+          let two = total_append (ended_in to) w.log v.log in omega (arith, all, one, two)),
+    )
 
     -- the claim's own steps, besides what it knew before and did itself
     pub steps-taken : {H : Type 0} (a b : Caller H) → b.view ≡ w → CallerAdvances a b → TakesOver a.view new v.log
@@ -242,7 +253,8 @@ pub leaves-run : (throughput : ℕ) (first last : Claim (Box Contents)) (old pas
     Each (GoesOn (held_actor last) (taken_with last)) old.log → pass.share ≡ old.share →
     GivesBackOne (record { actor = held_actor last; taken = taken_with last; back = last.home.value.cell.journal }) old pass →
     TakesOver old pass (claim_view last).log → (w : View) → GrowAlike (recorded_by first) old (recorded_by last) w →
-    pass.sent_system ≡ w.sent_system → listed_by pass.log ≡ listed_by w.log →
+    pass.sent_system ≡ w.sent_system →
+    (listed_by pass.log ≡ listed_by w.log) × ((to : ℕ) → total (ended_in to) w.log ≤ total (ended_in to) pass.log) →
     given_by pass.log ≡ given_by (claim_view last).log ++ given_by w.log →
     recorded_by first ≡ [] →
     IsSentByRun first.home.value.cell.who (held_actor first) last.home.value.cell.journal first.home.value.cell.journal first.home.value.rest
@@ -285,7 +297,9 @@ leaves-run throughput first last old pass turn stopped taken same t few reason e
       taken_over = part;
       told = recorded_by last;
       told_is = told;
-      puts = puts ∙ sends.puts ∙ ap (λ l. listed_of (reverse l) ++ listed_by old.log) all_sent;
+      puts = puts.0 ∙ sends.puts ∙ ap (λ l. listed_of (reverse l) ++ listed_by old.log) all_sent;
+      refused = λ to.
+          (let sent = sends.refused to in let later = puts.1 to in let all = ap (total (refused_of to)) all_sent in omega (arith, sent, later, all));
       given = given ∙ ap (λ l. given_by (claim_view last).log ++ l) sends.got_nothing;
       sent_system = kept ∙ sends.sent ∙ ap (λ l. reverse l ++ old.sent_system) all_sent;
       only_drained = subst (λ n. TakesOnlyDrained n (claim_view last).log) same.actor only_drained;

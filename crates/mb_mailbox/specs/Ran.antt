@@ -1,5 +1,5 @@
 -- What a run of a mailbox comes to.
-use Rattle.std.specs.Prelude.{◌≡◌, ◌<◌, ◌⊎◌, ℕ, ◌+◌, ◌==◌, if◌then◌else◌, Bool, true, false, List, [], ◌∷◌, ◌++◌, None}
+use Rattle.std.specs.Prelude.{◌≡◌, ◌≤◌, ◌<◌, ◌⊎◌, ℕ, ◌+◌, ◌==◌, if◌then◌else◌, Bool, true, false, List, [], ◌∷◌, ◌++◌, None}
 use Rattle.std.specs.Prelude.{length, reverse}
 use Rattle.std.specs.Global.{Box}
 use Rattle.mb_msg.specs.declared.envelope.Envelope.{Envelope}
@@ -29,7 +29,7 @@ use Rattle.mb_mailbox.specs.Loaded.{loaded_words, BeginsAt}
 use Rattle.mb_mailbox.specs.OnlyDrained.{DrainedLast, LoadedLast, TakesOnlyDrained}
 use Rattle.mb_mailbox.specs.Emptied.{FindsNoMore, IsEmptied}
 use Rattle.mb_mailbox.specs.RunState.{RunState}
-use Rattle.mb_mailbox.specs.RunSends.{IsSentByRun, given_by, listed_by, listed_of}
+use Rattle.mb_mailbox.specs.RunSends.{IsSentByRun, ended_in, given_by, listed_by, listed_of, refused_of}
 
 -- How many envelopes of this actor an observation took.
 abbrev pub taken_of : ℕ → Observation → ℕ
@@ -151,7 +151,8 @@ pub record GivesBackOne (own : Release) (old new : View) : Type 0 where
 -- and cleaned up. None is cleaned up unless the actor ended. If the run stopped since no envelope was there, or the actor ended and there was room for
 -- all, these are all envelopes that the takes gave, and the last take found none; in the first case the journal has room for one more. The system
 -- messages that the pass sent are those that the new entries have to send, each that found its list ended answered at once, and, if the actor ended, the
--- answers to what was dropped then; and no others. Those of them that a list took, in their order, are all that was put into lists. What the pass knows
+-- answers to what was dropped then; and no others. Those of them that a list took, in their order, are all that was put into lists; and the pass knows
+-- of the list of each of the others that it was ended. What the pass knows
 -- that lists gave went on by what the actor's list gave in these steps.
 pub record LeavesRun (throughput : ℕ) (claim : Claim (Box Contents)) (old pass : View) (journal : List Entry) (turn : Turn) (stopped : Stopped)
     : Type 0 where
@@ -169,6 +170,7 @@ pub record LeavesRun (throughput : ℕ) (claim : Claim (Box Contents)) (old pass
   pub told_is : IsSentByRun claim.home.value.cell.who (held_actor claim) journal claim.home.value.cell.journal claim.home.value.rest steps told
   pub sent_system : pass.sent_system ≡ reverse told ++ old.sent_system
   pub puts : listed_by pass.log ≡ listed_of (reverse told) ++ listed_by old.log
+  pub refused : (to : ℕ) → total (refused_of to) told + total (ended_in to) old.log ≤ total (ended_in to) pass.log
   pub given : given_by pass.log ≡ given_by steps ++ given_by old.log
   pub only_drained : TakesOnlyDrained (held_actor claim) steps
   pub begins : BeginsAt (loaded_words steps) claim.home.value.cell.journal journal

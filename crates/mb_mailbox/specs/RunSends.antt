@@ -39,6 +39,20 @@ listed_of (s ∷ sent_system) = (if s.was_ended then [] else (s.to, s.message) �
 abbrev pub listed_measure : ℕ → (SysMsg → ℕ) → SentSystem → ℕ
 listed_measure to measure s = if s.was_ended then 0 else if s.to == to then measure s.message else 0
 
+-- How often an observation is that this actor's list was ended, or was found ended.
+abbrev pub ended_in : ℕ → Observation → ℕ
+ended_in actor (Ended a given) = if a == actor then 1 else 0
+ended_in actor _ = 0
+
+-- How often a system message that was sent found this actor's list ended.
+abbrev pub refused_of : ℕ → SentSystem → ℕ
+refused_of to s = if s.was_ended then (if s.to == to then 1 else 0) else 0
+
+-- Between these views a pass found each list ended as often as what it sent says.
+abbrev pub FindsEndedAsSent : View → View → Type 0
+FindsEndedAsSent old new = (to : ℕ)
+    → total (ended_in to) new.log + total (refused_of to) old.sent_system ≡ total (ended_in to) old.log + total (refused_of to) new.sent_system
+
 -- Between these views a pass put into lists just what it sent and they took, by any measure of messages.
 abbrev pub PutsAsSent : View → View → Type 0
 PutsAsSent old new = (to : ℕ) (measure : SysMsg → ℕ)

@@ -13,6 +13,7 @@ pub mod RankCrossing
 pub mod RankKeys
 pub mod Ranked
 pub mod RefusedLemmas
+pub mod Sendings
 pub mod Slots
 pub mod Taken
 pub mod TakenIn

@@ -1,7 +1,7 @@
 //! The pass by which one sender pushes into a queue.
 ghost use Rattle.std.specs.Prelude.{◌≡◌, [], ◌∷◌, ◌++◌, IfErr, MatchResult};
-ghost use Rattle.mb_queue.specs.Ledger.{is_control_body};
-ghost use Rattle.mb_queue.specs.Rule.{given_back};
+ghost use Rattle.mb_queue.specs.Ledger.{MayPush, is_control_body, pushing};
+ghost use Rattle.mb_queue.specs.Rule.{IsFifoRefusal, given_back, reason_of};
 ghost use Rattle.mb_queue.specs.Pushes.{IsRefusal};
 
 use crate::port::Port;
@@ -50,22 +50,39 @@ impl SendPass {
             (λ refused. (given_back refused ≡ envelope) × (self.new ≡ self.old)) }
         ensures refused { IfErr result (IsRefusal self.old) }
     {
-        if let Some(control) = &mut self.control
-            && is_control(envelope.body)
-        {
-            if let Err(refusal) = control.push(rt, envelope) {
-                return Err(refusal.of(envelope));
-            }
-            self.pushed.add(envelope);
-            return Ok(());
+        let Some(control) = &mut self.control else {
+            return push_to(&mut self.main, &mut self.pushed, rt, envelope);
+        };
+        if is_control(envelope.body) {
+            push_to(control, &mut self.pushed, rt, envelope)
+        } else {
+            push_to(&mut self.main, &mut self.pushed, rt, envelope)
         }
-        match self.main.push(rt, envelope) {
-            Ok(()) => {
-                self.pushed.add(envelope);
-                Ok(())
-            }
-            Err(refusal) => Err(refusal.of(envelope)),
+    }
+}
+
+/// Pushes the envelope to this port, and writes down that it did.
+#[inline(always)]
+fn push_to<R: Wait>(
+    port: &mut Port,
+    pushed: &mut Log<Envelope>,
+    rt: &R,
+    envelope: Envelope,
+) -> Result<(), PushError>
+    requires { MayPush envelope port.old.ledger }
+    ensures pushed { MatchResult result
+        (λ _. (port.new ≡ record port.old { ledger = pushing port.old.ledger envelope })
+        × (pushed.new ≡ pushed.old ++ envelope ∷ []))
+        (λ refused. (given_back refused ≡ envelope) × (port.new ≡ port.old) × (pushed.new ≡ pushed.old)) }
+    ensures refused { IfErr result
+        (λ refused. IsFifoRefusal port.old.fifo.capacity port.old.ledger (reason_of refused)) }
+{
+    match port.push(rt, envelope) {
+        Ok(()) => {
+            pushed.add(envelope);
+            Ok(())
         }
+        Err(refusal) => Err(refusal.of(envelope)),
     }
 }
 

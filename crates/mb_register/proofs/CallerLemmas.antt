@@ -6,7 +6,7 @@ use Rattle.mb_ghost.proofs.SeenLemmas.{each_append}
 use Rattle.mb_gate.specs.declared.claim.Claim.{Claim}
 use Rattle.mb_gate.specs.Accessors.{held_actor}
 use Rattle.mb_gate.specs.Rule.{IsAmong}
-use Rattle.mb_gate.specs.View.{View, SentSystem, obligation_to}
+use Rattle.mb_gate.specs.View.{obligation_to}
 use Rattle.mb_gate.proofs.Numbers.{among_first, among_left, among_right}
 use Rattle.mb_register.specs.Owed.{is_owed}
 use Rattle.mb_register.specs.Registering.{QueueAccount, WasRefused, IsRegistered}
@@ -101,16 +101,3 @@ module _ {H : Type 0} where
       by_last : (id : ℕ) → IsDischargedOrOwed id c ⊎ (obligation_to id c.view ≡ obligation_to id b.view) → IsDischargedOrOwed id c ⊎ (obligation_to id c.view ≡ obligation_to id a.view)
       by_last id (inl discharged) = inl discharged
       by_last id (inr kept) = by_first id kept (p.obligations id)
-
-  -- it only sent system messages
-  pub further-sent_system : (sent_system : List SentSystem) (a b : Caller H) → b.view ≡ record a.view { sent_system = sent_system } → b.account ≡ a.account → CallerAdvances a b
-  further-sent_system sent_system a b same account = record {
-    more = [];
-    took_none = tt;
-    sends_open = tt;
-    log = ap (λ (v : View). v.log) same;
-    account = subst (OwesForRefusals a.account) (sym account) (account-none a.account);
-    obligations = λ id. inr (ap (obligation_to id) same);
-    share = ap (λ (v : View). v.share) same;
-    gives_back = unchanged-none _ _ (ap (λ (v : View). v.releases) same);
-  }

@@ -19,7 +19,7 @@ true_or_false : (b : Bool) → (b ≡ true) ⊎ (b ≡ false)
 true_or_false true = inl refl
 true_or_false false = inr refl
 
-never-both : {A : Type 0} (b : Bool) → b ≡ true → b ≡ false → A
+pub never-both : {A : Type 0} (b : Bool) → b ≡ true → b ≡ false → A
 never-both b a c = let e : true ≡ false = sym a ∙ c in absurd (cc)
 
 -- what holds of each failure, of a result that is one
@@ -32,6 +32,12 @@ on-failure Told P Q (Err e) failed q = q
 pub taken-out : (id : ℕ) (before now : Owed) → is_owed now id ≡ (not (id == id) && is_owed before id) → is_owed now id ≡ false
 taken-out id before now is =
     let itself : (id == id) ≡ true = grind (arith, nat_tests) in is ∙ ap (λ b. not b && is_owed before id) itself
+
+-- for the others it is as before
+pub others-out : (id other : ℕ) (before now : Owed) → other ≢ id → is_owed now other ≡ (not (other == id) && is_owed before other)
+    → is_owed now other ≡ is_owed before other
+others-out id other before now ne is =
+    let apart : (other == id) ≡ false = grind (arith, nat_tests) in is ∙ ap (λ b. not b && is_owed before other) apart
 
 -- the set of owed looks shows whether the run queue refused a claim
 module _ {H : Type 0} (id : ℕ) (old new : QueueAccount H) where
@@ -47,6 +53,13 @@ module _ {H : Type 0} (id : ℕ) (old new : QueueAccount H) where
   refused-none false (inr was) out =
       let itself : (id == id) ≡ true = grind (arith, nat_tests) in
       never-both (is_owed new.owed id) (was.owed id ∙ ap (λ b. b || is_owed old.owed id) itself) out
+
+  -- no look is owed to another actor, or no longer owed, for it
+  pub others-kept : (result : Bool) → IsRegistered id old new result → (other : ℕ) → other ≢ id → is_owed new.owed other ≡ is_owed old.owed other
+  others-kept true went other ne = ap (λ o. is_owed o other) went.owed
+  others-kept false (inl same) other ne = ap (λ (a : QueueAccount H). is_owed a.owed other) same
+  others-kept false (inr was) other ne =
+      let apart : (other == id) ≡ false = grind (arith, nat_tests) in was.owed other ∙ ap (λ b. b || is_owed old.owed other) apart
 
 module _ (among : ℕ → Bool) where
   pub among-none : (v : View) → LooksAmong among v v

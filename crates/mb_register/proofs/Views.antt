@@ -10,7 +10,7 @@ use Rattle.mb_core.specs.Run.{after_reading}
 use Rattle.mb_journal.specs.Entry.{Entry}
 use Rattle.mb_ghost.proofs.SeenLemmas.{each_append}
 use Rattle.mb_gate.specs.Claims.{claimed}
-use Rattle.mb_gate.specs.View.{View, Observation, Saw, Sent, Unsent, Pushed, SentSystem, obligation_to, with_obligation, obligation_of, added_obligations, either_obligation}
+use Rattle.mb_gate.specs.View.{View, Observation, Saw, Sent, Unsent, Pushed, Ended, SentSystem, obligation_to, with_obligation, obligation_of, added_obligations, either_obligation}
 use Rattle.mb_gate.specs.View.{seeing, reading, winning, counting, looking, idling, taking_in, sending, unsending, enlisting, refusing}
 use Rattle.mb_register.specs.Views.{Does, IsLook, LooksAfter}
 use Rattle.mb_register.proofs.Unchanged.{unchanged-none, unchanged-then}
@@ -167,9 +167,9 @@ module _ (id : ℕ) where
       })
 
   pub does-refusing : (message : SysMsg) (v w : View) → w ≡ refusing id message v →
-      Does id [] (record { to = id; message = message; was_ended = true } ∷ []) v w
+      Does id (Ended id [] ∷ []) (record { to = id; message = message; was_ended = true } ∷ []) v w
   does-refusing message v w is =
-      subst (Does id [] (record { to = id; message = message; was_ended = true } ∷ []) v) (sym is)
+      subst (Does id (Ended id [] ∷ []) (record { to = id; message = message; was_ended = true } ∷ []) v) (sym is)
       (record {
         looks = [];
         only = tt;

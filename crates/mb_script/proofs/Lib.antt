@@ -1,3 +1,4 @@
 pub mod Indexing
 pub mod Keeping
+pub mod Performing
 pub mod Placing

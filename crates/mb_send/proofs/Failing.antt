@@ -1,5 +1,5 @@
 -- What stands after an error of a sender.
-use Rattle.std.proofs.Common.{◌≡◌, Err, OnErr, IsErrOf, Ok, Result, ap, subst, sym, ◌∙◌}
+use Rattle.std.proofs.Common.{◌≡◌, Err, IfOk, IsErr, OnErr, IsErrOf, Ok, Result, ap, subst, sym, ◌∙◌}
 use Rattle.mb_msg.specs.declared.id.ActorId.{ActorId}
 use Rattle.mb_gate.specs.Accessors.{pass_view}
 use Rattle.mb_send.specs.Answers.{IsSeen}
@@ -10,6 +10,11 @@ use Rattle.mb_send.specs.declared.ticket.Look.{Look}
 use Rattle.mb_send.specs.declared.send_error.SendError.{SendError}
 use Rattle.mb_send.specs.declared.send_error.SendError.TheVariants.{NoMemory, NoSuchActor}
 use Rattle.mb_register.specs.declared.registrar.Registrar.{Registrar}
+
+-- a fault is no answer
+pub no-answer : {T : Type 0} (P : T → Type 0) (r : Result T SendError) → IsErr r → IfOk r P
+no-answer P (Ok x) is = cc
+no-answer P (Err e) is = tt
 
 -- what holds whatever is answered holds after a fault
 pub after-any : {T P : Type 0} (r : Result T SendError) → P → OnErr r P

@@ -1,10 +1,13 @@
 -- To which actors a sender owes a look.
-use Rattle.std.proofs.Common.{◌≡◌, ◌==◌, ◌||◌, ℕ, Bool, true, false, List, inl, inr, refl, ap, ◌∙◌, subst}
+use Rattle.std.proofs.Common.{◌≡◌, ◌==◌, ◌||◌, ◌+◌, ◌-◌, ◌<◌, arith, ℕ, Bool, true, false, List, inl, inr, refl, ap, ◌∙◌, subst}
+use Rattle.mb_core.specs.declared.debt.WakeObligation.{WakeObligation}
+use Rattle.mb_gate.specs.View.{View, Sent, obligation_to, seeing, sending}
 use Rattle.mb_gate.specs.declared.claim.Claim.{Claim}
 use Rattle.mb_register.specs.Owed.{is_owed}
 use Rattle.mb_register.specs.Registering.{QueueAccount, IsRegistered}
 use Rattle.mb_register.specs.declared.owed.Owed.{Owed}
 use Rattle.mb_register.specs.declared.registrar.Registrar.{Registrar}
+use Rattle.mb_register.proofs.Views.{owes-same}
 use Rattle.mb_send.specs.Asked.{RegistersAtMost, account_of}
 
 either-run_queue : (a b : Bool) → b ≡ true → (a || b) ≡ true
@@ -34,3 +37,13 @@ module _ {H W : Type 0} (pushed refused : W → List (Claim H)) (id : ℕ) where
   pub registers-since : (a b : Registrar H W) (c : QueueAccount H) → b.run_queue ≡ a.run_queue → b.owed ≡ a.owed → RegistersAtMost id (account_of pushed refused b) c
       → RegistersAtMost id (account_of pushed refused a) c
   registers-since a b c run_queue owed = subst (λ (k : QueueAccount H). RegistersAtMost id k c) (account-same a b run_queue owed)
+
+-- the view after an envelope was counted says so
+pub is-sending : (id : ℕ) (old new : View) → new ≡ sending id 1 old → (obligation_to id new).sending ≡ true
+is-sending id old new known =
+    ap (λ (v : View). (obligation_to id v).sending) known
+    ∙ ap (λ (d : WakeObligation). d.sending) (owes-same id (record (obligation_to id old) { sending = true }) (seeing (Sent id 1) old))
+
+-- the receiver's place among the passes
+pub place-within : (to len actors : ℕ) → len + 1 ≡ actors → 0 < to → to < actors → to - 1 < len
+place-within to len actors all some few = omega arith

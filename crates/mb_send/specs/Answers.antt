@@ -5,7 +5,7 @@ use Rattle.mb_msg.specs.declared.id.ActorId.{ActorId}
 use Rattle.mb_msg.specs.declared.id.SenderId.{SenderId}
 use Rattle.mb_msg.specs.declared.envelope.Body.{Body}
 use Rattle.mb_msg.specs.declared.system.SysMsg.TheVariants as system
-use Rattle.mb_gate.specs.View.{View, Pushed, reading}
+use Rattle.mb_gate.specs.View.{View, Ended, Pushed, reading}
 use Rattle.mb_journal.specs.declared.sent_envelope.SentEnvelope.{SentEnvelope}
 use Rattle.mb_queue.specs.Passes.{SendPassView}
 use Rattle.mb_queue.specs.Pushes.{WasFull}
@@ -89,4 +89,4 @@ module _ (by : SenderId) (number : ℕ) (to : ActorId) (body : Body) (posted pos
 abbrev pub Stops : ℕ → View → View → Bool → Type 0
 Stops id old new true = (number : ℕ)
     × Does id (Pushed id number system.Terminate ∷ []) (record { to = id; message = system.Terminate; was_ended = false } ∷ []) old new
-Stops id old new false = Does id [] (record { to = id; message = system.Terminate; was_ended = true } ∷ []) old new
+Stops id old new false = Does id (Ended id [] ∷ []) (record { to = id; message = system.Terminate; was_ended = true } ∷ []) old new

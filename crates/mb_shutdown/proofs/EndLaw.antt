@@ -18,6 +18,7 @@ use Rattle.mb_gate.specs.View.{View, Observation, Read, Saw, Counted, Looked, Se
 use Rattle.mb_ghost.specs.Seen.{Each}
 use Rattle.mb_ghost.specs.Summed.{total}
 use Rattle.mb_home.specs.Contents.{Contents}
+use Rattle.mb_journal.specs.Life.{phase}
 use Rattle.mb_home.specs.Directory.{DirectoryEntry, queues_of as roll_queues}
 use Rattle.mb_report.specs.declared.report.ActorReport.{ActorReport}
 use Rattle.mb_report.specs.declared.report.Report.{Report}
@@ -35,8 +36,8 @@ use Rattle.mb_shutdown.proofs.Columns.{different}
 use Rattle.mb_shutdown.proofs.Gathering.{Gathered, gathered, numbers-rise}
 use Rattle.mb_shutdown.proofs.Lists.{alike, at-place, became, each-place, from-mapped, in-first, length-mapped, mapped, mapped-to, same-maps, there, within}
 use Rattle.mb_shutdown.proofs.Parties.{Party}
-use Rattle.mb_shutdown.proofs.Standing.{Stands, many-left, own_word, shut, stands, stands-put}
-use Rattle.mb_shutdown.proofs.WholeLaw.{counts-given, counts-put, whole}
+use Rattle.mb_shutdown.proofs.Standing.{Stands, closed-by-word, many-left, own_word, shut, stands, stands-put}
+use Rattle.mb_shutdown.proofs.WholeLaw.{counts-given, counts-put, ended-phase, whole}
 
 module _ {A K : Type 0} (gives : ℕ → Moment → Reply → Type 0) (first : Contents) (n : ℕ) (v : View) (all : List (Option BoxedHome))
     (left : AreHomes gives first n v all) (ended : List (Ended A K)) (takes : List TakePassView) (rows : List (List SendPassView))
@@ -130,17 +131,22 @@ module _ {A K : Type 0} (gives : ℕ → Moment → Reply → Type 0) (first : C
           (shows.same_count ∙ many-ended ∙ sym many-lefts) shown
           (sents ∙ ap (λ l. l ++ map (λ (o : FinishedSender). (o.send_log.sent, o.send_log.dead.items)) outs) apart.senders_are ∙ sym g.sents)
 
-      -- the journals go on from all that was seen
-      goes-on : (s : Observation) → ((i : ℕ) (l : BoxedHome) → slice_get lefts i ≡ Some l → IsKept i l.home.value.cell.journal (own_word l.home.value) s)
-          → ReportExtends report s
-      goes-on (Saw actor journal) kept = λ a found.
+      -- what is reported of an actor is what its home shows
+      reported : (actor : ℕ) (a : ActorReport) → slice_get report.actors.items actor ≡ Some a
+          → (l : BoxedHome) × (slice_get lefts actor ≡ Some l) × (es : List Envelope) × ShowsCell after (end_of l.home.value) es a
+      reported actor a found =
           let lt : actor < length lefts
           = let b = within report.actors.items actor a found in let c = shows.same_count in let d = many-ended in let m = many-lefts in
           omega (arith, b, c, d, m) in
           let l = there lefts actor lt in
           let m = taken.same_count in let t = ap length apart.takes_are in let q = length-mapped (λ (l : BoxedHome). l.home.value.take) lefts in
-          let es = there envelopes actor (omega (arith, lt, m, t, q)) in
-          subst (λ j. Extends j journal) (sym (shown actor l.0 es.0 a l.1 es.1 found).0.journal_is) (kept actor l.0 l.1 refl)
+          let es = there envelopes actor (omega (arith, lt, m, t, q)) in (l.0, l.1, es.0, (shown actor l.0 es.0 a l.1 es.1 found).0)
+
+      -- the journals go on from all that was seen, and who was seen ended has ended
+      goes-on : (s : Observation) → ((i : ℕ) (l : BoxedHome) → slice_get lefts i ≡ Some l → IsKept i l.home.value.cell.journal (own_word l.home.value) s)
+          → ReportExtends report s
+      goes-on (Saw actor journal) kept = λ a found.
+          let of = reported actor a found in subst (λ j. Extends j journal) (sym of.3.journal_is) (kept actor of.0 of.1 refl)
       goes-on (Read actor word) kept = tt
       goes-on (Counted actor waiting) kept = tt
       goes-on (Looked actor has_work) kept = tt
@@ -149,7 +155,9 @@ module _ {A K : Type 0} (gives : ℕ → Moment → Reply → Type 0) (first : C
       goes-on (Took actor n) kept = tt
       goes-on (Pushed actor number message) kept = tt
       goes-on (Drained actor given) kept = tt
-      goes-on (EndedSight actor given) kept = tt
+      goes-on (EndedSight actor given) kept = λ a found.
+          let of = reported actor a found in let h = of.0.home.value in
+          of.3.phase_is ∙ ended-phase (phase h.cell.who h.cell.journal) (closed-by-word h.cell.who h.cell.journal (kept actor of.0 of.1 refl))
 
       all-go-on : (log : List Observation)
           → ((i : ℕ) (l : BoxedHome) → slice_get lefts i ≡ Some l → Each (IsKept i l.home.value.cell.journal (own_word l.home.value)) log)

@@ -70,6 +70,7 @@ module _ (gives : ℕ → Moment → Reply → Type 0) (first : Contents) where
     pub known : Each (IsPutAmong actor pushed) log
     pub entered : Each (λ m. IsAmong m (numbered 0 pushed)) (system_entries h.cell.journal)
     pub given : given_of h ≡ length pushed % 2 ^ 64
+    pub few : length pushed < 2 ^ 64
 
   module _ (actors : ℕ) (v : View) (all : List (Option BoxedHome)) (lefts : List BoxedHome) (left : AreHomes gives first actors v all)
       (are : all ≡ map (λ (l : BoxedHome). Some l) lefts) where
@@ -105,6 +106,7 @@ module _ (gives : ℕ → Moment → Reply → Type 0) (first : Contents) where
             entered = each-left (WasPushed (spot actor).ghost) (system_entries l.home.value.cell.journal) l.home.value.rest
                 (left.pushed actor l lt (at actor l there));
             given = is.5 ∙ is.3 ∙ fact.listing.counted ∙ ap (λ (g : List SysMsg). length g % 2 ^ 64) (sym all_given);
+            few = fact.listing.few;
           },
           λ whole measure. left.put whole actor l lt (at actor l there) measure,
         )

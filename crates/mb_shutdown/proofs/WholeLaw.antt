@@ -58,7 +58,7 @@ use Rattle.mb_shutdown.proofs.Lists.{alike, at-place, from-mapped, in-first, len
 use Rattle.mb_shutdown.proofs.Parties.{HasReason, IsParty, Party}
 use Rattle.mb_shutdown.proofs.Standing.{Stands}
 
-ended-phase : (p : Phase) → phase_is p EndedPhase ≡ true → p ≡ EndedPhase
+pub ended-phase : (p : Phase) → phase_is p EndedPhase ≡ true → p ≡ EndedPhase
 ended-phase EndedPhase t = refl
 ended-phase Fresh t = absurd (cc t)
 ended-phase Live t = absurd (cc t)
@@ -127,6 +127,7 @@ module _ (after : ℕ → List Message → ℤ) (gives : ℕ → Moment → Repl
     counts-put = (
       record {
         pushed = st.pushed;
+        few = st.few;
         known = subst (λ n. Each (IsPutAmong n st.pushed) log) (sym st.is_home_of.number) st.known;
         entered = subst (λ (j : List Entry). Each (λ m. IsAmong m (numbered 0 st.pushed)) (system_entries j)) back st.entered;
         once = subst (λ (j : List Entry). (n : ℕ) → n < next_number j

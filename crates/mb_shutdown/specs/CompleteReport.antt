@@ -70,11 +70,12 @@ IsPutAmong actor pushed (Took a n) = Unit {0}
 IsPutAmong actor pushed (Drained a given) = Unit {0}
 IsPutAmong actor pushed (Ended a given) = Unit {0}
 
--- Of all system messages that were ever put into the actor's list, in order, each was applied once, or is set aside or dead once. Each that has an
+-- Of all system messages that were ever put into the actor's list, in order, fewer than 2^64, each was applied once, or is set aside or dead once. Each that has an
 -- entry was put into the list under the entry's number, and was applied or is still set aside. To an actor that ended some more may have come later,
 -- without an entry. As dead it counts what was set aside when it ended, and these.
 pub record CountsSystems (log : List Observation) (who : Identity) (actor : ActorReport) : Type 0 where
   pub pushed : List SysMsg
+  pub few : length pushed < 2 ^ 64
   pub known : Each (IsPutAmong who.this.0 pushed) log
   pub entered : Each (λ m. IsAmong m (numbered 0 pushed)) (system_entries actor.journal.entries)
   pub once : (n : ℕ) → n < next_number actor.journal.entries

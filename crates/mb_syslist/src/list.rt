@@ -60,6 +60,13 @@ impl SysList {
         }
     }
 
+    /// Whether so many messages were pushed, 2^64 - 1, that with one more the count would begin again at 0.
+    pub fn is_full(&self) -> bool
+        ensures { IsTrue result ↔ (pushed self.now + 1 ≡ 2 ^ 64) }
+    {
+        self.pushed == u64::MAX
+    }
+
     /// Puts a node last, and answers its number: how many were pushed before, modulo 2^64. It takes no memory.
     ///
     /// It answers `ListClosed` with the same node if the list is closed. Nothing has changed then.

@@ -1,3 +1,4 @@
 pub mod Captured
 pub mod Crossing
 pub mod Given
+pub mod Summing

@@ -1,10 +1,10 @@
 use Rattle.std.proofs.Common.{◌<◌, ◌+◌, ◌∷◌, length, drop, sym, ap, ◌∙◌, arith}
-use Rattle.std.proofs.lemmas.List.{at_drop_more, drop_more, length_push}
+use Rattle.std.proofs.lemmas.List.{at_drop_more, drop_all, drop_more, length_push}
 use Rattle.std.proofs.lemmas.Result.{IfOk-from_err}
 use Rattle.mb_cell.specs.CellView.{CellView}
 use Rattle.mb_queue.specs.Passes.{TakePassView}
 use Rattle.mb_build.proofs.HomeLemmas.{whose}
-use Rattle.mb_build.proofs.DirectoryLemmas.{enrolled-more, directory-push, the_enrolled}
+use Rattle.mb_build.proofs.DirectoryLemmas.{enrolled-done, enrolled-more, enrolled-none, directory-push, the_enrolled}
 use Rattle.mb_build.proofs.homes.make_directory.Goals as goal
 
 pub loop-number-preserved : goal.loop-number-preserved
@@ -40,3 +40,16 @@ push_reserved-requires g c =
 
 pub returns-in_err-directory : goal.returns-in_err-directory
 returns-in_err-directory g c = IfOk-from_err c.from_residual.result _ c.from_residual.ensures.0
+
+pub loop-number-init : goal.loop-number-init
+loop-number-init g c =
+    let made = c.in_ok-directory.ensures in (enrolled-none _ c.in_ok-directory.directory.items _ made.items, ap length made.items, made.exact)
+
+pub loop-number-smaller : goal.loop-number-smaller
+loop-number-smaller g c = let test = c.loop-number-test.true in omega (arith, test)
+
+pub returns : goal.returns
+returns g c =
+    let at = c.loop-number in let cells = c.args.cells.now in
+    enrolled-done _ _ (whose (drop at.number cells)) (drop at.number c.args.takes.now)
+    (ap whose (drop_all at.number cells c.loop-number-test.false)) at.invariant.0

@@ -1,7 +1,8 @@
 use Rattle.std.proofs.Common.{◌≡◌, ◌+◌, ◌<◌, ◌++◌, ◌∷◌, List, [], length, map, get_or, ap, ◌∙◌, rules, arith}
 use Rattle.std.proofs.lemmas.List.{length_push}
+use Rattle.std.proofs.lemmas.Result.{IfOk-from_err}
 use Rattle.mb_cell.specs.CellView.{CellView}
-use Rattle.mb_causal_order.proofs.Planned.{first, more}
+use Rattle.mb_causal_order.proofs.Planned.{count, first, more}
 use Rattle.mb_causal_order.proofs.planned_cells.planned_cells.Goals as goal
 
 pub loop-index-init : goal.loop-index-init
@@ -30,3 +31,76 @@ loop-index-preserved c =
 
 pub returns-clause-unstarted : goal.returns-clause-unstarted
 returns-clause-unstarted c = c.loop-index.invariant.each
+
+-- ---- the guardian's cell
+
+pub guardian-requires : goal.guardian-requires
+guardian-requires c =
+    let are = c.deref-2.ensures.value ∙ (c.in_ok-parents.ensures ∙ ap (map (λ a. a.parent)) c.deref.ensures.value) in
+    let n = count c.args.plan.now c.deref-2.result.now are in let few = c.requires.few in omega (arith, n, few)
+
+-- ---- a cell more
+
+pub overflow_add-journal : goal.overflow_add-journal
+overflow_add-journal c = let n = c.len-index-end.ensures in let test = c.loop-index-test.true in let few = c.requires.few in omega (arith, n, test, few)
+
+pub offset_bounds-actors-index : goal.offset_bounds-actors-index
+offset_bounds-actors-index c =
+    let n = c.len-index-end.ensures in let test = c.loop-index-test.true in let few = c.requires.few in omega (arith, n, test, few)
+
+pub bounds-actors-index : goal.bounds-actors-index
+bounds-actors-index c = let n = c.len-index-end.ensures in let test = c.loop-index-test.true in let all = c.requires.as_many in omega (arith, n, test, all)
+
+pub index-actor-requires : goal.index-actor-requires
+index-actor-requires c = let n = c.len-index-end.ensures in let test = c.loop-index-test.true in omega (arith, n, test)
+
+pub overflow_cast-index : goal.overflow_cast-index
+overflow_cast-index c = let n = c.len-index-end.ensures in let test = c.loop-index-test.true in let few = c.requires.few in omega (arith, n, test, few)
+
+pub overflow_add-index : goal.overflow_add-index
+overflow_add-index c = let n = c.len-index-end.ensures in let test = c.loop-index-test.true in let few = c.requires.few in omega (arith, n, test, few)
+
+pub cell_of-requires : goal.cell_of-requires
+cell_of-requires c =
+    let are = c.deref-in-loop-index.ensures.value ∙ (c.in_ok-parents.ensures ∙ ap (map (λ a. a.parent)) c.deref.ensures.value) in
+    let n = count c.args.plan.now c.deref-in-loop-index.result.now are in let few = c.requires.few in omega (arith, n, few)
+
+pub loop-index-smaller : goal.loop-index-smaller
+loop-index-smaller c = let test = c.loop-index-test.true in omega (arith, test)
+
+pub returns-clause-as_many : goal.returns-clause-as_many
+returns-clause-as_many c =
+    let is = c.loop-index.invariant.as_many in let end = c.loop-index.auto.index-end in let test = c.loop-index-test.false in
+    let n = c.len-index-end.ensures in let all = c.requires.as_many in omega (arith, is, end, test, n, all)
+
+-- ---- memory was refused
+
+pub returns-in_err-parents-clause-as_many : goal.returns-in_err-parents-clause-as_many
+returns-in_err-parents-clause-as_many c = IfOk-from_err c.from_residual.result _ c.from_residual.ensures.0
+
+pub returns-in_err-parents-clause-unstarted : goal.returns-in_err-parents-clause-unstarted
+returns-in_err-parents-clause-unstarted c = IfOk-from_err c.from_residual.result _ c.from_residual.ensures.0
+
+pub returns-in_err-guardian-clause-as_many : goal.returns-in_err-guardian-clause-as_many
+returns-in_err-guardian-clause-as_many c = IfOk-from_err c.from_residual-in_err-guardian.result _ c.from_residual-in_err-guardian.ensures.0
+
+pub returns-in_err-guardian-clause-unstarted : goal.returns-in_err-guardian-clause-unstarted
+returns-in_err-guardian-clause-unstarted c = IfOk-from_err c.from_residual-in_err-guardian.result _ c.from_residual-in_err-guardian.ensures.0
+
+pub returns-in_err-push-clause-as_many : goal.returns-in_err-push-clause-as_many
+returns-in_err-push-clause-as_many c = IfOk-from_err c.from_residual-in_err-push.result _ c.from_residual-in_err-push.ensures.0
+
+pub returns-in_err-push-clause-unstarted : goal.returns-in_err-push-clause-unstarted
+returns-in_err-push-clause-unstarted c = IfOk-from_err c.from_residual-in_err-push.result _ c.from_residual-in_err-push.ensures.0
+
+pub returns-in_err-cell_of-clause-as_many : goal.returns-in_err-cell_of-clause-as_many
+returns-in_err-cell_of-clause-as_many c = IfOk-from_err c.from_residual-in_err-cell_of.result _ c.from_residual-in_err-cell_of.ensures.0
+
+pub returns-in_err-cell_of-clause-unstarted : goal.returns-in_err-cell_of-clause-unstarted
+returns-in_err-cell_of-clause-unstarted c = IfOk-from_err c.from_residual-in_err-cell_of.result _ c.from_residual-in_err-cell_of.ensures.0
+
+pub returns-in_err-push-2-clause-as_many : goal.returns-in_err-push-2-clause-as_many
+returns-in_err-push-2-clause-as_many c = IfOk-from_err c.from_residual-in_err-push-2.result _ c.from_residual-in_err-push-2.ensures.0
+
+pub returns-in_err-push-2-clause-unstarted : goal.returns-in_err-push-2-clause-unstarted
+returns-in_err-push-2-clause-unstarted c = IfOk-from_err c.from_residual-in_err-push-2.result _ c.from_residual-in_err-push-2.ensures.0

@@ -1,11 +1,12 @@
 use Rattle.std.proofs.Common.{◌∙◌, ◌∷◌, [], Err, ap, subst, sym}
 use Rattle.mb_gate.specs.Accessors.{actors_of}
 use Rattle.mb_register.proofs.CallerLemmas.{account-registered}
-use Rattle.mb_dispatch.specs.Faults.{BreaksSending, IsToNobody}
+use Rattle.mb_dispatch.specs.Faults.{BreaksSending, IsRefusedFor, IsToNobody}
 use Rattle.mb_system.specs.RunErrors.{of_send}
 use Rattle.mb_system.proofs.RunErrors.{on-error}
-use Rattle.mb_dispatch.proofs.Breaking.{breaks-one, nobody-of-send, send-is-not-full, to-nobody}
+use Rattle.mb_dispatch.proofs.Breaking.{breaks-one, nobody-of-send, refused-for, send-is-not-full, to-nobody}
 use Rattle.mb_msg.specs.declared.order.OrderKind.{OrderKind}
+use Rattle.mb_msg.specs.declared.order.OrderKind.TheVariants.{Stop, Tell}
 use Rattle.mb_dispatch.specs.Orders.{HasSent, order_for}
 use Rattle.mb_dispatch.proofs.Sending.{obligations-stopped, obligations-told, sent-none, sent-nothing, sent-stopped, sent-told}
 use Rattle.mb_dispatch.proofs.Sides.{on_err}
@@ -29,6 +30,28 @@ returns-in_err-stop-in-Stop-clause-fault g c =
     (λ unknown. subst (λ what. IsToNobody gates to what) (sym c.in-Stop.is)
     (to-nobody _ _ _ c.stop.result c.stop.ensures.refused (λ memory. memory.0) (c.in_err-stop-in-Stop.was ∙ ap Err (nobody-of-send error unknown))))
     (send-is-not-full error))
+
+pub returns-in_err-tell-in-Tell-clause-reason : goal.returns-in_err-tell-in-Tell-clause-reason
+returns-in_err-tell-in-Tell-clause-reason g c =
+    let gates = c.args.system.now.gates in let error = c.in_err-tell-in-Tell.field-0.0 in let to = c.args.to in
+    on-error c.from_residual.result (IsRefusedFor gates to c.args.what) (of_send error) c.from_residual.ensures.1
+    (subst (λ what. IsRefusedFor gates to what (of_send error)) (sym c.in-Tell.is)
+    (refused-for gates to (Tell c.in-Tell.payload) _ _ c.tell.result c.tell.ensures.refused (λ memory. memory.0) (λ memory. (memory.1, memory.2)) error
+    c.in_err-tell-in-Tell.was))
+
+pub returns-in_err-stop-in-Stop-clause-reason : goal.returns-in_err-stop-in-Stop-clause-reason
+returns-in_err-stop-in-Stop-clause-reason g c =
+    let gates = c.args.system.now.gates in let error = c.in_err-stop-in-Stop.field-0.0 in let to = c.args.to in
+    let passed = c.from_residual-in_err-stop-in-Stop in
+    on-error passed.result (IsRefusedFor gates to c.args.what) (of_send error) passed.ensures.1
+    (subst (λ what. IsRefusedFor gates to what (of_send error)) (sym c.in-Stop.is)
+    (refused-for gates to Stop _ _ c.stop.result c.stop.ensures.refused (λ memory. memory.0) (λ memory. memory.1) error c.in_err-stop-in-Stop.was))
+
+pub returns-in_ok-tell-in-Tell-clause-reason : goal.returns-in_ok-tell-in-Tell-clause-reason
+returns-in_ok-tell-in-Tell-clause-reason g c = tt
+
+pub returns-in_ok-stop-in-Stop-clause-reason : goal.returns-in_ok-stop-in-Stop-clause-reason
+returns-in_ok-stop-in-Stop-clause-reason g c = tt
 
 pub returns-in_ok-tell-in-Tell-clause-obligations : goal.returns-in_ok-tell-in-Tell-clause-obligations
 returns-in_ok-tell-in-Tell-clause-obligations g c =

@@ -5,12 +5,12 @@ use Rattle.std.proofs.lemmas.List.Elements.{Contains-get_or}
 use Rattle.std.proofs.lemmas.Result.{err_from_is_err_and}
 use Rattle.mb_gate.specs.Accessors.{actors_of}
 use Rattle.mb_system.specs.Members.{sender_caller}
-use Rattle.mb_dispatch.specs.Faults.{BreaksSending}
+use Rattle.mb_dispatch.specs.Faults.{BreaksSending, StopsFor}
 use Rattle.mb_dispatch.specs.Orders.{HasSent}
 use Rattle.mb_dispatch.proofs.Breaking.{breaks-many}
 use Rattle.mb_register.proofs.CallerLemmas.{account-none, account-then}
 use Rattle.mb_system.proofs.Obligations.{obligations-same, obligations-then}
-use Rattle.mb_dispatch.proofs.Sending.{sent-none, sent-then, stops-within}
+use Rattle.mb_dispatch.proofs.Sending.{sent-none, sent-then, stops-for, stops-within}
 use Rattle.mb_dispatch.proofs.Sides.{on_err}
 use Rattle.mb_dispatch.proofs.order.send_all.Goals as goal
 
@@ -66,6 +66,19 @@ returns-in_err-send_often-clause-fault g c =
     let there = Contains-get_or orders c.loop-order.order-index _ c.loop-order-test.true in
     subst (λ r. IfErr r (BreaksSending gates orders)) (sym p.1)
     (subst (BreaksSending gates orders) (sym p.2) (breaks-many gates orders _ c.in_err-send_often.field-0.0 there c.in_err-send_often.ensures.fault))
+
+pub returns-clause-reason : goal.returns-clause-reason
+returns-clause-reason g c = tt
+
+pub returns-in_err-send_often-clause-reason : goal.returns-in_err-send_often-clause-reason
+returns-in_err-send_often-clause-reason g c =
+    let gates = c.args.system.now.gates in let at = c.loop-order in
+    let reason = StopsFor gates c.args.orders.now c.args.sender.now c.send_often.new.sender in
+    let p = err_from_is_err_and c.from_residual.result c.from_residual.ensures.1 in
+    subst (λ r. IfErr r reason) (sym p.1)
+    (subst reason (sym p.2)
+    (stops-for c.args.orders.now at.order-index _ c.args.sender.now at.sender c.send_often.new.sender c.loop-order-test.true at.invariant.1
+    c.in_err-send_often.ensures.stopped gates c.in_err-send_often.field-0.0 c.in_err-send_often.ensures.reason))
 
 pub returns-in_err-send_often-clause-stopped : goal.returns-in_err-send_often-clause-stopped
 returns-in_err-send_often-clause-stopped g c =

@@ -7,7 +7,7 @@ use Rattle.mb_dispatch.proofs.Sending.{sent-again, sent-never, sent-then}
 use Rattle.mb_dispatch.proofs.Sides.{on_err}
 use Rattle.std.specs.Prelude.{IfErr}
 use Rattle.std.proofs.lemmas.Result.{err_from_is_err_and}
-use Rattle.mb_dispatch.specs.Faults.{BreaksSending}
+use Rattle.mb_dispatch.specs.Faults.{BreaksSending, IsRefusedFor}
 use Rattle.mb_dispatch.specs.Orders.{HasSent, HasSentUpTo, order_for}
 use Rattle.mb_dispatch.proofs.Breaking.{breaks-often}
 use Rattle.mb_dispatch.proofs.order.send_often.Goals as goal
@@ -61,6 +61,15 @@ returns-in_err-send-clause-fault g c =
     let p = err_from_is_err_and c.from_residual.result c.from_residual.ensures.1 in let more = c.loop-test.true in
     subst (λ r. IfErr r breaks) (sym p.1)
     (subst breaks (sym p.2) (breaks-often gates c.args.order _ (omega (arith, more)) c.in_err-send.ensures.fault))
+
+pub returns-clause-reason : goal.returns-clause-reason
+returns-clause-reason g c = tt
+
+pub returns-in_err-send-clause-reason : goal.returns-in_err-send-clause-reason
+returns-in_err-send-clause-reason g c =
+    let reason = IsRefusedFor c.args.system.now.gates c.args.order.to c.args.order.what in
+    let p = err_from_is_err_and c.from_residual.result c.from_residual.ensures.1 in
+    subst (λ r. IfErr r reason) (sym p.1) (subst reason (sym p.2) c.in_err-send.ensures.reason)
 
 pub returns-clause-owed : goal.returns-clause-owed
 returns-clause-owed g c = c.loop.invariant.3

@@ -1,5 +1,5 @@
 use Rattle.std.proofs.Common.{◌≡◌, ◌≤◌, inl, inr, true, false, List, [], length, refl, sym, ap, ◌∙◌, subst, arith}
-use Rattle.std.specs.Prelude.{◌↔◌, IsErrOf, IsTrue, Err}
+use Rattle.std.specs.Prelude.{◌↔◌, ℕ, ◌+◌, IfOk, IsErr, IsErrOf, IsTrue, Result, Ok, Err}
 use Rattle.std.specs.Global.{Box}
 use Rattle.mb_journal.specs.declared.error.ReadyError.{ReadyError}
 use Rattle.mb_journal.specs.declared.error.ReadyError.TheVariants.{JournalFull}
@@ -36,16 +36,33 @@ use Rattle.mb_mailbox.proofs.RecordedLemmas.{alike-still, alike-then}
 use Rattle.mb_mailbox.proofs.RunSendsLemmas.{due-none, entries-none, entries-same}
 use Rattle.mb_mailbox.proofs.envelopes.apply_next.Goals as goal
 
+-- a fault is no answer
+no-answer : {T E : Type 0} (P : T → Type 0) (r : Result T E) → IsErr r → IfOk r P
+no-answer P (Ok x) is = cc
+no-answer P (Err e) is = tt
+
+one-more : (n : ℕ) → n ≤ n + 1
+one-more n = omega arith
+
+no-more : (n : ℕ) → n ≤ n
+no-more n = omega arith
+
 -- ---- how few were taken
 
 pub returns-then-not-should_process-clause-within_limit : goal.returns-then-not-should_process-clause-within_limit
-returns-then-not-should_process-clause-within_limit g c = omega arith
+returns-then-not-should_process-clause-within_limit g c = one-more _
 
 pub returns-in_default-clause-within_limit : goal.returns-in_default-clause-within_limit
-returns-in_default-clause-within_limit g c = omega arith
+returns-in_default-clause-within_limit g c = one-more _
 
 pub returns-in_err-ready-clause-within_limit : goal.returns-in_err-ready-clause-within_limit
-returns-in_err-ready-clause-within_limit g c = omega arith
+returns-in_err-ready-clause-within_limit g c = one-more _
+
+pub returns-in-Ok-clause-within_limit : goal.returns-in-Ok-clause-within_limit
+returns-in-Ok-clause-within_limit g c = no-more _
+
+pub returns-in-Err-clause-within_limit : goal.returns-in-Err-clause-within_limit
+returns-in-Err-clause-within_limit g c = no-more _
 
 -- ---- the status was not open
 
@@ -507,3 +524,26 @@ returns-in-Err-clause-stops g c = record {
       (c.in-Err.is ∙ ap (λ (f : ReadyError). Err f) (same-fault c.in-Err.fault full)));
   out_of_memory = λ short. inr (err-at c.carry_out.result c.in-Err.fault c.in-Err.is c.carry_out.ensures.ended);
 }
+
+pub returns-in_err-ready-clause-took : goal.returns-in_err-ready-clause-took
+returns-in_err-ready-clause-took g c = no-answer _ c.from_residual.result c.from_residual.ensures.0
+
+pub returns-in-Ok-clause-took : goal.returns-in-Ok-clause-took
+returns-in-Ok-clause-took g c = refl
+
+pub returns-in-Err-clause-took : goal.returns-in-Err-clause-took
+returns-in-Err-clause-took g c = tt
+
+-- ---- the claim is as it was but for its home
+
+pub invariant_of-claim : goal.invariant_of-claim
+invariant_of-claim g c =
+    let k = c.args.claim.now in record { has = k.has; of = k.of; word = k.word; busy = k.busy; no_list = k.no_list; carries = k.carries }
+
+pub invariant_of-claim-2 : goal.invariant_of-claim-2
+invariant_of-claim-2 g c =
+    let k = c.args.claim.now in record { has = k.has; of = k.of; word = k.word; busy = k.busy; no_list = k.no_list; carries = k.carries }
+
+pub invariant_of-claim-3 : goal.invariant_of-claim-3
+invariant_of-claim-3 g c =
+    let k = c.note_taken.new.claim in record { has = k.has; of = k.of; word = k.word; busy = k.busy; no_list = k.no_list; carries = k.carries }

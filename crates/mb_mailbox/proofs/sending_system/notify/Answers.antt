@@ -1,14 +1,14 @@
-use Rattle.std.proofs.Common.{arith, sym, refl, ap, subst, ◌∙◌}
+use Rattle.std.proofs.Common.{arith, false, sym, refl, ap, subst, ◌∙◌}
 use Rattle.std.specs.Prelude.{is_err}
 use Rattle.mb_gate.specs.NamedActors.{NamesBelow}
 use Rattle.mb_gate.specs.Accessors.{actors_of, pass_view}
 use Rattle.mb_gate.specs.View.{View}
 use Rattle.mb_register.proofs.Views.{does-then, does-enlisting}
-use Rattle.mb_register.proofs.CallerLemmas.{account-registered, further-sent_system}
+use Rattle.mb_register.proofs.CallerLemmas.{account-registered}
 use Rattle.mb_register.proofs.MoveLemmas.{moves-does, further-moves}
 use Rattle.mb_mailbox.proofs.SendSystemLemmas.{notified}
-use Rattle.mb_mailbox.proofs.RecordedLemmas.{alike-one, does-give-none, does-list}
-use Rattle.mb_mailbox.specs.RunSends.{given_by, listed_by}
+use Rattle.mb_mailbox.proofs.RecordedLemmas.{alike-one, does-end-none, does-give-none, does-list, further-refused, refused-gives-none, refused-one, unrefused}
+use Rattle.mb_mailbox.specs.RunSends.{listed_by}
 use Rattle.mb_mailbox.proofs.sending_system.notify.Goals as goal
 
 pub sys_enqueue_in_run-requires-clause-same_gates : goal.sys_enqueue_in_run-requires-clause-same_gates
@@ -53,7 +53,7 @@ returns-in_default-clause-told g c =
     c.set.ensures c.sys_enqueue_in_run.ensures.recorded
 
 pub returns-in_default-clause-caller_advances : goal.returns-in_default-clause-caller_advances
-returns-in_default-clause-caller_advances g c = further-sent_system _ _ _ c.in_default.ensures.ended.1 refl
+returns-in_default-clause-caller_advances g c = further-refused _ _ _ _ c.in_default.ensures.ended.1 refl
 
 pub returns-clause-sends : goal.returns-clause-sends
 returns-clause-sends g c =
@@ -61,8 +61,10 @@ returns-clause-sends g c =
     let a = pass_view c.args.registrar.now.pass in let b = pass_view c.sys_enqueue_in_run.new.pass in let d = pass_view c.register.new.self.pass in
     let did = does-then id _ _ a b d (does-enlisting id c.in-Ok.field-0 c.set.new.self a b c.in-Ok.ensures.listed) c.register.ensures.looks in
     alike-one _ _ _ _ _ c.in-Ok.ensures.recorded.record_is did.sent_system (does-list id _ _ a d did) (does-give-none id _ _ a d refl did)
+    (unrefused (record { to = id; message = c.set.new.self; was_ended = false }) a d refl (does-end-none id _ _ a d (λ to. omega arith) did))
 
 pub returns-in_default-clause-sends : goal.returns-in_default-clause-sends
 returns-in_default-clause-sends g c =
     alike-one _ _ _ _ _ c.in_default.ensures.recorded.record_is (ap (λ (v : View). v.sent_system) c.in_default.ensures.ended.1)
-    (ap (λ (v : View). listed_by v.log) c.in_default.ensures.ended.1) (ap (λ (v : View). given_by v.log) c.in_default.ensures.ended.1)
+    (ap (λ (v : View). listed_by v.log) c.in_default.ensures.ended.1) (refused-gives-none _ _ _ _ c.in_default.ensures.ended.1)
+    (refused-one _ _ _ _ c.in_default.ensures.ended.1)

@@ -1,4 +1,4 @@
-use Rattle.std.proofs.Common.{◌<◌, Some, sym, refl, ap, ◌∙◌, subst, arith}
+use Rattle.std.proofs.Common.{◌<◌, false, Some, sym, refl, ap, ◌∙◌, subst, arith}
 use Rattle.std.specs.Global.{Box}
 use Rattle.mb_status.specs.Mailbox.{Mailbox}
 use Rattle.mb_gate.specs.NamedActors.{NamesBelow}
@@ -10,14 +10,24 @@ use Rattle.mb_register.proofs.Views.{does-then, does-enlisting}
 use Rattle.mb_mailbox.specs.RunState.{run_state}
 use Rattle.mb_mailbox.specs.Notice.{asker}
 use Rattle.mb_mailbox.proofs.BacklogLemmas.{keeps-then}
-use Rattle.mb_register.proofs.CallerLemmas.{account-registered, further-sent_system, further-then}
+use Rattle.mb_register.proofs.CallerLemmas.{account-registered, further-then}
 use Rattle.mb_mailbox.proofs.CleanLemmas.{status-answered}
 use Rattle.mb_mailbox.proofs.EmptiedLemmas.{cleared-same}
 use Rattle.mb_register.proofs.MoveLemmas.{moves-does, further-moves}
 use Rattle.mb_mailbox.proofs.SendSystemLemmas.{running-caller_advances, running-sent_system, running-refused, keeps-recorded, keeps-answered, backlog-sent_system, backlog-answered}
 use Rattle.mb_mailbox.proofs.SendSystemLemmas.{home-answered}
-use Rattle.mb_mailbox.proofs.RecordedLemmas.{alike-one, alike-then, does-give-none, does-list}
-use Rattle.mb_mailbox.specs.RunSends.{given_by, listed_by}
+use Rattle.mb_mailbox.proofs.RecordedLemmas.{
+  alike-one,
+  alike-then,
+  does-end-none,
+  does-give-none,
+  does-list,
+  further-refused,
+  refused-gives-none,
+  refused-one,
+  unrefused,
+}
+use Rattle.mb_mailbox.specs.RunSends.{listed_by}
 use Rattle.mb_mailbox.proofs.StepSendsLemmas.{due-listed, due-refused}
 use Rattle.mb_mailbox.proofs.sending_system.send_system.Goals as goal
 
@@ -99,7 +109,7 @@ answer-requires-clause-named g c =
     subst (NamesBelow (actors_of c.args.gates.now)) (sym c.in-Err.ensures.ended.0) c.requires.running.sends.0.1
 
 pub returns-in-Err-clause-caller_advances : goal.returns-in-Err-clause-caller_advances
-returns-in-Err-clause-caller_advances g c = further-then _ _ _ (further-sent_system _ _ _ c.in-Err.ensures.ended.1 refl) c.answer.ensures.caller_advances
+returns-in-Err-clause-caller_advances g c = further-then _ _ _ (further-refused _ _ _ _ c.in-Err.ensures.ended.1 refl) c.answer.ensures.caller_advances
 
 pub returns-in-Err-clause-running : goal.returns-in-Err-clause-running
 returns-in-Err-clause-running g c =
@@ -150,12 +160,14 @@ returns-in-Ok-clause-sends g c =
     let a = pass_view c.args.registrar.now.pass in let b = pass_view c.sys_enqueue_in_run.new.pass in let d = pass_view c.register.new.self.pass in
     let did = does-then id _ _ a b d (does-enlisting id c.in-Ok.field-0 c.args.node a b c.in-Ok.ensures.listed) c.register.ensures.looks in
     alike-one _ _ _ _ _ c.in-Ok.ensures.recorded.record_is did.sent_system (does-list id _ _ a d did) (does-give-none id _ _ a d refl did)
+    (unrefused (record { to = id; message = c.args.node; was_ended = false }) a d refl (does-end-none id _ _ a d (λ to. omega arith) did))
 
 pub returns-in-Err-clause-sends : goal.returns-in-Err-clause-sends
 returns-in-Err-clause-sends g c =
     alike-then _ _ _ _ _ _
     (alike-one _ _ _ _ _ c.in-Err.ensures.recorded.record_is (ap (λ (v : View). v.sent_system) c.in-Err.ensures.ended.1)
-    (ap (λ (v : View). listed_by v.log) c.in-Err.ensures.ended.1) (ap (λ (v : View). given_by v.log) c.in-Err.ensures.ended.1)) c.answer.ensures.sends
+    (ap (λ (v : View). listed_by v.log) c.in-Err.ensures.ended.1) (refused-gives-none _ _ _ _ c.in-Err.ensures.ended.1)
+    (refused-one _ _ _ _ c.in-Err.ensures.ended.1)) c.answer.ensures.sends
 
 -- ---- what was due was sent
 

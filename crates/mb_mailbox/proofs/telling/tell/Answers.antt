@@ -11,7 +11,16 @@ use Rattle.mb_mailbox.proofs.EmptiedLemmas.{cleared-same}
 use Rattle.mb_mailbox.proofs.SendSystemLemmas.{running-caller_advances}
 use Rattle.mb_mailbox.proofs.TellingLemmas.{running-own, told-below, log-closed, discharged-closed, cell-told, take-told, keeps-told, backlog-told, running-told_closed}
 use Rattle.mb_mailbox.proofs.TellingLemmas.{running-sent, sent-then, sent-moves, sent-told}
-use Rattle.mb_mailbox.proofs.RecordedLemmas.{alike-quiet, does-give-none, does-list, given-tells, listed-tells, sent-tells}
+use Rattle.mb_mailbox.proofs.RecordedLemmas.{
+  alike-quiet,
+  does-end-none,
+  does-give-none,
+  does-list,
+  ended-tells,
+  given-tells,
+  listed-tells,
+  sent-tells,
+}
 use Rattle.mb_mailbox.proofs.RunSendsLemmas.{due-none}
 use Rattle.mb_mailbox.proofs.telling.tell.Goals as goal
 
@@ -120,12 +129,14 @@ pub returns-in-None-clause-sends : goal.returns-in-None-clause-sends
 returns-in-None-clause-sends g c =
     alike-quiet _ _ _ _ refl c.in-None.ensures.told.did.sent_system (does-list c.args.to.0 _ [] _ _ c.in-None.ensures.told.did)
     (does-give-none c.args.to.0 _ [] _ _ refl c.in-None.ensures.told.did)
+    (does-end-none c.args.to.0 _ [] _ _ (λ at. omega arith) c.in-None.ensures.told.did)
 
 pub returns-in-Some-clause-sends : goal.returns-in-Some-clause-sends
 returns-in-Some-clause-sends g c =
     let told = sent-then c.args.to c.args.body c.in-Some.hint _ _ _ _ _ c.in-Some.ensures.told c.register.ensures.looks in
     alike-quiet _ _ _ _ refl (sent-tells c.args.to c.args.body _ _ _ _ c.in-Some.hint told)
     (listed-tells c.args.to c.args.body _ _ _ _ c.in-Some.hint told) (given-tells c.args.to c.args.body _ _ _ _ c.in-Some.hint told)
+    (ended-tells c.args.to c.args.body _ _ _ _ c.in-Some.hint told)
 
 pub returns-in-None-clause-due : goal.returns-in-None-clause-due
 returns-in-None-clause-due g c =

@@ -3,40 +3,73 @@ use Rattle.mb_gate.specs.Accessors.{pass_view}
 use Rattle.mb_register.proofs.ClaimCounts.{loses-none, loses-aside, loses-handed}
 use Rattle.mb_register.proofs.Dues.{got-none}
 use Rattle.mb_register.proofs.Joining.{joined-owed}
-use Rattle.mb_register.proofs.Retries.{refused-none, refused-one, taken-out}
+use Rattle.mb_register.proofs.Retries.{never-both, others-kept, others-out, refused-none, refused-one, taken-out}
+use Rattle.mb_register.proofs.Views.{looks-none}
 use Rattle.mb_register.proofs.registrar.Registrar.retry_one.Goals as goal
 
-pub returns-then-contains-clause-refused : goal.returns-then-contains-clause-refused
-returns-then-contains-clause-refused g c =
+-- ---- no look is owed to it
+
+pub returns-then-not-contains : goal.returns-then-not-contains
+returns-then-not-contains g c =
+    let v = pass_view c.args.self.now.pass in
+    let out = sym c.contains.ensures ∙ c.if-not-contains.true in
+    record {
+      same_gates = (refl, refl);
+      looks = looks-none c.args.id.0 v;
+      discharged = λ has. never-both _ has out;
+      done = out;
+      left = tt;
+      owes = tt;
+      refused = refl;
+      none = λ _. refl;
+      others = λ other below ne. refl;
+      handed = loses-none _ v;
+      due = got-none _ _ _ refl;
+    }
+
+-- ---- the run queue refused its claim again
+
+pub returns-then-contains : goal.returns-then-contains
+returns-then-contains g c =
     let id = c.args.id.0 in
-    refused-one id _ _ c.register.result c.register.ensures.registered (taken-out id _ _ (c.remove.ensures id c.requires.present.1))
-    (sym c.contains-2.ensures ∙ c.if-contains.true)
+    let did = c.register.ensures in
+    let had = sym c.contains.ensures ∙ c.if-not-contains.false in
+    let has = sym c.contains-2.ensures ∙ c.if-contains.true in
+    let out = taken-out id _ _ (c.remove.ensures id c.requires.present.1) in
+    record {
+      same_gates = did.same_gates;
+      looks = did.looks;
+      discharged = λ _. did.discharged;
+      done = tt;
+      left = (had, has);
+      owes = joined-owed _ _ (pass_view c.register.new.self.pass) id did.owes out has;
+      refused = refused-one id _ _ c.register.result did.registered out has;
+      none = λ none. never-both _ had none;
+      others = λ other below ne. others-kept id _ _ c.register.result did.registered other ne
+          ∙ others-out id other _ _ ne (c.remove.ensures other below);
+      handed = loses-aside _ _ _ _ _ _ _ (loses-handed id _ _ _ _ c.register.result did.handed);
+      due = did.due;
+    }
 
-pub returns-clause-refused : goal.returns-clause-refused
-returns-clause-refused g c =
-    refused-none c.args.id.0 _ _ c.register.result c.register.ensures.registered (sym c.contains-2.ensures ∙ c.if-contains.false)
+-- ---- it did not
 
-pub returns-then-not-contains-clause-handed : goal.returns-then-not-contains-clause-handed
-returns-then-not-contains-clause-handed g c = loses-none _ (pass_view c.args.self.now.pass)
-
-pub returns-then-not-contains-clause-due : goal.returns-then-not-contains-clause-due
-returns-then-not-contains-clause-due g c = got-none _ _ _ refl
-
-pub returns-then-contains-clause-handed : goal.returns-then-contains-clause-handed
-returns-then-contains-clause-handed g c =
-    loses-aside _ _ _ _ _ _ _ (loses-handed c.args.id.0 _ _ _ _ c.register.result c.register.ensures.handed)
-
-pub returns-clause-handed : goal.returns-clause-handed
-returns-clause-handed g c = loses-aside _ _ _ _ _ _ _ (loses-handed c.args.id.0 _ _ _ _ c.register.result c.register.ensures.handed)
-
-pub returns-then-contains-clause-due : goal.returns-then-contains-clause-due
-returns-then-contains-clause-due g c = c.register.ensures.due
-
-pub returns-clause-due : goal.returns-clause-due
-returns-clause-due g c = c.register.ensures.due
-
-pub returns-then-contains-clause-owes : goal.returns-then-contains-clause-owes
-returns-then-contains-clause-owes g c =
+pub returns : goal.returns
+returns g c =
     let id = c.args.id.0 in
-    joined-owed _ _ (pass_view c.register.new.self.pass) id c.register.ensures.owes (taken-out id _ _ (c.remove.ensures id c.requires.present.1))
-    (sym c.contains-2.ensures ∙ c.if-contains.true)
+    let did = c.register.ensures in
+    let had = sym c.contains.ensures ∙ c.if-not-contains.false in
+    let out = sym c.contains-2.ensures ∙ c.if-contains.false in
+    record {
+      same_gates = did.same_gates;
+      looks = did.looks;
+      discharged = λ _. did.discharged;
+      done = out;
+      left = tt;
+      owes = tt;
+      refused = refused-none id _ _ c.register.result did.registered out;
+      none = λ none. never-both _ had none;
+      others = λ other below ne. others-kept id _ _ c.register.result did.registered other ne
+          ∙ others-out id other _ _ ne (c.remove.ensures other below);
+      handed = loses-aside _ _ _ _ _ _ _ (loses-handed id _ _ _ _ c.register.result did.handed);
+      due = did.due;
+    }

@@ -12,8 +12,8 @@ use Rattle.mb_send.specs.Bounded.{are_of_bounded, may_be_refused, queue_to}
 use Rattle.mb_send.proofs.Bounding.{bounded-queued, bounded-dead, may-find-full}
 use Rattle.mb_gate.specs.Accessors.{pass_view}
 use Rattle.mb_send.proofs.Answering.{why-told}
-use Rattle.mb_send.proofs.Failing.{after-any}
-use Rattle.mb_send.proofs.Obligations.{still-registered, registers-nobody}
+use Rattle.mb_send.proofs.Failing.{after-any, no-answer}
+use Rattle.mb_send.proofs.Obligations.{is-sending, place-within, still-registered, registers-nobody}
 use Rattle.mb_register.specs.Sending.{counts}
 use Rattle.mb_register.proofs.Views.{does-then, does-sending, does-unsending}
 use Rattle.mb_queue.specs.Passes.{Queue, SendPassView}
@@ -192,3 +192,122 @@ push-requires-clause-addressed g c =
     let route = c.args.self.now.routes k old (slice_get_read items (length items) k old refl lt c.index_mut.ensures.value) in
     let sum : id ≡ k + 1 = omega (arith, c.requires.present.0) in
     ap (λ (x : Envelope). x.to.0) c.next-envelope.ensures ∙ sum ∙ sym route.receiver
+
+-- ---- there was no room
+
+pub invariant_of-self : goal.invariant_of-self
+invariant_of-self g c =
+    let items = c.args.self.now.sends.items in
+    let by = sym (ap (λ (s : SenderId). s.0) c.ready.ensures.same.0) in
+    let posted = sym c.ready.ensures.same.3 in
+    record {
+      routes = subst (λ (y : ℕ × List SentEnvelope). AreRoutes y.0 y.1 items) (λ i. (by i, posted i)) c.args.self.now.routes;
+      was_seen_closed = subst (λ (l : List SentEnvelope). were_seen_closed (pass_view c.args.self.now.registrar.pass).log (dead_letters l) ≡ true) posted
+          c.args.self.now.was_seen_closed;
+      bounded = subst (λ (l : List SentEnvelope). are_of_bounded (receiving_queues items) (dead_letters l) ≡ true) posted c.args.self.now.bounded;
+    }
+
+pub returns-in_err-ready-clause-sent : goal.returns-in_err-ready-clause-sent
+returns-in_err-ready-clause-sent g c = no-answer _ c.from_residual.result c.from_residual.ensures.0
+
+pub returns-in_err-ready-clause-discharged : goal.returns-in_err-ready-clause-discharged
+returns-in_err-ready-clause-discharged g c = no-answer _ c.from_residual.result c.from_residual.ensures.0
+
+pub returns-in_err-ready-clause-still : goal.returns-in_err-ready-clause-still
+returns-in_err-ready-clause-still g c = λ id owed. owed
+
+pub returns-in_err-ready-clause-same_gates : goal.returns-in_err-ready-clause-same_gates
+returns-in_err-ready-clause-same_gates g c = (refl, refl)
+
+pub returns-in_err-ready-clause-same : goal.returns-in_err-ready-clause-same
+returns-in_err-ready-clause-same g c = (c.ready.ensures.same.0, refl)
+
+pub returns-in_err-ready-clause-queues : goal.returns-in_err-ready-clause-queues
+returns-in_err-ready-clause-queues g c = refl
+
+-- ---- what the steps ask for
+
+pub note_sent-requires-clause-same_gates : goal.note_sent-requires-clause-same_gates
+note_sent-requires-clause-same_gates g c = c.requires.same_gates.0
+
+pub note_sent-requires-clause-present : goal.note_sent-requires-clause-present
+note_sent-requires-clause-present g c = c.requires.present.1
+
+pub overflow_sub-to : goal.overflow_sub-to
+overflow_sub-to g c = c.requires.present.0
+
+pub index_mut-requires : goal.index_mut-requires
+index_mut-requires g c = place-within c.args.ticket.to.0 _ _ c.requires.all c.requires.present.0 c.requires.present.1
+
+pub record_queued-requires-clause-next : goal.record_queued-requires-clause-next
+record_queued-requires-clause-next g c = (ap (λ (x : Envelope). x.by) c.next-envelope.ensures, ap (λ (x : Envelope). x.number) c.next-envelope.ensures)
+
+pub record_queued-requires-clause-number : goal.record_queued-requires-clause-number
+record_queued-requires-clause-number g c = c.in_ok-ready.ensures.number
+
+pub register-requires-clause-same_gates : goal.register-requires-clause-same_gates
+register-requires-clause-same_gates g c = (c.note_sent.ensures.same_gates ∙ c.requires.same_gates.0, c.requires.same_gates.1)
+
+pub register-requires-clause-present : goal.register-requires-clause-present
+register-requires-clause-present g c = (c.requires.present.1, c.requires.present.2)
+
+pub record_dead-requires-clause-next : goal.record_dead-requires-clause-next
+record_dead-requires-clause-next g c = (ap (λ (x : Envelope). x.by) c.next-envelope.ensures, ap (λ (x : Envelope). x.number) c.next-envelope.ensures)
+
+pub record_dead-requires-clause-number : goal.record_dead-requires-clause-number
+record_dead-requires-clause-number g c = c.in_ok-ready.ensures.number
+
+pub record_dead-requires-clause-room : goal.record_dead-requires-clause-room
+record_dead-requires-clause-room g c = c.in_ok-ready.ensures.room
+
+pub note_unsent-requires-clause-same_gates : goal.note_unsent-requires-clause-same_gates
+note_unsent-requires-clause-same_gates g c = c.note_sent.ensures.same_gates ∙ c.requires.same_gates.0
+
+pub note_unsent-requires-clause-present : goal.note_unsent-requires-clause-present
+note_unsent-requires-clause-present g c = c.requires.present.1
+
+pub note_unsent-requires-clause-sending : goal.note_unsent-requires-clause-sending
+note_unsent-requires-clause-sending g c =
+    is-sending c.args.ticket.to.0 (pass_view c.args.self.now.registrar.pass) (pass_view c.note_sent.new.pass) c.note_sent.ensures.known
+
+pub register-requires-in-Err-clause-same_gates : goal.register-requires-in-Err-clause-same_gates
+register-requires-in-Err-clause-same_gates g c =
+    (c.note_unsent.ensures.same_gates ∙ (c.note_sent.ensures.same_gates ∙ c.requires.same_gates.0), c.requires.same_gates.1)
+
+pub register-requires-in-Err-clause-present : goal.register-requires-in-Err-clause-present
+register-requires-in-Err-clause-present g c = (c.requires.present.1, c.requires.present.2)
+
+-- ---- what did not change, and what is owed
+
+pub returns-in-Ok-clause-refused : goal.returns-in-Ok-clause-refused
+returns-in-Ok-clause-refused g c = tt
+
+pub returns-in-Ok-clause-unsent : goal.returns-in-Ok-clause-unsent
+returns-in-Ok-clause-unsent g c = tt
+
+pub returns-in-Ok-clause-discharged : goal.returns-in-Ok-clause-discharged
+returns-in-Ok-clause-discharged g c = c.register.ensures.discharged
+
+pub returns-in-Ok-clause-same_gates : goal.returns-in-Ok-clause-same_gates
+returns-in-Ok-clause-same_gates g c = (c.register.ensures.same_gates.0 ∙ c.note_sent.ensures.same_gates, c.register.ensures.same_gates.1)
+
+pub returns-in-Ok-clause-same : goal.returns-in-Ok-clause-same
+returns-in-Ok-clause-same g c = (c.record_queued.ensures.same_sender ∙ c.ready.ensures.same.0, refl)
+
+pub returns-in-Err-clause-refused : goal.returns-in-Err-clause-refused
+returns-in-Err-clause-refused g c = tt
+
+pub returns-in-Err-clause-unsent : goal.returns-in-Err-clause-unsent
+returns-in-Err-clause-unsent g c = tt
+
+pub returns-in-Err-clause-discharged : goal.returns-in-Err-clause-discharged
+returns-in-Err-clause-discharged g c = c.register-in-Err.ensures.discharged
+
+pub returns-in-Err-clause-same_gates : goal.returns-in-Err-clause-same_gates
+returns-in-Err-clause-same_gates g c = (
+  c.register-in-Err.ensures.same_gates.0 ∙ (c.note_unsent.ensures.same_gates ∙ c.note_sent.ensures.same_gates),
+  c.register-in-Err.ensures.same_gates.1,
+)
+
+pub returns-in-Err-clause-same : goal.returns-in-Err-clause-same
+returns-in-Err-clause-same g c = (c.record_dead.ensures.same_sender ∙ c.ready.ensures.same.0, refl)

@@ -1,0 +1,7 @@
+use Rattle.heddleorange.specs.WholeRun.{after_at, gives_at}
+use Rattle.heddleorange.proofs.ArrivedLaw.{each-stop-arrives}
+use Rattle.heddleorange.proofs.laws.each_stop_arrives.Goals as goal
+
+pub returns : goal.returns
+returns g c = λ actors plan orders report.
+    each-stop-arrives (after_at actors g.A.Actor.after) (gives_at actors g.A.Actor.gives) plan orders report

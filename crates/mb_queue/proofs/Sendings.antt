@@ -1,0 +1,138 @@
+-- What a send pass pushes, by the ports of its fifos.
+use Rattle.std.proofs.Common.{◌≡◌, ℕ, Bool, true, false, cond, not, List, [], ◌∷◌, ◌++◌, Option, Some, None, refl, sym, ap, ◌∙◌, subst}
+use Rattle.std.specs.Prelude.{IfErr, MatchResult, Result, Ok, Err}
+use Rattle.std.proofs.lemmas.List.{append-nil}
+use Rattle.std.proofs.lemmas.List.Elements.{filter-append}
+use Rattle.mb_msg.specs.declared.envelope.Envelope.{Envelope}
+use Rattle.mb_queue.specs.declared.ledger.Ledger.{Ledger}
+use Rattle.mb_queue.specs.declared.ledger.Ledger.TheVariants.{Sender, Taker, Spent}
+use Rattle.mb_queue.specs.declared.ledger.QueuePart.TheVariants.{Whole, Controls, Others}
+use Rattle.mb_queue.specs.declared.ledger.Scope.{Scope}
+use Rattle.mb_queue.specs.Ledger.{MayPush, is_control, pushing}
+use Rattle.mb_queue.specs.Parts.{controls, others}
+use Rattle.mb_queue.specs.Port.{FifoPort}
+use Rattle.mb_queue.specs.Passes.{SendPassView}
+use Rattle.mb_queue.specs.Pushes.{IsRefusal}
+use Rattle.mb_queue.specs.Representation.{IsSending, parted, scope_in, sending}
+use Rattle.mb_queue.specs.Rule.{IsFifoRefusal, given_back, reason_of}
+use Rattle.mb_queue.specs.declared.refused.PushError.{PushError}
+use Rattle.mb_queue.specs.declared.refused.PushError.TheVariants.{Full, NoMemory}
+use Rattle.mb_queue.proofs.RefusedLemmas.{refused}
+
+-- the envelope goes to the fifo of all but control messages, or the queue has one fifo
+abbrev pub IsForMain : Option FifoPort → Envelope → Type 0
+IsForMain None e = Unit {0}
+IsForMain (Some control) e = is_control e ≡ false
+
+-- a push leaves the scope as it is
+scope-pushing : (e : Envelope) (l : Ledger) → scope_in (pushing l e) ≡ scope_in l
+scope-pushing e (Sender scope by pushed) = refl
+scope-pushing e (Taker scope taken accounts) = refl
+scope-pushing e Spent = refl
+
+module _ (pushed : List Envelope) (e : Envelope) where
+  controls-more : (b : Bool) → is_control e ≡ b → controls (pushed ++ e ∷ []) ≡ controls pushed ++ cond b (e ∷ []) []
+  controls-more b is = filter-append is_control pushed (e ∷ []) ∙ ap (λ t. controls pushed ++ cond t (e ∷ []) []) is
+
+  others-more : (b : Bool) → is_control e ≡ b → others (pushed ++ e ∷ []) ≡ others pushed ++ cond (not b) (e ∷ []) []
+  others-more b is =
+      filter-append (λ (x : Envelope). not (is_control x)) pushed (e ∷ []) ∙ ap (λ t. others pushed ++ cond (not t) (e ∷ []) []) is
+
+module _ (by : ℕ) (main : FifoPort) (pushed : List Envelope) (e : Envelope) where
+  -- ---- a control message, where the queue has a fifo of them
+  module _ (control : FifoPort) (kept : IsSending by main (Some control) pushed) (is : is_control e ≡ true) where
+    pub control-may : e.by.0 ≡ by → e.to.0 ≡ (scope_in main.ledger).to → MayPush e control.ledger
+    control-may own to = subst (MayPush e) (sym kept.1) (sym own, to, is)
+
+    pub control-kept : (now : FifoPort) → now ≡ record control { ledger = pushing control.ledger e } → IsSending by main (Some now) (pushed ++ e ∷ [])
+    control-kept now after = subst (λ (p : FifoPort). IsSending by main (Some p) (pushed ++ e ∷ [])) (sym after) (
+      kept.0 ∙ ap (λ l. Sender (parted (scope_in main.ledger) Others) by l) (sym (others-more pushed e true is ∙ append-nil (others pushed))),
+      ap (λ l. pushing l e) kept.1 ∙ ap (λ l. Sender (parted (scope_in main.ledger) Controls) by l) (sym (controls-more pushed e true is)),
+      kept.2,
+      kept.3,
+    )
+
+  -- ---- another envelope
+  module _ (control : Option FifoPort) (now : FifoPort) (after : now ≡ record main { ledger = pushing main.ledger e }) where
+    pub main-kept : IsSending by main control pushed → IsForMain control e → IsSending by now control (pushed ++ e ∷ [])
+    main-kept kept is = subst (λ (p : FifoPort). IsSending by p control (pushed ++ e ∷ [])) (sym after) (by_parts control kept is)
+      where
+        by_parts : (c : Option FifoPort) → IsSending by main c pushed → IsForMain c e →
+            IsSending by (record main { ledger = pushing main.ledger e }) c (pushed ++ e ∷ [])
+        by_parts None was _ =
+            ap (λ l. pushing l e) was ∙ ap (λ (s : Scope). Sender (parted s Whole) by (pushed ++ e ∷ [])) (sym (scope-pushing e main.ledger))
+        by_parts (Some c) was other = (
+          ap (λ l. pushing l e) was.0
+              ∙ (λ i. Sender (parted (sym (scope-pushing e main.ledger) i) Others) by (sym (others-more pushed e false other) i)),
+          was.1
+              ∙ (λ i. Sender (parted (sym (scope-pushing e main.ledger) i) Controls) by
+              (sym (controls-more pushed e false other ∙ append-nil (controls pushed)) i)),
+          was.2,
+          was.3,
+        )
+
+    pub main-is : sending by now control (pushed ++ e ∷ []) ≡ record (sending by main control pushed) { pushed = pushed ++ e ∷ [] }
+    main-is =
+        ap (λ (p : FifoPort). sending by p control (pushed ++ e ∷ [])) after
+        ∙ ap (λ (s : Scope). record (sending by main control pushed) {
+          queue = record (sending by main control pushed).queue { senders = s.senders; to = s.to };
+          pushed = pushed ++ e ∷ [];
+        }) (scope-pushing e main.ledger)
+
+  pub main-may : (control : Option FifoPort) → IsSending by main control pushed → IsForMain control e → e.by.0 ≡ by →
+      e.to.0 ≡ (scope_in main.ledger).to → MayPush e main.ledger
+  main-may None kept is own to = subst (MayPush e) (sym kept) (sym own, to, tt)
+  main-may (Some control) kept is own to = subst (MayPush e) (sym kept.0) (sym own, to, is)
+
+-- ---- the same, of the answer of a push
+
+-- what the port and what was written down are after this answer
+abbrev pub IsPushed : {T : Type 0} → Envelope → Result T PushError → FifoPort → FifoPort → List Envelope → List Envelope → Type 0
+IsPushed e r port now pushed after =
+    MatchResult r (λ _. (now ≡ record port { ledger = pushing port.ledger e }) × (after ≡ pushed ++ e ∷ []))
+    (λ refused. (given_back refused ≡ e) × (now ≡ port) × (after ≡ pushed))
+
+-- what contracts see after it
+abbrev pub IsSeen : {T : Type 0} → Envelope → Result T PushError → SendPassView → SendPassView → Type 0
+IsSeen e r old new =
+    MatchResult r (λ _. new ≡ record old { pushed = old.pushed ++ e ∷ [] }) (λ refused. (given_back refused ≡ e) × (new ≡ old))
+
+module _ {T : Type 0} (by : ℕ) (main : FifoPort) (pushed : List Envelope) (e : Envelope) (after : List Envelope) (now : FifoPort) (v : SendPassView)
+  where
+    module _ (control : FifoPort) where
+      pub control-after : (r : Result T PushError) → IsSending by main (Some control) pushed → is_control e ≡ true →
+          IsPushed e r control now pushed after → IsSending by main (Some now) after
+      control-after (Ok x) kept is did = subst (IsSending by main (Some now)) (sym did.1) (control-kept by main pushed e control kept is now did.0)
+      control-after (Err x) kept is did =
+          subst (λ (p : FifoPort × List Envelope). IsSending by main (Some p.0) p.1) (λ i. (sym did.1 i, sym did.2 i)) kept
+
+      pub control-seen : (r : Result T PushError) → sending by main (Some control) pushed ≡ v → IsPushed e r control now pushed after →
+          IsSeen e r v (sending by main (Some now) after)
+      control-seen (Ok x) view did =
+          (λ i. sending by main (Some (did.0 i)) (did.1 i)) ∙ ap (λ (u : SendPassView). record u { pushed = u.pushed ++ e ∷ [] }) view
+      control-seen (Err x) view did = (did.0, (λ i. sending by main (Some (did.1 i)) (did.2 i)) ∙ view)
+
+      pub control-refused : (r : Result T PushError) → IsSending by main (Some control) pushed → sending by main (Some control) pushed ≡ v →
+          IfErr r (λ x. IsFifoRefusal control.fifo.capacity control.ledger (reason_of x)) → IfErr r (IsRefusal v)
+      control-refused (Ok x) kept view why = why
+      control-refused (Err (Full x)) kept view why = let never : None ≡ Some why.0 = sym kept.3 ∙ why.1 in absurd (cc)
+      control-refused (Err (NoMemory x)) kept view why = subst (λ (u : SendPassView). IsRefusal u (NoMemory x)) view kept.2
+
+    module _ (control : Option FifoPort) where
+      pub main-after : (r : Result T PushError) → IsSending by main control pushed → IsForMain control e → IsPushed e r main now pushed after →
+          IsSending by now control after
+      main-after (Ok x) kept is did = subst (IsSending by now control) (sym did.1) (main-kept by main pushed e control now did.0 kept is)
+      main-after (Err x) kept is did =
+          subst (λ (p : FifoPort × List Envelope). IsSending by p.0 control p.1) (λ i. (sym did.1 i, sym did.2 i)) kept
+
+      pub main-seen : (r : Result T PushError) → sending by main control pushed ≡ v → IsPushed e r main now pushed after →
+          IsSeen e r v (sending by now control after)
+      main-seen (Ok x) view did =
+          ap (sending by now control) did.1
+          ∙ (main-is by main pushed e control now did.0 ∙ ap (λ (u : SendPassView). record u { pushed = u.pushed ++ e ∷ [] }) view)
+      main-seen (Err x) view did = (did.0, (λ i. sending by (did.1 i) control (did.2 i)) ∙ view)
+
+      pub main-refused : (r : Result T PushError) → IsSending by main control pushed → sending by main control pushed ≡ v →
+          IfErr r (λ x. IsFifoRefusal main.fifo.capacity main.ledger (reason_of x)) → IfErr r (IsRefusal v)
+      main-refused (Ok x) kept view why = why
+      main-refused (Err x) kept view why = subst (λ (u : SendPassView). IsRefusal u x) view (refused by main control pushed x kept why)
