@@ -22,6 +22,7 @@ use Rattle.mb_dispatch.specs.Jobs.{AreDone, AreJobsOf, IsDone}
 use Rattle.mb_dispatch.specs.Parallel.{FirstZip}
 use Rattle.mb_dispatch.specs.declared.job.Job.{Job}
 use Rattle.mb_dispatch.proofs.Alike.{from-looks}
+use Rattle.mb_dispatch.proofs.Breaking.{job-sending}
 use Rattle.mb_shutdown.proofs.Lists.{from-mapped, length-mapped, mapped}
 use Rattle.heddleorange.specs.Sent.{BreaksOff, HasSentAndRetried, HaveSent}
 
@@ -142,4 +143,4 @@ module _ {A K : Type 0} where
     broke-off after error (inr by_job) =
         let one = first-zip-of _ _ jobs after by_job.1 in
         let sent = ap (λ l. slice_get l one.0) (sym sends) ∙ mapped sends_in jobs one.0 one.1 one.2 in
-        inl (one.0, sends_in one.1, sent, one.5)
+        inl (one.0, sends_in one.1, sent, job-sending system.gates (sends_in one.1) (sender_in one.1) (sender_in one.3) error one.5)

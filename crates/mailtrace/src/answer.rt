@@ -83,14 +83,24 @@ fn write<W: Write + Drop>(
     writer: W,
 ) -> Result<(), TraceError> {
     let mut out = BufWriter::new(alloc, writer)?;
-    match format {
-        Format::Text => write_text(alloc, trace, filter, &mut out)?,
-        Format::Json => write_json(alloc, trace, filter, &mut out)?,
-        Format::Svg => write_svg(alloc, trace, filter, &mut out)?,
-        Format::Html => write_html(alloc, trace, filter, &mut out)?,
-    }
+    write_form(alloc, trace, filter, format, &mut out)?;
     out.flush()?;
     Ok(())
+}
+
+fn write_form<W: Write>(
+    alloc: Global,
+    trace: &Trace<'_>,
+    filter: &Filter<'_>,
+    format: Format,
+    out: &mut W,
+) -> Result<(), TraceError> {
+    match format {
+        Format::Text => write_text(alloc, trace, filter, out),
+        Format::Json => write_json(alloc, trace, filter, out),
+        Format::Svg => write_svg(alloc, trace, filter, out),
+        Format::Html => write_html(alloc, trace, filter, out),
+    }
 }
 
 /// The numbers of the actors with these names, of which each is one of the scenario's or the guardian's.

@@ -1,11 +1,22 @@
 //! The rows of entries: an arrow from the sender to the receiver, with what came of the message.
 use crate::geometry::Geometry;
+use crate::label::Label;
 use crate::lanes::Lanes;
 use crate::picture::Picture;
-use crate::rows::{Row, Rows};
-use crate::words::{Message, Name, Outcome, Times};
+use crate::rows::{Row, Rows, class_of};
+use crate::template::{write_numbers, write_value};
+use crate::words::{Name, Outcome};
 use std::io;
 use std::io::Write;
+
+/// How a message begins.
+pub(crate) const LABEL: &str = "<text class=\"label\" x=\"$\" y=\"$\">";
+
+/// How it begins why one failed or is dead.
+pub(crate) const BAD: &str = "<text class=\"bad\" x=\"$\" y=\"$\">";
+
+/// The same where it ends at its place.
+pub(crate) const BAD_END: &str = "<text class=\"bad\" x=\"$\" y=\"$\" text-anchor=\"end\">";
 
 /// Where an arrow goes, and at which height.
 #[derive(Clone, Copy)]
@@ -59,109 +70,142 @@ pub(crate) fn label_left(way: Way) -> u64 {
 }
 
 fn write_row<W: Write>(w: &mut W, names: &[String], row: &Row<'_>, way: Way) -> io::Result<()> {
-    let kind = if row.is_user() { "user" } else { "system" };
-    let failure = if row.is_failure() { " failure" } else { "" };
-    let name = Name {
-        names,
-        id: row.shown.actor.0,
-    };
-    write!(w, "<g class=\"row {kind}{failure}\" data-actor=\"{name}\"")?;
-    if let Some(id) = row.source {
-        write!(w, " data-by=\"{}\"", Name { names, id })?;
-    }
-    writeln!(w, " data-entries=\"{}\">", row.times)?;
-    if row.source == None {
-        writeln!(
-            w,
-            "<circle class=\"dot\" cx=\"{}\" cy=\"{}\" r=\"4\"/>",
-            way.from, way.y
-        )?;
-    }
-    if row.is_restart() {
-        write_bar(w, way)?;
-    }
+    write_start(w, names, row, way)?;
     write_arrow(w, row.is_user(), way)?;
     write_label(w, names, row, way)?;
     write_outcome(w, Outcome::of(row.shown.entry.arrival), way)?;
     w.write_all(b"</g>\n")
 }
 
+/// The beginning of a row, with a dot where nobody is known to have sent the message, and a bar where the actor began again.
+fn write_start<W: Write>(w: &mut W, names: &[String], row: &Row<'_>, way: Way) -> io::Result<()> {
+    let class = class_of(row.shown.entry.arrival);
+    let name = Name {
+        names,
+        id: row.shown.actor.0,
+    };
+    write!(w, "<g class=\"row {class}\" data-actor=\"{name}\"")?;
+    write_source(w, names, row, way)?;
+    if row.is_restart() {
+        return write_bar(w, way);
+    }
+    Ok(())
+}
+
+/// Who sent the message, and how many entries the row has.
+fn write_source<W: Write>(w: &mut W, names: &[String], row: &Row<'_>, way: Way) -> io::Result<()> {
+    match row.source {
+        Some(id) => {
+            let by = Name { names, id };
+            write!(w, " data-by=\"{by}\"")?;
+            write_numbers(w, " data-entries=\"$\">\n", &[row.times])
+        }
+        None => write_numbers(
+            w,
+            " data-entries=\"$\">\n<circle class=\"dot\" cx=\"$\" cy=\"$\" r=\"4\"/>\n",
+            &[row.times, way.from, way.y],
+        ),
+    }
+}
+
 /// The arrow; a loop where an actor sends to itself.
 fn write_arrow<W: Write>(w: &mut W, is_user: bool, way: Way) -> io::Result<()> {
     let Way { from, to, y } = way;
-    let class = if is_user { "arrow" } else { "arrow system" };
-    let tip = if is_user { "tip" } else { "system-tip" };
     if from == to {
-        let start = y.saturating_sub(12);
-        return writeln!(
-            w,
-            "<path class=\"{class}\" d=\"M{from},{start} h26 v12 H{to}\" marker-end=\"url(#{tip})\"/>"
-        );
+        return write_numbers(w, loop_of(is_user), &[from, y.saturating_sub(12), to]);
     }
-    writeln!(
-        w,
-        "<path class=\"{class}\" d=\"M{from},{y} H{to}\" marker-end=\"url(#{tip})\"/>"
-    )
+    write_numbers(w, line_of(is_user), &[from, y, to])
+}
+
+/// The shape of a loop, with places for where it begins and at which height, and for where it ends.
+fn loop_of(is_user: bool) -> &'static str {
+    if is_user {
+        "<path class=\"arrow\" d=\"M$,$ h26 v12 H$\" marker-end=\"url(#tip)\"/>\n"
+    } else {
+        "<path class=\"arrow system\" d=\"M$,$ h26 v12 H$\" marker-end=\"url(#system-tip)\"/>\n"
+    }
+}
+
+/// The shape of an arrow, with the same places.
+fn line_of(is_user: bool) -> &'static str {
+    if is_user {
+        "<path class=\"arrow\" d=\"M$,$ H$\" marker-end=\"url(#tip)\"/>\n"
+    } else {
+        "<path class=\"arrow system\" d=\"M$,$ H$\" marker-end=\"url(#system-tip)\"/>\n"
+    }
 }
 
 /// The message, above the arrow; beside it where it is a loop.
 fn write_label<W: Write>(w: &mut W, names: &[String], row: &Row<'_>, way: Way) -> io::Result<()> {
-    let left = label_left(way);
-    let foot = way.y.saturating_sub(7);
-    let message = Message {
-        names,
-        came: row.shown.entry.arrival,
-    };
-    let times = Times(row.times);
-    writeln!(
+    let label = Label::of(names, row);
+    write_value(
         w,
-        "<text class=\"label\" x=\"{left}\" y=\"{foot}\">{message}{times}</text>"
+        LABEL,
+        &[label_left(way), way.y.saturating_sub(7)],
+        &label,
+        "</text>\n",
     )
 }
 
 /// The bar of a restart, across the lane.
 fn write_bar<W: Write>(w: &mut W, way: Way) -> io::Result<()> {
-    let left = way.to.saturating_sub(30);
-    let top = way.y.saturating_add(3);
-    writeln!(
+    write_numbers(
         w,
-        "<rect class=\"bar\" x=\"{left}\" y=\"{top}\" width=\"60\" height=\"7\" rx=\"2\"/>"
+        "<rect class=\"bar\" x=\"$\" y=\"$\" width=\"60\" height=\"7\" rx=\"2\"/>\n",
+        &[way.to.saturating_sub(30), way.y.saturating_add(3)],
     )
 }
 
 /// What came of it, at the receiver, on the side where no arrow comes: nothing where it was handled.
 fn write_outcome<W: Write>(w: &mut W, outcome: Outcome, way: Way) -> io::Result<()> {
     match outcome {
-        Outcome::Plain => return Ok(()),
+        Outcome::Plain => Ok(()),
         Outcome::Failed(_) | Outcome::Killed | Outcome::DeathPact => {
-            write_cross(w, way.to, way.y)?
+            write_cross(w, way.to, way.y)?;
+            write_beside(w, bad_of(way), outcome, way)
         }
-        Outcome::Unhandled | Outcome::SetAside | Outcome::Dropped => {}
+        Outcome::Unhandled | Outcome::SetAside | Outcome::Dropped => {
+            write_beside(w, note_of(way), outcome, way)
+        }
     }
-    let class = if outcome.is_failure() { "bad" } else { "note" };
-    let is_loop = way.from == way.to;
-    let room = if is_loop { 32 } else { 10 };
-    let foot = way.y.saturating_add(if is_loop { 8 } else { 5 });
+}
+
+/// Writes it beside the receiver, with this beginning.
+fn write_beside<W: Write>(w: &mut W, start: &str, outcome: Outcome, way: Way) -> io::Result<()> {
+    write_value(w, start, &outcome_place(way), &outcome, "</text>\n")
+}
+
+/// How a failure begins at this way.
+fn bad_of(way: Way) -> &'static str {
+    if way.goes_left() { BAD_END } else { BAD }
+}
+
+/// How anything else begins there.
+fn note_of(way: Way) -> &'static str {
     if way.goes_left() {
-        let right = way.to.saturating_sub(10);
-        return writeln!(
-            w,
-            "<text class=\"{class}\" x=\"{right}\" y=\"{foot}\" text-anchor=\"end\">{outcome}</text>"
-        );
+        "<text class=\"note\" x=\"$\" y=\"$\" text-anchor=\"end\">"
+    } else {
+        "<text class=\"note\" x=\"$\" y=\"$\">"
     }
-    let left = way.to.saturating_add(room);
-    writeln!(
-        w,
-        "<text class=\"{class}\" x=\"{left}\" y=\"{foot}\">{outcome}</text>"
-    )
+}
+
+/// Where it stands.
+fn outcome_place(way: Way) -> [u64; 2] {
+    if way.from == way.to {
+        return [way.to.saturating_add(32), way.y.saturating_add(8)];
+    }
+    let y = way.y.saturating_add(5);
+    if way.goes_left() {
+        return [way.to.saturating_sub(10), y];
+    }
+    [way.to.saturating_add(10), y]
 }
 
 /// A cross.
 pub(crate) fn write_cross<W: Write>(w: &mut W, x: u64, y: u64) -> io::Result<()> {
-    let left = x.saturating_sub(5);
-    let top = y.saturating_sub(5);
-    writeln!(
+    write_numbers(
         w,
-        "<path class=\"cross\" d=\"M{left},{top} l10,10 m-10,0 l10,-10\"/>"
+        "<path class=\"cross\" d=\"M$,$ l10,10 m-10,0 l10,-10\"/>\n",
+        &[x.saturating_sub(5), y.saturating_sub(5)],
     )
 }

@@ -2,6 +2,7 @@
 use crate::geometry::Geometry;
 use crate::lanes::Lanes;
 use crate::rows::Rows;
+use crate::template::write_numbers;
 use std::io;
 use std::io::Write;
 
@@ -17,31 +18,40 @@ pub(crate) fn write_created<W: Write>(
     }
     let from = geometry.x(lanes.position(0));
     let y = geometry.created_y();
-    let count = rows.created.len();
-    writeln!(
+    write_numbers(
         w,
-        "<g class=\"row system\" data-actor=\"guardian\" data-entries=\"{count}\">"
+        "<g class=\"row system\" data-actor=\"guardian\" data-entries=\"$\">\n<circle class=\"dot\" cx=\"$\" cy=\"$\" r=\"4\"/>\n",
+        &[rows.created.len() as u64, from, y],
     )?;
-    writeln!(
+    let farthest = write_tips(w, rows, lanes, geometry, from)?;
+    write_numbers(
         w,
-        "<circle class=\"dot\" cx=\"{from}\" cy=\"{y}\" r=\"4\"/>"
-    )?;
+        "<path class=\"arrow system\" d=\"M$,$ H$\"/>\n<text class=\"label\" x=\"$\" y=\"$\">create</text></g>\n",
+        &[
+            from,
+            y,
+            farthest,
+            from.saturating_add(12),
+            y.saturating_sub(7),
+        ],
+    )
+}
+
+/// The tips of the arrows to them, which come from here. It answers how far the arrow to the last of them goes.
+fn write_tips<W: Write>(
+    w: &mut W,
+    rows: &Rows<'_>,
+    lanes: &Lanes,
+    geometry: &Geometry,
+    from: u64,
+) -> io::Result<u64> {
     let mut farthest = from;
     for id in &rows.created {
         let to = geometry.x(lanes.position(*id));
-        write_tip(w, from, to, y)?;
+        write_tip(w, from, to, geometry.created_y())?;
         farthest = farthest.max(to);
     }
-    writeln!(
-        w,
-        "<path class=\"arrow system\" d=\"M{from},{y} H{farthest}\"/>"
-    )?;
-    let left = from.saturating_add(12);
-    let foot = y.saturating_sub(7);
-    writeln!(
-        w,
-        "<text class=\"label\" x=\"{left}\" y=\"{foot}\">create</text></g>"
-    )
+    Ok(farthest)
 }
 
 /// The tip of the arrow to one of them. The guardian has none.
@@ -49,10 +59,9 @@ fn write_tip<W: Write>(w: &mut W, from: u64, to: u64, y: u64) -> io::Result<()> 
     if from == to {
         return Ok(());
     }
-    let left = to.saturating_sub(8);
-    let top = y.saturating_sub(4);
-    writeln!(
+    write_numbers(
         w,
-        "<path class=\"system-tip\" d=\"M{left},{top} l8,4 l-8,4 z\"/>"
+        "<path class=\"system-tip\" d=\"M$,$ l8,4 l-8,4 z\"/>\n",
+        &[to.saturating_sub(8), y.saturating_sub(4)],
     )
 }

@@ -1,10 +1,12 @@
 //! The rows of dead letters: arrows that stop short of the receiver.
-use crate::arrow::{Way, write_cross};
+use crate::arrow::{BAD, BAD_END, LABEL, Way, write_cross};
 use crate::geometry::Geometry;
+use crate::label::Label;
 use crate::lanes::Lanes;
 use crate::picture::Picture;
 use crate::rows::{LetterRow, Rows};
-use crate::words::{BodyWords, Name, Times, why_word};
+use crate::template::{write_numbers, write_value};
+use crate::words::{Name, why_word};
 use std::io;
 use std::io::Write;
 
@@ -48,12 +50,10 @@ pub(crate) fn letter_label_left(way: Way) -> u64 {
 
 fn write_line<W: Write>(w: &mut W, geometry: &Geometry) -> io::Result<()> {
     let y = geometry.letters_top();
-    let width = geometry.width().saturating_sub(12);
-    writeln!(w, "<path class=\"line\" d=\"M12,{y} H{width}\"/>")?;
-    let foot = y.saturating_add(14);
-    writeln!(
+    write_numbers(
         w,
-        "<text class=\"note\" x=\"12\" y=\"{foot}\">dead letters</text>"
+        "<path class=\"line\" d=\"M12,$ H$\"/>\n<text class=\"note\" x=\"12\" y=\"$\">dead letters</text>\n",
+        &[y, geometry.width().saturating_sub(12), y.saturating_add(14)],
     )
 }
 
@@ -63,6 +63,19 @@ fn write_letter<W: Write>(
     row: &LetterRow,
     way: Way,
 ) -> io::Result<()> {
+    let stop = stop_of(way);
+    write_start(w, names, row)?;
+    write_numbers(
+        w,
+        " data-letters=\"$\"><path class=\"arrow\" d=\"M$,$ H$\"/>\n",
+        &[row.times, way.from, way.y, stop],
+    )?;
+    write_cross(w, stop, way.y)?;
+    write_words(w, names, row, way, stop)
+}
+
+/// The beginning of a row: for whom the letters were, and by whom.
+fn write_start<W: Write>(w: &mut W, names: &[String], row: &LetterRow) -> io::Result<()> {
     let envelope = row.letter.envelope;
     let to = Name {
         names,
@@ -72,20 +85,14 @@ fn write_letter<W: Write>(
         names,
         id: envelope.by.0,
     };
-    let times = row.times;
-    write!(
+    write_value(
         w,
-        "<g class=\"row user dead\" data-actor=\"{to}\" data-by=\"{by}\" data-letters=\"{times}\">"
+        "<g class=\"row user dead\" data-actor=\"",
+        &[],
+        &to,
+        "\"",
     )?;
-    let stop = stop_of(way);
-    writeln!(
-        w,
-        "<path class=\"arrow\" d=\"M{},{} H{stop}\"/>",
-        way.from, way.y
-    )?;
-    write_cross(w, stop, way.y)?;
-    write_words(w, names, row, way, stop)?;
-    w.write_all(b"</g>\n")
+    write_value(w, " data-by=\"", &[], &by, "\"")
 }
 
 /// Where it stops: after two thirds of its way, and beside the lane where an actor sends to itself.
@@ -99,7 +106,7 @@ fn stop_of(way: Way) -> u64 {
     way.to.saturating_sub(way.to.saturating_sub(way.from) / 3)
 }
 
-/// The message, and why it is dead.
+/// The message, and why it is dead: the end of a row.
 fn write_words<W: Write>(
     w: &mut W,
     names: &[String],
@@ -107,29 +114,25 @@ fn write_words<W: Write>(
     way: Way,
     stop: u64,
 ) -> io::Result<()> {
-    let body = BodyWords {
-        names,
-        body: row.letter.envelope.body,
-    };
-    let left = letter_label_left(way);
-    let foot = way.y.saturating_sub(7);
-    writeln!(
-        w,
-        "<text class=\"label\" x=\"{left}\" y=\"{foot}\">{body}{}</text>",
-        Times(row.times)
-    )?;
+    let label = Label::of_letter(names, row);
+    let place = [letter_label_left(way), way.y.saturating_sub(7)];
+    write_value(w, LABEL, &place, &label, "</text>\n")?;
     let why = why_word(row.letter.why);
     let low = way.y.saturating_add(5);
     if way.goes_left() {
-        let right = stop.saturating_sub(10);
-        return writeln!(
+        return write_value(
             w,
-            "<text class=\"bad\" x=\"{right}\" y=\"{low}\" text-anchor=\"end\">{why}</text>"
+            BAD_END,
+            &[stop.saturating_sub(10), low],
+            &why,
+            "</text>\n</g>\n",
         );
     }
-    let right = stop.saturating_add(10);
-    writeln!(
+    write_value(
         w,
-        "<text class=\"bad\" x=\"{right}\" y=\"{low}\">{why}</text>"
+        BAD,
+        &[stop.saturating_add(10), low],
+        &why,
+        "</text>\n</g>\n",
     )
 }

@@ -3,10 +3,20 @@ use crate::geometry::Geometry;
 use crate::head::write_names;
 use crate::lanes::Lanes;
 use crate::picture::Picture;
+use crate::template::write_value;
 use crate::words::phase_word;
 use mb_report::ActorReport;
 use std::io;
 use std::io::Write;
+
+/// How the lines begin that say what became of an actor.
+const PHASE: &str = "<text class=\"note\" x=\"$\" y=\"$\" text-anchor=\"middle\">";
+
+const STATE: &str = "<text class=\"note\" x=\"$\" y=\"$\" text-anchor=\"middle\">state ";
+
+const LEFT: &str = "<text class=\"note\" x=\"$\" y=\"$\" text-anchor=\"middle\">left ";
+
+const ASIDE: &str = "<text class=\"note\" x=\"$\" y=\"$\" text-anchor=\"middle\">set aside ";
 
 /// The foot.
 pub(crate) fn write_foot<W: Write>(
@@ -29,31 +39,26 @@ pub(crate) fn write_foot<W: Write>(
 
 /// Its phase and state, what is left to it, and what is set aside.
 fn write_standing<W: Write>(w: &mut W, actor: &ActorReport, x: u64, top: u64) -> io::Result<()> {
+    write_phase(w, actor, x, top)?;
+    let left = actor.left.len();
+    let aside = actor.aside.len();
+    write_count(w, LEFT, left, x, top.saturating_add(46))?;
+    write_count(w, ASIDE, aside, x, top.saturating_add(61))
+}
+
+fn write_phase<W: Write>(w: &mut W, actor: &ActorReport, x: u64, top: u64) -> io::Result<()> {
     let phase = phase_word(actor.phase);
-    let y = top.saturating_add(16);
-    write!(
-        w,
-        "<text class=\"note\" x=\"{x}\" y=\"{y}\" text-anchor=\"middle\">{phase}</text>"
-    )?;
-    if let Some(state) = actor.state {
-        let low = top.saturating_add(31);
-        write!(
-            w,
-            "<text class=\"note\" x=\"{x}\" y=\"{low}\" text-anchor=\"middle\">state {state}</text>"
-        )?;
+    write_value(w, PHASE, &[x, top.saturating_add(16)], &phase, "</text>")?;
+    match actor.state {
+        Some(state) => write_value(w, STATE, &[x, top.saturating_add(31)], &state, "</text>\n"),
+        None => w.write_all(b"\n"),
     }
-    w.write_all(b"\n")?;
-    write_count(w, "left", actor.left.len(), x, top.saturating_add(46))?;
-    write_count(w, "set aside", actor.aside.len(), x, top.saturating_add(61))
 }
 
 /// How many there are: nothing where there is none.
-fn write_count<W: Write>(w: &mut W, word: &str, count: usize, x: u64, y: u64) -> io::Result<()> {
+fn write_count<W: Write>(w: &mut W, start: &str, count: usize, x: u64, y: u64) -> io::Result<()> {
     if count == 0 {
         return Ok(());
     }
-    writeln!(
-        w,
-        "<text class=\"note\" x=\"{x}\" y=\"{y}\" text-anchor=\"middle\">{word} {count}</text>"
-    )
+    write_value(w, start, &[x, y], &count, "</text>\n")
 }

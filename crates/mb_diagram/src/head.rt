@@ -3,7 +3,8 @@ use crate::geometry::{BOX, Geometry, ROW};
 use crate::lanes::{Lanes, last_row};
 use crate::picture::Picture;
 use crate::rows::Rows;
-use crate::style::STYLE;
+use crate::style::PICTURE_HEAD;
+use crate::template::{write_numbers, write_value};
 use crate::words::Name;
 use std::io;
 use std::io::Write;
@@ -12,37 +13,10 @@ use std::io::Write;
 pub(crate) fn write_head<W: Write>(w: &mut W, geometry: &Geometry) -> io::Result<()> {
     let width = geometry.width();
     let height = geometry.height();
-    write!(
+    write_numbers(
         w,
-        "<svg xmlns=\"http://www.w3.org/2000/svg\" viewBox=\"0 0 {width} {height}\" "
-    )?;
-    writeln!(w, "width=\"{}\" height=\"{}\" role=\"img\">", width, height)?;
-    w.write_all(b"<title>What came to each actor of a run, from top to bottom</title>\n<style>")?;
-    w.write_all(STYLE.as_bytes())?;
-    w.write_all(b"</style>\n<defs>")?;
-    write_tip(w, "tip", "tip")?;
-    write_tip(w, "system-tip", "system-tip")?;
-    w.write_all(b"</defs>\n")?;
-    writeln!(
-        w,
-        "<rect class=\"page\" width=\"{}\" height=\"{}\"/>",
-        width, height
-    )
-}
-
-/// The tip of an arrow.
-fn write_tip<W: Write>(w: &mut W, id: &str, class: &str) -> io::Result<()> {
-    write!(
-        w,
-        "<marker id=\"{id}\" viewBox=\"0 0 10 10\" refX=\"9\" refY=\"5\" "
-    )?;
-    write!(
-        w,
-        "markerWidth=\"8\" markerHeight=\"8\" markerUnits=\"userSpaceOnUse\" orient=\"auto\">"
-    )?;
-    write!(
-        w,
-        "<path class=\"{class}\" d=\"M0,0 L10,5 L0,10 z\"/></marker>"
+        PICTURE_HEAD,
+        &[width, height, width, height, width, height],
     )
 }
 
@@ -66,14 +40,17 @@ pub(crate) fn write_lanes<W: Write>(
 }
 
 fn write_lane<W: Write>(w: &mut W, x: u64, top: u64, end: u64) -> io::Result<()> {
-    writeln!(w, "<path class=\"lane\" d=\"M{x},{top} V{end}\"/>")
+    write_numbers(w, "<path class=\"lane\" d=\"M$,$ V$\"/>\n", &[x, top, end])
 }
 
 /// The lane of an actor that has ended.
 fn write_ended_lane<W: Write>(w: &mut W, x: u64, top: u64, end: u64) -> io::Result<()> {
     write_lane(w, x, top, end)?;
-    let left = x.saturating_sub(12);
-    writeln!(w, "<path class=\"end\" d=\"M{left},{end} h24\"/>")
+    write_numbers(
+        w,
+        "<path class=\"end\" d=\"M$,$ h24\"/>\n",
+        &[x.saturating_sub(12), end],
+    )
 }
 
 /// The names of the lanes, in boxes that begin at this height.
@@ -95,15 +72,19 @@ pub(crate) fn write_names<W: Write>(
 }
 
 fn write_name<W: Write>(w: &mut W, name: Name<'_>, x: u64, width: u64, top: u64) -> io::Result<()> {
-    let left = x.saturating_sub(width / 2);
-    let foot = top.saturating_add(19);
-    write!(w, "<g class=\"name\" data-actor=\"{name}\">")?;
-    write!(
+    write_value(w, "<g class=\"name\" data-actor=\"", &[], &name, "\">")?;
+    write_value(
         w,
-        "<rect class=\"box\" x=\"{left}\" y=\"{top}\" width=\"{width}\" height=\"{BOX}\" rx=\"5\"/>"
-    )?;
-    writeln!(
-        w,
-        "<text class=\"title\" x=\"{x}\" y=\"{foot}\" text-anchor=\"middle\">{name}</text></g>"
+        "<rect class=\"box\" x=\"$\" y=\"$\" width=\"$\" height=\"$\" rx=\"5\"/><text class=\"title\" x=\"$\" y=\"$\" text-anchor=\"middle\">",
+        &[
+            x.saturating_sub(width / 2),
+            top,
+            width,
+            BOX,
+            x,
+            top.saturating_add(19),
+        ],
+        &name,
+        "</text></g>\n",
     )
 }

@@ -2,8 +2,9 @@
 use crate::escape::Escaped;
 use crate::journal::write_journal;
 use crate::picture::Picture;
-use crate::style::{PAGE_STYLE, SCRIPT};
+use crate::style::{PAGE_END, PAGE_HEAD, PAGE_KINDS};
 use crate::svg::write_svg;
+use crate::template::write_value;
 use crate::words::Name;
 use std::alloc::Global;
 use std::io;
@@ -19,44 +20,32 @@ pub fn write_html<W: Write>(
     picture: &Picture<'_>,
     report: &str,
 ) -> io::Result<()> {
-    w.write_all(
-        b"<!DOCTYPE html>\n<html lang=\"en\">\n<head><meta charset=\"utf-8\"><title>A run of actors</title>\n<style>",
-    )?;
-    w.write_all(PAGE_STYLE.as_bytes())?;
-    w.write_all(b"</style></head>\n<body>\n<h1>A run of actors</h1>\n")?;
-    writeln!(w, "<pre class=\"report\">{}</pre>", Escaped(report))?;
-    write_filter(w, picture)?;
-    w.write_all(b"<main>\n<div class=\"diagram\">\n")?;
+    w.write_all(PAGE_HEAD.as_bytes())?;
+    write_choice(w, picture, report)?;
     write_svg(alloc, w, picture)?;
-    w.write_all(b"</div>\n<aside>\n<h2>Journals</h2>\n")?;
-    for (id, actor) in picture.report.actors.iter().enumerate() {
-        write_journal(w, picture, id as u32, actor)?;
-    }
-    w.write_all(b"</aside>\n</main>\n<script>")?;
-    w.write_all(SCRIPT.as_bytes())?;
-    w.write_all(b"</script>\n</body>\n</html>\n")
+    write_journals(w, picture)?;
+    w.write_all(PAGE_END.as_bytes())
 }
 
-/// The choice of an actor and of kinds, which shows where scripts run.
-fn write_filter<W: Write>(w: &mut W, picture: &Picture<'_>) -> io::Result<()> {
-    w.write_all(b"<form><label>actor <select id=\"actor\"><option value=\"\">all</option>")?;
+/// The report, and the choice of an actor and of kinds, which shows where scripts run.
+fn write_choice<W: Write>(w: &mut W, picture: &Picture<'_>, report: &str) -> io::Result<()> {
+    let after = "</pre>\n<form><label>actor <select id=\"actor\"><option value=\"\">all</option>";
+    write_value(w, "<pre class=\"report\">", &[], &Escaped(report), after)?;
     for (id, _) in picture.report.actors.iter().enumerate() {
         let name = Name {
             names: picture.names,
             id: id as u32,
         };
-        write!(w, "<option>{name}</option>")?;
+        write_value(w, "<option>", &[], &name, "</option>")?;
     }
-    w.write_all(b"</select></label>\n")?;
-    write_kind(w, "user", "envelopes")?;
-    write_kind(w, "system", "system messages")?;
-    write_kind(w, "failure", "failures")?;
-    w.write_all(b"</form>\n")
+    w.write_all(PAGE_KINDS.as_bytes())
 }
 
-fn write_kind<W: Write>(w: &mut W, kind: &str, words: &str) -> io::Result<()> {
-    writeln!(
-        w,
-        "<label><input type=\"checkbox\" name=\"kind\" value=\"{kind}\" checked> {words}</label>"
-    )
+/// The journals of all actors, behind the picture.
+fn write_journals<W: Write>(w: &mut W, picture: &Picture<'_>) -> io::Result<()> {
+    w.write_all(b"</div>\n<aside>\n<h2>Journals</h2>\n")?;
+    for (id, actor) in picture.report.actors.iter().enumerate() {
+        write_journal(w, picture, id as u32, actor)?;
+    }
+    Ok(())
 }

@@ -13,6 +13,7 @@ mod geometry;
 mod head;
 mod html;
 mod journal;
+mod label;
 mod lanes;
 mod legend;
 mod order;
@@ -22,6 +23,7 @@ mod rows;
 mod sources;
 mod style;
 mod svg;
+mod template;
 mod widths;
 mod words;
 

@@ -1,4 +1,5 @@
 //! In which order entries are drawn, and the line of a picture that says so.
+use crate::template::write_value;
 use std::io;
 use std::io::Write;
 
@@ -36,9 +37,12 @@ impl EntryOrder {
 /// The line that says it, at this height: nothing where nothing is said.
 pub(crate) fn write_order<W: Write>(w: &mut W, order: EntryOrder, foot: u64) -> io::Result<()> {
     match order.words() {
-        Some(words) => writeln!(
+        Some(words) => write_value(
             w,
-            "<text class=\"note\" x=\"12\" y=\"{foot}\">{words}</text>"
+            "<text class=\"note\" x=\"12\" y=\"$\">",
+            &[foot],
+            &words,
+            "</text>\n",
         ),
         None => Ok(()),
     }

@@ -2,11 +2,10 @@
 use crate::arrow::{label_left, way_of};
 use crate::dead_letters::{letter_label_left, letter_way};
 use crate::geometry::Geometry;
+use crate::label::Label;
 use crate::lanes::Lanes;
 use crate::picture::Picture;
-use crate::rows::{LetterRow, Row, Rows};
-use crate::widths::label_width;
-use crate::words::{BodyWords, Message, Times};
+use crate::rows::Rows;
 use std::alloc::{AllocError, Global};
 
 /// Where the last of them ends. The only error: memory was refused.
@@ -20,29 +19,11 @@ pub(crate) fn labels_end(
     let mut end: u64 = 0;
     for (index, row) in rows.rows.iter().enumerate() {
         let left = label_left(way_of(row, index, lanes, geometry));
-        end = end.max(left.saturating_add(row_width(alloc, picture.names, row)?));
+        end = end.max(left.saturating_add(Label::of(picture.names, row).width(alloc)?));
     }
     for (index, row) in rows.letters.iter().enumerate() {
         let left = letter_label_left(letter_way(row, index, lanes, geometry));
-        end = end.max(left.saturating_add(letter_width(alloc, picture.names, row)?));
+        end = end.max(left.saturating_add(Label::of_letter(picture.names, row).width(alloc)?));
     }
     Ok(end)
-}
-
-fn row_width(alloc: Global, names: &[String], row: &Row<'_>) -> Result<u64, AllocError> {
-    let message = Message {
-        names,
-        came: row.shown.entry.arrival,
-    };
-    let words = format!(in alloc; "{message}{}", Times(row.times))?;
-    Ok(label_width(words.as_str()))
-}
-
-fn letter_width(alloc: Global, names: &[String], row: &LetterRow) -> Result<u64, AllocError> {
-    let body = BodyWords {
-        names,
-        body: row.letter.envelope.body,
-    };
-    let words = format!(in alloc; "{body}{}", Times(row.times))?;
-    Ok(label_width(words.as_str()))
 }

@@ -103,11 +103,6 @@ impl Row<'_> {
         is_user(self.shown.entry.arrival)
     }
 
-    /// Whether the actor failed, or is told of a failure.
-    pub(crate) fn is_failure(&self) -> bool {
-        is_failure(self.shown.entry.arrival)
-    }
-
     /// Whether the actor began again.
     pub(crate) fn is_restart(&self) -> bool {
         match self.shown.entry.arrival {
@@ -129,15 +124,25 @@ fn may_restart(message: SysMsg) -> bool {
 }
 
 /// Whether it is an envelope.
-pub(crate) fn is_user(came: Received) -> bool {
+fn is_user(came: Received) -> bool {
     match came {
         Received::Handled { .. } | Received::Dropped { .. } => true,
         Received::System { .. } | Received::SetAside { .. } => false,
     }
 }
 
+/// The class of the row of an entry in a picture, and of its line in a page.
+pub(crate) fn class_of(came: Received) -> &'static str {
+    match (is_user(came), is_failure(came)) {
+        (true, true) => "user failure",
+        (true, false) => "user",
+        (false, true) => "system failure",
+        (false, false) => "system",
+    }
+}
+
 /// Whether the actor failed, is told of a failure, or is restarted after one.
-pub(crate) fn is_failure(came: Received) -> bool {
+fn is_failure(came: Received) -> bool {
     Outcome::of(came).is_failure() || tells_of_failure(came)
 }
 

@@ -25,14 +25,36 @@ pub fn write_svg<W: Write>(alloc: Global, w: &mut W, picture: &Picture<'_>) -> i
     let geometry = Geometry::of(&lanes, &rows, picture.order);
     let end = labels_end(alloc, picture, &rows, &lanes, &geometry)?;
     let geometry = geometry.with_labels_to(end);
-    write_head(w, &geometry)?;
+    write_above(w, picture, &rows, &lanes, &geometry)?;
+    write_below(w, picture, &rows, &lanes, &geometry)
+}
+
+/// The lanes, with what stands above the rows of entries.
+fn write_above<W: Write>(
+    w: &mut W,
+    picture: &Picture<'_>,
+    rows: &Rows<'_>,
+    lanes: &Lanes,
+    geometry: &Geometry,
+) -> io::Result<()> {
+    write_head(w, geometry)?;
     write_order(w, picture.order, geometry.order_y())?;
-    write_lanes(w, picture, &rows, &lanes, &geometry)?;
-    write_names(w, picture, &lanes, &geometry, geometry.head())?;
-    write_created(w, &rows, &lanes, &geometry)?;
-    write_rows(w, picture, &rows, &lanes, &geometry)?;
-    write_letters(w, picture, &rows, &lanes, &geometry)?;
-    write_foot(w, picture, &lanes, &geometry)?;
+    write_lanes(w, picture, rows, lanes, geometry)?;
+    write_names(w, picture, lanes, geometry, geometry.head())?;
+    write_created(w, rows, lanes, geometry)
+}
+
+/// The rows of entries and of dead letters, the foot and the legend.
+fn write_below<W: Write>(
+    w: &mut W,
+    picture: &Picture<'_>,
+    rows: &Rows<'_>,
+    lanes: &Lanes,
+    geometry: &Geometry,
+) -> io::Result<()> {
+    write_rows(w, picture, rows, lanes, geometry)?;
+    write_letters(w, picture, rows, lanes, geometry)?;
+    write_foot(w, picture, lanes, geometry)?;
     write_legend(w, geometry.legend_top(), geometry.width())?;
     w.write_all(b"</svg>\n")
 }

@@ -1,5 +1,5 @@
 //! What came to an actor and what it asked for, in the words of a scenario.
-use crate::escape::Escaped;
+use crate::escape::write_escaped;
 use crate::widths::name_width;
 use mb_actor::{Answer, Effect, Phase};
 use mb_journal::Received;
@@ -18,16 +18,24 @@ pub(crate) struct Name<'a> {
 impl fmt::Display for Name<'_> {
     fn fmt<W: fmt::Write>(&self, f: &mut fmt::Formatter<W>) -> fmt::Result {
         if self.id >= ACTORS {
-            return write!(f, "outside {}", self.id - ACTORS);
+            return write_numbered(f, "outside", self.id - ACTORS);
         }
         if self.id == 0 {
             return f.write_str("guardian");
         }
         match self.names.get(self.id as usize - 1) {
-            Some(name) => write!(f, "{}", Escaped(name.as_str())),
-            None => write!(f, "actor {}", self.id),
+            Some(name) => write_escaped(f, name.as_str()),
+            None => write_numbered(f, "actor", self.id),
         }
     }
+}
+
+fn write_numbered<W: fmt::Write>(
+    f: &mut fmt::Formatter<W>,
+    word: &str,
+    number: u32,
+) -> fmt::Result {
+    write!(f, "{word} {number}")
 }
 
 /// How much room the name needs at most.
@@ -62,30 +70,28 @@ impl fmt::Display for Message<'_> {
 }
 
 /// What an envelope carries.
-#[derive(Clone, Copy)]
-pub(crate) struct BodyWords<'a> {
-    pub(crate) names: &'a [String],
-    pub(crate) body: Body,
-}
-
-impl fmt::Display for BodyWords<'_> {
-    fn fmt<W: fmt::Write>(&self, f: &mut fmt::Formatter<W>) -> fmt::Result {
-        write_body(f, self.names, self.body)
-    }
-}
-
 fn write_body<W: fmt::Write>(
     f: &mut fmt::Formatter<W>,
     names: &[String],
     body: Body,
 ) -> fmt::Result {
     match body {
-        Body::User { kind, value } => write!(f, "kind {kind} value {value}"),
-        Body::Control { kind, value } => write!(f, "control kind {kind} value {value}"),
+        Body::User { kind, value } => write_kind(f, "", kind, value),
+        Body::Control { kind, value } => write_kind(f, "control ", kind, value),
         Body::PoisonPill => f.write_str("poison"),
         Body::Kill => f.write_str("kill"),
         Body::Terminated(id) => write_of(f, "terminated", names, id),
     }
+}
+
+/// A kind and a value, behind a word.
+fn write_kind<W: fmt::Write>(
+    f: &mut fmt::Formatter<W>,
+    word: &str,
+    kind: u32,
+    value: i64,
+) -> fmt::Result {
+    write!(f, "{word}kind {kind} value {value}")
 }
 
 fn write_system<W: fmt::Write>(
@@ -94,16 +100,24 @@ fn write_system<W: fmt::Write>(
     message: SysMsg,
 ) -> fmt::Result {
     match message {
-        SysMsg::Create => f.write_str("create"),
         SysMsg::Recreate(cause) => write!(f, "restart after {}", CauseWords(cause)),
-        SysMsg::Suspend => f.write_str("suspend"),
-        SysMsg::Resume { of_failure: true } => f.write_str("resume after its failure"),
-        SysMsg::Resume { of_failure: false } => f.write_str("resume"),
-        SysMsg::Terminate => f.write_str("terminate"),
         SysMsg::Watch(id) => write_of(f, "watch by", names, id),
         SysMsg::Unwatch(id) => write_of(f, "unwatch by", names, id),
         SysMsg::Failed(id, cause) => write_failure(f, names, id, cause),
         SysMsg::Died(id) => write_of(f, "died", names, id),
+        _ => f.write_str(system_word(message)),
+    }
+}
+
+/// The words for a system message that tells of no actor and no cause.
+fn system_word(message: SysMsg) -> &'static str {
+    match message {
+        SysMsg::Create => "create",
+        SysMsg::Suspend => "suspend",
+        SysMsg::Resume { of_failure: true } => "resume after its failure",
+        SysMsg::Resume { of_failure: false } => "resume",
+        SysMsg::Terminate => "terminate",
+        _ => "",
     }
 }
 
@@ -134,12 +148,20 @@ struct CauseWords(Cause);
 
 impl fmt::Display for CauseWords {
     fn fmt<W: fmt::Write>(&self, f: &mut fmt::Formatter<W>) -> fmt::Result {
-        match self.0 {
-            Cause::Error(number) => write!(f, "error {number}"),
-            Cause::Init => f.write_str("init"),
-            Cause::Killed => f.write_str("killed"),
-            Cause::DeathPact => f.write_str("deathpact"),
+        if let Cause::Error(number) = self.0 {
+            return write!(f, "error {number}");
         }
+        f.write_str(cause_word(self.0))
+    }
+}
+
+/// The word for a cause that is no error of the actor's own.
+fn cause_word(cause: Cause) -> &'static str {
+    match cause {
+        Cause::Error(_) => "error",
+        Cause::Init => "init",
+        Cause::Killed => "killed",
+        Cause::DeathPact => "deathpact",
     }
 }
 
@@ -197,15 +219,22 @@ impl Outcome {
 
 impl fmt::Display for Outcome {
     fn fmt<W: fmt::Write>(&self, f: &mut fmt::Formatter<W>) -> fmt::Result {
-        match *self {
-            Outcome::Plain => f.write_str("handled"),
-            Outcome::Unhandled => f.write_str("unhandled"),
-            Outcome::Failed(number) => write!(f, "failed {number}"),
-            Outcome::Killed => f.write_str("killed"),
-            Outcome::DeathPact => f.write_str("death pact"),
-            Outcome::SetAside => f.write_str("set aside"),
-            Outcome::Dropped => f.write_str("dropped"),
+        if let Outcome::Failed(number) = *self {
+            return write!(f, "failed {number}");
         }
+        f.write_str(outcome_word(*self))
+    }
+}
+
+fn outcome_word(outcome: Outcome) -> &'static str {
+    match outcome {
+        Outcome::Plain => "handled",
+        Outcome::Unhandled => "unhandled",
+        Outcome::Failed(_) => "failed",
+        Outcome::Killed => "killed",
+        Outcome::DeathPact => "death pact",
+        Outcome::SetAside => "set aside",
+        Outcome::Dropped => "dropped",
     }
 }
 
@@ -222,11 +251,11 @@ impl fmt::Display for EffectWords<'_> {
         match self.effect {
             Effect::Tell { to, kind, value } => {
                 write_of(f, "tell", names, to)?;
-                write!(f, " kind {kind} value {value}")
+                write_kind(f, " ", kind, value)
             }
             Effect::Control { to, kind, value } => {
                 write_of(f, "control", names, to)?;
-                write!(f, " kind {kind} value {value}")
+                write_kind(f, " ", kind, value)
             }
             Effect::Watch(id) => write_of(f, "watch", names, id),
             Effect::Unwatch(id) => write_of(f, "unwatch", names, id),

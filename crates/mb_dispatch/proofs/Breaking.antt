@@ -3,7 +3,7 @@ use Rattle.std.proofs.Common.{◌≡◌, ◌≤◌, ℕ, false, List, [], ◌∷
 use Rattle.std.specs.Prelude.{◌≢◌, ◌⊎◌, ⊤, Contains, Err, IfErr, IsErrOf, MatchResult, Ok, OnErr, OnOk, Result, Some}
 use Rattle.std.specs.Global.{Box}
 use Rattle.std.specs.List.{AllZip}
-use Rattle.std.proofs.lemmas.List.Elements.{All-cons, All-contains, All-nil}
+use Rattle.std.proofs.lemmas.List.Elements.{All-cons, All-contains, All-nil, Contains-append_right}
 use Rattle.mb_actor.specs.Behaviour.{Moment, Reply}
 use Rattle.mb_msg.specs.declared.id.ActorId.{ActorId}
 use Rattle.mb_msg.specs.declared.order.Order.{Order}
@@ -24,19 +24,20 @@ use Rattle.mb_send.specs.declared.send_error.SendError.TheVariants as Refusal
 use Rattle.mb_home.specs.Fresh.{IsFreshClaim}
 use Rattle.mb_mailbox.specs.Ran.{HadRoom, IsShortOfMemory, LeavesRun}
 use Rattle.mb_mailbox.specs.declared.turn.Turn.{Turn}
-use Rattle.mb_dispatch.specs.Faults.{BreaksRun, BreaksWork, BreaksSending, HasWorked, IsRefusedFor, IsToNobody, IsToSomebody, OnlyRunsBySystem, RunsOrBreaks}
+use Rattle.mb_dispatch.specs.Faults.{BreaksJob, BreaksRun, BreaksWork, BreaksSending, HasWorked, IsRefusedFor, IsToNobody, IsToSomebody, OnlyRunsBySystem, RunsOrBreaks, StopsFor}
 use Rattle.mb_dispatch.specs.Found.{FoundPoolEmpty}
 use Rattle.mb_dispatch.specs.Jobs.{IsDone}
-use Rattle.mb_dispatch.specs.Orders.{order_for}
+use Rattle.mb_dispatch.specs.Orders.{HasSent, order_for}
 use Rattle.mb_dispatch.specs.Parallel.{FirstZip}
 use Rattle.mb_register.specs.Owed.{is_owed}
 use Rattle.mb_register.specs.Registering.{QueueAccount, StopsAt}
-use Rattle.mb_system.specs.Members.{end_caller}
+use Rattle.mb_system.specs.Members.{end_caller, sender_caller}
 use Rattle.mb_system.specs.RunErrors.{of_ready, of_send}
 use Rattle.mb_system.specs.declared.end.WorkerEnd.{WorkerEnd}
 use Rattle.mb_system.specs.declared.failure.RunError.{RunError}
 use Rattle.mb_system.specs.declared.failure.RunError.TheVariants.{JournalFull, NoMemory, NoSuchActor}
 use Rattle.mb_dispatch.specs.declared.job.Job.{Job}
+use Rattle.mb_system.specs.declared.sender.Sender.{Sender}
 use Rattle.mb_system.specs.declared.system.System.{System}
 use Rattle.mb_dispatch.proofs.Runs.{no-run, of-looks, runs-then}
 use Rattle.mb_dispatch.proofs.Sides.{first_then, zip_then}
@@ -70,6 +71,32 @@ module _ (gates : Gates (Box Contents)) where
   breaks-many orders order NoSuchActor there breaks =
       let P : Order → Type 0 = λ o. Contains orders o in
       (breaks.0, All-contains P (order ∷ []) breaks.0 (All-cons P order [] there (All-nil P)) breaks.1, breaks.2, breaks.3)
+
+module _ {A K : Type 0} (gates : Gates (Box Contents)) (orders : List Order) (old new : Sender A K) where
+  -- the pool refused again the claim of an actor to which a look is owed
+  pub job-owes : {T : Type 0} (P : T → Type 0) (before : QueueAccount (Box Contents)) (r : Result T RunError)
+      → MatchResult r P (λ _. StopsAt before (sender_caller new.inner.registrar).account) → OnErr r (IsErrOf r NoMemory) → HasSent orders old new
+      → IfErr r (BreaksJob gates orders old new)
+  job-owes P before (Ok x) stops refused sent = tt
+  job-owes {T} P before (Err e) stops refused sent =
+      subst (λ (q : Result T RunError). IfErr q (BreaksJob gates orders old new)) (sym refused)
+      (inr (refl, (sent, held_actor stops.claim, stops.still)))
+
+  -- what breaks a job off also breaks off the sending of its orders
+  stops-sending : (fault : RunError) → StopsFor gates orders old new fault → BreaksSending gates orders fault
+  stops-sending NoMemory stopped = tt
+  stops-sending JournalFull stopped = stopped.1
+  stops-sending NoSuchActor stopped =
+      let stops = stopped.0 in let fewer = stops.sent.fewer in (
+        stops.next,
+        subst (λ (l : List Order). Contains l stops.next) (sym stops.are) (Contains-append_right stops.done (stops.next ∷ stops.left) stops.next (0, omega arith, refl)),
+        omega (arith, fewer),
+        stopped.1,
+      )
+
+  pub job-sending : (fault : RunError) → BreaksJob gates orders old new fault → BreaksSending gates orders fault
+  job-sending fault (inl stopped) = stops-sending fault stopped
+  job-sending fault (inr owes) = subst (BreaksSending gates orders) (sym owes.0) tt
 
 -- which error is one of these
 abbrev IsFull : RunError → Type 0
@@ -259,7 +286,7 @@ module _ {A K : Type 0} (gives : ℕ → Moment → Reply → Type 0) (system : 
   pub breaks-run : (old started ends : List (WorkerEnd A K)) (before after : List (Job A K)) (of_ends of_jobs r : Result (Unit {0}) RunError)
       → AllZip Look old started → MatchResult of_ends (λ _. r ≡ of_jobs) (λ _. r ≡ of_ends) → OnOk of_ends (AllZip Worked started ends)
       → IfErr of_ends (λ error. FirstZip Worked (Broke error) started ends)
-      → IfErr of_jobs (λ error. FirstZip (IsDone system.gates) (λ old new. BreaksSending system.gates old.sends.items error) before after)
+      → IfErr of_jobs (λ error. FirstZip (IsDone system.gates) (λ o n. BreaksJob system.gates o.sends.items o.sender n.sender error) before after)
       → IfErr r (BreaksRun gives system old ends before after)
   breaks-run old started ends before after (Ok x) (Ok y) r looks is worked by_end by_job =
       subst (λ (q : Result (Unit {0}) RunError). IfErr q (BreaksRun gives system old ends before after)) (sym is) tt

@@ -1,6 +1,6 @@
 -- What a view counted as waiting is what its sender was answered "queued" for.
 use Rattle.std.proofs.Common.{◌≡◌, ◌+◌, ◌==◌, ℕ, Bool, true, false, List, [], ◌∷◌, ◌++◌, Option, Some, None, ap, arith, filter, if◌then◌else◌}
-use Rattle.std.proofs.Common.{length, length-append, map, refl, sym, ◌∙◌}
+use Rattle.std.proofs.Common.{length, length-append, map, refl, ◌∙◌}
 use Rattle.std.specs.Prelude.{cond}
 use Rattle.std.proofs.lemmas.List.{map-append}
 use Rattle.std.proofs.lemmas.List.Elements.{filter-append}

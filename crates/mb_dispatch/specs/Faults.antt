@@ -25,7 +25,7 @@ use Rattle.mb_system.specs.declared.failure.RunError.TheVariants.{JournalFull, N
 use Rattle.mb_system.specs.declared.sender.Sender.{Sender}
 use Rattle.mb_dispatch.specs.Found.{FoundPoolEmpty}
 use Rattle.mb_dispatch.specs.Jobs.{IsDone}
-use Rattle.mb_dispatch.specs.Orders.{StopsWithin}
+use Rattle.mb_dispatch.specs.Orders.{HasSent, StopsWithin}
 use Rattle.mb_dispatch.specs.Parallel.{FirstZip}
 use Rattle.mb_dispatch.specs.Runs.{OnlyRuns}
 use Rattle.mb_dispatch.specs.declared.job.Job.{Job}
@@ -57,6 +57,15 @@ module _ {A K : Type 0} where
   -- The sender stopped at one of these orders, which was refused for this reason.
   abbrev pub StopsFor : Gates (Box Contents) → List Order → Sender A K → Sender A K → RunError → Type 0
   StopsFor gates orders old new fault = (stops : StopsWithin orders old new) × IsRefusedFor gates stops.next.to stops.next.what fault
+
+  -- The sender carried out all of these orders, and owes an actor a look still: the pool refused its claim again.
+  abbrev pub HasSentAndOwes : List Order → Sender A K → Sender A K → Type 0
+  HasSentAndOwes orders old new = HasSent orders old new × (id : ℕ) × (is_owed new.inner.registrar.owed id ≡ true)
+
+  -- A job of these orders is broken off for this reason: that of the order that was refused, at which its sender stopped; or `NoMemory`, where the
+  -- sender carried out all of them, and owes an actor a look still.
+  abbrev pub BreaksJob : Gates (Box Contents) → List Order → Sender A K → Sender A K → RunError → Type 0
+  BreaksJob gates orders old new fault = StopsFor gates orders old new fault ⊎ ((fault ≡ NoMemory) × HasSentAndOwes orders old new)
 
 module _ {A K : Type 0} (gives : ℕ → Moment → Reply → Type 0) (system : System A K) where
   -- A run of a mailbox by this end had no room, since the actor's journal had come to its limit.
@@ -115,4 +124,4 @@ module _ {A K : Type 0} (gives : ℕ → Moment → Reply → Type 0) (system : 
   BreaksRun old new before after error =
       FirstZip (λ o n. HasWorked (pass_view o.registrar.pass) n) (λ o n. BreaksWork (pass_view o.registrar.pass) n error) old new
       ⊎ (AllZip (λ o n. HasWorked (pass_view o.registrar.pass) n) old new
-      × FirstZip (IsDone system.gates) (λ job _. BreaksSending system.gates job.sends.items error) before after)
+      × FirstZip (IsDone system.gates) (λ o n. BreaksJob system.gates o.sends.items o.sender n.sender error) before after)

@@ -2,7 +2,7 @@
 ghost use Rattle.std.specs.Prelude.{◌≡◌, IfErr, OnErr, OnOk};
 ghost use Rattle.mb_gate.specs.Accessors.{actors_of};
 ghost use Rattle.mb_system.specs.Obligations.{KeepsObligations, OwesNobody};
-ghost use Rattle.mb_dispatch.specs.Faults.{BreaksSending};
+ghost use Rattle.mb_dispatch.specs.Faults.{BreaksJob};
 ghost use Rattle.mb_system.specs.Members.{IsSenderOf, sender_caller};
 ghost use Rattle.mb_dispatch.specs.Jobs.{ForgetsNobody};
 ghost use Rattle.mb_dispatch.specs.Orders.{HasSent, HasSentSome};
@@ -25,7 +25,7 @@ pub struct Job<A: Actor, K: Behaviours> {
 
 impl<A: Actor, K: Behaviours> Task<System<A, K>> for Job<A, K> {
     ghost use Rattle.std.specs.Prelude.{◌≡◌, IfErr, OnOk};
-    ghost use Rattle.mb_dispatch.specs.Faults.{BreaksSending};
+    ghost use Rattle.mb_dispatch.specs.Faults.{BreaksJob};
     ghost use Rattle.mb_system.specs.Members.{IsSenderOf};
     ghost use Rattle.mb_dispatch.specs.Jobs.{ForgetsNobody, IsDone};
     ghost use Rattle.mb_dispatch.specs.Orders.{HasSentSome};
@@ -37,7 +37,7 @@ impl<A: Actor, K: Behaviours> Task<System<A, K>> for Job<A, K> {
 
     ghost done = { λ system old new. IsDone system.gates old new };
 
-    ghost fails = { λ system old new fault. BreaksSending system.gates old.sends.items fault };
+    ghost fails = { λ system old new fault. BreaksJob system.gates old.sends.items old.sender new.sender fault };
 
     /// Sends all, in order, and then registers each actor again to which the sender owes a look. It stops at the first fault, and
     /// what was sent before stays sent. Whatever comes of it, the job is done then.
@@ -47,7 +47,7 @@ impl<A: Actor, K: Behaviours> Task<System<A, K>> for Job<A, K> {
             × HasSentSome self.old.sends.items self.old.sender self.new.sender
             × ForgetsNobody shared.now.gates self.old.sender self.new.sender × (self.new.sends ≡ self.old.sends) }
         ensures done { OnOk result (IsDone shared.now.gates self.old self.new) }
-        ensures fails { IfErr result (BreaksSending shared.now.gates self.old.sends.items) }
+        ensures fails { IfErr result (BreaksJob shared.now.gates self.old.sends.items self.old.sender self.new.sender) }
     {
         let outcome = send_and_retry(rt, shared, &mut self.sender, &self.sends);
         shared.going.close_job();
@@ -70,7 +70,7 @@ fn send_and_retry<A: Actor, K: Behaviours, R: Wait>(
         (sender_caller sender.new.inner.registrar)) }
     ensures still { ForgetsNobody system.now.gates sender.old sender.new }
     ensures stopped { OnErr result (HasSentSome orders.now sender.old sender.new) }
-    ensures fault { IfErr result (BreaksSending system.now.gates orders.now) }
+    ensures fault { IfErr result (BreaksJob system.now.gates orders.now sender.old sender.new) }
 {
     send_all(rt, system, sender, orders)?;
     sender.retry_refused(rt, system)

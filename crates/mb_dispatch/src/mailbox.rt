@@ -6,7 +6,7 @@ ghost use Rattle.mb_journal.specs.Run.Stopped.{NoRoom};
 ghost use Rattle.mb_gate.specs.Accessors.{held_actor, pass_view};
 ghost use Rattle.mb_gate.specs.Untouched.{origin_of};
 ghost use Rattle.mb_home.specs.Fresh.{IsFreshClaim};
-ghost use Rattle.mb_mailbox.specs.Ran.{HadRoom, IsShortOfMemory, LeavesRun};
+ghost use Rattle.mb_mailbox.specs.Ran.{HadRoom, IsShortOfMemory, LeavesRun, LosesNoClaimBut};
 ghost use Rattle.mb_mailbox.specs.declared.turn.Turn.{Turn as TurnType};
 ghost use Rattle.mb_register.specs.Caller.{IsDischargedOrOwed, LeavesCaller};
 ghost use Rattle.mb_system.specs.Members.{end_caller, IsEndOf};
@@ -35,6 +35,7 @@ pub fn run_mailbox<A: Actor, K: Behaviours, R: Wait>(
     requires untouched { IsFreshClaim K.gives (Some (origin_of system.now.gates)) claim }
     ensures same_gates { IsEndOf system.now.gates end.new.registrar }
     ensures leaves { LeavesCaller (end_caller end.old.registrar) (end_caller end.new.registrar) }
+    ensures claims { LosesNoClaimBut (held_actor claim) (end_caller end.old.registrar) (end_caller end.new.registrar) }
     ensures discharged { IsDischargedOrOwed (held_actor claim) (end_caller end.new.registrar) }
     ensures ran { (journal : List Entry) × MatchResult result
         (λ turn. (stopped : Stopped) × HadRoom stopped

@@ -1,10 +1,10 @@
 //! What the end of a worker is called for.
 ghost use Rattle.mb_system.specs.Members.{IsEndOf};
 
+use mb_actor::{Actor, Behaviours};
 use mb_dispatch::{RunError, System, Turn, Turns, WorkerEnd, run_mailbox, run_quietly, work};
 use mb_msg::ActorId;
 use mb_register::Hint;
-use mb_testkit::{Adding, TestActor};
 use std::sync::Wait;
 
 /// What an end is to do.
@@ -35,10 +35,10 @@ pub enum EndAnswer {
 
 /// Calls the end. Nothing where there is no such actor, where there is no claim to take, or where the run of its mailbox is broken
 /// off.
-pub(crate) fn call_end<R: Wait>(
+pub(crate) fn call_end<A: Actor, K: Behaviours, R: Wait>(
     rt: &R,
-    system: &System<TestActor, Adding>,
-    end: &mut WorkerEnd<TestActor, Adding>,
+    system: &System<A, K>,
+    end: &mut WorkerEnd<A, K>,
     call: EndCall,
 ) -> Option<EndAnswer>
     requires same_gates { IsEndOf system.now.gates end.old.registrar }
@@ -56,10 +56,10 @@ pub(crate) fn call_end<R: Wait>(
 }
 
 // Registers an actor, where there is one.
-fn register<R: Wait>(
+fn register<A: Actor, K: Behaviours, R: Wait>(
     rt: &R,
-    system: &System<TestActor, Adding>,
-    end: &mut WorkerEnd<TestActor, Adding>,
+    system: &System<A, K>,
+    end: &mut WorkerEnd<A, K>,
     id: ActorId,
 ) -> Option<EndAnswer>
     requires same_gates { IsEndOf system.now.gates end.old.registrar }
@@ -72,10 +72,10 @@ fn register<R: Wait>(
 }
 
 // Takes a claim and runs its mailbox.
-fn run_next<R: Wait>(
+fn run_next<A: Actor, K: Behaviours, R: Wait>(
     rt: &R,
-    system: &System<TestActor, Adding>,
-    end: &mut WorkerEnd<TestActor, Adding>,
+    system: &System<A, K>,
+    end: &mut WorkerEnd<A, K>,
 ) -> Option<Turn>
     requires same_gates { IsEndOf system.now.gates end.old.registrar }
     ensures same_gates { IsEndOf system.now.gates end.new.registrar }

@@ -1,6 +1,5 @@
 //! Runs that are refused, or broken off: each error in which a whole run with ample memory was seen to end, on one thread and on
 //! threads.
-use crate::broken_off::entries_of;
 use crate::whole_run::{RunMode, run_whole};
 use heddleorange::{Error, FailedRun, PlanError, RunError, UnfinishedActor};
 use mb_msg::ActorId;
@@ -16,7 +15,7 @@ use std::thread::Threads;
 /// A plan, the actors that are handed in for it, what each sender is to send, why there is no report, and how many entries the journal
 /// has of each actor that is left.
 #[derive(Clone, Copy)]
-struct Refusal {
+pub struct Refusal {
     plan: TestCase<'static>,
     actors: &'static [TestActorPlan],
     sends: &'static [&'static [Order]],
@@ -122,7 +121,7 @@ const BAD_PLANS: &[Refusal] = &[
     },
 ];
 
-/// There are not as many lists as senders, or an order goes to nobody; or the journal has room for the start and one message.
+/// There are not as many lists as senders, or an order goes to nobody; or the journal is full.
 const BAD_ORDERS: &[Refusal] = &[
     WITHOUT_ORDERS,
     Refusal {
@@ -144,17 +143,20 @@ const BAD_ORDERS: &[Refusal] = &[
         why: Error::Run(RunError::NoSuchActor),
         ..WITHOUT_ORDERS
     },
-    Refusal {
-        plan: TestCase {
-            journal_limit: 2,
-            ..ONE
-        },
-        sends: &[&[tell!(1, ADD, 1), tell!(1, ADD, 2)]],
-        why: Error::Run(RunError::JournalFull),
-        left: &[1, 2],
-        ..WITHOUT_ORDERS
-    },
+    FULL_JOURNAL,
 ];
+
+/// The journal has room for the start and one message.
+pub const FULL_JOURNAL: Refusal = Refusal {
+    plan: TestCase {
+        journal_limit: 2,
+        ..ONE
+    },
+    sends: &[&[tell!(1, ADD, 1), tell!(1, ADD, 2)]],
+    why: Error::Run(RunError::JournalFull),
+    left: &[1, 2],
+    ..WITHOUT_ORDERS
+};
 
 /// What each sender is to send.
 fn lists_of(alloc: Global, sends: &[&[Order]]) -> Result<Vec<Vec<Order>>, AllocError> {
@@ -178,6 +180,14 @@ fn refused<R: Threads + Wait + Sync>(
     Ok(run_whole(rt, alloc, mode, plan, actors, &sends).err())
 }
 
+/// How many entries the journal of the actor of this number has, if it is there.
+fn entries_of(actors: &[Option<UnfinishedActor>], number: usize) -> Option<usize> {
+    match actors.get(number) {
+        Some(Some(actor)) => Some(actor.journal.len()),
+        _ => None,
+    }
+}
+
 /// Whether these actors are left, each with as many entries in its journal as are due.
 fn are_left(actors: &[Option<UnfinishedActor>], due: &[usize]) -> bool {
     let mut number = 0usize;
@@ -197,7 +207,7 @@ fn see_refused<R: Abort>(rt: &R, refusal: &Refusal, failed: &FailedRun) {
 }
 
 /// Checks that each of these is refused as is due.
-fn are_refused<R: Abort + Threads + Wait + Sync>(
+pub fn are_refused<R: Abort + Threads + Wait + Sync>(
     rt: &R,
     alloc: Global,
     mode: RunMode,
@@ -211,14 +221,18 @@ fn are_refused<R: Abort + Threads + Wait + Sync>(
     }
 }
 
+/// Checks that each bad plan and each bad order is refused. (A proof takes a table apart in each function that names it.)
+fn all_are_refused<R: Abort + Threads + Wait + Sync>(rt: &R, alloc: Global, mode: RunMode) {
+    are_refused(rt, alloc, mode, BAD_PLANS);
+    are_refused(rt, alloc, mode, BAD_ORDERS);
+}
+
 #[test]
 fn a_run_on_one_thread_is_refused_for_its_first_reason(rt: HostRuntime) {
-    are_refused(&rt, rt.alloc(), RunMode::Here, BAD_PLANS);
-    are_refused(&rt, rt.alloc(), RunMode::Here, BAD_ORDERS);
+    all_are_refused(&rt, rt.alloc(), RunMode::Here)
 }
 
 #[test]
 fn a_run_on_threads_is_refused_for_its_first_reason(rt: HostRuntime) {
-    are_refused(&rt, rt.alloc(), RunMode::OnThreads, BAD_PLANS);
-    are_refused(&rt, rt.alloc(), RunMode::OnThreads, BAD_ORDERS);
+    all_are_refused(&rt, rt.alloc(), RunMode::OnThreads)
 }

@@ -4,7 +4,7 @@ use crate::closing::{FinishRefusal, Unfinished};
 use crate::end_call::{EndAnswer, EndCall};
 use crate::sender_call::{SenderAnswer, SenderCall};
 use crate::system_driver::SystemDriver;
-use crate::test_system::TestSystem;
+use crate::test_system::{TestSystem, system_of};
 use mb_dispatch::{Put, RunError, SendError};
 use mb_msg::{ActorId, Payload, PoolKind, Why};
 use mb_report::Report;
@@ -102,9 +102,9 @@ pub const SENDS: &[(Payload, &str)] = &[
 
 /// A system of the two, built again where memory was refused.
 fn build_at_last<R: Wait>(rt: &R, alloc: Global, story: &TestCase<'_>) -> Option<TestSystem> {
-    match TestSystem::new(rt, alloc, story) {
+    match system_of(rt, alloc, story) {
         Ok(company) => Some(company),
-        Err(_) => TestSystem::new(rt, alloc, story).ok(),
+        Err(_) => system_of(rt, alloc, story).ok(),
     }
 }
 

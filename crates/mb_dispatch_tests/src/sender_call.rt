@@ -2,9 +2,9 @@
 ghost use Rattle.std.specs.Prelude.{◌≡◌};
 ghost use Rattle.mb_system.specs.Members.{IsSenderOf};
 
+use mb_actor::{Actor, Behaviours};
 use mb_dispatch::{Look, Put, SendError, Sender, System, Ticket};
 use mb_msg::{ActorId, Payload};
-use mb_testkit::{Adding, TestActor};
 use std::sync::Wait;
 
 /// What a sender is to do.
@@ -32,10 +32,10 @@ pub enum SenderAnswer {
 }
 
 /// Calls the sender. Nothing where the ticket is of no such actor.
-pub(crate) fn call_sender<R: Wait>(
+pub(crate) fn call_sender<A: Actor, K: Behaviours, R: Wait>(
     rt: &R,
-    system: &System<TestActor, Adding>,
-    sender: &mut Sender<TestActor, Adding>,
+    system: &System<A, K>,
+    sender: &mut Sender<A, K>,
     call: SenderCall,
 ) -> Option<SenderAnswer>
     requires same_gates { IsSenderOf system.now.gates sender.old.inner }
@@ -53,10 +53,10 @@ pub(crate) fn call_sender<R: Wait>(
 }
 
 // Puts this by a ticket, where its receiver is an actor of the system.
-fn put<R: Wait>(
+fn put<A: Actor, K: Behaviours, R: Wait>(
     rt: &R,
-    system: &System<TestActor, Adding>,
-    sender: &mut Sender<TestActor, Adding>,
+    system: &System<A, K>,
+    sender: &mut Sender<A, K>,
     ticket: Ticket,
     payload: Payload,
 ) -> Option<SenderAnswer>

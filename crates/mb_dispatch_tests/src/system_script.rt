@@ -2,7 +2,7 @@
 use crate::seen::see;
 use crate::system_driver::SystemDriver;
 use crate::system_test::SystemTest;
-use crate::test_system::TestSystem;
+use crate::test_system::system_of;
 use mb_testkit::{Order, TestCase};
 use std::alloc::Global;
 use std::process::Abort;
@@ -50,12 +50,7 @@ pub fn play<R: Abort + Wait>(rt: &R, alloc: Global, tales: &[SystemScript]) {
 }
 
 fn play_one<R: Abort + Wait>(rt: &R, alloc: Global, tale: &SystemScript) {
-    go_on(
-        rt,
-        alloc,
-        tale,
-        TestSystem::new(rt, alloc, &tale.story).ok(),
-    );
+    go_on(rt, alloc, tale, system_of(rt, alloc, &tale.story).ok());
 }
 
 // Takes each step of the story in this system.

@@ -1,4 +1,4 @@
-//! A system of players with all that belongs to it. What the dispatcher's calls ask for is in the type, or is checked first.
+//! A system of actors with all that belongs to it. What the dispatcher's calls ask for is in the type, or is checked first.
 ghost use Rattle.mb_system.specs.Belonging.{BelongsTogether};
 
 use crate::closing::{Unfinished, refusal_of};
@@ -7,14 +7,15 @@ use crate::sender_call::{SenderAnswer, SenderCall, call_sender};
 use crate::system_driver::SystemDriver;
 use mb_dispatch::{Built, Sender, System, WorkerEnd};
 use mb_report::Report;
-use mb_shutdown::{UnfinishedActor, finish, unfinished_actors};
+use mb_shutdown::finish;
 use mb_startup::{BuildError, build};
 use mb_testkit::{Adding, TestActor, TestCase, plan_of, test_actors_of};
-use std::alloc::{AllocError, Global};
+use std::alloc::Global;
 use std::marker::Model;
 use std::sync::Wait;
 
-/// A system of players with its ends, and with those of its senders that were not dropped.
+/// A system of test actors with its ends, and with those of its senders that were not dropped. (Of actors of any kind it would cost
+/// more to prove: each caller of `SystemDriver` would have to find its impl for this kind.)
 pub struct TestSystem {
     pub(crate) system: System<TestActor, Adding>,
     pub(crate) ends: Vec<WorkerEnd<TestActor, Adding>>,
@@ -43,32 +44,25 @@ impl Model for TestSystem {
         BelongsTogether (record { system = company.system; ends = company.ends; senders = company.senders }) };
 }
 
-/// The system of a story, or why there is none.
-pub type Outcome = Result<TestSystem, BuildError<TestActor>>;
+/// The system of this story, or why none can be built.
+pub fn system_of<R: Wait>(
+    rt: &R,
+    alloc: Global,
+    story: &TestCase<'_>,
+) -> Result<TestSystem, BuildError<TestActor>> {
+    let Ok(plan) = plan_of(alloc, story) else {
+        return Err(BuildError::NoMemory);
+    };
+    let Ok(players) = test_actors_of(alloc, story.parts) else {
+        return Err(BuildError::NoMemory);
+    };
+    match build::<TestActor, Adding, R>(rt, alloc, plan, players) {
+        Ok(built) => Ok(TestSystem::of(built)),
+        Err(error) => Err(error),
+    }
+}
 
 impl TestSystem {
-    /// The system of this story.
-    pub fn new<R: Wait>(rt: &R, alloc: Global, story: &TestCase<'_>) -> Result<Self, AllocError> {
-        match TestSystem::build(rt, alloc, story)? {
-            Ok(company) => Ok(company),
-            Err(_) => Err(AllocError),
-        }
-    }
-
-    /// The system of this story, or why none can be built; where there is memory for its plan and its actors.
-    pub fn build<R: Wait>(
-        rt: &R,
-        alloc: Global,
-        story: &TestCase<'_>,
-    ) -> Result<Outcome, AllocError> {
-        let plan = plan_of(alloc, story)?;
-        let players = test_actors_of(alloc, story.parts)?;
-        match build::<TestActor, Adding, R>(rt, alloc, plan, players) {
-            Ok(built) => Ok(Ok(TestSystem::of(built))),
-            Err(error) => Ok(Err(error)),
-        }
-    }
-
     /// The system and all that is there of it.
     pub(crate) fn of(built: Built<TestActor, Adding>) -> Self
         requires together { BelongsTogether built }
@@ -83,29 +77,6 @@ impl TestSystem {
             ends,
             senders,
         }
-    }
-
-    /// What is left of each actor, the guardian first.
-    pub(crate) fn unfinished<R: Wait>(
-        self,
-        rt: &R,
-    ) -> Result<Vec<Option<UnfinishedActor>>, AllocError> {
-        let TestSystem {
-            system,
-            ends,
-            senders,
-        } = self;
-        if ends.len() == 0 {
-            return Err(AllocError);
-        }
-        unfinished_actors(
-            rt,
-            Built {
-                system,
-                ends,
-                senders,
-            },
-        )
     }
 }
 

@@ -1,5 +1,5 @@
 //! Plans from which no system is built: the plan and the actors come back.
-use crate::test_system::TestSystem;
+use crate::test_system::system_of;
 use mb_msg::{ActorId, Plan};
 use mb_startup::{BuildError, PlanError};
 use mb_testkit::{COUNTER, PLAIN, TestActorPlan, TestCase};
@@ -32,7 +32,7 @@ fn refusal<R: Wait>(
     alloc: Global,
     case: &TestCase<'_>,
 ) -> Result<Option<PlanError>, AllocError> {
-    match TestSystem::build(rt, alloc, case)? {
+    match system_of(rt, alloc, case) {
         Ok(_) => Ok(None),
         Err(BuildError::BadPlan(reason, plan, actors)) => {
             let is_back = is_plan_of(&plan, case) && actors.len() == case.parts.len();

@@ -32,10 +32,7 @@ impl<H: MailboxState> Gates<H> {
     {
         let word = self.read_held(&mut claim.seat, claim.actor);
         prove!(word == claim.status.word());
-        match Status::of(word) {
-            Some(status) => status,
-            None => unreachable!(),
-        }
+        Status::from_word(word)
     }
 
     fn read_held(&self, seat: &mut Seat<Slot<H>, SeatView>, id: ActorId) -> u64

@@ -48,10 +48,7 @@ impl<H: MailboxState> Gates<H> {
         ensures closed { StaysClosed id.0 (word_of result) seat.old.me.0 }
     {
         let word = self.table.shared.load::<Read>(seat, word_index(id, STATUS));
-        match Status::of(word) {
-            Some(status) => status,
-            None => unreachable!(),
-        }
+        Status::from_word(word)
     }
 
     /// Reads how many envelopes are counted as waiting, modulo 2^64 (this project's own profile: Akka asks the queue). A pass

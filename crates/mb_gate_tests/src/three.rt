@@ -79,18 +79,7 @@ fn hold<R: Abort + Wait>(rt: &R, gates: &Gates<TestHome>, mut pass: Pass<TestHom
 fn one_holds_and_two_send(rt: HostRuntime) -> Result<(), Fail> {
     let alloc = rt.alloc();
     let (gates, mut pass) = gates_of_one(alloc)?;
-    let holder = second(&gates, &mut pass);
-    let a = second(&gates, &mut pass);
-    let b = second(&gates, &mut pass);
-    let (tally, sent) = join(
-        &rt,
-        || -> OrderCheck
-            requires { (pass_id holder ≡ gates_id gates) × (0 < actors_of gates) }
-        { hold(&rt, &gates, holder) },
-        || -> (u32, u32)
-            requires { (pass_id a ≡ gates_id gates) × (pass_id b ≡ gates_id gates) × (actors_of gates ≡ 1) }
-        { send_both(&rt, alloc, &gates, a, b) },
-    );
+    let (tally, sent) = hold_and_send(&rt, alloc, &gates, &mut pass);
     assert!(rt; sent.0 == SENDS && sent.1 == SENDS);
     let all = OrderCheck {
         number: 2_000,
@@ -102,6 +91,31 @@ fn one_holds_and_two_send(rt: HostRuntime) -> Result<(), Fail> {
     assert!(rt; waiting(&gates, &mut pass) == 2_000);
     assert!(rt; word(&gates, &mut pass) == 4);
     Ok(())
+}
+
+// Holds the actor while two send to it, each on a thread of its own, and answers what the holder saw and how much each sent.
+fn hold_and_send<R: Abort + Wait + Threads + Sync>(
+    rt: &R,
+    alloc: Global,
+    gates: &Gates<TestHome>,
+    pass: &mut Pass<TestHome>,
+) -> (OrderCheck, (u32, u32))
+    requires same_gates { pass_id pass.old ≡ gates_id gates.now }
+    requires one { actors_of gates.now ≡ 1 }
+    ensures same_gates { pass_id pass.new ≡ pass_id pass.old }
+{
+    let holder = second(gates, pass);
+    let a = second(gates, pass);
+    let b = second(gates, pass);
+    join(
+        rt,
+        || -> OrderCheck
+            requires { (pass_id holder ≡ gates_id gates.now) × (actors_of gates.now ≡ 1) }
+        { hold(rt, gates, holder) },
+        || -> (u32, u32)
+            requires { (pass_id a ≡ gates_id gates.now) × (pass_id b ≡ gates_id gates.now) × (actors_of gates.now ≡ 1) }
+        { send_both(rt, alloc, gates, a, b) },
+    )
 }
 
 fn send_both<R: Wait + Threads + Sync>(

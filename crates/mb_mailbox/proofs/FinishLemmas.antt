@@ -33,6 +33,7 @@ use Rattle.mb_gate.proofs.Numbers.{among_first, among_right}
 use Rattle.mb_home.specs.AtHome.{IsHomeOf, mailbox_at}
 use Rattle.mb_home.specs.Contents.{Contents}
 use Rattle.mb_home.specs.Steps.{HasNoBacklog}
+use Rattle.mb_register.specs.Due.{GotDue}
 use Rattle.mb_register.specs.Views.{LooksAfter}
 use Rattle.mb_register.proofs.Bits.{same_or_other}
 use Rattle.mb_register.proofs.Views.{owes-other}
@@ -43,7 +44,7 @@ use Rattle.mb_mailbox.specs.OnlyDrained.{TakesOnlyDrained}
 use Rattle.mb_mailbox.specs.Emptied.{FindsNoMore, IsCleared}
 use Rattle.mb_mailbox.specs.RunState.{RunState, run_state}
 use Rattle.mb_mailbox.specs.RunSends.{IsSentByRun, ended_in, given_by, listed_by, listed_of, refused_of}
-use Rattle.mb_mailbox.specs.Ran.{LastTakeFoundNone, LastTakeHadRoom, EndsDrained, EndsEmpty, GivesBackOne, HadRoom, CountsRun, LeavesRun, systems_in, taken_of}
+use Rattle.mb_mailbox.specs.Ran.{LastTakeFoundNone, LastTakeHadRoom, EndsDrained, EndsEmpty, GivesBackOne, HadRoom, CountsRun, LeavesRun, systems_in, taken_of, with_steps}
 use Rattle.mb_mailbox.specs.Recorded.{GrowAlike}
 use Rattle.mb_mailbox.specs.Running.{IsRunning, BacklogAgrees, SameRun}
 use Rattle.mb_register.proofs.CallerLemmas.{account-then}
@@ -252,7 +253,7 @@ pub leaves-run : (throughput : ℕ) (first last : Claim (Box Contents)) (old pas
     TakesOnlyDrained (held_actor last) (claim_view last).log → IsAmong (Saw (held_actor last) last.home.value.cell.journal) pass.log →
     Each (GoesOn (held_actor last) (taken_with last)) old.log → pass.share ≡ old.share →
     GivesBackOne (record { actor = held_actor last; taken = taken_with last; back = last.home.value.cell.journal }) old pass →
-    TakesOver old pass (claim_view last).log → (w : View) → GrowAlike (recorded_by first) old (recorded_by last) w →
+    TakesOver old pass (claim_view last).log → GotDue (with_steps (claim_view last).log old) pass → (w : View) → GrowAlike (recorded_by first) old (recorded_by last) w →
     pass.sent_system ≡ w.sent_system →
     (listed_by pass.log ≡ listed_by w.log) × ((to : ℕ) → total (ended_in to) w.log ≤ total (ended_in to) pass.log) →
     given_by pass.log ≡ given_by (claim_view last).log ++ given_by w.log →
@@ -264,7 +265,7 @@ pub leaves-run : (throughput : ℕ) (first last : Claim (Box Contents)) (old pas
     (closed last.home.value.cell.who last.home.value.cell.journal ≡ false → last.home.value.cleaned ≡ []) →
     (EndsEmpty stopped (closed first.home.value.cell.who last.home.value.cell.journal) → FindsNoMore first.home.value.take last.home.value.take) →
     LeavesRun throughput first old pass last.home.value.cell.journal turn stopped
-leaves-run throughput first last old pass turn stopped taken same t few reason ends room only_drained saw goes_on share gives_back part w sends kept puts given unsent told fresh at_first at_last keeps empty =
+leaves-run throughput first last old pass turn stopped taken same t few reason ends room only_drained saw goes_on share gives_back part got_due w sends kept puts given unsent told fresh at_first at_last keeps empty =
     let before : (run_state last).before ≡ first.home.value.cell.journal = same.before ∙ taken in
     let journal = last.home.value.cell.journal in
     let blocks : AreBlocks first.home.value.cell.who first.home.value.cell.journal turn.envelopes journal =
@@ -295,6 +296,7 @@ leaves-run throughput first last old pass turn stopped taken same t few reason e
           (λ i. (same.actor i, before i)) gives_back;
       steps = (claim_view last).log;
       taken_over = part;
+      got_due = got_due;
       told = recorded_by last;
       told_is = told;
       puts = puts.0 ∙ sends.puts ∙ ap (λ l. listed_of (reverse l) ++ listed_by old.log) all_sent;

@@ -52,6 +52,8 @@ module _ (gives : ℕ → Moment → Reply → Type 0) (origin : Origin (Box Con
       obligations = [];
       share = [];
       releases = [];
+      got = [];
+      returned = [];
     }
 
     hold-fresh : run_state c ≡ fresh_hold
@@ -70,6 +72,8 @@ module _ (gives : ℕ → Moment → Reply → Type 0) (origin : Origin (Box Con
       obligations = (u.known i).obligations;
       share = (u.known i).share;
       releases = (u.known i).releases;
+      got = (u.known i).got;
+      returned = (u.known i).returned;
     }
 
     pub taken-fresh : taken_with c ≡ c.home.value.cell.journal
@@ -115,6 +119,8 @@ module _ (gives : ℕ → Moment → Reply → Type 0) (origin : Origin (Box Con
           owes_nothing = refl;
           bare = refl;
           none_released = refl;
+          none_got = refl;
+          none_returned = refl;
         })
 
     pub backlog-fresh : BacklogAgrees (run_state c)

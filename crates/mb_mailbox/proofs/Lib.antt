@@ -30,4 +30,5 @@ pub mod EnvelopeLemmas
 pub mod FreshLemmas
 pub mod FinishLemmas
 pub mod TakenLemmas
+pub mod ClaimLemmas
 pub mod InRunLemmas

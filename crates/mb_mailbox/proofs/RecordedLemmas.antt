@@ -1,5 +1,5 @@
 -- What a run sends and records, step after step.
-use Rattle.std.proofs.Common.{◌≡◌, ℕ, ◌+◌, ◌==◌, if◌then◌else◌, Bool, true, false, List, [], ◌∷◌, ◌++◌, reverse, refl, sym, ap, ◌∙◌, append_assoc, append-nil, arith, inr, subst}
+use Rattle.std.proofs.Common.{◌≡◌, ℕ, ◌+◌, ◌==◌, if◌then◌else◌, Bool, true, false, List, [], ◌∷◌, ◌++◌, reverse, refl, sym, ap, ◌∙◌, append_assoc, append-nil, arith, inl, inr, subst}
 use Rattle.std.proofs.lemmas.List.{reverse-append}
 use Rattle.mb_msg.specs.declared.id.ActorId.{ActorId}
 use Rattle.mb_msg.specs.declared.envelope.Body.{Body}
@@ -14,6 +14,8 @@ use Rattle.mb_home.specs.Contents.{Contents}
 use Rattle.mb_register.specs.Caller.{Caller, CallerAdvances, OwesForRefusals}
 use Rattle.mb_register.specs.Views.{Does, IsLook}
 use Rattle.mb_register.proofs.CallerLemmas.{account-none}
+use Rattle.mb_register.proofs.ClaimCounts.{loses-handed}
+use Rattle.mb_register.proofs.DueLemmas.{got-no-claim}
 use Rattle.mb_register.proofs.Unchanged.{unchanged-none}
 use Rattle.mb_register.specs.declared.hint.Hint.{Hint}
 use Rattle.mb_register.specs.declared.hint.Hint.TheVariants as hint
@@ -170,6 +172,9 @@ further-refused id message a b same account = record {
   obligations = λ other. inr (ap (obligation_to other) same);
   share = ap (λ (v : View). v.share) same;
   gives_back = unchanged-none _ _ (ap (λ (v : View). v.releases) same);
+  claims = loses-handed id a.account b.account a.view b.view false
+      (inl (account, record { got = ap (λ (v : View). v.got) same; returned = ap (λ (v : View). v.returned) same }));
+  got_due = got-no-claim a.view b.view (ap (λ (v : View). v.got) same);
 }
 
 -- a tell sends no system message, puts none into a list, and gets nothing out of one

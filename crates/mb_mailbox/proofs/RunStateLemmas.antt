@@ -29,6 +29,8 @@ module _ (c new : Claim (Box Contents)) (ours : (claim_id new ≡ claim_id c) ×
     obligations = (known i).obligations;
     share = (known i).share;
     releases = (known i).releases;
+    got = (known i).got;
+    returned = (known i).returned;
   }
 
   -- an envelope was counted as taken
@@ -49,6 +51,8 @@ module _ (c new : Claim (Box Contents)) (ours : (claim_id new ≡ claim_id c) ×
     obligations = (known i).obligations;
     share = (known i).share;
     releases = (known i).releases;
+    got = (known i).got;
+    returned = (known i).returned;
   }
 
   -- the status word was loaded
@@ -69,6 +73,8 @@ module _ (c new : Claim (Box Contents)) (ours : (claim_id new ≡ claim_id c) ×
     obligations = (known i).obligations;
     share = (known i).share;
     releases = (known i).releases;
+    got = (known i).got;
+    returned = (known i).returned;
   }
 
   -- the gate of the actor's list was read, and showed work
@@ -89,6 +95,8 @@ module _ (c new : Claim (Box Contents)) (ours : (claim_id new ≡ claim_id c) ×
     obligations = (known i).obligations;
     share = (known i).share;
     releases = (known i).releases;
+    got = (known i).got;
+    returned = (known i).returned;
   }
 
   module _ (status : status_of new ≡ status_of c) (taken : (taken_with new ≡ taken_with c) × (closed_with new ≡ closed_with c))
@@ -117,6 +125,8 @@ module _ (c new : Claim (Box Contents)) (ours : (claim_id new ≡ claim_id c) ×
       obligations = (known i).obligations;
       share = (known i).share;
       releases = (known i).releases;
+      got = (known i).got;
+      returned = (known i).returned;
     }
 
     -- it was ended
@@ -141,6 +151,8 @@ module _ (c new : Claim (Box Contents)) (ours : (claim_id new ≡ claim_id c) ×
       obligations = (known i).obligations;
       share = (known i).share;
       releases = (known i).releases;
+      got = (known i).got;
+      returned = (known i).returned;
     }
 
 -- a system message was sent in the run
@@ -161,4 +173,6 @@ hold-recorded c new sent_system r = λ i. record {
   obligations = (r.known i).obligations;
   share = (r.known i).share;
   releases = (r.known i).releases;
+  got = (r.known i).got;
+  returned = (r.known i).returned;
 }

@@ -70,6 +70,8 @@ module _ (gives : ℕ → Moment → Reply → Type 0) (origin : Origin (Box Con
     owes_nothing = r.owes_nothing;
     bare = r.bare;
     none_released = r.none_released;
+    none_got = r.none_got;
+    none_returned = r.none_returned;
   }
 
   pub running-applied : AppliesNext h.home new → LeadsOn h.home new → AgreesWithJournal (gives h.actor) new.cell.acts new →

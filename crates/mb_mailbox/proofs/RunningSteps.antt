@@ -92,6 +92,8 @@ module _ (gives : ℕ → Moment → Reply → Type 0) (origin : Origin (Box Con
     owes_nothing = r.owes_nothing;
     bare = r.bare;
     none_released = r.none_released;
+    none_got = r.none_got;
+    none_returned = r.none_returned;
   }
 
   module _ (seen : List Observation) (h : RunState) where
@@ -124,6 +126,8 @@ module _ (gives : ℕ → Moment → Reply → Type 0) (origin : Origin (Box Con
       owes_nothing = r.owes_nothing;
       bare = r.bare;
       none_released = r.none_released;
+      none_got = r.none_got;
+      none_returned = r.none_returned;
     }
 
     -- the same acts are left, and the same is dead and beside the cell
@@ -196,6 +200,8 @@ module _ (gives : ℕ → Moment → Reply → Type 0) (origin : Origin (Box Con
       owes_nothing = r.owes_nothing;
       bare = r.bare;
       none_released = r.none_released;
+      none_got = r.none_got;
+      none_returned = r.none_returned;
     }
 
     pub running-suspend : (rest : List Act) → IsRunning gives origin (SuspendSelf ∷ rest) seen h →
@@ -252,6 +258,8 @@ module _ (gives : ℕ → Moment → Reply → Type 0) (origin : Origin (Box Con
       owes_nothing = r.owes_nothing;
       bare = r.bare;
       none_released = r.none_released;
+      none_got = r.none_got;
+      none_returned = r.none_returned;
     }
 
     module _ (rest : List Act) (to : ActorId) (message : SysMsg) (r : IsRunning gives origin (Sys to message ∷ rest) seen h) where
@@ -322,6 +330,8 @@ module _ (gives : ℕ → Moment → Reply → Type 0) (origin : Origin (Box Con
       owes_nothing = r.owes_nothing;
       bare = r.bare;
       none_released = r.none_released;
+      none_got = r.none_got;
+      none_returned = r.none_returned;
     }
 
     pub running-drained : (pending : List Act) (gave : Bool) (given : ℕ) (result : List (ℕ × SysMsg)) → IsRunning gives origin pending seen h →

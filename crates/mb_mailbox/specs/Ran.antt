@@ -23,7 +23,9 @@ use Rattle.mb_gate.specs.View.{View, Observation, Release, SentSystem, Saw, Took
 use Rattle.mb_gate.specs.Waiting.{counted_off}
 use Rattle.mb_home.specs.Contents.{Contents}
 use Rattle.mb_mailbox.specs.declared.turn.Turn.{Turn}
-use Rattle.mb_register.specs.Caller.{TakesOver}
+use Rattle.mb_register.specs.Caller.{Caller, TakesOver}
+use Rattle.mb_register.specs.Due.{GotDue}
+use Rattle.mb_register.specs.Registering.{LosesNoClaim}
 use Rattle.mb_register.specs.Views.{IsUnchanged}
 use Rattle.mb_mailbox.specs.Loaded.{loaded_words, BeginsAt}
 use Rattle.mb_mailbox.specs.OnlyDrained.{DrainedLast, LoadedLast, TakesOnlyDrained}
@@ -143,6 +145,15 @@ pub record GivesBackOne (own : Release) (old new : View) : Type 0 where
   pub later_unchanged : Each IsUnchanged later
   pub releases : new.releases ≡ later ++ own ∷ (earlier ++ old.releases)
 
+-- The view, as if it had known these steps before.
+abbrev pub with_steps : List Observation → View → View
+with_steps steps v = record v { log = v.log ++ steps }
+
+-- No claim is lost but this actor's own, which goes home: of each actor, the pass got as many besides as went into the run queue and as the queue
+-- refused, and gave back as many as the queue refused.
+abbrev pub LosesNoClaimBut : {H : Type 0} → ℕ → Caller H → Caller H → Type 0
+LosesNoClaimBut actor old new = LosesNoClaim old.account new.account (record old.view { returned = actor ∷ old.view.returned }) new.view
+
 -- The claim's actor ran from the journal with which the claim was taken to this one, which the pass has seen. The result names the actor and counts
 -- the entries of either kind. The journal with which the claim was taken goes on from each that the pass had seen of the actor. The pass kept its
 -- share, and gave the cell back with the new journal, and each other cell as it was taken. It took over the steps of the claim's seat. Among them each
@@ -153,7 +164,8 @@ pub record GivesBackOne (own : Release) (old new : View) : Type 0 where
 -- messages that the pass sent are those that the new entries have to send, each that found its list ended answered at once, and, if the actor ended, the
 -- answers to what was dropped then; and no others. Those of them that a list took, in their order, are all that was put into lists; and the pass knows
 -- of the list of each of the others that it was ended. What the pass knows
--- that lists gave went on by what the actor's list gave in these steps.
+-- that lists gave went on by what the actor's list gave in these steps. Each claim that the pass got is of an actor that was due then, by what the
+-- pass did and saw itself in the run.
 pub record LeavesRun (throughput : ℕ) (claim : Claim (Box Contents)) (old pass : View) (journal : List Entry) (turn : Turn) (stopped : Stopped)
     : Type 0 where
   pub run : IsRun claim.home.value.cell.who throughput claim.home.value.cell.journal journal stopped
@@ -166,6 +178,7 @@ pub record LeavesRun (throughput : ℕ) (claim : Claim (Box Contents)) (old pass
   pub gives_back : GivesBackOne (record { actor = held_actor claim; taken = claim.home.value.cell.journal; back = journal }) old pass
   pub steps : List Observation
   pub taken_over : TakesOver old pass steps
+  pub got_due : GotDue (with_steps steps old) pass
   pub told : List SentSystem
   pub told_is : IsSentByRun claim.home.value.cell.who (held_actor claim) journal claim.home.value.cell.journal claim.home.value.rest steps told
   pub sent_system : pass.sent_system ≡ reverse told ++ old.sent_system

@@ -14,7 +14,8 @@ use Rattle.mb_home.specs.Contents.{Contents}
 -- The gates that the claim is of; its actor; the status; what lies at the actor's home; the journal with which the claim was taken, and the actors of
 -- which the home said then that they are closed; whether the last drain gave something, and how many messages the list gave, modulo 2^64; which of
 -- these the home named when the claim was taken, and then those drained since; which system messages were sent for it, the earliest first; what its
--- own seat saw and did, the newest first; what that seat owes; its share of the one whole of all passes; and each cell that it gave back.
+-- own seat saw and did, the newest first; what that seat owes; its share of the one whole of all passes; each cell that it gave
+-- back; and the actors of which it got a claim and of which it gave one back.
 pub record RunState : Type 0 where
   pub gates : TableId
   pub actor : ℕ
@@ -30,6 +31,8 @@ pub record RunState : Type 0 where
   pub obligations : List (ℕ × WakeObligation)
   pub share : List ℕ
   pub releases : List Release
+  pub got : List ℕ
+  pub returned : List ℕ
 
 -- The state of a claim's run.
 abbrev pub run_state : Claim (Box Contents) → RunState
@@ -48,4 +51,6 @@ run_state claim = record {
   obligations = (claim_view claim).obligations;
   share = (claim_view claim).share;
   releases = (claim_view claim).releases;
+  got = (claim_view claim).got;
+  returned = (claim_view claim).returned;
 }

@@ -36,7 +36,7 @@ WereDrained hold messages = Each (λ m. IsAmong m hold.drained) messages
 -- which are still to be carried out. The home and these acts name only actors of these gates. Each actor that the home says is closed is known to be.
 -- The claim knows that the list gave each system message that has an entry, is left beside the cell, or was drained by the claim's own seat. Each
 -- envelope was taken right after a load of an open status word, when no system message was left to be drained, or cleaned up. The claim's seat put
--- nothing into a list, owes nothing, has no share, and gave no cell back.
+-- nothing into a list, owes nothing, has no share, gave no cell back, and got no claim.
 pub record IsRunning (gives : ℕ → Moment → Reply → Type 0) (origin : Origin (Box Contents)) (pending : List Act) (seen : List Observation) (hold : RunState)
     : Type 0 where
   pub same_gates : hold.gates ≡ origin.gates
@@ -58,6 +58,8 @@ pub record IsRunning (gives : ℕ → Moment → Reply → Type 0) (origin : Ori
   pub owes_nothing : hold.obligations ≡ []
   pub bare : hold.share ≡ []
   pub none_released : hold.releases ≡ []
+  pub none_got : hold.got ≡ []
+  pub none_returned : hold.returned ≡ []
 
 -- What was drained and not applied agrees with what the claim knows: the home knows how many messages the list gave. Beside the cell of an open actor
 -- something is left only if the last drain gave something; beside that of a closed one nothing is.

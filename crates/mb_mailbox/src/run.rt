@@ -9,7 +9,7 @@ ghost use Rattle.mb_register.specs.Caller.{IsRegistrarOf, caller_of, IsDischarge
 ghost use Rattle.mb_home.specs.Fresh.{IsFreshClaim};
 ghost use Rattle.mb_mailbox.specs.RunState.{run_state};
 ghost use Rattle.mb_mailbox.specs.InRun.{InRun, Advances, StopsRun};
-ghost use Rattle.mb_mailbox.specs.Ran.{HadRoom, HasStopped, IsShortOfMemory, LeavesRun};
+ghost use Rattle.mb_mailbox.specs.Ran.{HadRoom, HasStopped, IsShortOfMemory, LeavesRun, LosesNoClaimBut};
 ghost use Rattle.mb_mailbox.specs.declared.turn.Turn.{Turn};
 
 use crate::envelopes::apply_envelopes;
@@ -41,6 +41,7 @@ pub fn run_mailbox<A: Actor, K: Behaviours, W: RunQueue<BoxedHome<A, K>>, R: Wai
     requires same_count { length (first_home gates.now).value.directory ≡ actors_of gates.now }
     ensures same_gates { IsRegistrarOf W.origin gates.now registrar.new }
     ensures caller_advances { LeavesCaller (caller_of W.pushed W.refused registrar.old) (caller_of W.pushed W.refused registrar.new) }
+    ensures claims { LosesNoClaimBut (held_actor claim) (caller_of W.pushed W.refused registrar.old) (caller_of W.pushed W.refused registrar.new) }
     ensures discharged { IsDischargedOrOwed (held_actor claim) (caller_of W.pushed W.refused registrar.new) }
     ensures ran { (journal : List Entry) × MatchResult result
         (λ turn. (stopped : Stopped) × HadRoom stopped

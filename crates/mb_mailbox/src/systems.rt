@@ -1,5 +1,5 @@
 //! Applying system messages, until none is left.
-ghost use Rattle.std.specs.Prelude.{◌≡◌, ◌≢◌, [], true, false, List, OnOk};
+ghost use Rattle.std.specs.Prelude.{◌≡◌, ◌≢◌, ◌+◌, [], true, false, List, OnOk};
 ghost use Rattle.mb_gate.specs.View.{Observation};
 ghost use Rattle.mb_gate.specs.Accessors.{status_of, recorded_by};
 ghost use Rattle.mb_home.specs.Steps.{HasNext, HasNoBacklog};
@@ -118,6 +118,7 @@ fn apply_one<A: Actor, K: Behaviours, W: RunQueue<BoxedHome<A, K>>, R: Wait>(
     ensures advances { Advances W.pushed W.refused result registrar.old registrar.new claim.old claim.new }
     ensures stops { StopsRun result claim.new }
     ensures envelopes { turn.new.envelopes ≡ turn.old.envelopes }
+    ensures applied { OnOk result (turn.new.system ≡ turn.old.system + 1) }
 {
     claim.home.ready()?;
     claim.home.apply_next();

@@ -6,6 +6,7 @@ ghost use Rattle.mb_gate.specs.Untouched.{origin_of};
 ghost use Rattle.mb_gate.specs.View.{reading};
 ghost use Rattle.mb_home.specs.AgreesWithJournal.{AgreesWithJournal};
 ghost use Rattle.mb_register.specs.Caller.{IsRegistrarOf, caller_of, CallerAdvances};
+ghost use Rattle.mb_register.specs.Views.{GotAndGaveBack};
 ghost use Rattle.mb_mailbox.specs.Emptied.{IsCleared};
 ghost use Rattle.mb_mailbox.specs.RunSends.{SendsDue};
 ghost use Rattle.mb_mailbox.specs.RunState.{run_state};
@@ -82,6 +83,7 @@ fn send<A: Actor, K: Behaviours, R: Wait>(
     ensures told { MatchOption result (TellsClosed to body (pass_view pass.old) (pass_view pass.new) home.old.value home.new.value)
         (λ hint. HintTells hint to body (pass_view pass.old) (pass_view pass.new) home.old.value home.new.value) }
     ensures closed { IfNone result (pass_view pass.new ≡ reading to.0 1 (pass_view pass.old)) }
+    ensures claims { GotAndGaveBack [] [] (pass_view pass.old) (pass_view pass.new) }
 {
     let status = gates.status(pass, to);
     if status.closed() {

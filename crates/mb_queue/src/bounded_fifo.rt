@@ -1,16 +1,14 @@
 //! A fifo with a bound, over the bounded queue of `crossbeam_queue`.
-ghost use Rattle.std.specs.Prelude.{◌≡◌, ◌<◌, [], IfOk, MatchOption, MatchResult};
+ghost use Rattle.std.specs.Prelude.{◌≡◌, ◌<◌, [], IfOk, MatchResult};
 ghost use Rattle.crossbeam_queue.specs.Passes.{view, IsPassOf, ruled_capacity};
 ghost use Rattle.mb_queue.specs.declared.ledger.Ledger.TheVariants.{Taker};
 ghost use Rattle.mb_queue.specs.declared.refused.Refusal.TheVariants.{Full};
-ghost use Rattle.mb_queue.specs.Ledger.{IsSender, IsTaker, IsUnused, MayLend, MayPush, pushing, taking, lending, borrowing, joining};
-ghost use Rattle.mb_queue.specs.Rule.{FoundEmpty, FoundFull, FoundNext};
+ghost use Rattle.mb_queue.specs.Ledger.{IsSender, IsTaker, IsUnused, MayLend, MayPush, pushing, lending, borrowing, joining};
+ghost use Rattle.mb_queue.specs.Rule.{FoundFull};
 
 use crate::ledger::Ledger;
 use crate::refused::Refusal;
-use crate::rule::{
-    FifoPush, FifoRule, FifoScope, FifoSender, FifoTake, JoinAccount, LendAccount, OpenFifo,
-};
+use crate::rule::{FifoPush, FifoRule, FifoScope, FifoSender, JoinAccount, LendAccount, OpenFifo};
 use crossbeam_queue::{Pass, RuledArrayQueue};
 use mb_msg::Envelope;
 use std::alloc::{AllocError, Global};
@@ -55,18 +53,6 @@ impl BoundedFifo {
             Ok(()) => Ok(()),
             Err(_) => Err(Refusal::Full),
         }
-    }
-
-    /// Takes the first envelope. `None` only if the fifo was empty at a moment of the call.
-    #[inline(always)]
-    pub fn take<R: Wait>(&self, rt: &R, pass: &mut BoundedFifoPass) -> Option<Envelope>
-        requires queue { IsPassOf self.now.queue pass.old }
-        requires taker { IsTaker (view pass.old) }
-        ensures queue { IsPassOf self.now.queue pass.new }
-        ensures taken { MatchOption result (((view pass.new) ≡ (view pass.old)) × FoundEmpty (view pass.old))
-            (λ e. ((view pass.new) ≡ taking (view pass.old) e) × FoundNext (view pass.old) e) }
-    {
-        self.queue.pop_as::<FifoTake, R>(rt, pass)
     }
 
     /// Fixes which envelopes the fifo is for.

@@ -7,7 +7,7 @@ ghost use Rattle.mb_queue.specs.Rule.{FoundEmpty, FoundNext, IsFifoRefusal};
 use crate::bounded_fifo::{BoundedFifo, BoundedFifoPass};
 use crate::ledger::QueuePart;
 use crate::refused::Refusal;
-use crate::rule::{FifoScope, FifoSender};
+use crate::rule::{FifoScope, FifoSender, FifoTake};
 use crate::unbounded_fifo::{UnboundedFifo, UnboundedFifoPass};
 use mb_msg::{ActorId, Envelope, SenderId};
 use std::alloc::{AllocError, Global};
@@ -91,7 +91,7 @@ impl Port {
     }
 
     /// Takes the first envelope. `None` only if the fifo was empty at a moment of the call.
-    // Inlined: each call that is saved is one copy of an envelope less.
+    // Inlined, and the queues are asked right here: each call that is saved is one copy of an envelope less.
     #[inline(always)]
     pub fn take<R: Wait>(&mut self, rt: &R) -> Option<Envelope>
         requires { IsTaker self.old.ledger }
@@ -99,8 +99,8 @@ impl Port {
             (λ e. (self.new ≡ record self.old { ledger = taking self.old.ledger e }) × FoundNext self.old.ledger e) }
     {
         match &mut self.end {
-            End::Unbounded(blocks, pass) => blocks.take(rt, pass),
-            End::Bounded(slots, pass) => slots.take(rt, pass),
+            End::Unbounded(blocks, pass) => blocks.queue.pop_as::<FifoTake, R>(rt, pass),
+            End::Bounded(slots, pass) => slots.queue.pop_as::<FifoTake, R>(rt, pass),
         }
     }
 

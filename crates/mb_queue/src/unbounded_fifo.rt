@@ -1,16 +1,13 @@
 //! A fifo without a bound, over the unbounded queue of `crossbeam_queue`.
-ghost use Rattle.std.specs.Prelude.{◌≡◌, [], IfOk, MatchOption, MatchResult};
+ghost use Rattle.std.specs.Prelude.{◌≡◌, [], IfOk, MatchResult};
 ghost use Rattle.crossbeam_queue.specs.SegTies.{IsSegPassOf};
 ghost use Rattle.mb_queue.specs.declared.ledger.Ledger.TheVariants.{Taker};
 ghost use Rattle.mb_queue.specs.declared.refused.Refusal.TheVariants.{NoMemory};
-ghost use Rattle.mb_queue.specs.Ledger.{IsSender, IsTaker, IsUnused, MayLend, MayPush, pushing, taking, lending, borrowing, joining};
-ghost use Rattle.mb_queue.specs.Rule.{FoundEmpty, FoundNext};
+ghost use Rattle.mb_queue.specs.Ledger.{IsSender, IsTaker, IsUnused, MayLend, MayPush, pushing, lending, borrowing, joining};
 
 use crate::ledger::Ledger;
 use crate::refused::Refusal;
-use crate::rule::{
-    FifoPush, FifoRule, FifoScope, FifoSender, FifoTake, JoinAccount, LendAccount, OpenFifo,
-};
+use crate::rule::{FifoPush, FifoRule, FifoScope, FifoSender, JoinAccount, LendAccount, OpenFifo};
 use crossbeam_queue::{RuledSegQueue, SegPass};
 use mb_msg::Envelope;
 use std::alloc::{AllocError, Global};
@@ -59,18 +56,6 @@ impl UnboundedFifo {
             Ok(()) => Ok(()),
             Err(_) => Err(Refusal::NoMemory),
         }
-    }
-
-    /// Takes the first envelope. `None` only if the fifo was empty at a moment of the call.
-    #[inline(always)]
-    pub fn take<R: Wait>(&self, rt: &R, pass: &mut UnboundedFifoPass) -> Option<Envelope>
-        requires queue { IsSegPassOf self.now.queue pass.old }
-        requires taker { IsTaker pass.old.me.view.client }
-        ensures queue { IsSegPassOf self.now.queue pass.new }
-        ensures taken { MatchOption result ((pass.new.me.view.client ≡ pass.old.me.view.client) × FoundEmpty pass.old.me.view.client)
-            (λ e. (pass.new.me.view.client ≡ taking pass.old.me.view.client e) × FoundNext pass.old.me.view.client e) }
-    {
-        self.queue.pop_as::<FifoTake, R>(rt, pass)
     }
 
     /// Fixes which envelopes the fifo is for.

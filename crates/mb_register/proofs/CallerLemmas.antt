@@ -12,6 +12,8 @@ use Rattle.mb_register.specs.Owed.{is_owed}
 use Rattle.mb_register.specs.Registering.{QueueAccount, WasRefused, IsRegistered}
 use Rattle.mb_register.proofs.Bits.{same_or_other}
 use Rattle.mb_register.specs.Caller.{Caller, OwesForRefusals, TakesNothing, IsDischargedOrOwed, CallerAdvances}
+use Rattle.mb_register.proofs.ClaimCounts.{loses-none, loses-then}
+use Rattle.mb_register.proofs.DueLemmas.{got-no-claim, got-further}
 use Rattle.mb_register.proofs.SendingLemmas.{sends-append}
 use Rattle.mb_register.proofs.Unchanged.{unchanged-none, unchanged-then}
 
@@ -78,6 +80,8 @@ module _ {H : Type 0} where
     obligations = λ id. inr refl;
     share = refl;
     gives_back = unchanged-none _ _ refl;
+    claims = loses-none c.account c.view;
+    got_due = got-no-claim c.view c.view refl;
   }
 
   pub further-then : (a b c : Caller H) → CallerAdvances a b → CallerAdvances b c → CallerAdvances a c
@@ -90,6 +94,8 @@ module _ {H : Type 0} where
     obligations = λ id. by_last id (q.obligations id);
     share = q.share ∙ p.share;
     gives_back = unchanged-then a.view b.view c.view p.gives_back q.gives_back;
+    claims = loses-then a.account b.account c.account a.view b.view c.view p.claims q.claims;
+    got_due = got-further a.view b.view c.view p.more q.more p.log q.log p.got_due q.got_due;
   }
     where
       by_first : (id : ℕ) → obligation_to id c.view ≡ obligation_to id b.view → IsDischargedOrOwed id b ⊎ (obligation_to id b.view ≡ obligation_to id a.view) →

@@ -2,6 +2,7 @@ pub mod Unchanged
 pub mod Views
 pub mod ClaimCounts
 pub mod Dues
+pub mod DueLemmas
 pub mod AtHome
 pub mod Obligations
 pub mod Bits

@@ -7,6 +7,8 @@ use Rattle.mb_gate.specs.View.{Read, Saw, Counted, Looked, Sent, Unsent, Took, P
 use Rattle.mb_register.specs.Views.{Does, GivesBackUnchanged, IsLook}
 use Rattle.mb_register.proofs.Bits.{same_or_other}
 use Rattle.mb_register.specs.Caller.{Caller, OwesForRefusals, TakesNothing, IsDischargedOrOwed, CallerAdvances}
+use Rattle.mb_register.specs.Due.{GotDue}
+use Rattle.mb_register.specs.Registering.{LosesNoClaim}
 use Rattle.mb_register.specs.Sending.{SendsOpen}
 use Rattle.mb_register.proofs.SendingLemmas.{looks-send-none, sends-append}
 use Rattle.mb_register.proofs.Unchanged.{unchanged-then}
@@ -59,20 +61,27 @@ moves-then id a b c p q = record {
   gives_back = unchanged-then a b c p.gives_back q.gives_back;
 }
 
--- and what it owes to that actor it owes no more, or owes it a look
+-- to that actor it owes no more, or owes it a look
+pub moves-obligations : {H : Type 0} (id : ℕ) (a b : Caller H) → Moves id a.view b.view → IsDischargedOrOwed id b → (other : ℕ) →
+    IsDischargedOrOwed other b ⊎ (obligation_to other b.view ≡ obligation_to other a.view)
+moves-obligations id a b m discharged other = by_actor (same_or_other other id)
+  where
+    by_actor : (other ≡ id) ⊎ (other ≢ id) → IsDischargedOrOwed other b ⊎ (obligation_to other b.view ≡ obligation_to other a.view)
+    by_actor (inl same) = inl (subst (λ n. IsDischargedOrOwed n b) (sym same) discharged)
+    by_actor (inr apart) = inr (m.others other apart)
+
+-- and each claim that it got is of an actor that was due, and none was lost
 pub further-moves : {H : Type 0} (id : ℕ) (a b : Caller H) → Moves id a.view b.view → OwesForRefusals a.account b.account → IsDischargedOrOwed id b →
-    CallerAdvances a b
-further-moves id a b m account discharged = record {
+    LosesNoClaim a.account b.account a.view b.view → GotDue a.view b.view → CallerAdvances a b
+further-moves id a b m account discharged claims got_due = record {
   more = m.more;
   took_none = m.took_none;
   sends_open = m.sends_open;
   log = m.log;
   account = account;
-  obligations = λ other. by_actor other (same_or_other other id);
+  obligations = moves-obligations id a b m discharged;
   share = m.share;
   gives_back = m.gives_back;
+  claims = claims;
+  got_due = got_due;
 }
-  where
-    by_actor : (other : ℕ) → (other ≡ id) ⊎ (other ≢ id) → IsDischargedOrOwed other b ⊎ (obligation_to other b.view ≡ obligation_to other a.view)
-    by_actor other (inl same) = inl (subst (λ n. IsDischargedOrOwed n b) (sym same) discharged)
-    by_actor other (inr apart) = inr (m.others other apart)

@@ -9,8 +9,9 @@ use Rattle.mb_gate.specs.Rule.{IsAmong, IsPart}
 use Rattle.mb_gate.specs.View.{View, Observation, Read, Saw, Counted, Looked, Sent, Unsent, Took, Pushed, Drained, Ended, obligation_to}
 use Rattle.mb_register.specs.declared.registrar.Registrar.{Registrar}
 use Rattle.mb_gate.specs.Untouched.{Origin, origin_of}
+use Rattle.mb_register.specs.Due.{GotDue}
 use Rattle.mb_register.specs.Owed.{is_owed}
-use Rattle.mb_register.specs.Registering.{QueueAccount}
+use Rattle.mb_register.specs.Registering.{QueueAccount, LosesNoClaim}
 use Rattle.mb_register.specs.Sending.{SendsOpen}
 use Rattle.mb_register.specs.Views.{GivesBackUnchanged}
 
@@ -65,7 +66,7 @@ module _ {H : Type 0} where
   IsDischargedOrOwed id caller = (obligation_to id caller.view ≡ nothing) ⊎ (is_owed caller.account.owed id ≡ true)
 
   -- It saw more, took no envelope, sent only to actors that it read as open, kept its share, and gave each cell back as it was taken. To each actor it
-  -- owes nothing, or the actor is in its set, or it owes what it did before.
+  -- owes nothing, or the actor is in its set, or it owes what it did before. Each claim that it got is of an actor that was due, and none was lost.
   pub record CallerAdvances (old new : Caller H) : Type 0 where
     pub more : List Observation
     pub took_none : Each TakesNothing more
@@ -75,6 +76,8 @@ module _ {H : Type 0} where
     pub obligations : (id : ℕ) → IsDischargedOrOwed id new ⊎ (obligation_to id new.view ≡ obligation_to id old.view)
     pub share : new.view.share ≡ old.view.share
     pub gives_back : GivesBackUnchanged old.view new.view
+    pub claims : LosesNoClaim old.account new.account old.view new.view
+    pub got_due : GotDue old.view new.view
 
   -- It still knows all that it knew, and kept its share. To each actor it owes nothing, or the actor is in its set, or it owes what it did before.
   pub record LeavesCaller (old new : Caller H) : Type 0 where

@@ -1,5 +1,5 @@
 //! The status word and its transitions (`akka.dispatch.Mailbox`).
-ghost use Rattle.std.specs.Prelude.{◌≡◌, ◌↔◌, ◌<◌, ◌≤◌, not, IsTrue, IsSome, IfSome};
+ghost use Rattle.std.specs.Prelude.{◌≡◌, ◌↔◌, ◌<◌, ◌≤◌, true, not, IsTrue, IsSome, IfSome};
 ghost use Rattle.mb_status.specs.Mailbox.{word_of, mailbox_of, is_valid, is_possible, most_suspensions, suspended, fresh, should_process, with_scheduled, idle, suspend, resume, closed_mailbox, can_schedule};
 
 use std::marker::Model;
@@ -58,6 +58,16 @@ impl Status {
         } else {
             None
         }
+    }
+
+    /// The status of a word that is known to be a mailbox's, as one that was read from it: nothing is tested (this project's
+    /// own profile).
+    pub fn from_word(word: u64) -> Status
+        requires valid { is_valid word ≡ true }
+        ensures value { result ≡ mailbox_of word }
+        ensures same_word { word_of result ≡ word }
+    {
+        Status { word }
     }
 
     /// The status of a mailbox whose actor is not started yet: neither closed nor scheduled, and suspended once, so

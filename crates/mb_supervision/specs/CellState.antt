@@ -36,7 +36,7 @@ pub record HasRoom (b : Inside) : Type 0 where
   pub retries : vec_len b.retries + (vec_len b.children + 1) ≤ vec_capacity b.retries
   pub acts : most_acts (vec_len b.children) (vec_len b.watchers) (vec_len b.watching) b.fanout ≤ b.acts.room
 
--- a state that is ready has room, and so has one whose last message used none of it
+-- a state that is ready has room, and so has one whose last message left enough of it
 pub record IsCellState (b : Inside) : Type 0 where
   pub room : b.ready ≡ true → HasRoom b
   pub left : b.unused ≡ true → HasRoom b

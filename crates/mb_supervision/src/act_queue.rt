@@ -96,11 +96,18 @@ impl ActQueue {
         }
     }
 
+    /// How many more acts there is room for.
+    pub(crate) fn room(&self) -> usize
+        ensures { result ≡ self.now.room }
+    {
+        self.room
+    }
+
     /// Takes out the earliest act; `None` if none is left.
     pub(crate) fn pop(&mut self) -> Option<Act>
         ensures taken { self.old.acts ≡ map act_of (option_to_list result) ++ self.new.acts }
         ensures none { IfNone result (self.old.acts ≡ []) }
-        ensures room { self.new.room ≡ self.old.room }
+        ensures room { self.old.room ≤ self.new.room }
     {
         let task = *self.tasks.get(self.next)?;
         self.next += 1;
@@ -109,7 +116,10 @@ impl ActQueue {
             self.next = 0;
         }
         let act = match task {
-            Task::Tell(to, body) => Act::Tell(to, body),
+            Task::Tell(to, body) => {
+                self.reclaim();
+                Act::Tell(to, body)
+            }
             Task::Sys(to, message) => {
                 let mut node = self.nodes.pop().unwrap();
                 node.set(message);
@@ -120,6 +130,16 @@ impl ActQueue {
             Task::CloseSelf => Act::CloseSelf,
         };
         Some(act)
+    }
+
+    /// Where no act is left, the places of those that were taken out are room again.
+    fn reclaim(&mut self)
+        ensures same { self.new.acts ≡ self.old.acts }
+        ensures room { self.old.room ≤ self.new.room }
+    {
+        if self.tasks.is_empty() {
+            self.room = self.tasks.capacity().min(self.nodes.len());
+        }
     }
 }
 

@@ -3,6 +3,7 @@ ghost use Rattle.std.specs.Prelude.{◌≡◌, ◌+◌, ◌<◌, ◌≤◌, ◌^
 ghost use Rattle.mb_actor.specs.ActorList.{has as holds};
 ghost use Rattle.mb_journal.specs.Life.{is_empty, is_alone};
 ghost use Rattle.mb_supervision.specs.ActQueue.{act_of};
+ghost use Rattle.mb_supervision.specs.CellState.{most_acts};
 
 pub(crate) mod aside;
 mod create;
@@ -43,7 +44,7 @@ pub struct CellState {
     acts: ActQueue,
     fanout: usize,
     ready: bool,
-    /// Whether the room for a message is still there, since the last message used none of it.
+    /// Whether the room for a message is still there, since the last message left enough of it.
     unused: bool,
 }
 
@@ -140,9 +141,13 @@ impl CellState {
         self.due.reserve(1)?;
         self.aside.reserve(1)?;
         self.retries.reserve(self.children.len() + 1)?;
-        self.acts.make_room(
-            2 * self.children.len() + self.watchers.len() + self.watching.len() + self.fanout + 40,
-        )?;
+        let most = most_acts(
+            self.children.len(),
+            self.watchers.len(),
+            self.watching.len(),
+            self.fanout,
+        );
+        self.acts.make_room(most + EFFECTS)?;
         self.ready = true;
         Ok(())
     }
@@ -221,4 +226,13 @@ impl CellState {
     {
         has(&self.due, id)
     }
+}
+
+/// How many acts one message can have, of an actor with so many in its lists.
+#[inline(always)]
+pub(crate) fn most_acts(children: usize, watchers: usize, watching: usize, fanout: usize) -> usize
+    requires { most_acts children watchers watching fanout < 2 ^ 64 }
+    ensures { result ≡ most_acts children watchers watching fanout }
+{
+    2 * children + watchers + watching + fanout + 40
 }

@@ -4,7 +4,7 @@ use Rattle.std.specs.Prelude.{IfNone}
 use Rattle.std.proofs.lemmas.List.{append-nil}
 use Rattle.mb_register.specs.Caller.{Caller, IsDischargedOrOwed, LeavesCaller}
 use Rattle.mb_register.proofs.CallerLemmas.{account-none, account-then, account-registered}
-use Rattle.mb_register.proofs.MoveLemmas.{further-moves, moves-does}
+use Rattle.mb_register.proofs.MoveLemmas.{moves-does, moves-obligations}
 use Rattle.mb_ghost.proofs.SeenLemmas.{each_append, each_weaker}
 use Rattle.mb_gate.specs.View.{Observation, View, obligation_to}
 use Rattle.mb_register.specs.Views.{IsLook, LooksAfter, LooksAmong}
@@ -19,12 +19,11 @@ pub leaves-registered : {H : Type 0} (id : ℕ) (a b : Caller H) (registered : B
     → IsDischargedOrOwed id b → LeavesCaller a b
 leaves-registered id a b registered looks w discharged =
     let moves = moves-does id [] [] a.view b.view tt tt looks in
-    let g = further-moves id a b moves (account-registered id a.account b.account registered w) discharged in
     record {
-      log = record { before = g.more; after = []; joined = g.log ∙ ap (λ l. g.more ++ l) (sym (append-nil a.view.log)) };
-      account = g.account;
-      obligations = g.obligations;
-      share = g.share;
+      log = record { before = moves.more; after = []; joined = moves.log ∙ ap (λ l. moves.more ++ l) (sym (append-nil a.view.log)) };
+      account = account-registered id a.account b.account registered w;
+      obligations = moves-obligations id a b moves discharged;
+      share = moves.share;
     }
 
 -- nothing was done, or one thing after another

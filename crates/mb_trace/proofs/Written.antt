@@ -1,6 +1,6 @@
 -- Bytes that one call after another wrote.
 use Rattle.std.proofs.Common.{◌≡◌, ℕ, ◌+◌, ◌<◌, ◌≤◌, min, drop, get_or, List, [], ◌∷◌, ◌++◌, length, take, Some, None, ap, sym, subst, ◌∙◌, append_assoc, arith}
-use Rattle.std.specs.Prelude.{Option, Result, Ok, Err, IsErrAnd}
+use Rattle.std.specs.Prelude.{Option, Result, Ok, Err, IfSome, IsErrAnd}
 use Rattle.std.proofs.lemmas.Result.{err_from_is_err_and}
 use Rattle.std.proofs.Math.Seq.{take-append-add}
 use Rattle.std.specs.List.{flat_map}
@@ -103,6 +103,24 @@ pub err-written : {T E : Type 0} (Q : E → Type 0) (a b : Option (List ℕ)) (r
     → IsWritten a b r t
 err-written Q a b r t failed cut =
     let p = err_from_is_err_and {Q = Q} r failed in rw p.1 cut
+
+-- a value's text is written
+pub shown-all : (o a b : Option (List ℕ)) (s t : List ℕ) → s ≡ t → IfSome o (λ (text : List ℕ). t ≡ text) → Appends a b s
+    → IfSome o (λ (text : List ℕ). Appends a b text)
+shown-all None a b s t same shown is = tt
+shown-all (Some text) a b s t same shown is = appends-same a b s text (same ∙ shown) is
+
+-- a beginning of it is, where a call failed
+pub shown-begun : {T E : Type 0} (Q : E → Type 0) (o a b : Option (List ℕ)) (r : Result T E) → IsErrAnd r Q → (s t : List ℕ) → s ≡ t
+    → IfSome o (λ (text : List ℕ). t ≡ text) → AppendsBeginning a b s → IfSome o (λ (text : List ℕ). IsWritten a b r text)
+shown-begun Q None a b r failed s t same shown cut = tt
+shown-begun Q (Some text) a b r failed s t same shown cut = err-written Q a b r text failed (begins-same a b s text (same ∙ shown) cut)
+
+-- nothing of it is, where an earlier call failed
+pub shown-none : {T E : Type 0} (Q : E → Type 0) (o a : Option (List ℕ)) (r : Result T E) → IsErrAnd r Q
+    → IfSome o (λ (text : List ℕ). IsWritten a a r text)
+shown-none Q None a r failed = tt
+shown-none Q (Some text) a r failed = err-written Q a a r text failed (begins-none a text)
 
 -- ---- the lines of a list, one piece after another
 

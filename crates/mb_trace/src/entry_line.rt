@@ -1,8 +1,9 @@
 //! The lines of an entry: what came, from whom, what became of it, how the actor stands after it, and the effects.
-ghost use Rattle.std.specs.Prelude.{Some, map, string_bytes};
+ghost use Rattle.std.specs.Prelude.{◌++◌, Some, codes, map, string_bytes};
 ghost use Rattle.std.specs.Fmt.{WritesOnOk};
 ghost use Rattle.mb_journal.specs.JournalView.{entry_of};
-ghost use Rattle.mb_trace.specs.Entries.{arrival_text, entry_text, outcome_text};
+ghost use Rattle.mb_trace.specs.Entries.{arrival_text, entry_text, numbered_text, outcome_text};
+ghost use Rattle.mb_trace.specs.Words.{envelope_text, system_text};
 
 use crate::effect_lines::EffectLines;
 use crate::entry_kind::effects_of;
@@ -50,28 +51,57 @@ fn write_arrival<W: fmt::Write>(
             answer,
             envelope,
             ..
-        } => {
-            let words = EnvelopeWords { names, envelope };
-            write!(f, "{words}: {}", Outcome { answer })
-        }
+        } => write_handled(f, EnvelopeWords { names, envelope }, answer),
         Received::System {
             answer,
             number,
             message,
-        } => {
-            let words = SystemWords { names, message };
-            write!(f, "system #{number} {words}: {}", Outcome { answer })
-        }
+        } => write_applied(f, number, SystemWords { names, message }, answer),
         Received::SetAside { number, message } => {
-            let words = SystemWords { names, message };
-            write!(f, "system #{number} {words}")?;
-            f.write_str(": set aside")
+            write_set_aside(f, number, SystemWords { names, message })
         }
         Received::Dropped { envelope } => {
             let words = EnvelopeWords { names, envelope };
             write!(f, "{words}: dropped")
         }
     }
+}
+
+/// An envelope that was given to its receiver, and what that answered.
+fn write_handled<W: fmt::Write>(
+    f: &mut fmt::Formatter<W>,
+    words: EnvelopeWords<'_>,
+    answer: Option<Answer>,
+) -> fmt::Result
+    ensures { WritesOnOk W.write_str_gives f.old result
+        (envelope_text (map string_bytes words.entry.names.now) words.entry.envelope ++ codes ": " ++ outcome_text answer) f.new }
+{
+    write!(f, "{words}: {}", Outcome { answer })
+}
+
+/// A system message that was applied, and what its receiver answered.
+fn write_applied<W: fmt::Write>(
+    f: &mut fmt::Formatter<W>,
+    number: u64,
+    words: SystemWords<'_>,
+    answer: Option<Answer>,
+) -> fmt::Result
+    ensures { WritesOnOk W.write_str_gives f.old result
+        (numbered_text (map string_bytes words.entry.names.now) number (system_text (map string_bytes words.entry.names.now) words.entry.message) ++ codes ": " ++ outcome_text answer) f.new }
+{
+    write!(f, "system #{number} {words}: {}", Outcome { answer })
+}
+
+/// A system message that was set aside.
+fn write_set_aside<W: fmt::Write>(
+    f: &mut fmt::Formatter<W>,
+    number: u64,
+    words: SystemWords<'_>,
+) -> fmt::Result
+    ensures { WritesOnOk W.write_str_gives f.old result
+        (numbered_text (map string_bytes words.entry.names.now) number (system_text (map string_bytes words.entry.names.now) words.entry.message) ++ codes ": set aside") f.new }
+{
+    write!(f, "system #{number} {words}: set aside")
 }
 
 /// What an actor answered, as it is printed: `handled` also where it was not called.

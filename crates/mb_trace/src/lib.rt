@@ -28,6 +28,7 @@ mod step;
 mod steps;
 mod suspensions;
 mod text;
+mod title_line;
 mod trace;
 mod words;
 

@@ -1,11 +1,27 @@
 //! Writing bytes so that it is known what was written where writing fails.
-ghost use Rattle.std.specs.Prelude.{◌≡◌};
+ghost use Rattle.std.specs.Prelude.{◌≡◌, IfSome};
 ghost use Rattle.std.specs.Io.{WritesAtMost};
 ghost use Rattle.std.specs.Io.KnownBytes.{WriteAppends};
 ghost use Rattle.mb_trace.specs.Output.{IsWritten};
 
+use crate::error::TraceError;
+use std::alloc::Global;
+use std::fmt::Display;
 use std::io;
 use std::io::{ErrorKind, Write};
+
+/// Writes the text of a line, or of lines. The errors: memory was refused, or writing failed after a beginning of the text.
+pub(crate) fn write_lines<L: Display, W: Write>(
+    alloc: Global,
+    lines: &L,
+    out: &mut W,
+) -> Result<(), TraceError>
+    ensures { IfSome (L.output lines.now) (λ text. IsWritten (W.contents out.old) (W.contents out.new) result text) }
+{
+    let text = lines.to_string(alloc)?;
+    write_whole(out, text.as_bytes())?;
+    Ok(())
+}
 
 /// Writes all the bytes. A call that was interrupted is made again. At another error it stops: a beginning of the bytes was written then.
 pub fn write_whole<W: Write>(out: &mut W, bytes: &[u8]) -> io::Result<()>

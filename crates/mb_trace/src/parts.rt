@@ -9,11 +9,11 @@ ghost use Rattle.mb_trace.specs.Whole.{names_in, turns_text};
 use crate::entry_line::EntryLines;
 use crate::error::TraceError;
 use crate::filter::Filter;
-use crate::output::write_whole;
+use crate::output::write_lines;
 use crate::step::TraceStep;
 use crate::steps::TraceSteps;
+use crate::title_line::TitleLine;
 use crate::trace::{Trace, TurnLength};
-use crate::words::name_of;
 use mb_msg::ActorId;
 use mb_report::ActorReport;
 use std::alloc::Global;
@@ -144,9 +144,12 @@ pub(crate) fn write_title<W: Write>(
 ) -> Result<(), TraceError>
     ensures { IsWritten (W.contents out.old) (W.contents out.new) result (title_text (map string_bytes names.now) title.now actor.0) }
 {
-    let line = format!(in alloc; "{title} {}\n", name_of(names, actor))?;
-    write_whole(out, line.as_bytes())?;
-    Ok(())
+    let line = TitleLine {
+        names,
+        title,
+        actor,
+    };
+    write_lines(alloc, &line, out)
 }
 
 /// Writes the lines of an entry.
@@ -164,7 +167,5 @@ pub(crate) fn write_entry<W: Write>(
         before: step.before,
         after: step.after,
     };
-    let text = lines.to_string(alloc)?;
-    write_whole(out, text.as_bytes())?;
-    Ok(())
+    write_lines(alloc, &lines, out)
 }

@@ -10,7 +10,7 @@ ghost use Rattle.mb_trace.specs.Rest.{all_aside_text, cleaned_text, envelopes_te
 use crate::end_lines::{AsideLine, LeftLine, LetterLine};
 use crate::error::TraceError;
 use crate::filter::{EntryKinds, Filter};
-use crate::output::write_whole;
+use crate::output::write_lines;
 use mb_msg::{ActorId, Envelope, SysMsg, Why};
 use mb_report::{ActorReport, Report, SenderReport};
 use std::alloc::Global;
@@ -189,9 +189,7 @@ fn write_letter<W: Write>(
         envelope,
         why,
     };
-    let text = line.to_string(alloc)?;
-    write_whole(out, text.as_bytes())?;
-    Ok(())
+    write_lines(alloc, &line, out)
 }
 
 /// Writes an envelope that is left, where its receiver is shown.
@@ -209,9 +207,7 @@ fn write_queued<W: Write>(
         return Ok(());
     }
     let line = LeftLine { names, envelope };
-    let text = line.to_string(alloc)?;
-    write_whole(out, text.as_bytes())?;
-    Ok(())
+    write_lines(alloc, &line, out)
 }
 
 /// Writes the system messages that are set aside at these actors, if they are shown.
@@ -302,7 +298,5 @@ fn write_message<W: Write>(
         number,
         message,
     };
-    let text = line.to_string(alloc)?;
-    write_whole(out, text.as_bytes())?;
-    Ok(())
+    write_lines(alloc, &line, out)
 }

@@ -1,10 +1,10 @@
 //! The state of a scripted actor after a message.
-ghost use Rattle.std.specs.Prelude.{◌≡◌, ◌++◌, [], List, map};
+ghost use Rattle.std.specs.Prelude.{◌≡◌, ◌++◌, [], List, map, option_map};
 ghost use Rattle.mb_actor.specs.declared.message.Message.{Message};
 ghost use Rattle.mb_journal.specs.Incarnation.{body_messages, entry_messages};
 ghost use Rattle.mb_journal.specs.JournalView.{entry_of};
 ghost use Rattle.mb_script.specs.Operations.{after_operation, grown};
-ghost use Rattle.mb_script.specs.Script.{after_of, after_work, row_data, work_of_kind};
+ghost use Rattle.mb_script.specs.Script.{after_of, after_work, row_data, row_for, work_of_kind};
 ghost use Rattle.mb_trace.specs.Lives.{script_read};
 ghost use Rattle.mb_trace.specs.Steps.{state_after};
 
@@ -64,12 +64,22 @@ fn after_body(rows: &[Row], body: Body, state: i64) -> i64
 fn state_after_kind(rows: &[Row], kind: u32, value: i64, state: i64) -> i64
     ensures { result ≡ after_work state (work_of_kind (map row_data rows.now) kind value) }
 {
+    match row_of_kind(rows, kind) {
+        Some(row) => added(&row.operations, value, state),
+        None => state,
+    }
+}
+
+/// The first row of this kind.
+fn row_of_kind(rows: &[Row], kind: u32) -> Option<&Row>
+    ensures { option_map (λ row. row_data row.now) result ≡ row_for kind (map row_data rows.now) }
+{
     for row in rows {
         if row.kind == kind {
-            return added(&row.operations, value, state);
+            return Some(row);
         }
     }
-    state
+    None
 }
 
 /// The state after the operations before the first that fails.

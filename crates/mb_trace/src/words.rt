@@ -1,5 +1,5 @@
 //! Messages, causes and effects in the words of a scenario.
-ghost use Rattle.std.specs.Prelude.{◌≡◌, Some, map, string_bytes};
+ghost use Rattle.std.specs.Prelude.{◌≡◌, ◌++◌, Some, codes, map, string_bytes};
 ghost use Rattle.std.specs.Fmt.{WritesOnOk};
 ghost use Rattle.mb_trace.specs.Words as spec;
 
@@ -35,13 +35,37 @@ impl fmt::Display for BodyWords<'_> {
 
     fn fmt<W: fmt::Write>(&self, f: &mut fmt::Formatter<W>) -> fmt::Result {
         match self.body {
-            Body::User { kind, value } => write!(f, "kind {kind} value {value}"),
-            Body::Control { kind, value } => write!(f, "control kind {kind} value {value}"),
+            Body::User { kind, value } => write_kind(f, "", kind, value),
+            Body::Control { kind, value } => write_kind(f, "control ", kind, value),
             Body::PoisonPill => f.write_str("poison"),
             Body::Kill => f.write_str("kill"),
-            Body::Terminated(id) => write!(f, "terminated {}", name_of(self.names, id)),
+            Body::Terminated(id) => write_of(f, "terminated ", self.names, id),
         }
     }
+}
+
+/// Words, and a kind and a value.
+fn write_kind<W: fmt::Write>(
+    f: &mut fmt::Formatter<W>,
+    words: &str,
+    kind: u32,
+    value: i64,
+) -> fmt::Result
+    ensures { WritesOnOk W.write_str_gives f.old result (words.now ++ spec.kind_text kind value) f.new }
+{
+    write!(f, "{words}kind {kind} value {value}")
+}
+
+/// Words, and the name of an actor.
+fn write_of<W: fmt::Write>(
+    f: &mut fmt::Formatter<W>,
+    words: &str,
+    names: &[String],
+    id: ActorId,
+) -> fmt::Result
+    ensures { WritesOnOk W.write_str_gives f.old result (words.now ++ spec.name_of (map string_bytes names.now) id.0) f.new }
+{
+    write!(f, "{words}{}", name_of(names, id))
 }
 
 /// An envelope as it is printed: who sent it, its number, and its body, as `a #3 kind 1 value 5`. A sender outside the actors is
@@ -121,15 +145,26 @@ impl fmt::Display for SystemWords<'_> {
             SysMsg::Suspend => f.write_str("suspend"),
             SysMsg::Resume { of_failure } => f.write_str(resume_words(of_failure)),
             SysMsg::Terminate => f.write_str("terminate"),
-            SysMsg::Watch(id) => write!(f, "watch by {}", name_of(self.names, id)),
-            SysMsg::Unwatch(id) => write!(f, "unwatch by {}", name_of(self.names, id)),
-            SysMsg::Failed(id, cause) => {
-                let name = name_of(self.names, id);
-                write!(f, "failed {name} after {}", CauseWords { cause })
-            }
-            SysMsg::Died(id) => write!(f, "died {}", name_of(self.names, id)),
+            SysMsg::Watch(id) => write_of(f, "watch by ", self.names, id),
+            SysMsg::Unwatch(id) => write_of(f, "unwatch by ", self.names, id),
+            SysMsg::Failed(id, cause) => write_failed(f, self.names, id, cause),
+            SysMsg::Died(id) => write_of(f, "died ", self.names, id),
         }
     }
+}
+
+/// Which actor failed, and why.
+fn write_failed<W: fmt::Write>(
+    f: &mut fmt::Formatter<W>,
+    names: &[String],
+    id: ActorId,
+    cause: Cause,
+) -> fmt::Result
+    ensures { WritesOnOk W.write_str_gives f.old result
+        (codes "failed " ++ spec.name_of (map string_bytes names.now) id.0 ++ codes " after " ++ spec.cause_text cause) f.new }
+{
+    let name = name_of(names, id);
+    write!(f, "failed {name} after {}", CauseWords { cause })
 }
 
 /// The words for a Resume.
@@ -159,23 +194,28 @@ impl fmt::Display for EffectWords<'_> {
     fn fmt<W: fmt::Write>(&self, f: &mut fmt::Formatter<W>) -> fmt::Result {
         match self.effect {
             Effect::Tell { to, kind, value } => {
-                write!(
-                    f,
-                    "tell {} kind {kind} value {value}",
-                    name_of(self.names, to)
-                )
+                write_told(f, "tell ", name_of(self.names, to), kind, value)
             }
             Effect::Control { to, kind, value } => {
-                write!(
-                    f,
-                    "control {} kind {kind} value {value}",
-                    name_of(self.names, to)
-                )
+                write_told(f, "control ", name_of(self.names, to), kind, value)
             }
-            Effect::Watch(id) => write!(f, "watch {}", name_of(self.names, id)),
-            Effect::Unwatch(id) => write!(f, "unwatch {}", name_of(self.names, id)),
-            Effect::Stop(id) => write!(f, "stop {}", name_of(self.names, id)),
-            Effect::Spawn(id) => write!(f, "spawn {}", name_of(self.names, id)),
+            Effect::Watch(id) => write_of(f, "watch ", self.names, id),
+            Effect::Unwatch(id) => write_of(f, "unwatch ", self.names, id),
+            Effect::Stop(id) => write_of(f, "stop ", self.names, id),
+            Effect::Spawn(id) => write_of(f, "spawn ", self.names, id),
         }
     }
+}
+
+/// Words, a name, and a kind and a value.
+fn write_told<W: fmt::Write>(
+    f: &mut fmt::Formatter<W>,
+    words: &str,
+    name: &str,
+    kind: u32,
+    value: i64,
+) -> fmt::Result
+    ensures { WritesOnOk W.write_str_gives f.old result (words.now ++ name.now ++ codes " " ++ spec.kind_text kind value) f.new }
+{
+    write!(f, "{words}{name} kind {kind} value {value}")
 }

@@ -1,15 +1,18 @@
 //! The rules of envelopes (`ActorCell.invoke`, `autoReceiveMessage`).
-ghost use Rattle.std.specs.Prelude.{◌≡◌, ◌+◌, ◌≤◌, ◌<◌, ◌^◌, List, [], IsTrue, Some, None, length};
+ghost use Rattle.std.specs.Prelude.{◌≡◌, ◌+◌, ◌≤◌, ◌<◌, ◌^◌, ◌++◌, List, [], false, true, IsTrue, Some, None, length};
+ghost use Rattle.std.specs.List.{list_all};
 ghost use Rattle.mb_msg.specs.declared.id.ActorId.{ActorId};
 ghost use Rattle.mb_msg.specs.Limits.{most_effects};
+ghost use Rattle.mb_journal.specs.Acts.{stop_acts};
 ghost use Rattle.mb_journal.specs.Failure.{failure_of as cause_of};
+ghost use Rattle.mb_supervision.specs.Tells.{is_tell};
 ghost use Rattle.mb_supervision.specs.ActorIdentity.{identity_of};
 ghost use Rattle.mb_supervision.specs.Rows.{due_told, handled, poisoned, discard};
 
 use crate::act_queue::Task;
 use crate::actor_list::leave;
-use crate::cell_state::CellState;
-use crate::effects::carry_out;
+use crate::cell_state::{CellState, most_acts};
+use crate::effects::{carry_out, carry_out_last};
 use crate::fail::fail;
 use crate::identity::ActorIdentity;
 use mb_actor::{Answer, Effect};
@@ -32,12 +35,30 @@ impl CellState {
         requires within_limit { length effects.now ≤ most_effects }
         ensures { self.new ≡ handled (identity_of place.now 0) body answer effects.now self.old }
     {
-        if uses_nothing(body, answer, effects) {
-            self.ready = false;
-            self.unused = true;
+        if only_tells(body, answer, effects) {
+            self.tell_all(effects);
         } else {
             self.handle_all(place, body, answer, effects);
         }
+    }
+
+    /// The same, where each effect is a tell. What is left of the room serves the next message, if it is enough.
+    #[inline(always)]
+    fn tell_all(&mut self, effects: &[Effect])
+        requires ready { IsTrue self.old.is_ready }
+        requires within_limit { length effects.now ≤ most_effects }
+        ensures { self.new ≡ record self.old { acts = self.old.acts ++ stop_acts effects.now; is_ready = false } }
+    {
+        self.ready = false;
+        carry_out_last(effects, &mut self.acts);
+        self.unused = effects.is_empty()
+            || self.acts.room()
+                >= most_acts(
+                    self.children.len(),
+                    self.watchers.len(),
+                    self.watching.len(),
+                    self.fanout,
+                );
     }
 
     /// The same, where some of the room may be used.
@@ -101,17 +122,35 @@ impl CellState {
     }
 }
 
-/// Whether a message with this body, answer and effects changes nothing beside the journal and has no acts. Most
+/// Whether a message with this body, answer and effects changes nothing beside the journal but for what it tells. Most
 /// messages are such.
-fn uses_nothing(body: Body, answer: Option<Answer>, effects: &[Effect]) -> bool
+#[inline(always)]
+fn only_tells(body: Body, answer: Option<Answer>, effects: &[Effect]) -> bool
     ensures no_failure { IsTrue result → cause_of body answer ≡ None }
     ensures same_due { IsTrue result → (list : List ActorId) → due_told body list ≡ list }
-    ensures no_effects { IsTrue result → effects.now ≡ [] }
+    ensures tells { IsTrue result → list_all is_tell effects.now ≡ true }
 {
-    match (body, answer, effects) {
-        (Body::User { .. } | Body::Control { .. }, Some(Answer::Handled | Answer::Unhandled), []) =>
-            true,
+    match (body, answer) {
+        (Body::User { .. } | Body::Control { .. }, Some(Answer::Handled | Answer::Unhandled)) =>
+            are_tells(effects),
         _ => false,
+    }
+}
+
+/// Whether each of these effects is a tell, of a control message too.
+#[inline(always)]
+fn are_tells(effects: &[Effect]) -> bool
+    ensures { result ≡ list_all is_tell effects.now }
+{
+    effects.iter().all(|effect| is_tell(*effect))
+}
+
+fn is_tell(effect: Effect) -> bool
+    ensures { result ≡ is_tell effect }
+{
+    match effect {
+        Effect::Tell { .. } | Effect::Control { .. } => true,
+        Effect::Watch(_) | Effect::Unwatch(_) | Effect::Stop(_) | Effect::Spawn(_) => false,
     }
 }
 

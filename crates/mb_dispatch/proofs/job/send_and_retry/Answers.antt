@@ -1,15 +1,14 @@
 use Rattle.std.proofs.lemmas.Result.{on_ok_weaker, err_from_is_err_and}
 use Rattle.mb_gate.specs.Accessors.{actors_of}
 use Rattle.std.proofs.Common.{◌≡◌, ◌⊎◌, ◌∙◌, Bool, false, inl, inr, subst, sym, true}
-use Rattle.std.specs.Prelude.{Err, IfErr, IsErrOf, Ok, OnErr, Result}
+use Rattle.std.specs.Prelude.{IfErr}
 use Rattle.mb_system.specs.Members.{sender_caller}
 use Rattle.mb_dispatch.specs.Orders.{HasSent}
 use Rattle.mb_system.specs.Obligations.{OwesNobody}
 use Rattle.mb_system.proofs.Obligations.{obligations-then}
+use Rattle.mb_dispatch.proofs.Breaking.{job-owes}
 use Rattle.mb_dispatch.proofs.Sending.{sent-still}
-use Rattle.mb_system.specs.declared.failure.RunError.{RunError}
-use Rattle.mb_system.specs.declared.failure.RunError.TheVariants.{NoMemory}
-use Rattle.mb_dispatch.specs.Faults.{BreaksSending}
+use Rattle.mb_dispatch.specs.Faults.{BreaksJob}
 use Rattle.mb_dispatch.proofs.Sides.{on_err, on_ok}
 use Rattle.mb_dispatch.proofs.job.send_and_retry.Goals as goal
 
@@ -42,20 +41,17 @@ returns-in_err-send_all-clause-same_gates g c = c.send_all.ensures.same_gates
 pub returns-in_err-send_all-clause-same_sender : goal.returns-in_err-send_all-clause-same_sender
 returns-in_err-send_all-clause-same_sender g c = c.send_all.ensures.same_sender
 
--- memory alone was refused
-of-memory : {T : Type 0} (r : Result T RunError) (P : RunError → Type 0) → P NoMemory → OnErr r (IsErrOf r NoMemory) → IfErr r P
-of-memory (Ok x) P p refused = tt
-of-memory {T} (Err e) P p refused = subst (λ (q : Result T RunError). IfErr q P) (sym refused) p
-
 pub returns-clause-fault : goal.returns-clause-fault
 returns-clause-fault g c =
-    of-memory c.retry_refused.result (BreaksSending c.args.system.now.gates c.args.orders.now) tt c.retry_refused.ensures.refused
+    let did = c.retry_refused.ensures in let orders = c.args.orders.now in let old = c.args.sender.now in let new = c.retry_refused.new.self in
+    job-owes c.args.system.now.gates orders old new _ (sender_caller c.send_all.new.sender.inner.registrar).account c.retry_refused.result did.stops did.refused
+    (sent-still orders old c.send_all.new.sender new did.same.1 did.looks c.in_ok-send_all.ensures.sent)
 
 pub returns-in_err-send_all-clause-fault : goal.returns-in_err-send_all-clause-fault
 returns-in_err-send_all-clause-fault g c =
-    let breaks = BreaksSending c.args.system.now.gates c.args.orders.now in
+    let breaks = BreaksJob c.args.system.now.gates c.args.orders.now c.args.sender.now c.send_all.new.sender in
     let p = err_from_is_err_and c.from_residual.result c.from_residual.ensures.1 in
-    subst (λ r. IfErr r breaks) (sym p.1) (subst breaks (sym p.2) c.in_err-send_all.ensures.fault)
+    subst (λ r. IfErr r breaks) (sym p.1) (subst breaks (sym p.2) (inl c.in_err-send_all.ensures.reason))
 
 pub returns-clause-stopped : goal.returns-clause-stopped
 returns-clause-stopped g c =

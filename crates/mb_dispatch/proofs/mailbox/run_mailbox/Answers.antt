@@ -16,6 +16,9 @@ returns-clause-same_gates g c = c.run_mailbox.ensures.same_gates
 pub returns-clause-leaves : goal.returns-clause-leaves
 returns-clause-leaves g c = c.run_mailbox.ensures.caller_advances
 
+pub returns-clause-claims : goal.returns-clause-claims
+returns-clause-claims g c = c.run_mailbox.ensures.claims
+
 pub returns-clause-discharged : goal.returns-clause-discharged
 returns-clause-discharged g c = c.run_mailbox.ensures.discharged
 

@@ -1,6 +1,6 @@
 use Rattle.std.proofs.Common.{refl, subst, sym, ◌∙◌}
 use Rattle.std.specs.Prelude.{IfErr}
-use Rattle.std.proofs.lemmas.List.{take_more}
+use Rattle.std.proofs.lemmas.List.{take_all, take_more}
 use Rattle.std.proofs.lemmas.List.Elements.{Contains-get_or}
 use Rattle.std.proofs.lemmas.Result.{err_from_is_err_and}
 use Rattle.mb_gate.specs.Accessors.{actors_of}
@@ -86,3 +86,7 @@ returns-in_err-send_often-clause-stopped g c =
     on_err c.from_residual.result
     (stops-within c.args.orders.now at.order-index _ c.args.sender.now at.sender c.send_often.new.sender c.loop-order-test.true at.invariant.1
     c.in_err-send_often.ensures.stopped)
+
+pub returns-clause-sent : goal.returns-clause-sent
+returns-clause-sent g c =
+    subst (λ xs. HasSent xs c.args.sender.now c.loop-order.sender) (take_all _ _ c.loop-order-test.false) c.loop-order.invariant.1

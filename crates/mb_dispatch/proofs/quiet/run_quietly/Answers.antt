@@ -1,6 +1,7 @@
-use Rattle.std.proofs.Common.{List, [], ◌∷◌, ◌++◌, ◌∙◌, ap, refl, subst, sym, inl, inr}
+use Rattle.std.proofs.Common.{arith, List, [], ◌∷◌, ◌++◌, ◌∙◌, ap, refl, subst, sym, inl, inr}
 use Rattle.std.specs.Prelude.{IfErr}
 use Rattle.std.proofs.lemmas.Result.{IfOk-from_err}
+use Rattle.std.proofs.lemmas.Grind.{common_steps}
 use Rattle.mb_gate.specs.Accessors.{actors_of, pass_view, pass_id}
 use Rattle.mb_gate.specs.Rule.{IsPart}
 use Rattle.std.specs.Global.{Box}
@@ -235,3 +236,12 @@ returns-in_err-run_mailbox-in-Some-take-clause-empty g c = IfOk-from_err c.from_
 pub returns-in_err-retry_refused-in-None-take-clause-empty : goal.returns-in_err-retry_refused-in-None-take-clause-empty
 returns-in_err-retry_refused-in-None-take-clause-empty g c =
     let left = c.from_residual-in_err-retry_refused-in-None-take in IfOk-from_err left.result _ left.ensures.0
+
+pub retry_refused-requires : goal.retry_refused-requires
+retry_refused-requires g c =
+    let same = c.take.ensures.same in let ours = c.loop.invariant.0 in
+    record { same_gates = (ap pass_id same.0 ∙ ours.0, same.2 ∙ ours.1, ours.2) }
+
+pub push_reserved-requires : goal.push_reserved-requires
+push_reserved-requires g c =
+    let room = c.reserve.ensures.ok in let went = c.if-is_err.false in let is = c.is_err.ensures in grind (arith, common_steps)

@@ -1,11 +1,11 @@
-use Rattle.std.proofs.Common.{get_or, refl}
+use Rattle.std.proofs.Common.{arith, get_or, refl}
 use Rattle.mb_gate.specs.Accessors.{actors_of, pass_view}
 use Rattle.mb_system.specs.Members.{end_caller}
 use Rattle.mb_system.proofs.Obligations.{obligations-left, obligations-same}
 use Rattle.mb_system.proofs.Looking.{only-none}
 use Rattle.mb_system.proofs.Saw.{saw-same}
 use Rattle.mb_dispatch.proofs.Firsts.{first-discharged}
-use Rattle.mb_dispatch.proofs.Sides.{first_changed, zip_first}
+use Rattle.mb_dispatch.proofs.Sides.{first_changed, zip_first, zip_same}
 use Rattle.mb_dispatch.proofs.running.register_by_first.Goals as goal
 
 pub returns-in-len1-up-clause-ends : goal.returns-in-len1-up-clause-ends
@@ -30,3 +30,17 @@ returns-in-len1-up-clause-discharged g c =
 pub returns-in-len1-up-clause-looks : goal.returns-in-len1-up-clause-looks
 returns-in-len1-up-clause-looks g c =
     zip_first _ (λ x. only-none (pass_view x.registrar.pass)) c.args.ends.now c.index-ends-0.result c.register_all.new.self c.register_all.ensures.looks
+
+pub returns-in_default-clause-log_kept : goal.returns-in_default-clause-log_kept
+returns-in_default-clause-log_kept g c = zip_same _ (λ x. saw-same (pass_view x.registrar.pass).log) c.args.ends.now
+
+pub returns-in_default-clause-obligations : goal.returns-in_default-clause-obligations
+returns-in_default-clause-obligations g c =
+    zip_same _ (λ x. obligations-same (actors_of c.args.system.now.gates) (end_caller x.registrar) (end_caller x.registrar) refl refl) c.args.ends.now
+
+pub returns-in_default-clause-looks : goal.returns-in_default-clause-looks
+returns-in_default-clause-looks g c = zip_same _ (λ x. only-none (pass_view x.registrar.pass)) c.args.ends.now
+
+pub register_all-requires : goal.register_all-requires
+register_all-requires g c =
+    let one = c.in-len1-up.len_at_least in record { same_gates = c.requires 0 c.index-ends-0.result (omega (arith, one)) }

@@ -1,5 +1,8 @@
-use Rattle.std.proofs.Common.{ℕ, subst}
-use Rattle.mb_actor.specs.Behaviour.{Moment, Reply}
+use Rattle.std.proofs.Common.{subst}
+use Rattle.std.specs.Global.{Box}
+use Rattle.std.specs.Prelude.{Option}
+use Rattle.mb_gate.specs.Untouched.{Origin}
+use Rattle.mb_home.specs.Contents.{Contents}
 use Rattle.mb_home.specs.Fresh.{IsFreshClaim}
 use Rattle.mb_dispatch_tests.proofs.Kept.{took}
 use Rattle.mb_dispatch_tests.proofs.end_call.run_next.Goals as goal
@@ -9,7 +12,7 @@ run_mailbox-requires-clause-same_gates g c = took c.args.system.now.gates c.args
 
 pub run_mailbox-requires-clause-untouched : goal.run_mailbox-requires-clause-untouched
 run_mailbox-requires-clause-untouched g c =
-    subst (λ origin. IsFreshClaim (λ (n : ℕ) (m : Moment) (r : Reply). Unit {0}) origin c.in-Some.claim) c.requires.same_gates.1 c.in-Some.ensures.untouched
+    subst (λ (o : Option (Origin (Box Contents))). IsFreshClaim g.K.Behaviours.gives o c.in-Some.claim) c.requires.same_gates.1 c.in-Some.ensures.untouched
 
 pub returns-in-None : goal.returns-in-None
 returns-in-None g c = record { same_gates = took c.args.system.now.gates c.args.end.now c.take.new.self c.take.ensures.same c.requires.same_gates }

@@ -16,9 +16,11 @@ use Rattle.mb_register.specs.Views.{LooksAfter}
 use Rattle.mb_register.specs.Caller.{IsDischargedOrOwed, caller_of}
 use Rattle.mb_mailbox.specs.Emptied.{IsCleared}
 use Rattle.mb_mailbox.specs.RunState.{run_state}
-use Rattle.mb_mailbox.specs.Ran.{HasStopped, IsShortOfMemory}
+use Rattle.mb_mailbox.specs.Ran.{HasStopped, IsShortOfMemory, LosesNoClaimBut}
 use Rattle.mb_mailbox.proofs.AppliedLemmas.{same-fault}
 use Rattle.mb_register.proofs.CallerLemmas.{account-registered}
+use Rattle.mb_register.proofs.ClaimCounts.{loses-handed}
+use Rattle.mb_mailbox.proofs.ClaimLemmas.{loses-but, run-due}
 use Rattle.mb_mailbox.proofs.FinishLemmas.{home-own, home-longer, home-fold, home-told, home-rest, saw-journal, given-after, listed-after, steps-taken, leaves-caller, leaves-run}
 use Rattle.mb_mailbox.proofs.FinishLemmas.{each-before, ends-cleared, ends-empty, gives-back}
 use Rattle.mb_mailbox.proofs.FreshLemmas.{taken-fresh, log-fresh, taken-begun, running-fresh, backlog-fresh, run_counts-fresh}
@@ -134,6 +136,30 @@ returns-in-Err-clause-caller_advances g c =
     run.ensures.advances.caller_advances (account-registered c.actor-actor.result.0 _ _ c.register.result c.register.ensures.registered)
     (subst (λ n. IsDischargedOrOwed n (caller_of g.W.RunQueue.pushed g.W.RunQueue.refused c.register.new.self)) here c.register.ensures.discharged)
 
+pub returns-in-Ok-clause-claims : goal.returns-in-Ok-clause-claims
+returns-in-Ok-clause-claims g c =
+    let run = c.run_claim-outcome in
+    let last = run.new.claim in
+    let first = caller_of g.W.RunQueue.pushed g.W.RunQueue.refused c.args.registrar.now in
+    let then = caller_of g.W.RunQueue.pushed g.W.RunQueue.refused run.new.registrar in
+    let new = caller_of g.W.RunQueue.pushed g.W.RunQueue.refused c.register.new.self in
+    let registered = loses-handed c.actor-actor.result.0 _ _ _ _ c.register.result c.register.ensures.handed in
+    subst (λ n. LosesNoClaimBut n first new) run.ensures.advances.same.actor
+    (loses-but (held_actor last) last.home.value.cell.journal (claim_view last) (pass_view c.release.new.pass) first then
+    run.ensures.in_run.running.none_got c.release.ensures.known run.ensures.advances.caller_advances new run.ensures.in_run.running.none_returned registered)
+
+pub returns-in-Err-clause-claims : goal.returns-in-Err-clause-claims
+returns-in-Err-clause-claims g c =
+    let run = c.run_claim-outcome in
+    let last = run.new.claim in
+    let first = caller_of g.W.RunQueue.pushed g.W.RunQueue.refused c.args.registrar.now in
+    let then = caller_of g.W.RunQueue.pushed g.W.RunQueue.refused run.new.registrar in
+    let new = caller_of g.W.RunQueue.pushed g.W.RunQueue.refused c.register.new.self in
+    let registered = loses-handed c.actor-actor.result.0 _ _ _ _ c.register.result c.register.ensures.handed in
+    subst (λ n. LosesNoClaimBut n first new) run.ensures.advances.same.actor
+    (loses-but (held_actor last) last.home.value.cell.journal (claim_view last) (pass_view c.release.new.pass) first then
+    run.ensures.in_run.running.none_got c.release.ensures.known run.ensures.advances.caller_advances new run.ensures.in_run.running.none_returned registered)
+
 pub returns-in-Ok-clause-ran : goal.returns-in-Ok-clause-ran
 returns-in-Ok-clause-ran g c =
     let run = c.run_claim-outcome in
@@ -152,6 +178,10 @@ returns-in-Ok-clause-ran g c =
     run.ensures.in_run.running.owes_nothing c.release.ensures.known (pass_view c.register.new.self.pass) looks
     (caller_of g.W.RunQueue.pushed g.W.RunQueue.refused c.args.registrar.now) (caller_of g.W.RunQueue.pushed g.W.RunQueue.refused run.new.registrar)
     refl run.ensures.advances.caller_advances run.ensures.in_run.running.none_released in
+    let due = run-due (held_actor last) journal (claim_view last) (pass_view c.release.new.pass)
+    (caller_of g.W.RunQueue.pushed g.W.RunQueue.refused c.args.registrar.now) (caller_of g.W.RunQueue.pushed g.W.RunQueue.refused run.new.registrar)
+    run.ensures.in_run.running.none_got c.release.ensures.known run.ensures.advances.caller_advances c.actor-actor.result.0 _ _
+    (pass_view c.register.new.self.pass) c.register.result c.register.ensures.looks c.register.ensures.handed c.register.ensures.due in
     let goes_on = each-before (GoesOn (held_actor last) (taken_with last))
     (caller_of g.W.RunQueue.pushed g.W.RunQueue.refused c.args.registrar.now) (caller_of g.W.RunQueue.pushed g.W.RunQueue.refused run.new.registrar)
     run.ensures.advances.caller_advances c.release.ensures.goes_on in
@@ -185,7 +215,7 @@ returns-in-Ok-clause-ran g c =
         leaves-run c.args.throughput c.args.claim last (pass_view c.args.registrar.now.pass) (pass_view c.register.new.self.pass) turn ended.0
             taken run.ensures.advances.same
             run.ensures.in_run.run_counts run.ensures.within_limit ended.4 ended.2 ended.5 run.ensures.in_run.running.only_drained saw goes_on
-            (returns-in-Ok-clause-caller_advances g c).share gives part
+            (returns-in-Ok-clause-caller_advances g c).share gives part due
             (pass_view run.new.registrar.pass) run.ensures.advances.sends kept puts given c.requires.untouched.recorded told fresh at_first
             run.ensures.in_run.running.settled.taken run.ensures.in_run.running.settled.open_keeps empty,
       ),
@@ -209,6 +239,10 @@ returns-in-Err-clause-ran g c =
     run.ensures.in_run.running.owes_nothing c.release.ensures.known (pass_view c.register.new.self.pass) looks
     (caller_of g.W.RunQueue.pushed g.W.RunQueue.refused c.args.registrar.now) (caller_of g.W.RunQueue.pushed g.W.RunQueue.refused run.new.registrar)
     refl run.ensures.advances.caller_advances run.ensures.in_run.running.none_released in
+    let due = run-due (held_actor last) journal (claim_view last) (pass_view c.release.new.pass)
+    (caller_of g.W.RunQueue.pushed g.W.RunQueue.refused c.args.registrar.now) (caller_of g.W.RunQueue.pushed g.W.RunQueue.refused run.new.registrar)
+    run.ensures.in_run.running.none_got c.release.ensures.known run.ensures.advances.caller_advances c.actor-actor.result.0 _ _
+    (pass_view c.register.new.self.pass) c.register.result c.register.ensures.looks c.register.ensures.handed c.register.ensures.due in
     let goes_on = each-before (GoesOn (held_actor last) (taken_with last))
     (caller_of g.W.RunQueue.pushed g.W.RunQueue.refused c.args.registrar.now) (caller_of g.W.RunQueue.pushed g.W.RunQueue.refused run.new.registrar)
     run.ensures.advances.caller_advances c.release.ensures.goes_on in
@@ -230,7 +264,7 @@ returns-in-Err-clause-ran g c =
         leaves-run c.args.throughput c.args.claim last (pass_view c.args.registrar.now.pass) (pass_view c.register.new.self.pass) turn NoRoom
             taken run.ensures.advances.same
             run.ensures.in_run.run_counts run.ensures.within_limit tt tt tt run.ensures.in_run.running.only_drained saw goes_on
-            (returns-in-Err-clause-caller_advances g c).share gives part
+            (returns-in-Err-clause-caller_advances g c).share gives part due
             (pass_view run.new.registrar.pass) run.ensures.advances.sends kept puts given c.requires.untouched.recorded told fresh at_first
             run.ensures.in_run.running.settled.taken run.ensures.in_run.running.settled.open_keeps (λ ends. absurd ends),
         λ full. subst (λ (w : Identity). w.limit ≤ length journal) run.ensures.advances.same.who
@@ -256,6 +290,10 @@ returns-in-Err-clause-out_of_memory g c = λ short.
     run.ensures.in_run.running.owes_nothing c.release.ensures.known (pass_view c.register.new.self.pass) looks
     (caller_of g.W.RunQueue.pushed g.W.RunQueue.refused c.args.registrar.now) (caller_of g.W.RunQueue.pushed g.W.RunQueue.refused run.new.registrar)
     refl run.ensures.advances.caller_advances run.ensures.in_run.running.none_released in
+    let due = run-due (held_actor last) journal (claim_view last) (pass_view c.release.new.pass)
+    (caller_of g.W.RunQueue.pushed g.W.RunQueue.refused c.args.registrar.now) (caller_of g.W.RunQueue.pushed g.W.RunQueue.refused run.new.registrar)
+    run.ensures.in_run.running.none_got c.release.ensures.known run.ensures.advances.caller_advances c.actor-actor.result.0 _ _
+    (pass_view c.register.new.self.pass) c.register.result c.register.ensures.looks c.register.ensures.handed c.register.ensures.due in
     let goes_on = each-before (GoesOn (held_actor last) (taken_with last))
     (caller_of g.W.RunQueue.pushed g.W.RunQueue.refused c.args.registrar.now) (caller_of g.W.RunQueue.pushed g.W.RunQueue.refused run.new.registrar)
     run.ensures.advances.caller_advances c.release.ensures.goes_on in
@@ -276,7 +314,7 @@ returns-in-Err-clause-out_of_memory g c = λ short.
       leaves-run c.args.throughput c.args.claim last (pass_view c.args.registrar.now.pass) (pass_view c.register.new.self.pass) turn NoRoom
           taken run.ensures.advances.same
           run.ensures.in_run.run_counts run.ensures.within_limit tt tt tt run.ensures.in_run.running.only_drained saw goes_on
-          (returns-in-Err-clause-caller_advances g c).share gives part
+          (returns-in-Err-clause-caller_advances g c).share gives part due
           (pass_view run.new.registrar.pass) run.ensures.advances.sends kept puts given c.requires.untouched.recorded told fresh at_first
           run.ensures.in_run.running.settled.taken run.ensures.in_run.running.settled.open_keeps (λ ends. absurd ends),
       subst (λ (w : Identity). IsShortOfMemory w journal) run.ensures.advances.same.who

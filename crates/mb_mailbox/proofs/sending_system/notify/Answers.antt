@@ -6,6 +6,7 @@ use Rattle.mb_gate.specs.View.{View}
 use Rattle.mb_register.proofs.Views.{does-then, does-enlisting}
 use Rattle.mb_register.proofs.CallerLemmas.{account-registered}
 use Rattle.mb_register.proofs.MoveLemmas.{moves-does, further-moves}
+use Rattle.mb_mailbox.proofs.ClaimLemmas.{listed-claims, listed-due}
 use Rattle.mb_mailbox.proofs.SendSystemLemmas.{notified}
 use Rattle.mb_mailbox.proofs.RecordedLemmas.{alike-one, does-end-none, does-give-none, does-list, further-refused, refused-gives-none, refused-one, unrefused}
 use Rattle.mb_mailbox.specs.RunSends.{listed_by}
@@ -46,6 +47,9 @@ returns-clause-caller_advances g c =
     (moves-does id _ _ a d (tt, tt) tt
     (does-then id _ _ a b d (does-enlisting id c.in-Ok.field-0 c.set.new.self a b c.in-Ok.ensures.listed) c.register.ensures.looks))
     (account-registered id _ _ c.register.result c.register.ensures.registered) c.register.ensures.discharged
+    (listed-claims _ _ id c.in-Ok.field-0 c.set.new.self a b d c.register.result c.in-Ok.ensures.listed c.register.ensures.handed)
+    (listed-due _ _ id c.in-Ok.field-0 c.set.new.self a b d c.register.result c.in-Ok.ensures.listed c.register.ensures.handed c.register.ensures.looks
+    c.register.ensures.due)
 
 pub returns-in_default-clause-told : goal.returns-in_default-clause-told
 returns-in_default-clause-told g c =

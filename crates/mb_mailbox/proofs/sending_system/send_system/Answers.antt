@@ -14,7 +14,9 @@ use Rattle.mb_register.proofs.CallerLemmas.{account-registered, further-then}
 use Rattle.mb_mailbox.proofs.CleanLemmas.{status-answered}
 use Rattle.mb_mailbox.proofs.EmptiedLemmas.{cleared-same}
 use Rattle.mb_register.proofs.MoveLemmas.{moves-does, further-moves}
+use Rattle.mb_mailbox.proofs.ClaimLemmas.{listed-claims, listed-due}
 use Rattle.mb_mailbox.proofs.SendSystemLemmas.{running-caller_advances, running-sent_system, running-refused, keeps-recorded, keeps-answered, backlog-sent_system, backlog-answered}
+use Rattle.mb_mailbox.proofs.ClaimLemmas.{listed-claims, listed-due}
 use Rattle.mb_mailbox.proofs.SendSystemLemmas.{home-answered}
 use Rattle.mb_mailbox.proofs.RecordedLemmas.{
   alike-one,
@@ -69,6 +71,9 @@ returns-in-Ok-clause-caller_advances g c =
     (moves-does id _ _ a d (tt, tt) tt
     (does-then id _ _ a b d (does-enlisting id c.in-Ok.field-0 c.args.node a b c.in-Ok.ensures.listed) c.register.ensures.looks))
     (account-registered id _ _ c.register.result c.register.ensures.registered) c.register.ensures.discharged
+    (listed-claims _ _ id c.in-Ok.field-0 c.args.node a b d c.register.result c.in-Ok.ensures.listed c.register.ensures.handed)
+    (listed-due _ _ id c.in-Ok.field-0 c.args.node a b d c.register.result c.in-Ok.ensures.listed c.register.ensures.handed c.register.ensures.looks
+    c.register.ensures.due)
 
 pub returns-in-Ok-clause-running : goal.returns-in-Ok-clause-running
 returns-in-Ok-clause-running g c =

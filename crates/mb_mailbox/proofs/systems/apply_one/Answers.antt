@@ -209,3 +209,9 @@ returns-clause-stops g c = record {
   full = λ full. absurd (not-full _ c.carry_out.ensures.refused full);
   out_of_memory = λ short. inr (err-at c.carry_out.result NoMemory short c.carry_out.ensures.ended);
 }
+
+pub returns-clause-applied : goal.returns-clause-applied
+returns-clause-applied g c = ok-so c.carry_out.result (λ cleared. refl) c.carry_out.ensures.cleared
+
+pub returns-in_err-ready-clause-applied : goal.returns-in_err-ready-clause-applied
+returns-in_err-ready-clause-applied g c = ok-passed _ c.from_residual.result c.in_err-ready.field-0.0 c.from_residual.ensures.1

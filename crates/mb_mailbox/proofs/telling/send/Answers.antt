@@ -3,6 +3,7 @@ use Rattle.mb_status.specs.Mailbox.{word_of}
 use Rattle.mb_msg.specs.declared.dead_letter.Why.TheVariants.{Closed}
 use Rattle.mb_journal.specs.Acts.Act.{Tell}
 use Rattle.mb_gate.specs.Accessors.{pass_view}
+use Rattle.mb_gate.specs.View.{View}
 use Rattle.mb_home.specs.Contents.{Contents}
 use Rattle.mb_home.specs.AgreesWithJournal.{AgreesWithJournal}
 use Rattle.mb_home.specs.Steps.{Pushes, RecordsDeadLetter, reason_of}
@@ -119,3 +120,23 @@ pub returns-then-closed-clause-closed : goal.returns-then-closed-clause-closed
 returns-then-closed-clause-closed g c =
     read-closed c.args.to.0 c.status-status.result (pass_view c.args.pass.now) (pass_view c.status-status.new.pass)
     (sym c.closed.ensures ∙ c.if-closed.true) c.status-status.ensures.known
+
+-- ---- its pass got no claim
+
+pub returns-then-closed-clause-claims : goal.returns-then-closed-clause-claims
+returns-then-closed-clause-claims g c =
+    let read = c.status-status.ensures.known in record { got = ap (λ (v : View). v.got) read; returned = ap (λ (v : View). v.returned) read }
+
+pub returns-in-Ok-clause-claims : goal.returns-in-Ok-clause-claims
+returns-in-Ok-clause-claims g c =
+    let read = c.status-status.ensures.known in let sent = c.note_sent.ensures.known in record {
+      got = ap (λ (v : View). v.got) sent ∙ ap (λ (v : View). v.got) read;
+      returned = ap (λ (v : View). v.returned) sent ∙ ap (λ (v : View). v.returned) read;
+    }
+
+pub returns-in-Err-clause-claims : goal.returns-in-Err-clause-claims
+returns-in-Err-clause-claims g c =
+    let read = c.status-status.ensures.known in let sent = c.note_sent.ensures.known in let unsent = c.note_unsent.ensures.known in record {
+      got = ap (λ (v : View). v.got) unsent ∙ ap (λ (v : View). v.got) sent ∙ ap (λ (v : View). v.got) read;
+      returned = ap (λ (v : View). v.returned) unsent ∙ ap (λ (v : View). v.returned) sent ∙ ap (λ (v : View). v.returned) read;
+    }

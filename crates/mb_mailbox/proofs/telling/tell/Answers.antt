@@ -1,12 +1,15 @@
-use Rattle.std.proofs.Common.{inl, [], List, refl, sym, ap, ◌∙◌, subst, arith}
+use Rattle.std.proofs.Common.{inl, false, [], List, refl, sym, ap, ◌∙◌, subst, arith}
 use Rattle.mb_gate.specs.Accessors.{pass_view}
 use Rattle.mb_gate.specs.Untouched.{origin_of}
 use Rattle.mb_gate.specs.View.{Observation}
 use Rattle.mb_home.specs.Contents.{Contents}
 use Rattle.mb_register.proofs.CallerLemmas.{account-none, account-registered}
+use Rattle.mb_register.proofs.ClaimCounts.{hands-after, loses-handed}
+use Rattle.mb_register.proofs.DueLemmas.{got-no-claim}
 use Rattle.mb_register.proofs.MoveLemmas.{moves-does, further-moves}
 use Rattle.mb_mailbox.specs.RunState.{run_state}
 use Rattle.mb_mailbox.specs.Running.{IsRunning}
+use Rattle.mb_mailbox.proofs.ClaimLemmas.{told-due}
 use Rattle.mb_mailbox.proofs.EmptiedLemmas.{cleared-same}
 use Rattle.mb_mailbox.proofs.SendSystemLemmas.{running-caller_advances}
 use Rattle.mb_mailbox.proofs.TellingLemmas.{running-own, told-below, log-closed, discharged-closed, cell-told, take-told, keeps-told, backlog-told, running-told_closed}
@@ -68,6 +71,7 @@ returns-in-None-clause-caller_advances g c =
     (moves-does c.args.to.0 _ [] (pass_view c.args.registrar.now.pass) (pass_view c.send.new.pass) (tt, tt) tt c.in-None.ensures.told.did)
     (account-none _)
     (inl (discharged-closed c.args.to.0 (pass_view c.args.registrar.now.pass) (pass_view c.send.new.pass) c.in-None.ensures.closed))
+    (loses-handed c.args.to.0 _ _ _ _ false (inl (refl, c.send.ensures.claims))) (got-no-claim _ _ c.send.ensures.claims.got)
 
 pub returns-in-None-clause-told : goal.returns-in-None-clause-told
 returns-in-None-clause-told g c = inl c.in-None.ensures.told
@@ -91,8 +95,13 @@ returns-in-None-clause-cleared g c =
 pub returns-in-Some-clause-caller_advances : goal.returns-in-Some-clause-caller_advances
 returns-in-Some-clause-caller_advances g c =
     let told = sent-then c.args.to c.args.body c.in-Some.hint _ _ _ _ _ c.in-Some.ensures.told c.register.ensures.looks in
+    let a = pass_view c.args.registrar.now.pass in let b = pass_view c.send.new.pass in let d = pass_view c.register.new.self.pass in
+    let handed = hands-after c.args.to.0 _ _ a b d c.register.result c.send.ensures.claims c.register.ensures.handed in
     further-moves c.args.to.0 _ _ (sent-moves c.args.to c.args.body c.in-Some.hint _ _ _ _ told)
     (account-registered c.args.to.0 _ _ c.register.result c.register.ensures.registered) c.register.ensures.discharged
+    (loses-handed c.args.to.0 _ _ a d c.register.result handed)
+    (told-due _ _ c.in-Some.hint c.args.to c.args.body a b d _ _ c.register.result c.in-Some.ensures.told c.register.ensures.looks c.register.ensures.handed
+    c.register.ensures.due c.send.ensures.claims.got)
 
 pub returns-in-Some-clause-told : goal.returns-in-Some-clause-told
 returns-in-Some-clause-told g c =

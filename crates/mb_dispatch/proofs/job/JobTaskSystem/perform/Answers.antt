@@ -9,7 +9,7 @@ use Rattle.mb_system.specs.Members.{sender_caller}
 use Rattle.mb_system.specs.Obligations.{KeepsObligations, OwesNobody}
 use Rattle.mb_system.specs.declared.failure.RunError.{RunError}
 use Rattle.mb_system.specs.declared.sender.Sender.{Sender}
-use Rattle.mb_dispatch.specs.Faults.{BreaksSending}
+use Rattle.mb_dispatch.specs.Faults.{BreaksJob}
 use Rattle.mb_dispatch.specs.Jobs.{IsDone}
 use Rattle.mb_dispatch.specs.Orders.{HasSent, HasSentSome}
 use Rattle.mb_dispatch.specs.declared.job.Job.{Job}
@@ -55,5 +55,6 @@ returns-clause-done g c =
 
 pub returns-clause-fails : goal.returns-clause-fails
 returns-clause-fails g c =
-    subst (λ (l : List Order). IfErr c.send_and_retry-outcome.result (BreaksSending c.args.shared.now.gates l)) c.deref.ensures.value
+    let old = c.args.self.now.sender in let new = c.send_and_retry-outcome.new.sender in
+    subst (λ (l : List Order). IfErr c.send_and_retry-outcome.result (BreaksJob c.args.shared.now.gates l old new)) c.deref.ensures.value
     c.send_and_retry-outcome.ensures.fault

@@ -13,9 +13,9 @@ load-word-requires g c = (
       in omega arith) c.word_index.ensures,
 )
 
-pub unreachable-requires : goal.unreachable-requires
-unreachable-requires g c = let no = c.in-None.ensures.valid.1 (c.load-word.ensures.2 _ c.word_index.ensures).1 in cc
+pub from_word-requires : goal.from_word-requires
+from_word-requires g c = record { valid = (c.load-word.ensures.2 _ c.word_index.ensures).1 }
 
 pub returns-clause-closed : goal.returns-clause-closed
-returns-clause-closed g c = subst (λ w. StaysClosed c.args.id.0 w c.args.seat.now.me.0) (sym c.in-Some.ensures.same_word)
+returns-clause-closed g c = subst (λ w. StaysClosed c.args.id.0 w c.args.seat.now.me.0) (sym c.from_word.ensures.same_word)
     (c.load-word.ensures.2 _ c.word_index.ensures).2

@@ -1,0 +1,99 @@
+//! Calls on a pool, as data, and what each has to answer.
+ghost use Rattle.std.specs.Prelude.{◌<◌};
+
+use crate::pools::pushed::PushAnswer;
+use crate::pools::test_pool::{TestPool, made};
+use mb_gate::MailboxState;
+use mb_msg::PoolKind;
+use mb_testkit::StubHome;
+use std::alloc::{AllocError, Global};
+use std::process::Abort;
+use std::sync::Wait;
+
+/// A call, and its answer.
+#[derive(Clone, Copy)]
+pub enum PoolStep {
+    /// The claims of the actors from this one up to before that one are pushed to this end.
+    Push(usize, u32, u32),
+    /// The same to the feed.
+    Feed(u32, u32),
+    /// A push of the actor's claim to this end finds the pool full.
+    Full(usize, u32),
+    /// This end takes the claim of this actor, or finds none.
+    Take(usize, Option<u32>),
+}
+
+/// Makes a pool for this many actors, with three ends and a feed, and does all these steps.
+pub fn played<R: Abort + Wait>(
+    rt: &R,
+    alloc: Global,
+    kind: PoolKind,
+    actors: u32,
+    steps: &[PoolStep],
+) -> Result<TestPool<StubHome>, AllocError>
+    requires { 0 < actors }
+{
+    let mut scene = made(alloc, actors, kind)?;
+    play(rt, &mut scene, steps);
+    Ok(scene)
+}
+
+/// The same, and ends the pool: checks that the claims of the actors from the first up to before the end are left, in order.
+pub fn leaves<R: Abort + Wait>(
+    rt: &R,
+    alloc: Global,
+    kind: PoolKind,
+    actors: u32,
+    steps: &[PoolStep],
+    first: u32,
+    end: u32,
+) -> Result<(), AllocError>
+    requires { 0 < actors }
+{
+    let are_left = played(rt, alloc, kind, actors, steps)?.leaves(rt, alloc, first, end)?;
+    assert!(rt; are_left);
+    Ok(())
+}
+
+fn play<H: MailboxState, R: Abort + Wait>(rt: &R, scene: &mut TestPool<H>, steps: &[PoolStep]) {
+    for &step in steps {
+        assert!(rt; answers(rt, scene, step));
+    }
+}
+
+/// Whether the calls of the step have their answers.
+fn answers<H: MailboxState, R: Wait>(rt: &R, scene: &mut TestPool<H>, step: PoolStep) -> bool {
+    match step {
+        PoolStep::Push(end, first, last) => push_each(rt, scene, end, first, last),
+        PoolStep::Feed(first, last) => feed_each(rt, scene, first, last),
+        PoolStep::Full(end, actor) => matches!(scene.push(rt, end, actor), PushAnswer::Full),
+        PoolStep::Take(end, actor) => scene.take(rt, end) == actor,
+    }
+}
+
+fn push_each<H: MailboxState, R: Wait>(
+    rt: &R,
+    scene: &mut TestPool<H>,
+    end: usize,
+    first: u32,
+    last: u32,
+) -> bool {
+    let mut are_done = true;
+    for actor in first..last {
+        are_done &= matches!(scene.push(rt, end, actor), PushAnswer::Done);
+    }
+    are_done
+}
+
+fn feed_each<H: MailboxState, R: Wait>(
+    rt: &R,
+    scene: &mut TestPool<H>,
+    first: u32,
+    last: u32,
+) -> bool {
+    let mut are_done = true;
+    for actor in first..last {
+        are_done &= matches!(scene.feed(rt, actor), PushAnswer::Done);
+    }
+    are_done
+}

@@ -1,0 +1,167 @@
+-- Which claims a caller got, by what it did and saw itself.
+use Rattle.std.proofs.Common.{◌≡◌, ◌⊎◌, inl, inr, ℕ, suc, ◌+◌, ◌≤◌, Bool, true, false}
+use Rattle.std.proofs.Common.{List, [], ◌∷◌, ◌++◌, refl, sym, ap, ◌∙◌, subst, arith, append_assoc, length, length-append}
+use Rattle.mb_status.specs.Mailbox.{word_of}
+use Rattle.mb_msg.specs.declared.system.SysMsg.{SysMsg}
+use Rattle.mb_ghost.specs.Seen.{Each}
+use Rattle.mb_ghost.proofs.SeenLemmas.{each_append, each_weaker}
+use Rattle.mb_gate.specs.View.{View, Observation, Read, Looked, Counted, Sent, Pushed}
+use Rattle.mb_register.specs.Hint.{has_message_hint, has_system_message_hint}
+use Rattle.mb_register.specs.Views.{Does, IsLook}
+use Rattle.mb_register.specs.Due.{SawSince, SawListed, SawWaiting, SawDue, GotOnlyDue, CountedOne, ListedOne, IsDueSince, GotDue}
+use Rattle.mb_register.specs.Registering.{QueueAccount, HandsClaimOn}
+use Rattle.mb_register.specs.declared.hint.Hint.{Hint}
+
+-- what stands in the one log since the other stands in that log since that other
+abbrev pub Carries : View → View → View → View → Type 0
+Carries old new before after =
+    (seen later earlier : List Observation) → new.log ≡ later ++ (seen ++ (earlier ++ old.log)) →
+    (later_still : List Observation) × (earlier_still : List Observation) × (after.log ≡ later_still ++ (seen ++ (earlier_still ++ before.log)))
+
+pub carries-later : (u v w : View) (looks : List Observation) → w.log ≡ looks ++ v.log → Carries u v u w
+carries-later u v w looks is seen later earlier log =
+    (looks ++ later, earlier, is ∙ ap (λ l. looks ++ l) log ∙ sym (append_assoc looks later (seen ++ (earlier ++ u.log))))
+
+pub carries-earlier : (u v w : View) (looks : List Observation) → v.log ≡ looks ++ u.log → Carries v w u w
+carries-earlier u v w looks is seen later earlier log = (
+  later,
+  earlier ++ looks,
+  log ∙ ap (λ l. later ++ (seen ++ l)) (ap (λ l. earlier ++ l) is ∙ sym (append_assoc earlier looks u.log)),
+)
+
+-- the same steps before both
+pub carries-below : (u v x y : View) (steps : List Observation) → x.log ≡ u.log ++ steps → y.log ≡ v.log ++ steps → Carries u v x y
+carries-below u v x y steps old new seen later earlier log = (
+  later,
+  earlier,
+  new ∙ ap (λ l. l ++ steps) log ∙ append_assoc later (seen ++ (earlier ++ u.log)) steps
+      ∙ ap (λ l. later ++ l)
+      (append_assoc seen (earlier ++ u.log) steps
+      ∙ ap (λ l. seen ++ l) (append_assoc earlier u.log steps ∙ ap (λ l. earlier ++ l) (sym old))),
+)
+
+either : {A B C D : Type 0} → (A → C) → (B → D) → A ⊎ B → C ⊎ D
+either f g (inl a) = inl (f a)
+either f g (inr b) = inr (g b)
+
+module _ (u v x y : View) (carries : Carries u v x y) where
+  saw-carried : (s : Observation) → SawSince s u v → SawSince s x y
+  saw-carried s a = let there = carries (s ∷ []) a.later a.earlier a.log in record { later = there.0; earlier = there.1; log = there.2 }
+
+  counted-carried : (id : ℕ) → CountedOne id u v → CountedOne id x y
+  counted-carried id a = let there = carries (a.look ∷ Sent id 1 ∷ []) a.later a.earlier a.log in
+      record { look = a.look; is_look = a.is_look; later = there.0; earlier = there.1; log = there.2 }
+
+  pub due-carried : (id : ℕ) → IsDueSince id u v → IsDueSince id x y
+  due-carried id d = record {
+    status = d.status;
+    has_messages = d.has_messages;
+    has_system = d.has_system;
+    due = d.due;
+    read = saw-carried (Read id (word_of d.status)) d.read;
+    waiting = λ has. either (counted-carried id) (λ s. (s.0, s.1, saw-carried (Counted id s.0) s.2)) (d.waiting has);
+    listed = λ has. either (λ s. (s.0, s.1, saw-carried (Pushed id s.0 s.1) s.2)) (saw-carried (Looked id true)) (d.listed has);
+  }
+
+  pub all-carried : (ids : List ℕ) → Each (λ id. IsDueSince id u v) ids → Each (λ id. IsDueSince id x y) ids
+  all-carried ids = each_weaker (λ id. IsDueSince id u v) (λ id. IsDueSince id x y) ids due-carried
+
+pub got-no-claim : (u v : View) → v.got ≡ u.got → GotDue u v
+got-no-claim u v same = record { of_these = []; got = same; due = tt }
+
+pub got-further : (u v w : View) (looks more : List Observation) → v.log ≡ looks ++ u.log → w.log ≡ more ++ v.log → GotDue u v → GotDue v w → GotDue u w
+got-further u v w looks more is further a b = record {
+  of_these = b.of_these ++ a.of_these;
+  got = b.got ∙ ap (λ l. b.of_these ++ l) a.got ∙ sym (append_assoc b.of_these a.of_these u.got);
+  due = each_append (λ id. IsDueSince id u w) b.of_these a.of_these
+      (all-carried v w u w (carries-earlier u v w looks is) b.of_these b.due)
+      (all-carried u v u w (carries-later u v w more further) a.of_these a.due);
+}
+
+-- what a hint told is what the caller did itself
+pub due-hinted-by : (id : ℕ) (hint : Hint) (a b d : View) (did : List Observation) → b.log ≡ did ++ a.log →
+    (SawDue id hint b d → has_message_hint hint ≡ true → CountedOne id a d) → (has_system_message_hint hint ≡ true → ListedOne id a d) →
+    SawDue id hint b d → IsDueSince id a d
+due-hinted-by id hint a b d did is counted put due = record {
+  status = due.status;
+  has_messages = due.has_messages;
+  has_system = due.has_system;
+  due = due.due;
+  read = saw-carried b d a d (carries-earlier a b d did is) (Read id (word_of due.status)) due.read;
+  waiting = λ has. either (counted due) (λ s. (s.0, s.1, saw-carried b d a d (carries-earlier a b d did is) (Counted id s.0) s.2)) (due.waiting has);
+  listed = λ has. either put (saw-carried b d a d (carries-earlier a b d did is) (Looked id true)) (due.listed has);
+}
+
+abbrev first_or : ℕ → List ℕ → ℕ
+first_or n [] = n
+first_or n (x ∷ xs) = x
+
+no-more : (n m : ℕ) → m ≡ n → m ≡ suc n → ⊥
+no-more n m one other = omega (arith, one, other)
+
+-- the claim that was got is of an actor that was seen to be due
+due-of : (id : ℕ) (hint : Hint) (b d : View) → GotOnlyDue hint b d → d.got ≡ id ∷ b.got → SawDue id hint b d
+due-of id hint b d due one = by_list due.of_these due.got due.due
+  where
+    by_list : (ids : List ℕ) → d.got ≡ ids ++ b.got → Each (λ it. SawDue it hint b d) ids → SawDue id hint b d
+    by_list [] none all = absurd (no-more (length b.got) (length d.got) (ap length none) (ap length one))
+    by_list (it ∷ ids) some all = subst (λ n. SawDue n hint b d) (ap (first_or 0) (sym some ∙ one)) all.0
+
+-- an actor was registered, for which something was done before
+pub got-registered : {H : Type 0} (id : ℕ) (hint : Hint) (old new : QueueAccount H) (a b d : View) (result : Bool) → HandsClaimOn id old new b d result →
+    GotOnlyDue hint b d → (SawDue id hint b d → IsDueSince id a d) → b.got ≡ a.got → GotDue a d
+got-registered id hint old new a b d true h due so same = record {
+  of_these = id ∷ [];
+  got = h.1.got ∙ ap (λ l. id ∷ l) same;
+  due = (so (due-of id hint b d due h.1.got), tt);
+}
+got-registered id hint old new a b d false (inl h) due so same = got-no-claim a d (h.1.got ∙ same)
+got-registered id hint old new a b d false (inr h) due so same = record {
+  of_these = id ∷ [];
+  got = h.1.got ∙ ap (λ l. id ∷ l) same;
+  due = (so (due-of id hint b d due h.1.got), tt);
+}
+
+-- the earliest of some looks
+earliest : (id : ℕ) (looks : List Observation) → Each (IsLook id) looks →
+    (looks ≡ []) ⊎ ((later : List Observation) × (look : Observation) × IsLook id look × (looks ≡ later ++ look ∷ []))
+earliest id [] all = inl refl
+earliest id (s ∷ looks) all = by_rest (earliest id looks all.1)
+  where
+    by_rest : (looks ≡ []) ⊎ ((later : List Observation) × (look : Observation) × IsLook id look × (looks ≡ later ++ look ∷ [])) →
+        (s ∷ looks ≡ []) ⊎ ((later : List Observation) × (look : Observation) × IsLook id look × (s ∷ looks ≡ later ++ look ∷ []))
+    by_rest (inl none) = inr ([], s, all.0, ap (λ l. s ∷ l) none)
+    by_rest (inr it) = inr (s ∷ it.0, it.1, it.2, ap (λ l. s ∷ l) it.3)
+
+too-short : (a b d later earlier : ℕ) → a + 2 ≤ b → d ≡ later + (earlier + b + 1) → d ≡ suc (suc a) → ⊥
+too-short a b d later earlier before long short = omega (arith, before, long, short)
+
+-- an envelope was counted right after a reading, and then something was read
+pub counted-one : (id word : ℕ) (a d : View) → Does id (Sent id 1 ∷ Read id word ∷ []) [] a d → (s : Observation) (b : View) →
+    length a.log + 2 ≤ length b.log → SawSince s b d → CountedOne id a d
+counted-one id word a d did s b longer saw = by_looks (earliest id did.looks did.only)
+  where
+    whole : length d.log ≡ length saw.later + (length saw.earlier + length b.log + 1)
+    whole =
+        let all = ap length saw.log in
+        let first : length (saw.later ++ s ∷ (saw.earlier ++ b.log)) ≡ length saw.later + suc (length (saw.earlier ++ b.log)) =
+        length-append saw.later (s ∷ (saw.earlier ++ b.log)) in
+        let last = length-append saw.earlier b.log in
+        omega (arith, all, first, last)
+
+    by_looks : (did.looks ≡ []) ⊎ ((later : List Observation) × (look : Observation) × IsLook id look × (did.looks ≡ later ++ look ∷ [])) →
+        CountedOne id a d
+    by_looks (inl none) =
+        absurd (too-short (length a.log) (length b.log) (length d.log) (length saw.later) (length saw.earlier) longer whole
+        (ap length (did.log ∙ ap (λ l. (l ++ Sent id 1 ∷ Read id word ∷ []) ++ a.log) none)))
+    by_looks (inr it) = record {
+      look = it.1;
+      is_look = it.2;
+      later = it.0;
+      earlier = Read id word ∷ [];
+      log =
+          did.log
+          ∙ ap (λ l. (l ++ Sent id 1 ∷ Read id word ∷ []) ++ a.log) it.3
+          ∙ append_assoc (it.0 ++ it.1 ∷ []) (Sent id 1 ∷ Read id word ∷ []) a.log
+          ∙ append_assoc it.0 (it.1 ∷ []) (Sent id 1 ∷ Read id word ∷ a.log);
+    }

@@ -1,5 +1,0 @@
-use Rattle.std.proofs.Common.{◌≡◌}
-use Rattle.mb_send_tests.proofs.queues.threads.push_all.Given as goal
-
-abbrev pub invariant-loop-number : goal.invariant-loop-number
-invariant-loop-number g l = (l.pass.queue ≡ l.initial.pass.queue) × (l.pass.by ≡ l.initial.pass.by)
