@@ -162,16 +162,17 @@ impl<A: Actor, K: Behaviours> Cell<A, K> {
     ///
     /// It answers `JournalFull` if the journal has as many entries as it may have, and else `NoMemory` if memory was
     /// refused. Nothing has changed then.
+    #[inline(always)]
     pub fn ready(&mut self) -> Result<(), ReadyError>
         ensures full { IsErrOf result ReadyError.JournalFull ↔ (self.old.who.limit ≤ length self.old.journal) }
         ensures ok { OnOk result (self.new ≡ record self.old { is_ready = true }) }
         ensures err { OnErr result (self.new ≡ self.old) }
         ensures again { IsTrue self.old.is_ready → IsOk result }
     {
-        if self.journal.is_full() {
-            return Err(ReadyError::JournalFull);
-        }
         if self.cell_state.make_room().is_err() {
+            if self.journal.is_full() {
+                return Err(ReadyError::JournalFull);
+            }
             return Err(ReadyError::NoMemory);
         }
         self.journal.ready()

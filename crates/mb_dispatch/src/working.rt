@@ -76,7 +76,7 @@ fn work_on<A: Actor, K: Behaviours, R: Wait>(
 }
 
 // The next claim of the pool. Where the pool gives none, the end first looks after the actors to which it owes a look, and then
-// waits for a claim; the answer is `None` if none will come.
+// waits for a claim, and counts as waiting for so long; the answer is `None` if none will come.
 fn next_claim<A: Actor, K: Behaviours, R: Wait>(
     rt: &R,
     system: &System<A, K>,
@@ -97,7 +97,10 @@ fn next_claim<A: Actor, K: Behaviours, R: Wait>(
         return Ok(Some(claim));
     }
     end.retry_refused(rt, system)?;
-    Ok(wait(rt, &system.going, end))
+    system.gates.idle_workers().wait_begins();
+    let next = wait(rt, &system.going, end);
+    system.gates.idle_workers().wait_ends();
+    Ok(next)
 }
 
 // Waits for a claim; or finds that none will come.

@@ -11,6 +11,7 @@ use Rattle.mb_msg.proofs.id.ActorId.TheSendSync as actor
 use Rattle.mb_status.proofs.status.Status.TheSendSync as status
 use Rattle.mb_syslist.proofs.Crossing.{list_send}
 use Rattle.mb_gate.specs.declared.mailbox_state.MailboxState as resident
+use Rattle.mb_gate.proofs.idle_workers.IdleWorkers.TheSendSync as idle
 use Rattle.mb_gate.specs.contracts.slot.Slot as slot
 use Rattle.mb_gate.specs.contracts.gates.Gates as gates
 use Rattle.mb_gate.specs.contracts.pass.Pass as pass
@@ -34,7 +35,13 @@ gates_send H g home = declared_send (gates.the_type H g) (
   search sendable depth 20,
   (
     search (sendable, std_crosses, heap_send, table.the_field_send, table.the_send, slot_send) depth 20,
-    (search sendable depth 20, (search (sendable, std_crosses) depth 20, (search sendable depth 20, tt))),
+    (
+      search sendable depth 20,
+      (
+        search (sendable, std_crosses) depth 20,
+        (search sendable depth 20, (search (sendable, std_crosses, idle.the_send) depth 20, (search sendable depth 20, tt))),
+      ),
+    ),
   ),
 )
 
@@ -43,7 +50,13 @@ gates_sync H g home = declared_sync (gates.the_type H g) (
   search sendable depth 20,
   (
     search (sendable, std_crosses, heap_send, heap_sync, table.the_field_sync, table.the_sync, slot_send) depth 20,
-    (search sendable depth 20, (search (sendable, std_crosses) depth 20, (search sendable depth 20, tt))),
+    (
+      search sendable depth 20,
+      (
+        search (sendable, std_crosses) depth 20,
+        (search sendable depth 20, (search (sendable, std_crosses, idle.the_sync) depth 20, (search sendable depth 20, tt))),
+      ),
+    ),
   ),
 )
 

@@ -6,6 +6,7 @@ mod put_back;
 
 use crate::gates_key::GatesKey;
 use crate::gates_rule::GatesRule;
+use crate::idle_workers::IdleWorkers;
 use crate::mailbox_state::MailboxState;
 use crate::seat_view::SeatView;
 use crate::slot::Slot;
@@ -13,13 +14,14 @@ use atomic_table::Table;
 use std::alloc::Global;
 use std::snapshot::Snapshot;
 
-/// The status words, the cells that no claim has, the waiting counts and the gates of the lists of some actors. All threads
-/// share it. (In Akka each mailbox has its own status and system messages, `akka.dispatch.Mailbox`. That they lie in one table,
-/// and the counts, are this project's own profile.)
+/// The status words, the cells that no claim has, the waiting counts and the gates of the lists of some actors, and how many
+/// workers wait for a claim. All threads share it. (In Akka each mailbox has its own status and system messages,
+/// `akka.dispatch.Mailbox`. That they lie in one table, and the counts, are this project's own profile.)
 ///
-/// The unused words before and behind keep everything else out of the cache lines that each step reads here, so that no write
-/// beside it slows the steps of other processors. Of the first home only a snapshot is kept, so that threads may share gates of
-/// homes that go from thread to thread and are never shared.
+/// The unused words keep everything else out of the cache lines that each step reads here, so that no write beside it slows the
+/// steps of other processors. The count of workers that wait is written in a run, so it has unused words on both sides too. Of
+/// the first home only a snapshot is kept, so that threads may share gates of homes that go from thread to thread and are never
+/// shared.
 #[repr(C)]
 pub struct Gates<H: MailboxState> {
     /// Padding that nobody reads or writes.
@@ -32,6 +34,10 @@ pub struct Gates<H: MailboxState> {
     pub(crate) first: Snapshot<H>,
     /// Padding that nobody reads or writes.
     pub(crate) after: [u64; 8],
+    /// How many workers wait for a claim.
+    pub(crate) idle_workers: IdleWorkers,
+    /// Padding that nobody reads or writes.
+    pub(crate) behind: [u64; 8],
     ghost word_count: { table.shared.table_id.words ≡ 16 * actors },
     ghost slot_count: { table.shared.table_id.slots ≡ 2 * actors },
     ghost keyed: { table.shared.key.actors ≡ actors },
@@ -48,7 +54,16 @@ impl<H: MailboxState> Drop for Gates<H> {
             actors: _,
             first: _,
             after: _,
+            idle_workers: _,
+            behind: _,
         } = self;
         drop(table);
+    }
+}
+
+impl<H: MailboxState> Gates<H> {
+    /// How many workers wait for a claim (this project's own profile).
+    pub fn idle_workers(&self) -> &IdleWorkers {
+        &self.idle_workers
     }
 }

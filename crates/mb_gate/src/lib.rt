@@ -20,6 +20,7 @@ mod gates_key;
 mod gates_rule;
 mod held_status;
 mod holding;
+mod idle_workers;
 mod laws;
 mod layout;
 mod list_word;
@@ -40,6 +41,7 @@ mod slot;
 
 pub use claim::Claim;
 pub use gates::Gates;
+pub use idle_workers::IdleWorkers;
 pub use laws::{
     a_number_names_one_message, claims_are_the_holders, closed_receivers_are_closed,
     releases_are_alike, waiting_is_sent_less_taken, what_nobody_claimed_is_open,

@@ -7,6 +7,7 @@ ghost use Rattle.mb_gate.specs.Accessors.{gates_id, pass_id, actors_of, first_ho
 
 use crate::gates::Gates;
 use crate::gates_key::GatesKey;
+use crate::idle_workers::IdleWorkers;
 use crate::mailbox_state::MailboxState;
 use crate::pass::Pass;
 use crate::slot::Slot;
@@ -58,6 +59,8 @@ impl<H: MailboxState> Gates<H> {
                     actors,
                     first,
                     after: [0; 8],
+                    idle_workers: IdleWorkers::new(),
+                    behind: [0; 8],
                 },
                 Pass { seat },
             )),

@@ -16,8 +16,11 @@ use crate::row::Row;
 use mb_actor::{Answer, Effect};
 use mb_msg::limits::EFFECTS;
 use mb_msg::{Envelope, SysMsg};
-use std::alloc::Global;
+use std::alloc::{AllocError, Global};
 use std::marker::Model;
+
+/// For how many more entries room is made at once at most.
+const MOST_AT_ONCE: usize = 16;
 
 /// What came to an actor and what became of that (this project's own profile: Akka keeps no journal).
 ///
@@ -29,6 +32,8 @@ pub struct Journal {
     effects: Vec<Effect>,
     limit: u32,
     ready: bool,
+    /// Up to this many entries there is room, each with as many effects as a call may ask for.
+    prepared: usize,
 }
 
 // `Drop` is written by hand: with a derived one, each crate above would prove again how the fields are dropped.
@@ -40,6 +45,7 @@ impl Drop for Journal {
             effects: _,
             limit: _,
             ready: _,
+            prepared: _,
         } = self;
     }
 }
@@ -68,6 +74,7 @@ impl Journal {
             effects: Vec::new(alloc),
             limit,
             ready: false,
+            prepared: 0,
         }
     }
 
@@ -104,25 +111,48 @@ impl Journal {
         ensures err { OnErr result (self.new ≡ self.old) }
         ensures again { IsTrue self.old.is_ready → IsOk result }
     {
+        if self.rows.len() >= self.prepared {
+            return self.prepare();
+        }
+        self.ready = true;
+        Ok(())
+    }
+
+    /// Makes room for some more entries: the more of them, the more entries there are, so that this is seldom done.
+    ///
+    /// It answers as `ready` does.
+    #[cold]
+    #[inline(never)]
+    fn prepare(&mut self) -> Result<(), ReadyError>
+        requires { self.old.is_ready ≡ false }
+        ensures full { IsErrOf result ReadyError.JournalFull ↔ (self.old.limit ≤ length self.old.entries) }
+        ensures ok { OnOk result (self.new ≡ record self.old { is_ready = true }) }
+        ensures err { OnErr result (self.new ≡ self.old) }
+    {
         if self.is_full() {
             return Err(ReadyError::JournalFull);
         }
-        if self.rows.reserve(1).is_err() {
+        let len = self.rows.len();
+        let more = (len / 4 + 1).min(MOST_AT_ONCE);
+        if make_room(&mut self.rows, more).is_err() {
             return Err(ReadyError::NoMemory);
         }
-        if self.wide.reserve(1).is_err() {
+        if make_room(&mut self.wide, more).is_err() {
             return Err(ReadyError::NoMemory);
         }
-        if self.effects.reserve(EFFECTS).is_err() {
+        if make_room(&mut self.effects, EFFECTS * more).is_err() {
             return Err(ReadyError::NoMemory);
         }
+        let places = room_of(&self.rows).min(room_of(&self.wide));
+        let with_effects = places.min(room_of(&self.effects) / EFFECTS);
+        self.prepared = with_effects.min(self.limit as usize - len) + len;
         self.ready = true;
         Ok(())
     }
 
     /// Adds an envelope that was handled, with the status word that was read before it, what the actor answered, if it
     /// was called, and the effects that it asked for.
-    #[inline]
+    #[inline(always)]
     pub fn push_handled(
         &mut self,
         envelope: Envelope,
@@ -222,11 +252,38 @@ impl Journal {
     }
 }
 
+/// For how many more items there is room.
+fn room_of<T>(list: &Vec<T>) -> usize
+    ensures { vec_len list.now + result ≡ vec_capacity list.now }
+{
+    list.capacity() - list.len()
+}
+
+/// Makes room for this many more items, unless there is room already.
+///
+/// A list of fewer than 256 items gets room for at least four times as many, and a longer one for 4,096 more, so that items
+/// are seldom moved.
+fn make_room<T>(list: &mut Vec<T>, more: usize) -> Result<(), AllocError>
+    requires { more ≤ 256 }
+    ensures room { OnOk result (vec_len list.new + more ≤ vec_capacity list.new) }
+    ensures no_less { vec_capacity list.old ≤ vec_capacity list.new }
+    ensures same { (vec_len list.new ≡ vec_len list.old) × (list.new.items ≡ list.old.items) }
+{
+    if room_of(list) >= more {
+        return Ok(());
+    }
+    let len = list.len();
+    let further = if len < 256 { 3 * len } else { 4_096 };
+    list.reserve(more + further)
+}
+
 /// Adds these effects. There is room for them.
 #[inline(always)]
 fn add_all(list: &mut Vec<Effect>, effects: &[Effect])
     requires { vec_len list.old + length effects.now ≤ vec_capacity list.old }
-    ensures { list.new.items ≡ list.old.items ++ effects.now }
+    ensures added { list.new.items ≡ list.old.items ++ effects.now }
+    ensures more { vec_len list.new ≡ vec_len list.old + length effects.now }
+    ensures room { vec_capacity list.new ≡ vec_capacity list.old }
 {
     for effect in effects {
         list.push_reserved(*effect);
@@ -241,6 +298,8 @@ fn row_of(wide: &mut Vec<Received>, arrival: Received, end: usize) -> Row
     ensures says { whole wide.new.items result ≡ record { arrival = arrival; end = end } }
     ensures there { needs result ≤ length wide.new.items }
     ensures kept { (more : List Received) × (wide.new.items ≡ wide.old.items ++ more) }
+    ensures one { vec_len wide.new ≤ vec_len wide.old + 1 }
+    ensures room { vec_capacity wide.new ≡ vec_capacity wide.old }
 {
     match Row::of(arrival, end) {
         Some(row) => row,
@@ -254,6 +313,8 @@ fn put_beside(wide: &mut Vec<Received>, arrival: Received, end: usize) -> Row
     requires { vec_len wide.old < vec_capacity wide.old }
     ensures place { result ≡ Wide (vec_len wide.old) end }
     ensures added { wide.new.items ≡ wide.old.items ++ arrival ∷ [] }
+    ensures one { vec_len wide.new ≡ vec_len wide.old + 1 }
+    ensures room { vec_capacity wide.new ≡ vec_capacity wide.old }
 {
     let place = wide.len();
     wide.push_reserved(arrival);

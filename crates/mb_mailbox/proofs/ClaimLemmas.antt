@@ -1,52 +1,20 @@
 -- Which claims a run gets, and what becomes of them.
-use Rattle.std.proofs.Common.{◌≡◌, ◌≤◌, ℕ, ◌+◌, ◌==◌, if◌then◌else◌, Bool, true, false}
-use Rattle.std.proofs.Common.{List, [], ◌∷◌, ◌++◌, refl, ap, sym, ◌∙◌, arith, append_assoc, append-nil, length, length-append}
-use Rattle.mb_msg.specs.declared.envelope.Body.{Body}
-use Rattle.mb_msg.specs.declared.id.ActorId.{ActorId}
+use Rattle.std.proofs.Common.{◌≡◌, ℕ, ◌+◌, ◌==◌, if◌then◌else◌, Bool, true, false}
+use Rattle.std.proofs.Common.{List, [], ◌∷◌, ◌++◌, refl, ap, ◌∙◌, arith, append_assoc, append-nil}
 use Rattle.mb_msg.specs.declared.system.SysMsg.{SysMsg}
 use Rattle.mb_journal.specs.Entry.{Entry}
 use Rattle.mb_gate.specs.ClaimCounts.{times}
-use Rattle.mb_gate.specs.View.{View, Observation, Read, Saw, Sent, Pushed, enlisting, idling, taking_in}
-use Rattle.mb_home.specs.Contents.{Contents}
+use Rattle.mb_gate.specs.View.{View, Saw, Pushed, enlisting, idling, taking_in}
 use Rattle.mb_register.specs.Caller.{Caller, CallerAdvances}
 use Rattle.mb_register.specs.Due.{GotOnlyDue, GotDue}
 use Rattle.mb_register.specs.Registering.{QueueAccount, HandsClaimOn, LosesNoClaim}
 use Rattle.mb_register.specs.Views.{LooksAfter}
-use Rattle.mb_register.specs.declared.hint.Hint.{Hint}
 use Rattle.mb_register.specs.declared.hint.Hint.TheVariants as hint
 use Rattle.mb_register.proofs.ClaimCounts.{hands-after, loses-handed, loses-then}
-use Rattle.mb_register.proofs.DueLemmas.{all-carried, carries-below, carries-later, counted-one, due-hinted-by, got-further, got-registered}
-use Rattle.mb_register.proofs.Views.{does-then}
+use Rattle.mb_register.proofs.DueLemmas.{all-carried, carries-below, carries-later, due-hinted-by, got-further, got-registered}
 use Rattle.mb_mailbox.specs.Ran.{LosesNoClaimBut, with_steps}
-use Rattle.mb_mailbox.specs.Sending.{HintTells}
 
 module _ {H : Type 0} (old new : QueueAccount H) where
-  -- an envelope was queued or refused, and its receiver was registered with what that tells
-  pub told-due : (hinted : Hint) (to : ActorId) (body : Body) (a b d : View) (home left : Contents) (result : Bool) → HintTells hinted to body a b home left →
-      LooksAfter to.0 b d → HandsClaimOn to.0 old new b d result → GotOnlyDue hinted b d → b.got ≡ a.got → GotDue a d
-  told-due hint.Message to body a b d home left result t looks handed due same =
-      got-registered to.0 hint.Message old new a b d result handed due
-      (due-hinted-by to.0 hint.Message a b d _ t.did.log
-      (λ seen has. counted-one to.0 t.word a d (does-then to.0 _ [] a b d t.did looks) _ b longer seen.read)
-      (λ has. let e : false ≡ true = has in absurd (cc)))
-      same
-    where
-      two : List Observation
-      two = Sent to.0 1 ∷ Read to.0 t.word ∷ []
-
-      longer : length a.log + 2 ≤ length b.log
-      longer =
-          let whole : length b.log ≡ length ((t.did.looks ++ two) ++ a.log) = ap length t.did.log in
-          let all = length-append (t.did.looks ++ two) a.log in
-          let first : length (t.did.looks ++ two) ≡ length t.did.looks + 2 = length-append t.did.looks two in
-          omega (arith, whole, all, first)
-  told-due hint.None to body a b d home left result t looks handed due same =
-      got-registered to.0 hint.None old new a b d result handed due
-      (due-hinted-by to.0 hint.None a b d _ t.did.log (λ seen has. let e : false ≡ true = has in absurd (cc))
-      (λ has. let e : false ≡ true = has in absurd (cc)))
-      same
-  told-due hint.System to body a b d home left result t looks handed due same = absurd t
-
   -- a system message was put into a list, and its receiver was registered with that
   module _ (id number : ℕ) (message : SysMsg) (a b d : View) (result : Bool) (put : b ≡ enlisting id number message a)
       (handed : HandsClaimOn id old new b d result) where

@@ -38,7 +38,10 @@ use Rattle.mb_register.specs.Views.{LooksAfter}
 use Rattle.mb_register.proofs.Bits.{same_or_other}
 use Rattle.mb_register.proofs.Views.{owes-other}
 use Rattle.mb_mailbox.specs.declared.turn.Turn.{Turn}
-use Rattle.mb_register.specs.Caller.{Caller, CallerAdvances, TakesNothing, IsDischargedOrOwed, LeavesCaller, OwesForRefusals, TakesOver}
+use Rattle.mb_register.specs.Caller.{Caller, CallerAdvances, TakesNothing, IsDischargedOrOwed, IsTold, OwesForRefusals, TakesOver}
+use Rattle.mb_register.specs.declared.owed.Owed.{Owed}
+use Rattle.mb_register.specs.Owed.{is_owed}
+use Rattle.mb_mailbox.specs.RunRegistrar.{LeavesTelling}
 use Rattle.mb_mailbox.specs.Loaded.{loaded_words, BeginsAt}
 use Rattle.mb_mailbox.specs.OnlyDrained.{TakesOnlyDrained}
 use Rattle.mb_mailbox.specs.Emptied.{FindsNoMore, IsCleared}
@@ -200,22 +203,25 @@ module _ (actor : ℕ) (journal : List Entry) (v w mid : View) (obligations : v.
 
 -- the run went on, the claim was given back, and the actor was registered
 pub leaves-caller : {H : Type 0} (actor : ℕ) (journal : List Entry) (v mid : View) (a b new : Caller H) → v.obligations ≡ [] → v.share ≡ [] →
-    mid ≡ idling actor journal (taking_in v b.view) → LooksAfter actor mid new.view → CallerAdvances a b → OwesForRefusals b.account new.account →
-    IsDischargedOrOwed actor new → LeavesCaller a new
-leaves-caller actor journal v mid a b new obligations bare known looks g account discharged = record {
+    mid ≡ idling actor journal (taking_in v b.view) → LooksAfter actor mid new.view → CallerAdvances a b → new.told ≡ b.told →
+    OwesForRefusals b.account new.account → IsDischargedOrOwed actor new → LeavesTelling a new
+leaves-caller actor journal v mid a b new obligations bare known looks g same_told account discharged = record {
   log = known-still actor journal v b.view mid obligations known new.view looks g.more a.view.log g.log;
   account = account-then a.account b.account new.account g.account account;
   obligations = λ other. by_actor other (same_or_other other actor);
   share = looks.share ∙ ap (λ (x : View). x.share) known ∙ ap (λ s. b.view.share ++ s) bare ∙ append-nil b.view.share ∙ g.share;
 }
   where
-    by_run : (other : ℕ) → obligation_to other new.view ≡ obligation_to other b.view → IsDischargedOrOwed other b ⊎ (obligation_to other b.view ≡ obligation_to other a.view) →
-        IsDischargedOrOwed other new ⊎ (obligation_to other new.view ≡ obligation_to other a.view)
+    by_run : (other : ℕ) → obligation_to other new.view ≡ obligation_to other b.view →
+        IsDischargedOrOwed other b ⊎ (obligation_to other b.view ≡ obligation_to other a.view) ⊎ IsTold other b →
+        IsDischargedOrOwed other new ⊎ (obligation_to other new.view ≡ obligation_to other a.view) ⊎ IsTold other new
     by_run other kept (inl (inl none)) = inl (inl (kept ∙ none))
     by_run other kept (inl (inr owed)) = inl (inr (account.still other owed))
-    by_run other kept (inr same) = inr (kept ∙ same)
+    by_run other kept (inr (inl same)) = inr (inl (kept ∙ same))
+    by_run other kept (inr (inr still)) = inr (inr (still.0, ap (λ (o : Owed). is_owed o other) same_told ∙ still.1))
 
-    by_actor : (other : ℕ) → (other ≡ actor) ⊎ (other ≢ actor) → IsDischargedOrOwed other new ⊎ (obligation_to other new.view ≡ obligation_to other a.view)
+    by_actor : (other : ℕ) → (other ≡ actor) ⊎ (other ≢ actor) →
+        IsDischargedOrOwed other new ⊎ (obligation_to other new.view ≡ obligation_to other a.view) ⊎ IsTold other new
     by_actor other (inl same) = inl (subst (λ n. IsDischargedOrOwed n new) (sym same) discharged)
     by_actor other (inr apart) =
         by_run other (looks.others other apart ∙ owes-released actor journal v b.view mid obligations known other apart) (g.obligations other)

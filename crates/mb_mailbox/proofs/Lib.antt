@@ -29,6 +29,7 @@ pub mod LookLemmas
 pub mod EnvelopeLemmas
 pub mod FreshLemmas
 pub mod FinishLemmas
+pub mod LaterLemmas
 pub mod TakenLemmas
 pub mod ClaimLemmas
 pub mod InRunLemmas

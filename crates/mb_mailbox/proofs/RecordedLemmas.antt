@@ -12,7 +12,9 @@ use Rattle.mb_gate.specs.View.{View, SentSystem, obligation_to, refusing}
 use Rattle.mb_gate.specs.View.{Observation, Read, Saw, Counted, Looked, Sent, Unsent, Took, Pushed, Drained, Ended}
 use Rattle.mb_home.specs.Contents.{Contents}
 use Rattle.mb_register.specs.Caller.{Caller, CallerAdvances, OwesForRefusals}
-use Rattle.mb_register.specs.Views.{Does, IsLook}
+use Rattle.mb_register.specs.declared.owed.Owed.{Owed}
+use Rattle.mb_register.specs.Owed.{is_owed}
+use Rattle.mb_register.specs.Views.{Does, IsLook, LooksAmong}
 use Rattle.mb_register.proofs.CallerLemmas.{account-none}
 use Rattle.mb_register.proofs.ClaimCounts.{loses-handed}
 use Rattle.mb_register.proofs.DueLemmas.{got-no-claim}
@@ -162,14 +164,15 @@ refused-gives-none id message v v' is = ap (λ (x : View). given_by x.log) is �
 
 -- the caller went on by that
 pub further-refused : {H : Type 0} (id : ℕ) (message : SysMsg) (a b : Caller H) → b.view ≡ refusing id message a.view → b.account ≡ a.account →
-    CallerAdvances a b
-further-refused id message a b same account = record {
+    b.told ≡ a.told → CallerAdvances a b
+further-refused id message a b same account told = record {
   more = Ended id [] ∷ [];
   took_none = (tt, tt);
   sends_open = tt;
   log = ap (λ (v : View). v.log) same;
   account = subst (OwesForRefusals a.account) (sym account) (account-none a.account);
-  obligations = λ other. inr (ap (obligation_to other) same);
+  obligations = λ other. inr (inl (ap (obligation_to other) same));
+  told = λ other still. inr (still.0, ap (λ (o : Owed). is_owed o other) told ∙ still.1);
   share = ap (λ (v : View). v.share) same;
   gives_back = unchanged-none _ _ (ap (λ (v : View). v.releases) same);
   claims = loses-handed id a.account b.account a.view b.view false
@@ -198,3 +201,37 @@ module _ (to : ActorId) (body : Body) (old new : View) (home left : Contents) wh
   given-tells hint.None t = does-give-none to.0 _ [] old new refl t.did
   given-tells hint.Message t = does-give-none to.0 _ [] old new refl t.did
   given-tells hint.System t = absurd t
+
+-- who only reads at some actors sends nothing, puts nothing into a list, gets nothing out of one, and finds none ended
+module _ (among : ℕ → Bool) where
+  abbrev IsLookAmong : Observation → Type 0
+  IsLookAmong s = (id : ℕ) × (among id ≡ true) × IsLook id s
+
+  among-list-none : (looks : List Observation) → Each IsLookAmong looks → listed_by looks ≡ []
+  among-list-none looks only = all-list-none looks (each_weaker IsLookAmong (λ s. listed_by (s ∷ []) ≡ []) looks (λ s is. look-lists-none is.0 s is.2) only)
+
+  among-give-none : (looks : List Observation) → Each IsLookAmong looks → given_by looks ≡ []
+  among-give-none [] only = refl
+  among-give-none (s ∷ looks) only =
+      given-append (s ∷ []) looks ∙ (λ i. among-give-none looks only.1 i ++ looks-give-none only.0.0 (s ∷ []) (only.0.2, tt) i)
+
+  among-end-none : (to : ℕ) (looks : List Observation) → Each IsLookAmong looks → total (ended_in to) looks ≡ 0
+  among-end-none to [] only = refl
+  among-end-none to (s ∷ looks) only =
+      let one = look-ends-none to only.0.0 s only.0.2 in let rest = among-end-none to looks only.1 in omega (arith, one, rest)
+
+  module _ (v v' : View) (l : LooksAmong among v v') where
+    pub among-listed : listed_by v'.log ≡ listed_by v.log
+    among-listed = ap listed_by l.log ∙ listed-append l.looks v.log ∙ ap (λ x. x ++ listed_by v.log) (among-list-none l.looks l.only)
+
+    pub among-given : given_by v'.log ≡ given_by v.log
+    among-given =
+        ap given_by l.log ∙ given-append l.looks v.log ∙ ap (λ x. given_by v.log ++ x) (among-give-none l.looks l.only) ∙ append-nil (given_by v.log)
+
+    pub among-ended : (to : ℕ) → total (ended_in to) v'.log ≡ total (ended_in to) v.log
+    among-ended to =
+        let all = ap (total (ended_in to)) l.log in let parts = total_append (ended_in to) l.looks v.log in
+        let none = among-end-none to l.looks l.only in omega (arith, all, parts, none)
+
+    pub alike-looks : (r : List SentSystem) → GrowAlike r v r v'
+    alike-looks r = alike-quiet r v r v' refl l.sent_system among-listed among-given among-ended

@@ -10,9 +10,10 @@ use Rattle.mb_gate.specs.declared.gates.Gates.{Gates}
 use Rattle.mb_gate.specs.Accessors.{pass_view}
 use Rattle.mb_gate.specs.Untouched.{Origin, origin_of}
 use Rattle.mb_home.specs.Contents.{Contents}
-use Rattle.mb_register.specs.Caller.{IsRegistrarOf, caller_of, CallerAdvances}
+use Rattle.mb_register.specs.Caller.{caller_of, CallerAdvances}
 use Rattle.mb_register.specs.declared.registrar.Registrar.{Registrar}
 use Rattle.mb_mailbox.specs.Emptied.{IsCleared}
+use Rattle.mb_mailbox.specs.RunRegistrar.{IsRunRegistrarOf}
 use Rattle.mb_mailbox.specs.RunState.{run_state}
 use Rattle.mb_mailbox.specs.Recorded.{SendsAsRecorded}
 use Rattle.mb_mailbox.specs.RunSends.{SendsForEntries}
@@ -25,7 +26,7 @@ module _ {W : Type 0} where
   -- with what was drained; no act of a message is left to be carried out; and the turn counts what the run did.
   pub record InRun (gives : ℕ → Moment → Reply → Type 0) (origin : W → Option (Origin (Box Contents))) (gates : Gates (Box Contents))
       (registrar : Registrar (Box Contents) W) (claim : Claim (Box Contents)) (turn : Turn) : Type 0 where
-    pub same_gates : IsRegistrarOf origin gates registrar
+    pub same_gates : IsRunRegistrarOf origin gates registrar
     pub running : IsRunning gives (origin_of gates) [] (pass_view registrar.pass).log (run_state claim)
     pub backlog : BacklogAgrees (run_state claim)
     pub carried_out : claim.home.value.cell.acts ≡ []

@@ -1,4 +1,5 @@
 pub mod RunState
+pub mod RunRegistrar
 pub mod SentDue
 pub mod OnlyDrained
 pub mod Loaded

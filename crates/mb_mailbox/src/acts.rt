@@ -6,7 +6,8 @@ ghost use Rattle.mb_journal.specs.Life.{closed};
 ghost use Rattle.mb_gate.specs.Accessors.{pass_view};
 ghost use Rattle.mb_gate.specs.SentSystem.{messages_of};
 ghost use Rattle.mb_gate.specs.Untouched.{origin_of};
-ghost use Rattle.mb_register.specs.Caller.{IsRegistrarOf, caller_of, CallerAdvances};
+ghost use Rattle.mb_register.specs.Caller.{caller_of, CallerAdvances};
+ghost use Rattle.mb_mailbox.specs.RunRegistrar.{IsRunRegistrarOf};
 ghost use Rattle.mb_mailbox.specs.Emptied.{FindsNoMore, IsCleared};
 ghost use Rattle.mb_mailbox.specs.RunSends.{SendsDue};
 ghost use Rattle.mb_mailbox.specs.RunState.{run_state};
@@ -17,6 +18,7 @@ ghost use Rattle.mb_mailbox.specs.Sending.{IsToldRight};
 use crate::clean_up::clean_up;
 use crate::sending_system::send_system;
 use crate::telling::tell;
+use crate::waking::{register_if_awaited, register_told};
 use mb_actor::{Actor, Behaviours};
 use mb_cell::Act;
 use mb_gate::{Claim, Gates, RunQueue};
@@ -26,7 +28,8 @@ use mb_register::Registrar;
 use std::alloc::AllocError;
 use std::sync::Wait;
 
-/// Carries out the acts of the last message, in order. It answers `NoMemory` if a place for an envelope of an actor that
+/// Carries out the acts of the last message, in order. Then, where a worker waits for a claim, whom the run told something is
+/// registered. It answers `NoMemory` if a place for an envelope of an actor that
 /// ended was refused; the other acts are carried out all the same.
 #[inline(always)]
 pub(crate) fn carry_out<A: Actor, K: Behaviours, W: RunQueue<BoxedHome<A, K>>, R: Wait>(
@@ -35,10 +38,10 @@ pub(crate) fn carry_out<A: Actor, K: Behaviours, W: RunQueue<BoxedHome<A, K>>, R
     registrar: &mut Registrar<BoxedHome<A, K>, W>,
     claim: &mut Claim<BoxedHome<A, K>>,
 ) -> Result<(), ReadyError>
-    requires same_gates { IsRegistrarOf W.origin gates.now registrar.old }
+    requires same_gates { IsRunRegistrarOf W.origin gates.now registrar.old }
     requires running { IsRunning K.gives (origin_of gates.now) (claim.old.home.value.cell.acts) (pass_view registrar.old.pass).log (run_state claim.old) }
     requires backlog { BacklogAgrees (run_state claim.old) }
-    ensures same_gates { IsRegistrarOf W.origin gates.now registrar.new }
+    ensures same_gates { IsRunRegistrarOf W.origin gates.now registrar.new }
     ensures running { IsRunning K.gives (origin_of gates.now) [] (pass_view registrar.new.pass).log (run_state claim.new) }
     ensures backlog { BacklogAgrees (run_state claim.new) }
     ensures carried_out { claim.new.home.value.cell.acts ≡ [] }
@@ -53,7 +56,12 @@ pub(crate) fn carry_out<A: Actor, K: Behaviours, W: RunQueue<BoxedHome<A, K>>, R
     let mut is_clean = true;
     while let Some(act) = claim.home.next_act() {
         is_clean &= carry(rt, gates, registrar, claim, act).is_ok();
+        register_if_awaited(rt, gates, registrar);
     }
+    if registrar.told.is_empty() || !gates.idle_workers().is_any() {
+        return answer_of(is_clean);
+    }
+    register_told(rt, gates, registrar);
     answer_of(is_clean)
 }
 
@@ -76,11 +84,11 @@ fn carry<A: Actor, K: Behaviours, W: RunQueue<BoxedHome<A, K>>, R: Wait>(
     claim: &mut Claim<BoxedHome<A, K>>,
     act: Act,
 ) -> Result<(), AllocError>
-    requires same_gates { IsRegistrarOf W.origin gates.now registrar.old }
+    requires same_gates { IsRunRegistrarOf W.origin gates.now registrar.old }
     requires running { IsRunning K.gives (origin_of gates.now) (act_of act ∷ claim.old.home.value.cell.acts)
         (pass_view registrar.old.pass).log (run_state claim.old) }
     requires backlog { BacklogAgrees (run_state claim.old) }
-    ensures same_gates { IsRegistrarOf W.origin gates.now registrar.new }
+    ensures same_gates { IsRunRegistrarOf W.origin gates.now registrar.new }
     ensures running { IsRunning K.gives (origin_of gates.now) (claim.new.home.value.cell.acts) (pass_view registrar.new.pass).log (run_state claim.new) }
     ensures backlog { BacklogAgrees (run_state claim.new) }
     ensures left { claim.new.home.value.cell.acts ≡ claim.old.home.value.cell.acts }
@@ -120,11 +128,11 @@ fn close<A: Actor, K: Behaviours, W: RunQueue<BoxedHome<A, K>>, R: Wait>(
     registrar: &mut Registrar<BoxedHome<A, K>, W>,
     claim: &mut Claim<BoxedHome<A, K>>,
 ) -> Result<(), AllocError>
-    requires same_gates { IsRegistrarOf W.origin gates.now registrar.old }
+    requires same_gates { IsRunRegistrarOf W.origin gates.now registrar.old }
     requires running { IsRunning K.gives (origin_of gates.now) (CloseSelf ∷ claim.old.home.value.cell.acts)
         (pass_view registrar.old.pass).log (run_state claim.old) }
     requires backlog { BacklogAgrees (run_state claim.old) }
-    ensures same_gates { IsRegistrarOf W.origin gates.now registrar.new }
+    ensures same_gates { IsRunRegistrarOf W.origin gates.now registrar.new }
     ensures running { IsRunning K.gives (origin_of gates.now) (claim.new.home.value.cell.acts) (pass_view registrar.new.pass).log (run_state claim.new) }
     ensures backlog { BacklogAgrees (run_state claim.new) }
     ensures left { claim.new.home.value.cell.acts ≡ claim.old.home.value.cell.acts }

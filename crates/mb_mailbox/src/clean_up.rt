@@ -4,7 +4,8 @@ ghost use Rattle.mb_gate.specs.Accessors.{pass_view, claim_view, held_actor, sta
 ghost use Rattle.mb_gate.specs.View.{Observation};
 ghost use Rattle.mb_home.specs.AtHome.{given_of};
 ghost use Rattle.mb_gate.specs.Untouched.{origin_of};
-ghost use Rattle.mb_register.specs.Caller.{IsRegistrarOf, caller_of, CallerAdvances};
+ghost use Rattle.mb_register.specs.Caller.{caller_of, CallerAdvances};
+ghost use Rattle.mb_mailbox.specs.RunRegistrar.{IsRunRegistrarOf};
 ghost use Rattle.mb_mailbox.specs.OnlyDrained.{WasEnded};
 ghost use Rattle.mb_mailbox.specs.Emptied.{FindsNoMore};
 ghost use Rattle.mb_mailbox.specs.RunSends.{SendsAndAnswers, SendsDue, TakesSystemsIn};
@@ -29,11 +30,11 @@ pub(crate) fn clean_up<A: Actor, K: Behaviours, W: RunQueue<BoxedHome<A, K>>, R:
     registrar: &mut Registrar<BoxedHome<A, K>, W>,
     claim: &mut Claim<BoxedHome<A, K>>,
 ) -> Result<(), AllocError>
-    requires same_gates { IsRegistrarOf W.origin gates.now registrar.old }
+    requires same_gates { IsRunRegistrarOf W.origin gates.now registrar.old }
     requires closed { (status_of claim.old).closed ≡ true }
     requires running { IsRunning K.gives (origin_of gates.now) (claim.old.home.value.cell.acts) (pass_view registrar.old.pass).log (run_state claim.old) }
     requires count { given_of claim.old.home.value ≡ given_to claim.old }
-    ensures same_gates { IsRegistrarOf W.origin gates.now registrar.new }
+    ensures same_gates { IsRunRegistrarOf W.origin gates.now registrar.new }
     ensures running { IsRunning K.gives (origin_of gates.now) (claim.new.home.value.cell.acts) (pass_view registrar.new.pass).log (run_state claim.new) }
     ensures backlog { BacklogAgrees (run_state claim.new) }
     ensures left { claim.new.home.value.cell ≡ claim.old.home.value.cell }
@@ -57,10 +58,10 @@ fn drop_systems<A: Actor, K: Behaviours, W: RunQueue<BoxedHome<A, K>>, R: Wait>(
     registrar: &mut Registrar<BoxedHome<A, K>, W>,
     claim: &mut Claim<BoxedHome<A, K>>,
 )
-    requires same_gates { IsRegistrarOf W.origin gates.now registrar.old }
+    requires same_gates { IsRunRegistrarOf W.origin gates.now registrar.old }
     requires closed { (status_of claim.old).closed ≡ true }
     requires running { IsRunning K.gives (origin_of gates.now) (claim.old.home.value.cell.acts) (pass_view registrar.old.pass).log (run_state claim.old) }
-    ensures same_gates { IsRegistrarOf W.origin gates.now registrar.new }
+    ensures same_gates { IsRunRegistrarOf W.origin gates.now registrar.new }
     ensures closed { (status_of claim.new).closed ≡ true }
     ensures running { IsRunning K.gives (origin_of gates.now) (claim.new.home.value.cell.acts) (pass_view registrar.new.pass).log (run_state claim.new) }
     ensures none { claim.new.home.value.rest ≡ [] }

@@ -13,6 +13,7 @@ mod sending_system;
 mod systems;
 mod telling;
 mod turn;
+mod waking;
 
 pub use run::run_mailbox;
 pub use turn::Turn;

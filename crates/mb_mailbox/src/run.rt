@@ -7,6 +7,7 @@ ghost use Rattle.mb_gate.specs.Accessors.{actors_of, first_home, pass_view, held
 ghost use Rattle.mb_gate.specs.Untouched.{origin_of};
 ghost use Rattle.mb_register.specs.Caller.{IsRegistrarOf, caller_of, IsDischargedOrOwed, LeavesCaller};
 ghost use Rattle.mb_home.specs.Fresh.{IsFreshClaim};
+ghost use Rattle.mb_mailbox.specs.RunRegistrar.{IsRunRegistrarOf, LeavesTelling};
 ghost use Rattle.mb_mailbox.specs.RunState.{run_state};
 ghost use Rattle.mb_mailbox.specs.InRun.{InRun, Advances, StopsRun};
 ghost use Rattle.mb_mailbox.specs.Ran.{HadRoom, HasStopped, IsShortOfMemory, LeavesRun, LosesNoClaimBut};
@@ -15,16 +16,18 @@ ghost use Rattle.mb_mailbox.specs.declared.turn.Turn.{Turn};
 use crate::envelopes::apply_envelopes;
 use crate::systems::apply_systems;
 use crate::turn::Turn;
+use crate::waking::register_told;
 use mb_actor::{Actor, Behaviours};
 use mb_gate::{Claim, Gates, RunQueue};
 use mb_home::BoxedHome;
 use mb_journal::ReadyError;
-use mb_register::{Hint, Registrar};
+use mb_register::{Hint, Owed, Registrar};
 use std::sync::Wait;
 
 /// Runs the mailbox of the claim's actor: all its system messages, and then at most as many envelopes as `throughput` says (0
 /// counts as 1), each followed by all system messages that came. Then the cell is given back, and the actor is registered again
-/// if it has to be given to a worker.
+/// if it has to be given to a worker. Whom the run told something is registered at once where a worker waits for a claim, or no run
+/// on threads is on, and else at the end (this project's own profile: in Akka each message that is sent registers its receiver).
 ///
 /// It answers `JournalFull` if the journal was full before the next message, or before it asked for one more envelope; else
 /// `NoMemory` if memory was refused then, or for an envelope of an actor that ended. The run ends there: what was drained stays
@@ -41,6 +44,40 @@ pub fn run_mailbox<A: Actor, K: Behaviours, W: RunQueue<BoxedHome<A, K>>, R: Wai
     requires same_count { length (first_home gates.now).value.directory ≡ actors_of gates.now }
     ensures same_gates { IsRegistrarOf W.origin gates.now registrar.new }
     ensures caller_advances { LeavesCaller (caller_of W.pushed W.refused registrar.old) (caller_of W.pushed W.refused registrar.new) }
+    ensures claims { LosesNoClaimBut (held_actor claim) (caller_of W.pushed W.refused registrar.old) (caller_of W.pushed W.refused registrar.new) }
+    ensures discharged { IsDischargedOrOwed (held_actor claim) (caller_of W.pushed W.refused registrar.new) }
+    ensures ran { (journal : List Entry) × MatchResult result
+        (λ turn. (stopped : Stopped) × HadRoom stopped
+        × LeavesRun throughput claim (pass_view registrar.old.pass) (pass_view registrar.new.pass) journal turn stopped)
+        (λ _. (turn : Turn) × LeavesRun throughput claim (pass_view registrar.old.pass) (pass_view registrar.new.pass) journal turn NoRoom
+        × (IsErrOf result ReadyError.JournalFull → claim.home.value.cell.who.limit ≤ length journal)) }
+    ensures out_of_memory { IsErrOf result ReadyError.NoMemory → (journal : List Entry) × (turn : Turn)
+        × LeavesRun throughput claim (pass_view registrar.old.pass) (pass_view registrar.new.pass) journal turn NoRoom
+        × IsShortOfMemory claim.home.value.cell.who journal }
+{
+    registrar.told = Owed::none();
+    let outcome = run_and_release(rt, gates, registrar, throughput, claim);
+    if registrar.told.is_empty() {
+        return outcome;
+    }
+    register_told(rt, gates, registrar);
+    outcome
+}
+
+// The run itself, after which the actor is registered again. Whom the run told something while no worker waited is to be registered
+// still: so a worker that is busy goes on with this actor first, and others take those that it told.
+fn run_and_release<A: Actor, K: Behaviours, W: RunQueue<BoxedHome<A, K>>, R: Wait>(
+    rt: &R,
+    gates: &Gates<BoxedHome<A, K>>,
+    registrar: &mut Registrar<BoxedHome<A, K>, W>,
+    throughput: u32,
+    claim: Claim<BoxedHome<A, K>>,
+) -> Result<Turn, ReadyError>
+    requires same_gates { IsRunRegistrarOf W.origin gates.now registrar.old }
+    requires untouched { IsFreshClaim K.gives (Some (origin_of gates.now)) claim }
+    requires same_count { length (first_home gates.now).value.directory ≡ actors_of gates.now }
+    ensures same_gates { IsRunRegistrarOf W.origin gates.now registrar.new }
+    ensures caller_advances { LeavesTelling (caller_of W.pushed W.refused registrar.old) (caller_of W.pushed W.refused registrar.new) }
     ensures claims { LosesNoClaimBut (held_actor claim) (caller_of W.pushed W.refused registrar.old) (caller_of W.pushed W.refused registrar.new) }
     ensures discharged { IsDischargedOrOwed (held_actor claim) (caller_of W.pushed W.refused registrar.new) }
     ensures ran { (journal : List Entry) × MatchResult result

@@ -4,7 +4,8 @@ ghost use Rattle.mb_journal.specs.Acts.Act.{Sys};
 ghost use Rattle.mb_gate.specs.Accessors.{actors_of, pass_view};
 ghost use Rattle.mb_gate.specs.NamedActors.{NamesBelow};
 ghost use Rattle.mb_gate.specs.Untouched.{origin_of};
-ghost use Rattle.mb_register.specs.Caller.{IsRegistrarOf, caller_of, CallerAdvances};
+ghost use Rattle.mb_register.specs.Caller.{caller_of, CallerAdvances};
+ghost use Rattle.mb_mailbox.specs.RunRegistrar.{IsRunRegistrarOf};
 ghost use Rattle.mb_mailbox.specs.Emptied.{IsCleared};
 ghost use Rattle.mb_mailbox.specs.RunSends.{SendsDue};
 ghost use Rattle.mb_mailbox.specs.RunState.{run_state};
@@ -31,11 +32,11 @@ pub(crate) fn send_system<A: Actor, K: Behaviours, W: RunQueue<BoxedHome<A, K>>,
     to: ActorId,
     node: Node,
 )
-    requires same_gates { IsRegistrarOf W.origin gates.now registrar.old }
+    requires same_gates { IsRunRegistrarOf W.origin gates.now registrar.old }
     requires running { IsRunning K.gives (origin_of gates.now) (Sys to node ∷ claim.old.home.value.cell.acts)
         (pass_view registrar.old.pass).log (run_state claim.old) }
     requires backlog { BacklogAgrees (run_state claim.old) }
-    ensures same_gates { IsRegistrarOf W.origin gates.now registrar.new }
+    ensures same_gates { IsRunRegistrarOf W.origin gates.now registrar.new }
     ensures running { IsRunning K.gives (origin_of gates.now) (claim.new.home.value.cell.acts) (pass_view registrar.new.pass).log (run_state claim.new) }
     ensures backlog { BacklogAgrees (run_state claim.new) }
     ensures left { claim.new.home ≡ claim.old.home }
@@ -67,11 +68,11 @@ pub(crate) fn answer<A: Actor, K: Behaviours, W: RunQueue<BoxedHome<A, K>>, R: W
     ended: ActorId,
     node: Node,
 )
-    requires same_gates { IsRegistrarOf W.origin gates.now registrar.old }
+    requires same_gates { IsRunRegistrarOf W.origin gates.now registrar.old }
     requires parent { IfSome parent (λ p. p.0 < actors_of gates.now) }
     requires present { ended.0 < actors_of gates.now }
     requires named { NamesBelow (actors_of gates.now) node }
-    ensures same_gates { IsRegistrarOf W.origin gates.now registrar.new }
+    ensures same_gates { IsRunRegistrarOf W.origin gates.now registrar.new }
     ensures answered { IsAnswered (asker parent node) ended.0 claim.old claim.new }
     ensures caller_advances { CallerAdvances (caller_of W.pushed W.refused registrar.old) (caller_of W.pushed W.refused registrar.new) }
     ensures sends { SendsAsRecorded registrar.old registrar.new claim.old claim.new }
@@ -110,9 +111,9 @@ fn notify<A: Actor, K: Behaviours, W: RunQueue<BoxedHome<A, K>>, R: Wait>(
     ended: ActorId,
     mut node: Node,
 )
-    requires same_gates { IsRegistrarOf W.origin gates.now registrar.old }
+    requires same_gates { IsRunRegistrarOf W.origin gates.now registrar.old }
     requires present { (whom.0 < actors_of gates.now) × (ended.0 < actors_of gates.now) }
-    ensures same_gates { IsRegistrarOf W.origin gates.now registrar.new }
+    ensures same_gates { IsRunRegistrarOf W.origin gates.now registrar.new }
     ensures told { IsNotified whom.0 ended.0 claim.old claim.new }
     ensures caller_advances { CallerAdvances (caller_of W.pushed W.refused registrar.old) (caller_of W.pushed W.refused registrar.new) }
     ensures sends { SendsAsRecorded registrar.old registrar.new claim.old claim.new }

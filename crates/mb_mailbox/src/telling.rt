@@ -5,7 +5,8 @@ ghost use Rattle.mb_gate.specs.Accessors.{actors_of, gates_id, pass_view, pass_i
 ghost use Rattle.mb_gate.specs.Untouched.{origin_of};
 ghost use Rattle.mb_gate.specs.View.{reading};
 ghost use Rattle.mb_home.specs.AgreesWithJournal.{AgreesWithJournal};
-ghost use Rattle.mb_register.specs.Caller.{IsRegistrarOf, caller_of, CallerAdvances};
+ghost use Rattle.mb_register.specs.Caller.{caller_of, CallerAdvances};
+ghost use Rattle.mb_mailbox.specs.RunRegistrar.{IsRunRegistrarOf};
 ghost use Rattle.mb_register.specs.Views.{GotAndGaveBack};
 ghost use Rattle.mb_mailbox.specs.Emptied.{IsCleared};
 ghost use Rattle.mb_mailbox.specs.RunSends.{SendsDue};
@@ -21,8 +22,8 @@ use mb_msg::{ActorId, Body};
 use mb_register::{Hint, Registrar};
 use std::sync::Wait;
 
-/// Sends what the claim's actor tells: reads the receiver's status, counts the envelope, queues it, and registers the receiver.
-/// If the receiver was read as closed, or its queue refused the envelope, that is a dead letter.
+/// Sends what the claim's actor tells: reads the receiver's status, counts the envelope, queues it, and notes that the receiver is
+/// to be registered. If the receiver was read as closed, or its queue refused the envelope, that is a dead letter.
 pub(crate) fn tell<A: Actor, K: Behaviours, W: RunQueue<BoxedHome<A, K>>, R: Wait>(
     rt: &R,
     gates: &Gates<BoxedHome<A, K>>,
@@ -31,11 +32,11 @@ pub(crate) fn tell<A: Actor, K: Behaviours, W: RunQueue<BoxedHome<A, K>>, R: Wai
     to: ActorId,
     body: Body,
 )
-    requires same_gates { IsRegistrarOf W.origin gates.now registrar.old }
+    requires same_gates { IsRunRegistrarOf W.origin gates.now registrar.old }
     requires running { IsRunning K.gives (origin_of gates.now) (Tell to body ∷ claim.old.home.value.cell.acts)
         (pass_view registrar.old.pass).log (run_state claim.old) }
     requires backlog { BacklogAgrees (run_state claim.old) }
-    ensures same_gates { IsRegistrarOf W.origin gates.now registrar.new }
+    ensures same_gates { IsRunRegistrarOf W.origin gates.now registrar.new }
     ensures running { IsRunning K.gives (origin_of gates.now) (claim.new.home.value.cell.acts) (pass_view registrar.new.pass).log (run_state claim.new) }
     ensures backlog { BacklogAgrees (run_state claim.new) }
     ensures left { claim.new.home.value.cell ≡ claim.old.home.value.cell }
@@ -46,12 +47,10 @@ pub(crate) fn tell<A: Actor, K: Behaviours, W: RunQueue<BoxedHome<A, K>>, R: Wai
     ensures told { IsSentOrDead to body (pass_view registrar.old.pass) (pass_view registrar.new.pass) claim.old.home.value claim.new.home.value }
     ensures due { SendsDue [] [] (run_state claim.old) (run_state claim.new) }
 {
-    match send(rt, gates, &mut registrar.pass, &mut claim.home, to, body) {
-        None => {}
-        Some(hint) => {
-            registrar.register(rt, gates, to, hint);
-        }
-    }
+    let Some(_hint) = send(rt, gates, &mut registrar.pass, &mut claim.home, to, body) else {
+        return;
+    };
+    registrar.told.insert(to);
 }
 
 /// Reads the receiver's status, counts the envelope and queues it. `None` where the receiver was read closed, and else what the

@@ -11,7 +11,7 @@ use Rattle.mb_gate.proofs.Numbers.{among_first, among_left, among_right}
 use Rattle.mb_register.specs.Owed.{is_owed}
 use Rattle.mb_register.specs.Registering.{QueueAccount, WasRefused, IsRegistered}
 use Rattle.mb_register.proofs.Bits.{same_or_other}
-use Rattle.mb_register.specs.Caller.{Caller, OwesForRefusals, TakesNothing, IsDischargedOrOwed, CallerAdvances}
+use Rattle.mb_register.specs.Caller.{Caller, OwesForRefusals, TakesNothing, IsDischargedOrOwed, IsTold, CallerAdvances}
 use Rattle.mb_register.proofs.ClaimCounts.{loses-none, loses-then}
 use Rattle.mb_register.proofs.DueLemmas.{got-no-claim, got-further}
 use Rattle.mb_register.proofs.SendingLemmas.{sends-append}
@@ -77,7 +77,8 @@ module _ {H : Type 0} where
     sends_open = tt;
     log = refl;
     account = account-none c.account;
-    obligations = λ id. inr refl;
+    obligations = λ id. inr (inl refl);
+    told = λ id still. inr still;
     share = refl;
     gives_back = unchanged-none _ _ refl;
     claims = loses-none c.account c.view;
@@ -92,18 +93,38 @@ module _ {H : Type 0} where
     log = q.log ∙ ap (λ l. q.more ++ l) p.log ∙ sym (append_assoc q.more p.more a.view.log);
     account = account-then a.account b.account c.account p.account q.account;
     obligations = λ id. by_last id (q.obligations id);
+    told = λ id still. by_told id (p.told id still);
     share = q.share ∙ p.share;
     gives_back = unchanged-then a.view b.view c.view p.gives_back q.gives_back;
     claims = loses-then a.account b.account c.account a.view b.view c.view p.claims q.claims;
     got_due = got-further a.view b.view c.view p.more q.more p.log q.log p.got_due q.got_due;
   }
     where
-      by_first : (id : ℕ) → obligation_to id c.view ≡ obligation_to id b.view → IsDischargedOrOwed id b ⊎ (obligation_to id b.view ≡ obligation_to id a.view) →
-          IsDischargedOrOwed id c ⊎ (obligation_to id c.view ≡ obligation_to id a.view)
-      by_first id kept (inl (inl none)) = inl (inl (kept ∙ none))
-      by_first id kept (inl (inr owed)) = inl (inr (q.account.still id owed))
-      by_first id kept (inr same) = inr (kept ∙ same)
+      settled : (id : ℕ) → IsDischargedOrOwed id b → IsDischargedOrOwed id c ⊎ (obligation_to id c.view ≡ obligation_to id b.view) ⊎ IsTold id c →
+          IsDischargedOrOwed id c ⊎ IsTold id c
+      settled id was (inl discharged) = inl discharged
+      settled id (inl none) (inr (inl kept)) = inl (inl (kept ∙ none))
+      settled id (inr owed) (inr (inl kept)) = inl (inr (q.account.still id owed))
+      settled id was (inr (inr still)) = inr still
 
-      by_last : (id : ℕ) → IsDischargedOrOwed id c ⊎ (obligation_to id c.view ≡ obligation_to id b.view) → IsDischargedOrOwed id c ⊎ (obligation_to id c.view ≡ obligation_to id a.view)
+      by_told : (id : ℕ) → IsDischargedOrOwed id b ⊎ IsTold id b → IsDischargedOrOwed id c ⊎ IsTold id c
+      by_told id (inl was) = settled id was (q.obligations id)
+      by_told id (inr still) = q.told id still
+
+      or_told : (id : ℕ) → IsDischargedOrOwed id c ⊎ IsTold id c →
+          IsDischargedOrOwed id c ⊎ (obligation_to id c.view ≡ obligation_to id a.view) ⊎ IsTold id c
+      or_told id (inl discharged) = inl discharged
+      or_told id (inr still) = inr (inr still)
+
+      by_first : (id : ℕ) → obligation_to id c.view ≡ obligation_to id b.view →
+          IsDischargedOrOwed id b ⊎ (obligation_to id b.view ≡ obligation_to id a.view) ⊎ IsTold id b →
+          IsDischargedOrOwed id c ⊎ (obligation_to id c.view ≡ obligation_to id a.view) ⊎ IsTold id c
+      by_first id kept (inl was) = or_told id (settled id was (inr (inl kept)))
+      by_first id kept (inr (inl same)) = inr (inl (kept ∙ same))
+      by_first id kept (inr (inr still)) = or_told id (q.told id still)
+
+      by_last : (id : ℕ) → IsDischargedOrOwed id c ⊎ (obligation_to id c.view ≡ obligation_to id b.view) ⊎ IsTold id c →
+          IsDischargedOrOwed id c ⊎ (obligation_to id c.view ≡ obligation_to id a.view) ⊎ IsTold id c
       by_last id (inl discharged) = inl discharged
-      by_last id (inr kept) = by_first id kept (p.obligations id)
+      by_last id (inr (inl kept)) = by_first id kept (p.obligations id)
+      by_last id (inr (inr still)) = inr (inr still)

@@ -8,4 +8,4 @@ use Rattle.mb_register.specs.contracts.registrar.Registrar as registrar
 
 module _ (H W : RattleType) (home : IsSend H) (run_queue : IsSend W) where
   pub registrar_send : IsSend (registrar.the_row H W)
-  registrar_send = declared_send (registrar.the_type H W) (gate.pass_send H home, (search sendable, (search (sendable, owed.the_send) depth 20, tt)))
+  registrar_send = declared_send (registrar.the_type H W) (gate.pass_send H home, (search sendable, (search (sendable, owed.the_send) depth 20, (search (sendable, owed.the_send) depth 20, tt))))

@@ -1,16 +1,15 @@
 -- Which claims a caller got, by what it did and saw itself.
-use Rattle.std.proofs.Common.{◌≡◌, ◌⊎◌, inl, inr, ℕ, suc, ◌+◌, ◌≤◌, Bool, true, false}
-use Rattle.std.proofs.Common.{List, [], ◌∷◌, ◌++◌, refl, sym, ap, ◌∙◌, subst, arith, append_assoc, length, length-append}
+use Rattle.std.proofs.Common.{◌≡◌, ◌⊎◌, inl, inr, ℕ, suc, Bool, true, false}
+use Rattle.std.proofs.Common.{List, [], ◌∷◌, ◌++◌, refl, sym, ap, ◌∙◌, subst, arith, append_assoc, length}
 use Rattle.mb_status.specs.Mailbox.{word_of}
-use Rattle.mb_msg.specs.declared.system.SysMsg.{SysMsg}
 use Rattle.mb_ghost.specs.Seen.{Each}
 use Rattle.mb_ghost.proofs.SeenLemmas.{each_append, each_weaker}
 use Rattle.mb_gate.specs.View.{View, Observation, Read, Looked, Counted, Sent, Pushed}
 use Rattle.mb_register.specs.Hint.{has_message_hint, has_system_message_hint}
-use Rattle.mb_register.specs.Views.{Does, IsLook}
-use Rattle.mb_register.specs.Due.{SawSince, SawListed, SawWaiting, SawDue, GotOnlyDue, CountedOne, ListedOne, IsDueSince, GotDue}
+use Rattle.mb_register.specs.Due.{SawSince, SawDue, GotOnlyDue, CountedOne, ListedOne, IsDueSince, GotDue}
 use Rattle.mb_register.specs.Registering.{QueueAccount, HandsClaimOn}
 use Rattle.mb_register.specs.declared.hint.Hint.{Hint}
+use Rattle.mb_register.specs.declared.hint.Hint.TheVariants as hint
 
 -- what stands in the one log since the other stands in that log since that other
 abbrev pub Carries : View → View → View → View → Type 0
@@ -122,46 +121,14 @@ got-registered id hint old new a b d false (inr h) due so same = record {
   due = (so (due-of id hint b d due h.1.got), tt);
 }
 
--- the earliest of some looks
-earliest : (id : ℕ) (looks : List Observation) → Each (IsLook id) looks →
-    (looks ≡ []) ⊎ ((later : List Observation) × (look : Observation) × IsLook id look × (looks ≡ later ++ look ∷ []))
-earliest id [] all = inl refl
-earliest id (s ∷ looks) all = by_rest (earliest id looks all.1)
-  where
-    by_rest : (looks ≡ []) ⊎ ((later : List Observation) × (look : Observation) × IsLook id look × (looks ≡ later ++ look ∷ [])) →
-        (s ∷ looks ≡ []) ⊎ ((later : List Observation) × (look : Observation) × IsLook id look × (s ∷ looks ≡ later ++ look ∷ []))
-    by_rest (inl none) = inr ([], s, all.0, ap (λ l. s ∷ l) none)
-    by_rest (inr it) = inr (s ∷ it.0, it.1, it.2, ap (λ l. s ∷ l) it.3)
+-- what is due without a hint is due by what was seen alone
+pub due-unhinted : (id : ℕ) (a d : View) → SawDue id hint.None a d → IsDueSince id a d
+due-unhinted id a d =
+    due-hinted-by id hint.None a a d [] refl (λ seen has. let e : false ≡ true = has in absurd (cc)) (λ has. let e : false ≡ true = has in absurd (cc))
 
-too-short : (a b d later earlier : ℕ) → a + 2 ≤ b → d ≡ later + (earlier + b + 1) → d ≡ suc (suc a) → ⊥
-too-short a b d later earlier before long short = omega (arith, before, long, short)
-
--- an envelope was counted right after a reading, and then something was read
-pub counted-one : (id word : ℕ) (a d : View) → Does id (Sent id 1 ∷ Read id word ∷ []) [] a d → (s : Observation) (b : View) →
-    length a.log + 2 ≤ length b.log → SawSince s b d → CountedOne id a d
-counted-one id word a d did s b longer saw = by_looks (earliest id did.looks did.only)
-  where
-    whole : length d.log ≡ length saw.later + (length saw.earlier + length b.log + 1)
-    whole =
-        let all = ap length saw.log in
-        let first : length (saw.later ++ s ∷ (saw.earlier ++ b.log)) ≡ length saw.later + suc (length (saw.earlier ++ b.log)) =
-        length-append saw.later (s ∷ (saw.earlier ++ b.log)) in
-        let last = length-append saw.earlier b.log in
-        omega (arith, all, first, last)
-
-    by_looks : (did.looks ≡ []) ⊎ ((later : List Observation) × (look : Observation) × IsLook id look × (did.looks ≡ later ++ look ∷ [])) →
-        CountedOne id a d
-    by_looks (inl none) =
-        absurd (too-short (length a.log) (length b.log) (length d.log) (length saw.later) (length saw.earlier) longer whole
-        (ap length (did.log ∙ ap (λ l. (l ++ Sent id 1 ∷ Read id word ∷ []) ++ a.log) none)))
-    by_looks (inr it) = record {
-      look = it.1;
-      is_look = it.2;
-      later = it.0;
-      earlier = Read id word ∷ [];
-      log =
-          did.log
-          ∙ ap (λ l. (l ++ Sent id 1 ∷ Read id word ∷ []) ++ a.log) it.3
-          ∙ append_assoc (it.0 ++ it.1 ∷ []) (Sent id 1 ∷ Read id word ∷ []) a.log
-          ∙ append_assoc it.0 (it.1 ∷ []) (Sent id 1 ∷ Read id word ∷ a.log);
-    }
+pub got-unhinted : (a d : View) → GotOnlyDue hint.None a d → GotDue a d
+got-unhinted a d g = record {
+  of_these = g.of_these;
+  got = g.got;
+  due = each_weaker (λ id. SawDue id hint.None a d) (λ id. IsDueSince id a d) g.of_these (λ id. due-unhinted id a d) g.due;
+}

@@ -12,3 +12,4 @@ pub mod SendingLemmas
 pub mod CallerLemmas
 pub mod Joining
 pub mod MoveLemmas
+pub mod ToldLemmas

@@ -1,16 +1,19 @@
 -- What a caller did at one actor and saw there, step after step.
-use Rattle.std.proofs.Common.{◌≡◌, ◌≢◌, ◌⊎◌, inl, inr, ℕ, List, ◌++◌, sym, ap, ◌∙◌, subst, append_assoc}
+use Rattle.std.proofs.Common.{◌≡◌, ◌≢◌, ◌<◌, ◌≤◌, ◌⊎◌, inl, inr, ℕ, Bool, true, false, List, ◌++◌, refl, sym, ap, ◌∙◌, subst, append_assoc}
+use Rattle.std.proofs.lemmas.Bool.{cases_lt}
 use Rattle.mb_ghost.specs.Seen.{Each}
 use Rattle.mb_ghost.proofs.SeenLemmas.{each_append, each_weaker}
 use Rattle.mb_gate.specs.View.{View, Observation, SentSystem, obligation_to}
 use Rattle.mb_gate.specs.View.{Read, Saw, Counted, Looked, Sent, Unsent, Took, Pushed, Drained, Ended}
-use Rattle.mb_register.specs.Views.{Does, GivesBackUnchanged, IsLook}
+use Rattle.mb_register.specs.declared.owed.Owed.{Owed}
+use Rattle.mb_register.specs.Owed.{is_owed}
+use Rattle.mb_register.specs.Views.{Does, GivesBackUnchanged, IsLook, LooksAmong}
 use Rattle.mb_register.proofs.Bits.{same_or_other}
-use Rattle.mb_register.specs.Caller.{Caller, OwesForRefusals, TakesNothing, IsDischargedOrOwed, CallerAdvances}
+use Rattle.mb_register.specs.Caller.{Caller, OwesForRefusals, TakesNothing, IsDischargedOrOwed, IsTold, CallerAdvances}
 use Rattle.mb_register.specs.Due.{GotDue}
 use Rattle.mb_register.specs.Registering.{LosesNoClaim}
 use Rattle.mb_register.specs.Sending.{SendsOpen}
-use Rattle.mb_register.proofs.SendingLemmas.{looks-send-none, sends-append}
+use Rattle.mb_register.proofs.SendingLemmas.{among-sends-none, looks-send-none, sends-append}
 use Rattle.mb_register.proofs.Unchanged.{unchanged-then}
 
 -- it saw more, has the share that it had, gave each cell back as it was taken, and owes every other actor what it owed before
@@ -70,18 +73,68 @@ moves-obligations id a b m discharged other = by_actor (same_or_other other id)
     by_actor (inl same) = inl (subst (λ n. IsDischargedOrOwed n b) (sym same) discharged)
     by_actor (inr apart) = inr (m.others other apart)
 
--- and each claim that it got is of an actor that was due, and none was lost
-pub further-moves : {H : Type 0} (id : ℕ) (a b : Caller H) → Moves id a.view b.view → OwesForRefusals a.account b.account → IsDischargedOrOwed id b →
+-- or it is to register the actor still
+moves-obligations-told : {H : Type 0} (id : ℕ) (a b : Caller H) → Moves id a.view b.view → IsDischargedOrOwed id b ⊎ IsTold id b → (other : ℕ) →
+    IsDischargedOrOwed other b ⊎ (obligation_to other b.view ≡ obligation_to other a.view) ⊎ IsTold other b
+moves-obligations-told id a b m here other = by_actor (same_or_other other id) here
+  where
+    by_actor : (other ≡ id) ⊎ (other ≢ id) → IsDischargedOrOwed id b ⊎ IsTold id b →
+        IsDischargedOrOwed other b ⊎ (obligation_to other b.view ≡ obligation_to other a.view) ⊎ IsTold other b
+    by_actor (inl same) (inl discharged) = inl (subst (λ n. IsDischargedOrOwed n b) (sym same) discharged)
+    by_actor (inl same) (inr still) = inr (inr (subst (λ n. IsTold n b) (sym same) still))
+    by_actor (inr apart) either = inr (inl (m.others other apart))
+
+-- each claim that it got is of an actor that was due, and none was lost; and it is to register whom it was to register before
+pub further-tells : {H : Type 0} (id : ℕ) (a b : Caller H) → Moves id a.view b.view → OwesForRefusals a.account b.account →
+    IsDischargedOrOwed id b ⊎ IsTold id b → ((other : ℕ) → IsTold other a → IsTold other b) →
     LosesNoClaim a.account b.account a.view b.view → GotDue a.view b.view → CallerAdvances a b
-further-moves id a b m account discharged claims got_due = record {
+further-tells id a b m account here told claims got_due = record {
   more = m.more;
   took_none = m.took_none;
   sends_open = m.sends_open;
   log = m.log;
   account = account;
-  obligations = moves-obligations id a b m discharged;
+  obligations = moves-obligations-told id a b m here;
+  told = λ other still. inr (told other still);
   share = m.share;
   gives_back = m.gives_back;
   claims = claims;
   got_due = got_due;
 }
+
+-- the same, where it told nobody something that it has not registered since
+pub further-moves : {H : Type 0} (id : ℕ) (a b : Caller H) → Moves id a.view b.view → OwesForRefusals a.account b.account → IsDischargedOrOwed id b →
+    b.told ≡ a.told → LosesNoClaim a.account b.account a.view b.view → GotDue a.view b.view → CallerAdvances a b
+further-moves id a b m account discharged same claims got_due =
+    further-tells id a b m account (inl discharged) (λ other still. (still.0, ap (λ (o : Owed). is_owed o other) same ∙ still.1)) claims got_due
+
+-- who looks at some actors takes nothing and sends nothing
+pub among-takes-none : (among : ℕ → Bool) (looks : List Observation) → Each (λ (s : Observation). (id : ℕ) × (among id ≡ true) × IsLook id s) looks →
+    Each TakesNothing looks
+among-takes-none among looks =
+    each_weaker (λ (s : Observation). (id : ℕ) × (among id ≡ true) × IsLook id s) TakesNothing looks (λ s is. look-takes-none is.0 s is.2)
+
+-- the actors that it told something were registered
+pub further-told : {H : Type 0} (a b : Caller H) → LooksAmong (is_owed a.told) a.view b.view →
+    ((id : ℕ) → 64 ≤ id → obligation_to id b.view ≡ obligation_to id a.view) →
+    ((id : ℕ) → id < 64 → is_owed a.told id ≡ true → IsDischargedOrOwed id b) → OwesForRefusals a.account b.account →
+    LosesNoClaim a.account b.account a.view b.view → GotDue a.view b.view → CallerAdvances a b
+further-told a b looks beyond discharged account claims got_due = record {
+  more = looks.looks;
+  took_none = among-takes-none (is_owed a.told) looks.looks looks.only;
+  sends_open = among-sends-none (is_owed a.told) looks.looks looks.only;
+  log = looks.log;
+  account = account;
+  obligations = λ id. by_set id (is_owed a.told id) refl (cases_lt id 64);
+  told = λ id still. inl (discharged id still.0 still.1);
+  share = looks.share;
+  gives_back = looks.gives_back;
+  claims = claims;
+  got_due = got_due;
+}
+  where
+    by_set : (id : ℕ) (among : Bool) → is_owed a.told id ≡ among → (id < 64) ⊎ (64 ≤ id) →
+        IsDischargedOrOwed id b ⊎ (obligation_to id b.view ≡ obligation_to id a.view) ⊎ IsTold id b
+    by_set id true is (inl few) = inl (discharged id few is)
+    by_set id true is (inr many) = inr (inl (beyond id many))
+    by_set id false is place = inr (inl (looks.others id is))

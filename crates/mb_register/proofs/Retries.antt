@@ -74,7 +74,7 @@ module _ (among : ℕ → Bool) where
   }
 
   -- one more actor of the set
-  among-then : (id : ℕ) (u v w : View) → among id ≡ true → LooksAmong among u v → LooksAfter id v w → LooksAmong among u w
+  pub among-then : (id : ℕ) (u v w : View) → among id ≡ true → LooksAmong among u v → LooksAfter id v w → LooksAmong among u w
   among-then id u v w in_set a b = record {
     looks = b.looks ++ a.looks;
     only = each_append (λ (s : Observation). (i : ℕ) × (among i ≡ true) × IsLook i s) b.looks a.looks

@@ -50,6 +50,13 @@ looks-send-none id (Pushed a number message ∷ looks) each = absurd each.0
 looks-send-none id (Drained a given ∷ looks) each = absurd each.0
 looks-send-none id (Ended a given ∷ looks) each = absurd each.0
 
+-- the same, at some actors
+pub among-sends-none : (among : ℕ → Bool) (looks : List Observation) → Each (λ (s : Observation). (id : ℕ) × (among id ≡ true) × IsLook id s) looks →
+    SendsOpen looks
+among-sends-none among [] each = tt
+among-sends-none among (s ∷ looks) each =
+    sends-append (s ∷ []) looks (looks-send-none each.0.0 (s ∷ []) (each.0.2, tt)) (among-sends-none among looks each.1)
+
 -- what was done after a reading was done with it
 pub does-read : (id word : ℕ) (did : List Observation) (told : List SentSystem) (a b c : View) → b ≡ reading id word a → Does id did told b c →
     Does id (did ++ Read id word ∷ []) told a c

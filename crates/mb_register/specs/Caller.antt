@@ -1,5 +1,5 @@
 -- What a run changes of its caller: what the caller's pass knows and owes, and its account with the run queue.
-use Rattle.std.specs.Prelude.{◌≡◌, ◌≤◌, ◌⊎◌, ℕ, true, List, ◌++◌, Option, Some}
+use Rattle.std.specs.Prelude.{◌≡◌, ◌<◌, ◌≤◌, ◌⊎◌, ℕ, true, List, ◌++◌, Option, Some}
 use Rattle.mb_core.specs.Actor.{nothing}
 use Rattle.mb_ghost.specs.Seen.{Each}
 use Rattle.mb_gate.specs.declared.claim.Claim.{Claim}
@@ -7,6 +7,7 @@ use Rattle.mb_gate.specs.declared.gates.Gates.{Gates}
 use Rattle.mb_gate.specs.Accessors.{held_actor, gates_id, pass_id, actors_of, pass_view}
 use Rattle.mb_gate.specs.Rule.{IsAmong, IsPart}
 use Rattle.mb_gate.specs.View.{View, Observation, Read, Saw, Counted, Looked, Sent, Unsent, Took, Pushed, Drained, Ended, obligation_to}
+use Rattle.mb_register.specs.declared.owed.Owed.{Owed}
 use Rattle.mb_register.specs.declared.registrar.Registrar.{Registrar}
 use Rattle.mb_gate.specs.Untouched.{Origin, origin_of}
 use Rattle.mb_register.specs.Due.{GotDue}
@@ -15,10 +16,11 @@ use Rattle.mb_register.specs.Registering.{QueueAccount, LosesNoClaim}
 use Rattle.mb_register.specs.Sending.{SendsOpen}
 use Rattle.mb_register.specs.Views.{GivesBackUnchanged}
 
--- What a caller's pass knows and owes, and its account with the run queue.
+-- What a caller's pass knows and owes, its account with the run queue, and the actors that a run told something and has not registered yet.
 pub record Caller (H : Type 0) : Type 0 where
   pub view : View
   pub account : QueueAccount H
+  pub told : Owed
 
 -- No envelope was taken.
 abbrev pub TakesNothing : Observation → Type 0
@@ -50,6 +52,7 @@ module _ {H W : Type 0} where
   caller_of pushed refused registrar = record {
     view = pass_view registrar.pass;
     account = record { pushed = pushed registrar.run_queue; refused = refused registrar.run_queue; owed = registrar.owed };
+    told = registrar.told;
   }
 
 module _ {H : Type 0} where
@@ -65,15 +68,21 @@ module _ {H : Type 0} where
   abbrev pub IsDischargedOrOwed : ℕ → Caller H → Type 0
   IsDischargedOrOwed id caller = (obligation_to id caller.view ≡ nothing) ⊎ (is_owed caller.account.owed id ≡ true)
 
+  -- A run told this actor something, and has not registered it yet.
+  abbrev pub IsTold : ℕ → Caller H → Type 0
+  IsTold id caller = (id < 64) × (is_owed caller.told id ≡ true)
+
   -- It saw more, took no envelope, sent only to actors that it read as open, kept its share, and gave each cell back as it was taken. To each actor it
-  -- owes nothing, or the actor is in its set, or it owes what it did before. Each claim that it got is of an actor that was due, and none was lost.
+  -- owes nothing, or the actor is in its set, or it owes what it did before, or it is to register the actor still. Each claim that it got is of an
+  -- actor that was due, and none was lost.
   pub record CallerAdvances (old new : Caller H) : Type 0 where
     pub more : List Observation
     pub took_none : Each TakesNothing more
     pub sends_open : SendsOpen more
     pub log : new.view.log ≡ more ++ old.view.log
     pub account : OwesForRefusals old.account new.account
-    pub obligations : (id : ℕ) → IsDischargedOrOwed id new ⊎ (obligation_to id new.view ≡ obligation_to id old.view)
+    pub obligations : (id : ℕ) → IsDischargedOrOwed id new ⊎ (obligation_to id new.view ≡ obligation_to id old.view) ⊎ IsTold id new
+    pub told : (id : ℕ) → IsTold id old → IsDischargedOrOwed id new ⊎ IsTold id new
     pub share : new.view.share ≡ old.view.share
     pub gives_back : GivesBackUnchanged old.view new.view
     pub claims : LosesNoClaim old.account new.account old.view new.view

@@ -12,6 +12,7 @@ mod owed;
 mod registrar;
 mod retrying;
 mod still_refused;
+mod told;
 mod untouched;
 
 pub use hint::Hint;

@@ -4,7 +4,8 @@ ghost use Rattle.mb_register.specs.Owed.{is_owed, IsFirst, IsNobody};
 
 use mb_msg::ActorId;
 
-/// The actors whose claims the run queue refused when they were registered. Whoever has the set owes each of them a look.
+/// Actors to which whoever has the set owes a look: those whose claims the run queue refused when they were registered, or those
+/// that a run told something and has not registered yet.
 #[derive(Clone, Copy, Debug, PartialEq, Eq)]
 pub struct Owed {
     // Bit n is set for actor n.

@@ -26,6 +26,8 @@ pub struct Registrar<H, W> {
     pub run_queue: W,
     /// The actors to which it owes a look.
     pub owed: Owed,
+    /// The actors that a run told something and has not registered yet. Between two runs there are none.
+    pub told: Owed,
 }
 
 impl<H: MailboxState, W: RunQueue<H>> Registrar<H, W> {
@@ -51,6 +53,7 @@ impl<H: MailboxState, W: RunQueue<H>> Registrar<H, W> {
             (record { pushed = W.pushed self.new.run_queue; refused = W.refused self.new.run_queue; owed = self.new.owed })
             (pass_view self.old.pass) (pass_view self.new.pass) result }
         ensures due { GotOnlyDue hint (pass_view self.old.pass) (pass_view self.new.pass) }
+        ensures told { self.new.told ≡ self.old.told }
     {
         if !is_due(gates, &mut self.pass, id, hint) {
             return false;
@@ -74,6 +77,7 @@ impl<H: MailboxState, W: RunQueue<H>> Registrar<H, W> {
             (record { pushed = W.pushed self.old.run_queue; refused = W.refused self.old.run_queue; owed = self.old.owed })
             (record { pushed = W.pushed self.new.run_queue; refused = W.refused self.new.run_queue; owed = self.new.owed })
             (pass_view self.old.pass) (pass_view self.new.pass) result }
+        ensures told { self.new.told ≡ self.old.told }
     {
         let Some(claim) = take_due(rt, gates, &mut self.pass, id, hint) else {
             return false;

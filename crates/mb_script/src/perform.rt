@@ -56,6 +56,7 @@ fn after_operation(state: i64, operation: Operation, value: i64) -> i64
 }
 
 /// Asks for the effect of an operation, if it has one.
+#[inline(always)]
 fn ask(operation: Operation, value: i64, out: &mut Outbox)
     ensures asked { out.new ≡ asked (effect_of value operation) out.old }
     ensures actors { out.new.actors ≡ out.old.actors }

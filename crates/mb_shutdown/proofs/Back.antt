@@ -84,7 +84,7 @@ module _ {A K : Type 0} where
     system = built.system;
     ends = with_item built.ends 0 (record {
       number = first.number;
-      registrar = record { pass = pass; run_queue = first.registrar.run_queue; owed = first.registrar.owed };
+      registrar = record { pass = pass; run_queue = first.registrar.run_queue; owed = first.registrar.owed; told = first.registrar.told };
     });
     senders = built.senders;
   }
@@ -97,10 +97,10 @@ module _ {A K : Type 0} where
         system = refl;
         senders = refl;
         first = first;
-        first' = record { number = first.number; registrar = record { pass = pass; run_queue = first.registrar.run_queue; owed = first.registrar.owed } };
+        first' = record { number = first.number; registrar = record { pass = pass; run_queue = first.registrar.run_queue; owed = first.registrar.owed; told = first.registrar.told } };
         rest = parts.0;
         was = parts.1;
-        is = parts.2 (record { number = first.number; registrar = record { pass = pass; run_queue = first.registrar.run_queue; owed = first.registrar.owed } });
+        is = parts.2 (record { number = first.number; registrar = record { pass = pass; run_queue = first.registrar.run_queue; owed = first.registrar.owed; told = first.registrar.told } });
         others = (refl, refl, refl);
         same_gates = ours;
         knew = refl;

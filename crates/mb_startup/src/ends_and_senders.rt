@@ -99,6 +99,7 @@ fn open_senders<A: Actor, K: Behaviours>(
             pass: gates.new_pass(pass),
             run_queue: FeedPort::new(feed),
             owed: Owed::none(),
+            told: Owed::none(),
         };
         let by = SenderId(ACTORS + senders.len() as u32);
         let inner = mb_send::GatesSender::new(alloc, by, registrar, sends);
@@ -130,6 +131,7 @@ fn open_ends<A: Actor, K: Behaviours>(
             pass: gates.new_pass(pass),
             run_queue: WorkerPort::new(end),
             owed: Owed::none(),
+            told: Owed::none(),
         };
         let number = opened.len() as u32;
         opened.push(WorkerEnd { number, registrar })?;

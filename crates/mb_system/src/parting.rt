@@ -14,6 +14,7 @@ pub(crate) fn pass_of<H, W: Drop>(registrar: Registrar<H, W>) -> Pass<H>
         pass,
         run_queue: _,
         owed: _,
+        told: _,
     } = registrar;
     pass
 }

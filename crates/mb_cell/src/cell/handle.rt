@@ -13,6 +13,8 @@ use mb_status::Status;
 
 impl<A: Actor, K: Behaviours> Cell<A, K> {
     /// An envelope for the actor itself: its `receive` is called.
+    // Inlined into the run, so that what was taken stays in registers.
+    #[inline(always)]
     pub(super) fn apply_message(&mut self, reading: Status, envelope: Envelope, message: Message)
         requires may_handle { MayHandle self.old envelope (word_of reading) }
         requires calls { envelope_call envelope.body ≡ Some (Call.Receive message) }

@@ -38,6 +38,8 @@ impl<H: MailboxState> Gates<H> {
             actors,
             first: _,
             after: _,
+            idle_workers: _,
+            behind: _,
         } = self;
         let Pass { seat } = pass;
         let mut closed = table.close_with(seat);

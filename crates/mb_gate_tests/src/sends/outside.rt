@@ -51,6 +51,7 @@ impl Drop for Outside {
             pass: _,
             run_queue: _,
             owed: _,
+            told: _,
         } = registrar;
     }
 }
@@ -79,6 +80,7 @@ impl Outside {
             pass,
             run_queue: OnePlace::new(&gates),
             owed: Owed::none(),
+            told: Owed::none(),
         };
         let sender = GatesSender::new(alloc, ME, registrar, sends);
         Ok(Outside {

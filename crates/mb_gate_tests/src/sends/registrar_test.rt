@@ -32,6 +32,7 @@ impl Drop for RegistrarTest {
             pass: _,
             run_queue: _,
             owed: _,
+            told: _,
         } = registrar;
     }
 }
@@ -45,6 +46,7 @@ impl RegistrarTest {
             pass,
             run_queue,
             owed: Owed::none(),
+            told: Owed::none(),
         };
         Ok(RegistrarTest { gates, registrar })
     }

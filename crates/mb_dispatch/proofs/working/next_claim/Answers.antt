@@ -94,37 +94,37 @@ returns-in_err-retry_refused-clause-fault g c =
 
 pub returns-clause-same_gates : goal.returns-clause-same_gates
 returns-clause-same_gates g c =
-    let same = c.wait.ensures.same in let ours = c.retry_refused.ensures.same_gates in (ap pass_id same.0 ∙ ours.0, same.2 ∙ ours.1, ours.2)
+    let same = c.wait-next.ensures.same in let ours = c.retry_refused.ensures.same_gates in (ap pass_id same.0 ∙ ours.0, same.2 ∙ ours.1, ours.2)
 
 pub returns-clause-untouched : goal.returns-clause-untouched
 returns-clause-untouched g c =
-    subst (λ (o : Option (Origin (Box Contents))). IfSome c.wait.result (IsFreshClaim g.K.Behaviours.gives o)) c.retry_refused.ensures.same_gates.1 c.wait.ensures.untouched
+    subst (λ (o : Option (Origin (Box Contents))). IfSome c.wait-next.result (IsFreshClaim g.K.Behaviours.gives o)) c.retry_refused.ensures.same_gates.1 c.wait-next.ensures.untouched
 
 pub returns-clause-discharged : goal.returns-clause-discharged
 returns-clause-discharged g c =
-    if_none c.wait.result (λ id lt. ap (λ o. is_owed o id) c.wait.ensures.same.1 ∙ c.in_ok-retry_refused.ensures.done id lt)
+    if_none c.wait-next.result (λ id lt. ap (λ o. is_owed o id) c.wait-next.ensures.same.1 ∙ c.in_ok-retry_refused.ensures.done id lt)
 
 pub returns-clause-empty : goal.returns-clause-empty
-returns-clause-empty g c = c.wait.ensures.empty
+returns-clause-empty g c = c.wait-next.ensures.empty
 
 pub returns-clause-obligations : goal.returns-clause-obligations
 returns-clause-obligations g c =
-    let same = c.take.ensures.same in let waited = c.wait.ensures.same in let actors = actors_of c.args.system.now.gates in let first = end_caller c.args.end.now.registrar in
-    let taken = end_caller c.take.new.self.registrar in let retried = end_caller c.retry_refused.new.self.registrar in let new = end_caller c.wait.new.end.registrar in
+    let same = c.take.ensures.same in let waited = c.wait-next.ensures.same in let actors = actors_of c.args.system.now.gates in let first = end_caller c.args.end.now.registrar in
+    let taken = end_caller c.take.new.self.registrar in let retried = end_caller c.retry_refused.new.self.registrar in let new = end_caller c.wait-next.new.end.registrar in
     obligations-then actors first taken new (obligations-same actors first taken (ap pass_view same.0) same.1)
     (obligations-then actors taken retried new c.retry_refused.ensures.obligations (obligations-same actors retried new (ap pass_view waited.0) waited.1))
 
 pub returns-clause-number : goal.returns-clause-number
-returns-clause-number g c = c.wait.ensures.same.3 ∙ c.retry_refused.ensures.number ∙ c.take.ensures.same.3
+returns-clause-number g c = c.wait-next.ensures.same.3 ∙ c.retry_refused.ensures.number ∙ c.take.ensures.same.3
 
 pub returns-clause-looks : goal.returns-clause-looks
 returns-clause-looks g c =
-    subst (λ p. OnlyLooks (pass_view c.args.end.now.registrar.pass) (pass_view p)) (sym c.wait.ensures.same.0)
+    subst (λ p. OnlyLooks (pass_view c.args.end.now.registrar.pass) (pass_view p)) (sym c.wait-next.ensures.same.0)
     (subst (λ p. OnlyLooks (pass_view p) (pass_view c.retry_refused.new.self.registrar.pass)) c.take.ensures.same.0 c.retry_refused.ensures.looks)
 
 pub returns-clause-log_kept : goal.returns-clause-log_kept
 returns-clause-log_kept g c =
-    subst (λ p. IsPart (pass_view c.args.end.now.registrar.pass).log (pass_view p).log) (sym c.wait.ensures.same.0)
+    subst (λ p. IsPart (pass_view c.args.end.now.registrar.pass).log (pass_view p).log) (sym c.wait-next.ensures.same.0)
     (subst (λ p. IsPart (pass_view p).log (pass_view c.retry_refused.new.self.registrar.pass).log) c.take.ensures.same.0 c.retry_refused.ensures.log_kept)
 
 pub returns-clause-fault : goal.returns-clause-fault

@@ -14,7 +14,8 @@ use Rattle.mb_mailbox.proofs.BacklogLemmas.{keeps-same, keeps-then}
 use Rattle.mb_register.proofs.CallerLemmas.{further-none, further-then}
 use Rattle.mb_mailbox.proofs.EmptiedLemmas.{and-both, and-one, cleared-same, cleared-then, err-so, ok-so, ok-then}
 use Rattle.mb_mailbox.proofs.TellingLemmas.{running-own, running-next, backlog-next, keeps-next}
-use Rattle.mb_mailbox.proofs.RecordedLemmas.{alike-still, alike-then}
+use Rattle.mb_mailbox.proofs.RecordedLemmas.{alike-looks, alike-still, alike-then}
+use Rattle.mb_mailbox.proofs.SendSystemLemmas.{running-caller_advances}
 use Rattle.mb_mailbox.proofs.RunSendsLemmas.{due-none, due-then, one-first}
 use Rattle.mb_msg.specs.declared.system.SysMsg.{SysMsg}
 use Rattle.mb_mailbox.specs.RunSends.{SendsDue}
@@ -58,16 +59,20 @@ carry-requires-clause-backlog g c =
     c.next_act.ensures.same in
     backlog-next (run_state c.loop-act.claim) new same c.loop-act.invariant.2
 
+pub register_if_awaited-requires : goal.register_if_awaited-requires
+register_if_awaited-requires g c = record { same_gates = c.carry.ensures.same_gates }
+
 pub loop-act-preserved : goal.loop-act-preserved
 loop-act-preserved g c =
     let new : Contents = c.next_act.new.self in
     let same = subst (λ (x : Contents). new ≡ record x { cell = record x.cell { acts = new.cell.acts } }) c.deref_mut.ensures.value
     c.next_act.ensures.same in (
-      c.carry.ensures.same_gates,
-      c.carry.ensures.running,
+      c.register_if_awaited.ensures.same_gates,
+      running-caller_advances g.K.Behaviours.gives (origin_of c.args.gates.now) c.carry.new.claim.home.value.cell.acts _ _ (run_state c.carry.new.claim)
+          c.register_if_awaited.ensures.caller_advances c.carry.ensures.running,
       c.carry.ensures.backlog,
       keeps-then _ _ _ c.loop-act.invariant.3 (keeps-then _ _ _ (keeps-next (run_state c.loop-act.claim) new same) c.carry.ensures.same),
-      further-then _ _ _ c.loop-act.invariant.4 c.carry.ensures.caller_advances,
+      further-then _ _ _ c.loop-act.invariant.4 (further-then _ _ _ c.carry.ensures.caller_advances c.register_if_awaited.ensures.caller_advances),
       λ clean. let both = and-both c.loop-act.is_clean c.is_ok-is_clean.result clean in
           let before = run_state c.loop-act.claim in
           let next : RunState = record before { home = new } in
@@ -80,7 +85,7 @@ loop-act-preserved g c =
           ended-either before (run_state c.carry.new.claim) c.carry.result keeps c.loop-act.invariant.6 c.carry.ensures.ended
           (and-one c.loop-act.is_clean (is_ok c.carry.result)
           (ap (λ b. c.loop-act.is_clean && b) (sym c.is_ok-is_clean.ensures.value) ∙ not_clean)),
-      alike-then _ _ _ _ _ _ c.loop-act.invariant.7 c.carry.ensures.sends,
+      alike-then _ _ _ _ _ _ c.loop-act.invariant.7 (alike-then _ _ _ _ _ _ c.carry.ensures.sends (alike-looks _ _ _ c.register_if_awaited.ensures.looks _)),
       let inv = c.loop-act.invariant in
           let before = run_state c.loop-act.claim in
           let next : RunState = record before { home = new } in
@@ -107,10 +112,10 @@ loop-act-smaller g c =
     let before = ap (λ (l : List Act). length l) taken in
     omega (arith, left, before)
 
--- ---- none is left
+-- ---- none is left, and the run told nobody anything that it has not registered since
 
-pub returns-clause-running : goal.returns-clause-running
-returns-clause-running g c =
+pub returns-then-is_empty-clause-running : goal.returns-then-is_empty-clause-running
+returns-then-is_empty-clause-running g c =
     let new : Contents = c.next_act.new.self in
     let same = subst (λ (x : Contents). new ≡ record x { cell = record x.cell { acts = new.cell.acts } }) c.deref_mut.ensures.value
     c.next_act.ensures.same in
@@ -120,6 +125,77 @@ returns-clause-running g c =
     (record (run_state c.loop-act.claim) { home = new })) none
     (running-next (run_state c.loop-act.claim) new same g.K.Behaviours.gives (origin_of c.args.gates.now) (pass_view c.loop-act.registrar.pass).log
     new.cell.acts taken c.in_default.ensures.settled c.loop-act.invariant.1)
+
+pub returns-then-is_empty-clause-backlog : goal.returns-then-is_empty-clause-backlog
+returns-then-is_empty-clause-backlog g c =
+    let new : Contents = c.next_act.new.self in
+    let same = subst (λ (x : Contents). new ≡ record x { cell = record x.cell { acts = new.cell.acts } }) c.deref_mut.ensures.value
+    c.next_act.ensures.same in
+    backlog-next (run_state c.loop-act.claim) new same c.loop-act.invariant.2
+
+pub returns-then-is_empty-clause-carried_out : goal.returns-then-is_empty-clause-carried_out
+returns-then-is_empty-clause-carried_out g c = sym c.in_default.ensures.taken ∙ c.in_default.ensures.none
+
+pub returns-then-is_empty-clause-same : goal.returns-then-is_empty-clause-same
+returns-then-is_empty-clause-same g c =
+    let new : Contents = c.next_act.new.self in
+    let same = subst (λ (x : Contents). new ≡ record x { cell = record x.cell { acts = new.cell.acts } }) c.deref_mut.ensures.value
+    c.next_act.ensures.same in
+    keeps-then _ _ _ c.loop-act.invariant.3 (keeps-next (run_state c.loop-act.claim) new same)
+
+pub returns-then-is_empty-clause-cleared : goal.returns-then-is_empty-clause-cleared
+returns-then-is_empty-clause-cleared g c =
+    let new : Contents = c.next_act.new.self in
+    let same = subst (λ (x : Contents). new ≡ record x { cell = record x.cell { acts = new.cell.acts } }) c.deref_mut.ensures.value
+    c.next_act.ensures.same in
+    let before = run_state c.loop-act.claim in
+    ok-so c.answer_of.result
+    (λ clean. cleared-then (run_state c.args.claim.now) before (record before { home = new }) c.loop-act.invariant.3.same.takes
+    (c.loop-act.invariant.5 clean)
+    (cleared-same before (record before { home = new }) refl (ap (λ (x : Contents). x.take) same))) c.answer_of.ensures.clean
+
+pub returns-then-is_empty-clause-ended : goal.returns-then-is_empty-clause-ended
+returns-then-is_empty-clause-ended g c =
+    let new : Contents = c.next_act.new.self in
+    let same = subst (λ (x : Contents). new ≡ record x { cell = record x.cell { acts = new.cell.acts } }) c.deref_mut.ensures.value
+    c.next_act.ensures.same in
+    let before = run_state c.loop-act.claim in
+    err-so c.answer_of.result
+    (λ not_clean. ended-keeps before (record before { home = new }) (keeps-next before new same) (c.loop-act.invariant.6 not_clean))
+    c.answer_of.ensures.not_clean
+
+pub returns-then-is_empty-clause-sends : goal.returns-then-is_empty-clause-sends
+returns-then-is_empty-clause-sends g c = c.loop-act.invariant.7
+
+pub returns-then-is_empty-clause-due : goal.returns-then-is_empty-clause-due
+returns-then-is_empty-clause-due g c =
+    let inv = c.loop-act.invariant in
+    let new : Contents = c.next_act.new.self in
+    let same = subst (λ (x : Contents). new ≡ record x { cell = record x.cell { acts = new.cell.acts } }) c.deref_mut.ensures.value
+    c.next_act.ensures.same in
+    let before = run_state c.loop-act.claim in
+    let next : RunState = record before { home = new } in
+    let none = sym (ap (λ (x : Contents). x.cell.acts) c.deref_mut.ensures.value) ∙ c.in_default.ensures.none in
+    let all = inv.8.left ∙ ap (λ l. inv.8.due ++ messages_of l) none ∙ append-nil inv.8.due in
+    let last = due-none before next refl refl (ap (λ (x : Contents). x.rest) same) (λ shut. shut) in
+    subst (λ (x : List (ℕ × SysMsg)). SendsDue x [] (run_state c.args.claim.now) next) (append-nil inv.8.due ∙ sym all)
+    (due-then (run_state c.args.claim.now) before next inv.3.same.actor inv.3.same.who inv.8.due [] [] [] inv.8.sends last)
+
+-- ---- none is left
+
+pub returns-clause-running : goal.returns-clause-running
+returns-clause-running g c =
+    let new : Contents = c.next_act.new.self in
+    let same = subst (λ (x : Contents). new ≡ record x { cell = record x.cell { acts = new.cell.acts } }) c.deref_mut.ensures.value
+    c.next_act.ensures.same in
+    let taken = sym (ap (λ (x : Contents). x.cell.acts) c.deref_mut.ensures.value) ∙ c.in_default.ensures.taken in
+    let none : new.cell.acts ≡ [] = sym c.in_default.ensures.taken ∙ c.in_default.ensures.none in
+    running-caller_advances g.K.Behaviours.gives (origin_of c.args.gates.now) [] _ _ (record (run_state c.loop-act.claim) { home = new })
+    c.register_told.ensures.caller_advances
+    (subst (λ l. IsRunning g.K.Behaviours.gives (origin_of c.args.gates.now) l (pass_view c.loop-act.registrar.pass).log
+    (record (run_state c.loop-act.claim) { home = new })) none
+    (running-next (run_state c.loop-act.claim) new same g.K.Behaviours.gives (origin_of c.args.gates.now) (pass_view c.loop-act.registrar.pass).log
+    new.cell.acts taken c.in_default.ensures.settled c.loop-act.invariant.1))
 
 pub returns-clause-backlog : goal.returns-clause-backlog
 returns-clause-backlog g c =
@@ -144,10 +220,10 @@ returns-clause-cleared g c =
     let same = subst (λ (x : Contents). new ≡ record x { cell = record x.cell { acts = new.cell.acts } }) c.deref_mut.ensures.value
     c.next_act.ensures.same in
     let before = run_state c.loop-act.claim in
-    ok-so c.answer_of.result
+    ok-so c.answer_of-2.result
     (λ clean. cleared-then (run_state c.args.claim.now) before (record before { home = new }) c.loop-act.invariant.3.same.takes
     (c.loop-act.invariant.5 clean)
-    (cleared-same before (record before { home = new }) refl (ap (λ (x : Contents). x.take) same))) c.answer_of.ensures.clean
+    (cleared-same before (record before { home = new }) refl (ap (λ (x : Contents). x.take) same))) c.answer_of-2.ensures.clean
 
 pub returns-clause-ended : goal.returns-clause-ended
 returns-clause-ended g c =
@@ -155,12 +231,12 @@ returns-clause-ended g c =
     let same = subst (λ (x : Contents). new ≡ record x { cell = record x.cell { acts = new.cell.acts } }) c.deref_mut.ensures.value
     c.next_act.ensures.same in
     let before = run_state c.loop-act.claim in
-    err-so c.answer_of.result
+    err-so c.answer_of-2.result
     (λ not_clean. ended-keeps before (record before { home = new }) (keeps-next before new same) (c.loop-act.invariant.6 not_clean))
-    c.answer_of.ensures.not_clean
+    c.answer_of-2.ensures.not_clean
 
 pub returns-clause-sends : goal.returns-clause-sends
-returns-clause-sends g c = c.loop-act.invariant.7
+returns-clause-sends g c = alike-then _ _ _ _ _ _ c.loop-act.invariant.7 (alike-looks _ _ _ c.register_told.ensures.looks _)
 
 pub returns-clause-due : goal.returns-clause-due
 returns-clause-due g c =
@@ -175,3 +251,12 @@ returns-clause-due g c =
     let last = due-none before next refl refl (ap (λ (x : Contents). x.rest) same) (λ shut. shut) in
     subst (λ (x : List (ℕ × SysMsg)). SendsDue x [] (run_state c.args.claim.now) next) (append-nil inv.8.due ∙ sym all)
     (due-then (run_state c.args.claim.now) before next inv.3.same.actor inv.3.same.who inv.8.due [] [] [] inv.8.sends last)
+
+pub register_told-requires : goal.register_told-requires
+register_told-requires g c = record { same_gates = c.loop-act.invariant.0 }
+
+pub returns-clause-same_gates : goal.returns-clause-same_gates
+returns-clause-same_gates g c = c.register_told.ensures.same_gates
+
+pub returns-clause-caller_advances : goal.returns-clause-caller_advances
+returns-clause-caller_advances g c = further-then _ _ _ c.loop-act.invariant.4 c.register_told.ensures.caller_advances

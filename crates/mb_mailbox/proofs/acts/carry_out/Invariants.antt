@@ -2,7 +2,8 @@ use Rattle.std.proofs.Common.{◌≡◌, true, false, length}
 use Rattle.mb_journal.specs.Life.{closed}
 use Rattle.mb_gate.specs.Accessors.{pass_view}
 use Rattle.mb_gate.specs.Untouched.{origin_of}
-use Rattle.mb_register.specs.Caller.{IsRegistrarOf, caller_of, CallerAdvances}
+use Rattle.mb_register.specs.Caller.{caller_of, CallerAdvances}
+use Rattle.mb_mailbox.specs.RunRegistrar.{IsRunRegistrarOf}
 use Rattle.mb_mailbox.specs.Emptied.{IsCleared}
 use Rattle.mb_mailbox.specs.RunState.{run_state}
 use Rattle.mb_mailbox.specs.Recorded.{SendsAsRecorded}
@@ -12,7 +13,7 @@ use Rattle.mb_mailbox.proofs.acts.carry_out.Given as goal
 
 abbrev pub invariant-loop-act : goal.invariant-loop-act
 invariant-loop-act g l =
-    IsRegistrarOf g.W.RunQueue.origin l.gates l.registrar
+    IsRunRegistrarOf g.W.RunQueue.origin l.gates l.registrar
     × IsRunning g.K.Behaviours.gives (origin_of l.gates) l.claim.home.value.cell.acts (pass_view l.registrar.pass).log (run_state l.claim)
     × BacklogAgrees (run_state l.claim)
     × KeepsJournal (run_state l.initial.claim) (run_state l.claim)

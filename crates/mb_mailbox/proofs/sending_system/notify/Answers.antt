@@ -3,6 +3,8 @@ use Rattle.std.specs.Prelude.{is_err}
 use Rattle.mb_gate.specs.NamedActors.{NamesBelow}
 use Rattle.mb_gate.specs.Accessors.{actors_of, pass_view}
 use Rattle.mb_gate.specs.View.{View}
+use Rattle.mb_register.specs.declared.owed.Owed.{Owed}
+use Rattle.mb_register.specs.Owed.{is_owed}
 use Rattle.mb_register.proofs.Views.{does-then, does-enlisting}
 use Rattle.mb_register.proofs.CallerLemmas.{account-registered}
 use Rattle.mb_register.proofs.MoveLemmas.{moves-does, further-moves}
@@ -26,10 +28,11 @@ returns-clause-same_gates g c = (
   c.register.ensures.same_gates.0 ∙ c.sys_enqueue_in_run.ensures.same_gates ∙ c.requires.same_gates.0,
   c.register.ensures.same_gates.1 ∙ c.requires.same_gates.1,
   c.requires.same_gates.2,
+  λ id few told. c.requires.same_gates.3 id few (sym (ap (λ (o : Owed). is_owed o id) c.register.ensures.told) ∙ told),
 )
 
 pub returns-in_default-clause-same_gates : goal.returns-in_default-clause-same_gates
-returns-in_default-clause-same_gates g c = (c.sys_enqueue_in_run.ensures.same_gates ∙ c.requires.same_gates.0, c.requires.same_gates.1, c.requires.same_gates.2)
+returns-in_default-clause-same_gates g c = (c.sys_enqueue_in_run.ensures.same_gates ∙ c.requires.same_gates.0, c.requires.same_gates.1, c.requires.same_gates.2, c.requires.same_gates.3)
 
 pub sys_enqueue_in_run-requires-clause-named : goal.sys_enqueue_in_run-requires-clause-named
 sys_enqueue_in_run-requires-clause-named g c = subst (NamesBelow (actors_of c.args.gates.now)) (sym c.set.ensures) c.requires.present.1
@@ -46,7 +49,7 @@ returns-clause-caller_advances g c =
     further-moves id _ _
     (moves-does id _ _ a d (tt, tt) tt
     (does-then id _ _ a b d (does-enlisting id c.in-Ok.field-0 c.set.new.self a b c.in-Ok.ensures.listed) c.register.ensures.looks))
-    (account-registered id _ _ c.register.result c.register.ensures.registered) c.register.ensures.discharged
+    (account-registered id _ _ c.register.result c.register.ensures.registered) c.register.ensures.discharged c.register.ensures.told
     (listed-claims _ _ id c.in-Ok.field-0 c.set.new.self a b d c.register.result c.in-Ok.ensures.listed c.register.ensures.handed)
     (listed-due _ _ id c.in-Ok.field-0 c.set.new.self a b d c.register.result c.in-Ok.ensures.listed c.register.ensures.handed c.register.ensures.looks
     c.register.ensures.due)
@@ -57,7 +60,7 @@ returns-in_default-clause-told g c =
     c.set.ensures c.sys_enqueue_in_run.ensures.recorded
 
 pub returns-in_default-clause-caller_advances : goal.returns-in_default-clause-caller_advances
-returns-in_default-clause-caller_advances g c = further-refused _ _ _ _ c.in_default.ensures.ended.1 refl
+returns-in_default-clause-caller_advances g c = further-refused _ _ _ _ c.in_default.ensures.ended.1 refl refl
 
 pub returns-clause-sends : goal.returns-clause-sends
 returns-clause-sends g c =

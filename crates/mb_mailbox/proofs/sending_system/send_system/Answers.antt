@@ -6,6 +6,8 @@ use Rattle.mb_gate.specs.Accessors.{actors_of, pass_view}
 use Rattle.mb_gate.specs.Untouched.{origin_of}
 use Rattle.mb_gate.specs.View.{View}
 use Rattle.mb_home.specs.Contents.{Contents}
+use Rattle.mb_register.specs.declared.owed.Owed.{Owed}
+use Rattle.mb_register.specs.Owed.{is_owed}
 use Rattle.mb_register.proofs.Views.{does-then, does-enlisting}
 use Rattle.mb_mailbox.specs.RunState.{run_state}
 use Rattle.mb_mailbox.specs.Notice.{asker}
@@ -50,10 +52,11 @@ returns-in-Ok-clause-same_gates g c = (
   c.register.ensures.same_gates.0 ∙ c.sys_enqueue_in_run.ensures.same_gates ∙ c.requires.same_gates.0,
   c.register.ensures.same_gates.1 ∙ c.requires.same_gates.1,
   c.requires.same_gates.2,
+  λ id few told. c.requires.same_gates.3 id few (sym (ap (λ (o : Owed). is_owed o id) c.register.ensures.told) ∙ told),
 )
 
 pub answer-requires-clause-same_gates : goal.answer-requires-clause-same_gates
-answer-requires-clause-same_gates g c = (c.sys_enqueue_in_run.ensures.same_gates ∙ c.requires.same_gates.0, c.requires.same_gates.1, c.requires.same_gates.2)
+answer-requires-clause-same_gates g c = (c.sys_enqueue_in_run.ensures.same_gates ∙ c.requires.same_gates.0, c.requires.same_gates.1, c.requires.same_gates.2, c.requires.same_gates.3)
 
 pub sys_enqueue_in_run-requires-clause-present : goal.sys_enqueue_in_run-requires-clause-present
 sys_enqueue_in_run-requires-clause-present g c = c.requires.running.sends.0.0
@@ -70,7 +73,7 @@ returns-in-Ok-clause-caller_advances g c =
     further-moves id _ _
     (moves-does id _ _ a d (tt, tt) tt
     (does-then id _ _ a b d (does-enlisting id c.in-Ok.field-0 c.args.node a b c.in-Ok.ensures.listed) c.register.ensures.looks))
-    (account-registered id _ _ c.register.result c.register.ensures.registered) c.register.ensures.discharged
+    (account-registered id _ _ c.register.result c.register.ensures.registered) c.register.ensures.discharged c.register.ensures.told
     (listed-claims _ _ id c.in-Ok.field-0 c.args.node a b d c.register.result c.in-Ok.ensures.listed c.register.ensures.handed)
     (listed-due _ _ id c.in-Ok.field-0 c.args.node a b d c.register.result c.in-Ok.ensures.listed c.register.ensures.handed c.register.ensures.looks
     c.register.ensures.due)
@@ -114,7 +117,7 @@ answer-requires-clause-named g c =
     subst (NamesBelow (actors_of c.args.gates.now)) (sym c.in-Err.ensures.ended.0) c.requires.running.sends.0.1
 
 pub returns-in-Err-clause-caller_advances : goal.returns-in-Err-clause-caller_advances
-returns-in-Err-clause-caller_advances g c = further-then _ _ _ (further-refused _ _ _ _ c.in-Err.ensures.ended.1 refl) c.answer.ensures.caller_advances
+returns-in-Err-clause-caller_advances g c = further-then _ _ _ (further-refused _ _ _ _ c.in-Err.ensures.ended.1 refl refl) c.answer.ensures.caller_advances
 
 pub returns-in-Err-clause-running : goal.returns-in-Err-clause-running
 returns-in-Err-clause-running g c =

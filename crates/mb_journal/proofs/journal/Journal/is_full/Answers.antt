@@ -11,7 +11,7 @@ returns-clause-full c =
 
 pub returns-clause-room : goal.returns-clause-room
 returns-clause-room c ready =
-    let room = c.self.invariant.row_room (ap (λ (l : JournalView). l.is_ready) c.self.view_is ∙ ready) in
+    let room = c.self.invariant.one_more (ap (λ (l : JournalView). l.is_ready) c.self.view_is ∙ ready) in
     let same = length-rows c.self.inside.wide.items c.self.inside.rows.items c.self.inside.effects.items in
     let entries = ap (λ (l : JournalView). length l.entries) c.self.view_is in
-    grind (arith, nat_tests, room.0)
+    grind (arith, nat_tests, room, c.self.invariant.prepared_within)

@@ -9,9 +9,11 @@ invariant_of-result c = record {
   in_order = rw (c.new.ensures.items, c.new-3.ensures.items) refl;
   there = rw c.new.ensures.items (All-nil _);
   within = omega arith;
-  row_room = λ e. cc;
-  wide_room = λ e. cc;
-  effect_room = λ e. cc;
+  one_more = λ e. cc;
+  prepared_within = omega arith;
+  row_room = omega arith;
+  wide_room = omega arith;
+  effect_room = omega arith;
 }
 
 pub returns : goal.returns

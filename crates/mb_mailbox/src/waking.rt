@@ -1,0 +1,48 @@
+//! Registering whom a run told something.
+ghost use Rattle.std.specs.Prelude.{◌≡◌, ℕ, ◌<◌, false};
+ghost use Rattle.mb_gate.specs.Accessors.{pass_view};
+ghost use Rattle.mb_register.specs.Caller.{caller_of, CallerAdvances};
+ghost use Rattle.mb_register.specs.Owed.{is_owed};
+ghost use Rattle.mb_register.specs.Views.{LooksAmong};
+ghost use Rattle.mb_mailbox.specs.RunRegistrar.{IsRunRegistrarOf};
+
+use mb_actor::{Actor, Behaviours};
+use mb_gate::{Gates, RunQueue};
+use mb_home::BoxedHome;
+use mb_register::Registrar;
+use std::sync::Wait;
+
+/// Registers whom the run told something, where a worker waits for a claim. Else they wait, for the next act or for the end of the
+/// run: then no other worker begins with one of them before it has all that this run tells it.
+#[inline(always)]
+pub(crate) fn register_if_awaited<A: Actor, K: Behaviours, W: RunQueue<BoxedHome<A, K>>, R: Wait>(
+    rt: &R,
+    gates: &Gates<BoxedHome<A, K>>,
+    registrar: &mut Registrar<BoxedHome<A, K>, W>,
+)
+    requires same_gates { IsRunRegistrarOf W.origin gates.now registrar.old }
+    ensures same_gates { IsRunRegistrarOf W.origin gates.now registrar.new }
+    ensures caller_advances { CallerAdvances (caller_of W.pushed W.refused registrar.old) (caller_of W.pushed W.refused registrar.new) }
+    ensures looks { LooksAmong (is_owed registrar.old.told) (pass_view registrar.old.pass) (pass_view registrar.new.pass) }
+{
+    if !registrar.told.is_empty() && gates.idle_workers().is_any() {
+        register_told(rt, gates, registrar);
+    }
+}
+
+/// Registers whom the run told something and has not registered yet.
+// Not inlined, so that the run of an actor that tells nothing has less to do.
+#[inline(never)]
+pub(crate) fn register_told<A: Actor, K: Behaviours, W: RunQueue<BoxedHome<A, K>>, R: Wait>(
+    rt: &R,
+    gates: &Gates<BoxedHome<A, K>>,
+    registrar: &mut Registrar<BoxedHome<A, K>, W>,
+)
+    requires same_gates { IsRunRegistrarOf W.origin gates.now registrar.old }
+    ensures same_gates { IsRunRegistrarOf W.origin gates.now registrar.new }
+    ensures caller_advances { CallerAdvances (caller_of W.pushed W.refused registrar.old) (caller_of W.pushed W.refused registrar.new) }
+    ensures looks { LooksAmong (is_owed registrar.old.told) (pass_view registrar.old.pass) (pass_view registrar.new.pass) }
+    ensures none_left { (id : ℕ) → id < 64 → is_owed registrar.new.told id ≡ false }
+{
+    registrar.register_told(rt, gates);
+}
