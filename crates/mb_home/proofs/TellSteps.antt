@@ -1,8 +1,9 @@
 -- A home that agrees with its journal still does after a tell and after an envelope, in the forms of the calls.
 use Rattle.std.proofs.Common.{◌≡◌, ℕ, zero, suc, ◌+◌, ◌-◌, ◌%◌, ◌^◌, ◌<◌, ◌≤◌, List, [], ◌∷◌, ◌++◌, length, refl, sym, ap, ◌∙◌, subst, arith}
-use Rattle.std.specs.Prelude.{Contains, IsTrue, slice_get, slice_set, Some, Result, Ok, Err, MatchResult, IfErr}
+use Rattle.std.specs.Prelude.{Contains, IsTrue, slice_get, slice_set, Some}
 use Rattle.std.proofs.lemmas.List.Elements.{All-head}
-use Rattle.std.proofs.lemmas.Option.{slice_get_within, get_or_from_slice_get}
+use Rattle.std.proofs.lemmas.Option.{slice_get_read, slice_get_within, get_or_from_slice_get}
+use lib.ListN.{get_or}
 use Rattle.mb_msg.specs.declared.dead_letter.Why.{Why}
 use Rattle.mb_msg.specs.declared.envelope.Body.{Body}
 use Rattle.mb_msg.specs.declared.envelope.Envelope.{Envelope}
@@ -15,7 +16,6 @@ use Rattle.mb_journal.specs.Lawful.{IsLawful}
 use Rattle.mb_journal.specs.Reading.{IsOpen}
 use Rattle.mb_queue.specs.declared.refused.PushError.{PushError}
 use Rattle.mb_queue.specs.declared.refused.PushError.TheVariants.{Full, NoMemory}
-use Rattle.mb_queue.specs.Rule.{given_back}
 use Rattle.mb_cell.specs.MayHandle.{MayHandle}
 use Rattle.mb_cell.specs.CellView.{CellView, TakesEnvelope}
 use Rattle.mb_queue.specs.Passes.{SendPassView, TakePassView}
@@ -23,7 +23,7 @@ use Rattle.mb_queue.specs.Pushes.{IsRefusal}
 use Rattle.mb_journal.specs.Tells.{AddressedBody, tells}
 use Rattle.mb_home.specs.Contents.{Contents}
 use Rattle.mb_home.specs.AgreesWithJournal.{IsReason, AgreesWithJournal}
-use Rattle.mb_home.specs.Steps.{most_tells, next_envelope, reason_of, with_pushed, Fits, Delivers, IsRefusedBy, Pushes, PushesInto, RefusesPush}
+use Rattle.mb_home.specs.Steps.{most_tells, next_envelope, reason_of, with_pushed, Fits, Delivers, Pushes, RefusesPush}
 use Rattle.mb_home.proofs.AgreesLemmas.{SameQueue, settled-dead, settled-pushed, bounded-to}
 use Rattle.mb_home.proofs.StepLemmas.{an-actor, open-phase, settled-begun}
 
@@ -46,6 +46,12 @@ module _ (h : Contents) (gives : Moment → Reply → Type 0) (to : ActorId) (to
     sym (by-it (to.0 - 1) p there),
     let place : p.queue.to ≡ to.0 - 1 + 1 = s.is_own.receivers (to.0 - 1) p there in omega (arith, place, told-there.0),
   )
+
+  -- which pass that is, as it is read at its place
+  pub pass-next : (at : Contents) (p : SendPassView) → at ≡ h → p ≡ get_or at.sends (to.0 - 1) p → slice_get h.sends (to.0 - 1) ≡ Some p
+  pass-next at p same is =
+      slice_get_read h.sends (length h.sends) (to.0 - 1) p refl (omega (arith, told-there.0, told-there.1))
+      (is ∙ ap (λ (x : Contents). get_or x.sends (to.0 - 1) p) same)
 
   place-is : to.0 ≡ to.0 - 1 + 1
   place-is = omega (arith, told-there.0)
@@ -102,17 +108,22 @@ set-same [] i x there = refl
 set-same (y ∷ xs) zero x there = let is : y ≡ x = cc there in ap (λ z. z ∷ xs) (sym is)
 set-same (y ∷ xs) (suc i) x there = ap (λ l. y ∷ l) (set-same xs i x there)
 
-pub pushed-into : (sends : List SendPassView) (place : ℕ) (e : Envelope) (old new : SendPassView) (r : Result (Unit {0}) PushError) → slice_get sends place
-    ≡ Some old →
-    MatchResult r (λ _. new ≡ with_pushed e old) (λ refused. (given_back refused ≡ e) × (new ≡ old)) → IfErr r (IsRefusal old) →
-    MatchResult r (λ _. PushesInto sends (slice_set sends place new) place e)
-    (λ refused. (given_back refused ≡ e) × (slice_set sends place new ≡ sends) × IsRefusedBy sends place refused)
-pushed-into sends place e old new (Ok done) was pushed refusal = record { pass = old; was = was; same = ap (slice_set sends place) pushed }
-pushed-into sends place e old new (Err refused) was pushed refusal = (
-  pushed.0,
-  ap (slice_set sends place) pushed.1 ∙ set-same sends place old was,
-  record { pass = old; was = was; refusal = refusal },
-)
+-- by the pass of its place, which pushed the envelope
+pub delivered : (h at : Contents) (place : ℕ) (old new : SendPassView) (e : Envelope) → at ≡ h → slice_get h.sends place ≡ Some old →
+    new ≡ with_pushed e old → Delivers h (record at { sends = slice_set at.sends place new; sent = (at.sent + 1) % 2 ^ 64 }) place e
+delivered h at place old new e same was pushed = record {
+  pass = old;
+  was = was;
+  same = ap (λ (x : Contents × SendPassView). record x.0 { sends = slice_set x.0.sends place x.1; sent = (x.0.sent + 1) % 2 ^ 64 })
+      (λ k. (same k, pushed k));
+}
+
+-- by a pass that refused it
+pub undelivered : (h at : Contents) (place : ℕ) (old new : SendPassView) → at ≡ h → slice_get h.sends place ≡ Some old → new ≡ old →
+    record at { sends = slice_set at.sends place new } ≡ h
+undelivered h at place old new same was refused =
+    ap (λ (x : Contents × SendPassView). record x.0 { sends = slice_set x.0.sends place x.1 }) (λ k. (same k, refused k))
+    ∙ ap (λ l. record h { sends = l }) (set-same h.sends place old was)
 
 pub settled-pushes : (h new : Contents) (gives : ℕ → Moment → Reply → Type 0) (to : ActorId) (told : Body) →
     AgreesWithJournal (gives h.cell.who.this.0) (Tell to told ∷ h.cell.acts) h → Delivers h new (to.0 - 1) (next_envelope h to told) →

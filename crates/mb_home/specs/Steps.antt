@@ -96,12 +96,6 @@ reason_of (NoMemory e) = why.NoMemory
 abbrev pub Fits : Envelope → SendPassView → Type 0
 Fits e p = (e.by.0 ≡ p.by) × (e.to.0 ≡ p.queue.to)
 
--- The pass of this place pushed it, and no other pass changed.
-pub record PushesInto (old new : List SendPassView) (place : ℕ) (e : Envelope) : Type 0 where
-  pub pass : SendPassView
-  pub was : slice_get old place ≡ Some pass
-  pub same : new ≡ slice_set old place (with_pushed e pass)
-
 -- The pass of this place refused it: as full only if its queue has a bound.
 pub record IsRefusedBy (old : List SendPassView) (place : ℕ) (refused : PushError) : Type 0 where
   pub pass : SendPassView

@@ -22,7 +22,7 @@ module _ {H : Type 0} (old new : QueueAccount H) where
     listed-due looks due =
         let is : b.log ≡ Pushed id number message ∷ a.log = ap (λ (v : View). v.log) put in
         got-registered id hint.System old new a b d result handed due
-        (due-hinted-by id hint.System a b d (Pushed id number message ∷ []) is (λ seen has. let e : false ≡ true = has in absurd (cc))
+        (due-hinted-by id hint.System a b d (Pushed id number message ∷ []) is refl
         (λ has. (number, message, record { later = looks.looks ++ []; earlier = []; log = looks.log ∙ ap (λ l. (looks.looks ++ []) ++ l) is })))
         (ap (λ (v : View). v.got) put)
 
@@ -62,7 +62,7 @@ module _ {H : Type 0} (actor : ℕ) (journal : List Entry) (v mid : View) (a b :
   run-due id old new_account new result looks handed due =
       got-further (with_steps v.log a.view) mid new (Saw actor journal ∷ g.more) (looks.looks ++ []) longer looks.log first
       (got-registered id hint.None old new_account mid mid new result handed due
-      (due-hinted-by id hint.None mid mid new [] refl (λ seen has. let e : false ≡ true = has in absurd (cc))
+      (due-hinted-by id hint.None mid mid new [] refl refl
       (λ has. let e : false ≡ true = has in absurd (cc)))
       refl)
     where

@@ -5,7 +5,6 @@ use Rattle.mb_status.specs.Mailbox.{mailbox_of}
 use Rattle.mb_msg.specs.declared.dead_letter.Why.TheVariants.{Closed}
 use Rattle.mb_msg.specs.declared.envelope.Body.{Body}
 use Rattle.mb_msg.specs.declared.id.ActorId.{ActorId}
-use Rattle.mb_journal.specs.Acts.{Act, Tell, Sys, SuspendSelf, ResumeSelf, CloseSelf}
 use Rattle.mb_queue.specs.declared.refused.PushError.{PushError}
 use Rattle.mb_gate.specs.View.{View, Read}
 use Rattle.mb_home.specs.Contents.{Contents}
@@ -48,11 +47,3 @@ HintTells hint.System to body old new home left = ⊥
 abbrev pub IsSentOrDead : ActorId → Body → View → View → Contents → Contents → Type 0
 IsSentOrDead to body old new home left =
     TellsClosed to body old new home left ⊎ TellsOpen to body old new home left ⊎ TellsRefused to body old new home left
-
--- If this act is a tell, it ended in one of these ways.
-abbrev pub IsToldRight : Act → View → View → Contents → Contents → Type 0
-IsToldRight (Tell to body) old new home left = IsSentOrDead to body old new home left
-IsToldRight (Sys to message) old new home left = Unit {0}
-IsToldRight SuspendSelf old new home left = Unit {0}
-IsToldRight ResumeSelf old new home left = Unit {0}
-IsToldRight CloseSelf old new home left = Unit {0}

@@ -1,6 +1,9 @@
 //! Carrying out the acts that a message asks for.
-ghost use Rattle.std.specs.Prelude.{◌≡◌, [], ◌∷◌, true, false, IsErrOf, OnErr, OnOk};
+ghost use Rattle.std.specs.Prelude.{◌≡◌, ◌≢◌, [], ◌∷◌, true, false, IsErrOf, OnErr, OnOk};
+ghost use Rattle.mb_msg.specs.declared.envelope.Body.{Body};
+ghost use Rattle.mb_msg.specs.declared.id.ActorId.{ActorId};
 ghost use Rattle.mb_supervision.specs.ActQueue.{act_of};
+ghost use Rattle.mb_supervision.specs.declared.act.Act.TheVariants.{Tell};
 ghost use Rattle.mb_journal.specs.Acts.Act.{CloseSelf};
 ghost use Rattle.mb_journal.specs.Life.{closed};
 ghost use Rattle.mb_gate.specs.Accessors.{pass_view};
@@ -13,7 +16,6 @@ ghost use Rattle.mb_mailbox.specs.RunSends.{SendsDue};
 ghost use Rattle.mb_mailbox.specs.RunState.{run_state};
 ghost use Rattle.mb_mailbox.specs.Recorded.{SendsAsRecorded};
 ghost use Rattle.mb_mailbox.specs.Running.{IsRunning, BacklogAgrees, KeepsJournal};
-ghost use Rattle.mb_mailbox.specs.Sending.{IsToldRight};
 
 use crate::clean_up::clean_up;
 use crate::sending_system::send_system;
@@ -28,9 +30,9 @@ use mb_register::Registrar;
 use std::alloc::AllocError;
 use std::sync::Wait;
 
-/// Carries out the acts of the last message, in order. Then, where a worker waits for a claim, whom the run told something is
-/// registered. It answers `NoMemory` if a place for an envelope of an actor that
-/// ended was refused; the other acts are carried out all the same.
+/// Carries out the acts of the last message, in order. After each, and once where there is none, whom the run told something is
+/// registered if a worker waits for a claim. It answers `NoMemory` if a place for an envelope of an actor that ended was refused;
+/// the other acts are carried out all the same.
 #[inline(always)]
 pub(crate) fn carry_out<A: Actor, K: Behaviours, W: RunQueue<BoxedHome<A, K>>, R: Wait>(
     rt: &R,
@@ -54,11 +56,21 @@ pub(crate) fn carry_out<A: Actor, K: Behaviours, W: RunQueue<BoxedHome<A, K>>, R
     ensures due { SendsDue (messages_of claim.old.home.value.cell.acts) [] (run_state claim.old) (run_state claim.new) }
 {
     let mut is_clean = true;
+    let mut has_looked = false;
     while let Some(act) = claim.home.next_act() {
-        is_clean &= carry(rt, gates, registrar, claim, act).is_ok();
-        register_if_awaited(rt, gates, registrar);
+        has_looked = true;
+        match act {
+            Act::Tell(to, body) => {
+                tell(rt, gates, registrar, claim, to, body);
+                register_if_awaited(rt, gates, registrar);
+            }
+            other => {
+                is_clean &= carry(rt, gates, registrar, claim, other).is_ok();
+                register_if_awaited(rt, gates, registrar);
+            }
+        }
     }
-    if registrar.told.is_empty() || !gates.idle_workers().is_any() {
+    if has_looked || registrar.told.is_empty() || !gates.idle_workers().is_any() {
         return answer_of(is_clean);
     }
     register_told(rt, gates, registrar);
@@ -77,6 +89,8 @@ fn answer_of(is_clean: bool) -> Result<(), ReadyError>
     }
 }
 
+// Carries out one act that is no tell. Not inlined, so that a message that only tells has less to do.
+#[inline(never)]
 fn carry<A: Actor, K: Behaviours, W: RunQueue<BoxedHome<A, K>>, R: Wait>(
     rt: &R,
     gates: &Gates<BoxedHome<A, K>>,
@@ -88,6 +102,7 @@ fn carry<A: Actor, K: Behaviours, W: RunQueue<BoxedHome<A, K>>, R: Wait>(
     requires running { IsRunning K.gives (origin_of gates.now) (act_of act ∷ claim.old.home.value.cell.acts)
         (pass_view registrar.old.pass).log (run_state claim.old) }
     requires backlog { BacklogAgrees (run_state claim.old) }
+    requires no_tell { (to : ActorId) (body : Body) → act ≢ Tell to body }
     ensures same_gates { IsRunRegistrarOf W.origin gates.now registrar.new }
     ensures running { IsRunning K.gives (origin_of gates.now) (claim.new.home.value.cell.acts) (pass_view registrar.new.pass).log (run_state claim.new) }
     ensures backlog { BacklogAgrees (run_state claim.new) }
@@ -97,14 +112,10 @@ fn carry<A: Actor, K: Behaviours, W: RunQueue<BoxedHome<A, K>>, R: Wait>(
     ensures ended { OnErr result (closed claim.new.home.value.cell.who claim.new.home.value.cell.journal ≡ true) }
     ensures caller_advances { CallerAdvances (caller_of W.pushed W.refused registrar.old) (caller_of W.pushed W.refused registrar.new) }
     ensures sends { SendsAsRecorded registrar.old registrar.new claim.old claim.new }
-    ensures told { IsToldRight (act_of act) (pass_view registrar.old.pass) (pass_view registrar.new.pass) claim.old.home.value claim.new.home.value }
     ensures due { SendsDue (messages_of (act_of act ∷ [])) [] (run_state claim.old) (run_state claim.new) }
 {
     match act {
-        Act::Tell(to, body) => {
-            tell(rt, gates, registrar, claim, to, body);
-            Ok(())
-        }
+        Act::Tell(_, _) => unreachable!(),
         Act::Sys(to, node) => {
             send_system(rt, gates, registrar, claim, to, node);
             Ok(())

@@ -8,7 +8,7 @@ ghost use Rattle.mb_gate.specs.Accessors.{status_of};
 ghost use Rattle.mb_mailbox.specs.Ran.{EndsBlock, HasStopped, LoadsAfterBlock, TakesNoMore};
 
 use crate::acts::carry_out;
-use crate::systems::apply_systems;
+use crate::systems::{apply_all, has_no_system_work};
 use crate::turn::Turn;
 use mb_actor::{Actor, Behaviours};
 use mb_gate::{Claim, Gates, RunQueue};
@@ -42,7 +42,10 @@ pub(crate) fn apply_envelopes<A: Actor, K: Behaviours, W: RunQueue<BoxedHome<A, 
         if !took {
             return Ok(());
         }
-        apply_systems(rt, gates, registrar, claim, turn)?;
+        if has_no_system_work(gates, claim) {
+            continue;
+        }
+        apply_all(rt, gates, registrar, claim, turn)?;
     }
     Ok(())
 }

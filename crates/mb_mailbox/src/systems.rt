@@ -43,11 +43,11 @@ pub(crate) fn apply_systems<A: Actor, K: Behaviours, W: RunQueue<BoxedHome<A, K>
     apply_all(rt, gates, registrar, claim, turn)
 }
 
-// Whether the mailbox is open and has no system work: no message that was set aside goes before others, none is left of what
-// was drained, and to drain again gives nothing. It is a function of its own, so that in this case nothing is called that may
-// wait.
+/// Whether the mailbox is open and has no system work: no message that was set aside goes before others, none is left of what
+/// was drained, and to drain again gives nothing. It is a function of its own, so that in this case nothing is called that may
+/// wait.
 #[inline(always)]
-fn has_no_system_work<A: Actor, K: Behaviours>(
+pub(crate) fn has_no_system_work<A: Actor, K: Behaviours>(
     gates: &Gates<BoxedHome<A, K>>,
     claim: &mut Claim<BoxedHome<A, K>>,
 ) -> bool
@@ -73,8 +73,8 @@ fn has_no_system_work<A: Actor, K: Behaviours>(
     false
 }
 
-// As `apply_systems`, one message after the other.
-fn apply_all<A: Actor, K: Behaviours, W: RunQueue<BoxedHome<A, K>>, R: Wait>(
+/// As `apply_systems`, one message after the other.
+pub(crate) fn apply_all<A: Actor, K: Behaviours, W: RunQueue<BoxedHome<A, K>>, R: Wait>(
     rt: &R,
     gates: &Gates<BoxedHome<A, K>>,
     registrar: &mut Registrar<BoxedHome<A, K>, W>,

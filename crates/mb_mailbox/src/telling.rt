@@ -24,6 +24,7 @@ use std::sync::Wait;
 
 /// Sends what the claim's actor tells: reads the receiver's status, counts the envelope, queues it, and notes that the receiver is
 /// to be registered. If the receiver was read as closed, or its queue refused the envelope, that is a dead letter.
+#[inline(always)]
 pub(crate) fn tell<A: Actor, K: Behaviours, W: RunQueue<BoxedHome<A, K>>, R: Wait>(
     rt: &R,
     gates: &Gates<BoxedHome<A, K>>,
@@ -60,6 +61,7 @@ pub(crate) fn tell<A: Actor, K: Behaviours, W: RunQueue<BoxedHome<A, K>>, R: Wai
 /// A sender outside the actors counts its envelopes in the same way (`counts` of `mb_register`; `Sender::put` of `mb_send`). Those are
 /// two functions, since they know different things: a run reads the status right before it counts, and its actor's home numbers
 /// the envelope and keeps it; a sender outside goes by a ticket, which may be older, and its send log numbers and keeps it.
+#[inline(always)]
 fn send<A: Actor, K: Behaviours, R: Wait>(
     rt: &R,
     gates: &Gates<BoxedHome<A, K>>,

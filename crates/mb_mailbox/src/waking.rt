@@ -25,7 +25,8 @@ pub(crate) fn register_if_awaited<A: Actor, K: Behaviours, W: RunQueue<BoxedHome
     ensures caller_advances { CallerAdvances (caller_of W.pushed W.refused registrar.old) (caller_of W.pushed W.refused registrar.new) }
     ensures looks { LooksAmong (is_owed registrar.old.told) (pass_view registrar.old.pass) (pass_view registrar.new.pass) }
 {
-    if !registrar.told.is_empty() && gates.idle_workers().is_any() {
+    // It follows an act, which is mostly a tell: so whether a worker waits is asked first.
+    if gates.idle_workers().is_any() && !registrar.told.is_empty() {
         register_told(rt, gates, registrar);
     }
 }

@@ -1,6 +1,6 @@
 -- What a push and a take through a port do to what was pushed through it.
-use Rattle.std.proofs.Common.{◌≡◌, List, [], ◌∷◌, ◌++◌, map, refl, sym, ap, ◌∙◌, Option, Some, None, MatchOption}
-use Rattle.std.specs.Prelude.{IfNone, IfSome}
+use Rattle.std.proofs.Common.{◌≡◌, List, [], ◌∷◌, ◌++◌, map, refl, subst, sym, ap, ◌∙◌, Option, Some, None, MatchOption, MatchResult}
+use Rattle.std.specs.Prelude.{IfNone, IfSome, Result, Ok, Err}
 use Rattle.std.specs.declared.snapshot.Snapshot.{Snapshot}
 use Rattle.std.proofs.lemmas.List.{map-append}
 use Rattle.mb_gate.specs.declared.claim.Claim.{Claim}
@@ -34,7 +34,7 @@ module _ {H : Type 0} (IsFit : Option (Origin H) → Claim H → Type 0) where
       ∙ map-append (λ (t : IndexedClaim (Claim H)). t.claim) p.pool_port.ledger.pushed _
       ∙ ap (λ l. l ++ c ∷ []) (sym (ap pushed_first p.found))
 
-  takes-first : (old new : PoolEndpoint H) (c : Claim H) → Takes IsFit old c new → pushed_first (ports_of new) ≡ pushed_first (ports_of old)
+  pub takes-first : (old new : PoolEndpoint H) (c : Claim H) → Takes IsFit old c new → pushed_first (ports_of new) ≡ pushed_first (ports_of old)
   takes-first old new c t =
       ap pushed_first t.then' ∙ same-first t.before t.rest t.pool_port _ (ap (λ l. claims_in l.pushed) t.first.2) ∙ sym (ap pushed_first t.found)
 
@@ -42,6 +42,21 @@ module _ {H : Type 0} (IsFit : Option (Origin H) → Claim H → Type 0) where
       → pushed_first (ports_of new) ≡ pushed_first (ports_of old)
   taken-same A None old new h = ap (λ w. pushed_first (ports_of w)) h.0
   taken-same A (Some c) old new h = takes-first old new c h
+
+  -- what was pushed and refused, where one attempt changed nothing and gave the claim back, and it was pushed again then
+  pub pushed-later : (old mid new : PoolEndpoint H) (c again : Claim H) → mid ≡ old → again ≡ c → (before after : List (Claim H))
+      → {X : Type 0} (claim_of : X → Claim H) (r : Result (Unit {0}) X)
+      → MatchResult r (λ _. after ≡ before) (λ back. (claim_of back ≡ again) × (after ≡ before ++ again ∷ []))
+      → MatchResult r (λ _. Pushes IsFit mid again new) (λ _. new ≡ mid)
+      → MatchResult r (λ _. (pushed_first (ports_of new) ≡ pushed_first (ports_of old) ++ c ∷ []) × (after ≡ before))
+      (λ back. (claim_of back ≡ c) × (pushed_first (ports_of new) ≡ pushed_first (ports_of old)) × (after ≡ before ++ c ∷ []))
+  pushed-later old mid new c again still same before after claim_of (Ok u) told put =
+      (pushes-first old new c (subst (λ (y : PoolEndpoint H × Claim H). Pushes IsFit y.0 y.1 new) (λ i. (still i, same i)) put), told)
+  pushed-later old mid new c again still same before after claim_of (Err back) told put = (
+    told.0 ∙ same,
+    ap (λ w. pushed_first (ports_of w)) (put ∙ still),
+    told.1 ∙ ap (λ d. before ++ d ∷ []) same,
+  )
 
 -- what an answer of none says
 pub none-tells : {X : Type 0} (A B C : Type 0) (P : X → Type 0) (r : Option X) → (A → C) → MatchOption r (A × B) P → IfNone r (C × B)

@@ -228,3 +228,41 @@ module _ {H : Type 0} where
           (λ c. TakesFirst IsFit shared_port.ledger c door'.ledger) → part_of door' ≡ part_of shared_port
       take_same None h = ap (part_of {H = H}) h.0
       take_same (Some c) t = took_part shared_port door' c same t
+
+      -- by one attempt
+      pub tried_by_shared_port : (c : Claim H) (r : Result (Unit {0}) (Claim H))
+          → MatchResult r (λ _. PutsLast IsFit shared_port.ledger c door'.ledger) (λ back. (back ≡ c) × (door' ≡ shared_port))
+          → MatchResult r (λ _. Pushes IsFit (of_feed shared_port) c (of_feed door')) (λ back. (back ≡ c) × (of_feed door' ≡ of_feed shared_port))
+      tried_by_shared_port c (Ok u) p = puts_first shared_port door' [] c same p
+      tried_by_shared_port c (Err back) h = (h.0, ap (of_feed {H = H}) h.1)
+
+      pub tried_same : (c : Claim H) (r : Result (Unit {0}) (Claim H))
+          → MatchResult r (λ _. PutsLast IsFit shared_port.ledger c door'.ledger) (λ back. (back ≡ c) × (door' ≡ shared_port))
+          → part_of door' ≡ part_of shared_port
+      tried_same c (Ok u) p = put_part shared_port door' c same p
+      tried_same c (Err back) h = ap (part_of {H = H}) h.1
+
+      pub tried_take_by_shared_port : (r : Option (Claim H)) → MatchOption r (door' ≡ shared_port) (λ c. TakesFirst IsFit shared_port.ledger c door'.ledger)
+          → MatchOption r (of_feed door' ≡ of_feed shared_port) (λ c. Takes IsFit (of_feed shared_port) c (of_feed door'))
+      tried_take_by_shared_port None h = ap (of_feed {H = H}) h
+      tried_take_by_shared_port (Some c) t = takes_here [] shared_port door' [] c (All-nil (WasEmpty IsFit)) same t
+
+      pub tried_take_same : (r : Option (Claim H)) → MatchOption r (door' ≡ shared_port) (λ c. TakesFirst IsFit shared_port.ledger c door'.ledger)
+          → part_of door' ≡ part_of shared_port
+      tried_take_same None h = ap (part_of {H = H}) h
+      tried_take_same (Some c) t = took_part shared_port door' c same t
+
+    -- by its own deque alone, of an end of a stealing pool
+    module _ (own_deque own_deque' shared_port : PoolPort H) (next : List (PoolPort H)) (same : own_deque'.queue ≡ own_deque.queue) where
+      pub tried_by_own : (c : Claim H) (r : Result (Unit {0}) (Claim H))
+          → MatchResult r (λ _. PutsLast IsFit own_deque.ledger c own_deque'.ledger) (λ back. (back ≡ c) × (own_deque' ≡ own_deque))
+          → MatchResult r (λ _. Pushes IsFit (stealing own_deque shared_port next) c (stealing own_deque' shared_port next))
+          (λ back. (back ≡ c) × (stealing own_deque' shared_port next ≡ stealing own_deque shared_port next))
+      tried_by_own c (Ok u) p = puts_first own_deque own_deque' (shared_port ∷ next) c same p
+      tried_by_own c (Err back) h = (h.0, ap (λ (l : PoolPort H). stealing l shared_port next) h.1)
+
+      pub tried_take_by_own : (r : Option (Claim H)) → MatchOption r (own_deque' ≡ own_deque) (λ c. TakesFirst IsFit own_deque.ledger c own_deque'.ledger)
+          → MatchOption r (stealing own_deque' shared_port next ≡ stealing own_deque shared_port next)
+          (λ c. Takes IsFit (stealing own_deque shared_port next) c (stealing own_deque' shared_port next))
+      tried_take_by_own None h = ap (λ (l : PoolPort H). stealing l shared_port next) h
+      tried_take_by_own (Some c) t = takes_here [] own_deque own_deque' (shared_port ∷ next) c (All-nil (WasEmpty IsFit)) same t

@@ -61,7 +61,7 @@ impl<H: MailboxState> PoolEnd<H> {
     /// changed: `Full` only where all 64 places of a shared pool were taken at a moment of the call, `NoMemory` only
     /// where a deque could not grow. (In Akka a mailbox is given to the executor, by
     /// `Dispatcher.registerForExecution`.)
-    #[inline]
+    #[inline(never)]
     pub fn push<R: Wait>(&mut self, rt: &R, claim: Claim<H>) -> Result<(), ClaimRefused<H>>
         requires untouched { IsUntouched H.is_of H.facts (gates_of self.old) claim }
         ensures pushed { MatchResult result
@@ -77,7 +77,7 @@ impl<H: MailboxState> PoolEnd<H> {
     /// else of the injector, else one stolen from the next ends' deques in order. It is of the pool's gates, and as it
     /// was when it was pushed. `None` only where each of these queues was empty at a moment of the call, which need not
     /// be the same moment. (In Akka the executor's threads do so.)
-    #[inline]
+    #[inline(never)]
     pub fn take<R: Wait>(&mut self, rt: &R) -> Option<Claim<H>>
         ensures taken { MatchOption result
             ((self.new ≡ self.old) × All (WasEmpty (IsUntouched H.is_of H.facts)) (ports_of self.old))
@@ -86,6 +86,30 @@ impl<H: MailboxState> PoolEnd<H> {
         ensures same { parts_of self.new ≡ parts_of self.old }
     {
         take_first(rt, &mut self.shared_port, &mut self.member)
+    }
+
+    /// Pushes the claim as `push` does, by one attempt, or gives it back. It does not wait, so that nothing has to be asked
+    /// after it.
+    #[inline(always)]
+    pub(crate) fn try_push(&mut self, claim: Claim<H>) -> Result<(), Claim<H>>
+        requires untouched { IsUntouched H.is_of H.facts (gates_of self.old) claim }
+        ensures pushed { MatchResult result
+            (λ _. Pushes (IsUntouched H.is_of H.facts) self.old claim self.new)
+            (λ back. (back ≡ claim) × (self.new ≡ self.old)) }
+        ensures same { parts_of self.new ≡ parts_of self.old }
+    {
+        try_push_first(&mut self.shared_port, &mut self.member, claim)
+    }
+
+    /// Takes the first claim of the first queue in which the end looks, by one attempt.
+    #[inline(always)]
+    pub(crate) fn try_take(&mut self) -> Option<Claim<H>>
+        ensures taken { MatchOption result (self.new ≡ self.old)
+            (λ c. Takes (IsUntouched H.is_of H.facts) self.old c self.new) }
+        ensures untouched { IfSome result (λ c. IsUntouched H.is_of H.facts (gates_of self.old) c) }
+        ensures same { parts_of self.new ≡ parts_of self.old }
+    {
+        try_take_first(&mut self.shared_port, &mut self.member)
     }
 
     /// Its number in a stealing pool. In a shared one no end has a number of its own, and this is 0.
@@ -154,5 +178,44 @@ fn take_first<H: MailboxState, R: Wait>(
     match member {
         None => return shared_port.take(rt),
         Some(member) => return take_somewhere(rt, member, shared_port),
+    }
+}
+
+/// Pushes the claim by one attempt into the end's own deque, if it has one, else into the queue that all share.
+#[inline(always)]
+fn try_push_first<H: MailboxState>(
+    shared_port: &mut SharedPort<H>,
+    member: &mut Option<EndDeques<H>>,
+    claim: Claim<H>,
+) -> Result<(), Claim<H>>
+    requires open { AreOpen (endpoint_of (port_view shared_port.old) member.old) }
+    requires untouched { IsUntouched H.is_of H.facts (port_view shared_port.old).ledger.gates claim }
+    ensures pushed { MatchResult result
+        (λ _. Pushes (IsUntouched H.is_of H.facts) (endpoint_of (port_view shared_port.old) member.old) claim
+        (endpoint_of (port_view shared_port.new) member.new))
+        (λ back. (back ≡ claim) × (endpoint_of (port_view shared_port.new) member.new ≡ endpoint_of (port_view shared_port.old) member.old)) }
+    ensures same { parts_of (endpoint_of (port_view shared_port.new) member.new) ≡ parts_of (endpoint_of (port_view shared_port.old) member.old) }
+{
+    match member {
+        None => return shared_port.try_push(claim),
+        Some(member) => return member.own_deque.push(claim),
+    }
+}
+
+/// Takes the first claim of the first queue in which the end looks, by one attempt.
+#[inline(always)]
+fn try_take_first<H: MailboxState>(
+    shared_port: &mut SharedPort<H>,
+    member: &mut Option<EndDeques<H>>,
+) -> Option<Claim<H>>
+    requires { AreOpen (endpoint_of (port_view shared_port.old) member.old) }
+    ensures taken { MatchOption result (endpoint_of (port_view shared_port.new) member.new ≡ endpoint_of (port_view shared_port.old) member.old)
+        (λ c. Takes (IsUntouched H.is_of H.facts) (endpoint_of (port_view shared_port.old) member.old) c
+        (endpoint_of (port_view shared_port.new) member.new)) }
+    ensures same { parts_of (endpoint_of (port_view shared_port.new) member.new) ≡ parts_of (endpoint_of (port_view shared_port.old) member.old) }
+{
+    match member {
+        None => return shared_port.try_take(),
+        Some(member) => return member.own_deque.take(),
     }
 }

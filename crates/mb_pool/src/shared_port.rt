@@ -69,6 +69,40 @@ impl<H: MailboxState> SharedPort<H> {
         }
     }
 
+    /// Pushes the claim by one attempt into the one queue of a shared pool. Into an injector it pushes nothing, and the
+    /// claim comes back, as where the queue was full or another thread was in the way.
+    #[inline(always)]
+    pub fn try_push(&mut self, claim: Claim<H>) -> Result<(), Claim<H>>
+        requires share { 0 < (port_view self.old).ledger.shares }
+        requires untouched { IsUntouched H.is_of H.facts (port_view self.old).ledger.gates claim }
+        ensures same_queue { (port_view self.new).queue ≡ (port_view self.old).queue }
+        ensures pushed { MatchResult result
+            (λ _. PutsLast (IsUntouched H.is_of H.facts) (port_view self.old).ledger claim
+            (port_view self.new).ledger)
+            (λ back. (back ≡ claim) × (port_view self.new ≡ port_view self.old)) }
+    {
+        match self {
+            SharedPort::Bounded(port) => return port.try_push(claim),
+            SharedPort::Unbounded(_) => return Err(claim),
+        }
+    }
+
+    /// Takes the first claim of the one queue of a shared pool by one attempt. `None` if the queue was empty, if another
+    /// thread was in the way, or if this is an injector.
+    #[inline(always)]
+    pub fn try_take(&mut self) -> Option<Claim<H>>
+        requires share { 0 < (port_view self.old).ledger.shares }
+        ensures same_queue { (port_view self.new).queue ≡ (port_view self.old).queue }
+        ensures taken { MatchOption result (port_view self.new ≡ port_view self.old)
+            (λ c. TakesFirst (IsUntouched H.is_of H.facts) (port_view self.old).ledger c
+            (port_view self.new).ledger) }
+    {
+        match self {
+            SharedPort::Bounded(port) => return port.try_take(),
+            SharedPort::Unbounded(_) => return None,
+        }
+    }
+
     /// Fixes that only claims of these gates go in, and how many ports there are.
     pub fn open(&mut self, gates: &Gates<H>, members: usize)
         requires { (port_view self.old).ledger ≡ unused }

@@ -49,6 +49,41 @@ impl<H: MailboxState> Slots<H> {
         }
     }
 
+    /// Pushes the claim by one attempt, or gives it back: the queue was full, or another thread was in the way.
+    #[inline(always)]
+    pub fn try_push(&self, pass: &mut SlotsPass<H>, claim: Claim<H>) -> Result<(), Claim<H>>
+        requires queue { IsPassOf self.now.queue pass.old }
+        requires share { 0 < (view pass.old).shares }
+        requires untouched { IsUntouched H.is_of H.facts (view pass.old).gates claim }
+        ensures queue { (IsPassOf self.now.queue pass.new) × (pass.new.table_id ≡ pass.old.table_id) }
+        ensures pushed { MatchResult result
+            (λ _. PutsLast (IsUntouched H.is_of H.facts) (view pass.old) claim (view pass.new))
+            (λ back. (back ≡ claim) × (view pass.new ≡ view pass.old)) }
+    {
+        match self
+            .queue
+            .try_push_as::<Pushed>(pass, PooledClaim::new(claim))
+        {
+            Ok(()) => Ok(()),
+            Err(pooled) => Err(pooled.open()),
+        }
+    }
+
+    /// Takes the first claim by one attempt. `None` if the queue was empty, or another thread was in the way.
+    #[inline(always)]
+    pub fn try_take(&self, pass: &mut SlotsPass<H>) -> Option<Claim<H>>
+        requires queue { IsPassOf self.now.queue pass.old }
+        requires share { 0 < (view pass.old).shares }
+        ensures queue { (IsPassOf self.now.queue pass.new) × (pass.new.table_id ≡ pass.old.table_id) }
+        ensures taken { MatchOption result (view pass.new ≡ view pass.old)
+            (λ c. TakesFirst (IsUntouched H.is_of H.facts) (view pass.old) c (view pass.new)) }
+    {
+        match self.queue.try_pop_as::<Taken>(pass) {
+            Some(pooled) => Some(pooled.open()),
+            None => None,
+        }
+    }
+
     /// Takes the first claim. `None` only if the queue was empty at a moment of the call.
     #[inline]
     pub fn take<R: Wait>(&self, rt: &R, pass: &mut SlotsPass<H>) -> Option<Claim<H>>

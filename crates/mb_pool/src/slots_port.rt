@@ -70,6 +70,30 @@ impl<H: MailboxState> SlotsPort<H> {
         }
     }
 
+    /// Pushes the claim by one attempt, or gives it back: the queue was full, or another thread was in the way.
+    #[inline(always)]
+    pub fn try_push(&mut self, claim: Claim<H>) -> Result<(), Claim<H>>
+        requires share { 0 < self.old.ledger.shares }
+        requires untouched { IsUntouched H.is_of H.facts self.old.ledger.gates claim }
+        ensures same_queue { self.new.queue ≡ self.old.queue }
+        ensures pushed { MatchResult result
+            (λ _. PutsLast (IsUntouched H.is_of H.facts) self.old.ledger claim self.new.ledger)
+            (λ back. (back ≡ claim) × (self.new ≡ self.old)) }
+    {
+        self.slots.try_push(&mut self.pass, claim)
+    }
+
+    /// Takes the first claim by one attempt. `None` if the queue was empty, or another thread was in the way.
+    #[inline(always)]
+    pub fn try_take(&mut self) -> Option<Claim<H>>
+        requires share { 0 < self.old.ledger.shares }
+        ensures same_queue { self.new.queue ≡ self.old.queue }
+        ensures taken { MatchOption result (self.new ≡ self.old)
+            (λ c. TakesFirst (IsUntouched H.is_of H.facts) self.old.ledger c self.new.ledger) }
+    {
+        self.slots.try_take(&mut self.pass)
+    }
+
     /// Takes the first claim. `None` only if the queue was empty at a moment of the call.
     #[inline]
     pub fn take<R: Wait>(&mut self, rt: &R) -> Option<Claim<H>>

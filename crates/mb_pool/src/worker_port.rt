@@ -1,9 +1,9 @@
 //! A worker's end of the pool, as a run queue for its claims.
-ghost use Rattle.std.specs.Prelude.{◌≡◌, All, IfNone, IfSome};
+ghost use Rattle.std.specs.Prelude.{◌≡◌, [], ◌∷◌, ◌++◌, All, map, IfErr, IfNone, IfSome, MatchResult};
 ghost use Rattle.mb_gate.specs.Untouched.{IsUntouched};
-ghost use Rattle.mb_pool.specs.Moves.{Takes, WasEmpty};
+ghost use Rattle.mb_pool.specs.Moves.{Pushes, Takes, WasEmpty};
 ghost use Rattle.mb_pool.specs.Places.{gates_of, ports_of, parts_of};
-ghost use Rattle.mb_pool.specs.PoolPorts.{pushed_first};
+ghost use Rattle.mb_pool.specs.PoolPorts.{IsRefusedByPool, pushed_first};
 
 use crate::back::back;
 use crate::end::PoolEnd;
@@ -45,7 +45,36 @@ impl<H: MailboxState> WorkerPort<H> {
         ensures same { (gates_of self.new.end ≡ gates_of self.old.end) × (pushed_first (ports_of self.new.end) ≡ pushed_first (ports_of self.old.end))
             × (self.new.refused ≡ self.old.refused) }
     {
+        if let Some(claim) = self.end.try_take() {
+            return Some(claim);
+        }
         self.end.take(rt)
+    }
+
+    // Pushes a claim that one attempt did not push. It is a function of its own, so that the compiler keeps the claim of
+    // the attempt in registers.
+    #[cold]
+    #[inline(never)]
+    fn push_waiting<R: Wait>(&mut self, rt: &R, claim: Claim<H>) -> Result<(), RefusedClaim<H>>
+        requires untouched { IsUntouched H.is_of H.facts (gates_of self.old.end) claim }
+        ensures pushed { MatchResult result
+            (λ _. map (λ c. c.value) self.new.refused ≡ map (λ c. c.value) self.old.refused)
+            (λ back. (back.claim ≡ claim)
+            × (map (λ c. c.value) self.new.refused ≡ map (λ c. c.value) self.old.refused ++ claim ∷ [])) }
+        ensures asked { IfErr result (λ _. IsRefusedByPool (IsUntouched H.is_of H.facts) self.old.end claim) }
+        ensures put { MatchResult result
+            (λ _. Pushes (IsUntouched H.is_of H.facts) self.old.end claim self.new.end)
+            (λ _. self.new.end ≡ self.old.end) }
+        ensures parts { parts_of self.new.end ≡ parts_of self.old.end }
+    {
+        match self.end.push(rt, claim) {
+            Ok(()) => Ok(()),
+            Err(refused) => {
+                let claim = back(refused);
+                self.refused.add(Snapshot::of(&claim));
+                Err(RefusedClaim { claim })
+            }
+        }
     }
 }
 
@@ -77,13 +106,9 @@ impl<H: MailboxState> RunQueue<H> for WorkerPort<H> {
             (λ _. self.new.end ≡ self.old.end) }
         ensures parts { parts_of self.new.end ≡ parts_of self.old.end }
     {
-        match self.end.push(rt, claim) {
-            Ok(()) => Ok(()),
-            Err(refused) => {
-                let claim = back(refused);
-                self.refused.add(Snapshot::of(&claim));
-                Err(RefusedClaim { claim })
-            }
+        match self.end.try_push(claim) {
+            Ok(()) => return Ok(()),
+            Err(claim) => return self.push_waiting(rt, claim),
         }
     }
 }

@@ -1,22 +1,20 @@
 -- Each step of a fifo keeps its rule.
-use Rattle.std.proofs.Common.{◌≡◌, ◌≢◌, ℕ, ◌+◌, ◌==◌, Bool, true, cond, List, [], ◌∷◌, ◌++◌, length, set, sym, refl, ap, ◌∙◌, subst, ⊎_elim, ◌⊎◌}
-use Rattle.std.proofs.Common.{append_assoc, arith, Option, Some, None}
+use Rattle.std.proofs.Common.{◌≡◌, ◌≢◌, ℕ, ◌==◌, List, [], ◌∷◌, ◌++◌, length, set, sym, refl, ap, ◌∙◌, subst, ⊎_elim}
+use Rattle.std.proofs.Common.{append_assoc, arith, Some, None}
 use Rattle.std.specs.List.{All, Contains}
-use Rattle.std.proofs.lemmas.Bool.Decides.{nat_tests}
-use Rattle.std.proofs.lemmas.List.{append-nil, length-set}
-use Rattle.std.proofs.lemmas.List.Elements.{filter-append, All-append, All-contains, All-push, Contains-append_right}
+use Rattle.std.proofs.lemmas.List.{append-nil}
+use Rattle.std.proofs.lemmas.List.Elements.{filter-append, All-contains, All-push, Contains-append_right}
 use mathlib.Core.Option.{some, some-ne-none}
 use lib.ListN.{get_elem?}
 use Rattle.crossbeam_queue.specs.Fifo.{Pushes, Pops, Forks, Merges, Learns}
 use Rattle.crossbeam_queue.proofs.Lists.{at_set}
 use Rattle.mb_msg.specs.declared.envelope.Envelope.{Envelope}
-use Rattle.mb_queue.specs.declared.ledger.Account.{Account}
 use Rattle.mb_queue.specs.declared.ledger.Ledger.{Ledger}
 use Rattle.mb_queue.specs.declared.ledger.Scope.{Scope}
 use Rattle.mb_queue.specs.declared.ledger.Ledger.TheVariants.{Sender, Taker, Spent}
-use Rattle.mb_queue.specs.Ledger.{sent_by, account, lent, home, IsOfPart, IsSender, IsTaker, MayLend, MayPush, unsettled, pushing, taking, lending}
+use Rattle.mb_queue.specs.Ledger.{sent_by, lent, home, IsOfPart, IsSender, IsTaker, MayLend, MayPush, unsettled, pushing, taking, lending}
 use Rattle.mb_queue.specs.Ledger.{borrowing, joining}
-use Rattle.mb_queue.specs.Rule.{Belongs, Fits, FifoHolds, FoundFull, FoundEmpty, FoundNext, FifoAllOut}
+use Rattle.mb_queue.specs.Rule.{Belongs, Fits, FifoHolds, FoundFull, FoundEmpty, FoundNext}
 use Rattle.mb_queue.proofs.Lists.{Each, each_set, each_more, at_end, handed, handed-same, handed-other, sent_by-mine, sent_by-other, account-cases}
 use Rattle.mb_queue.proofs.Lists.{none_known, none_within}
 

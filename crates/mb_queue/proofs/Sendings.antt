@@ -12,17 +12,12 @@ use Rattle.mb_queue.specs.Ledger.{MayPush, is_control, pushing}
 use Rattle.mb_queue.specs.Parts.{controls, others}
 use Rattle.mb_queue.specs.Port.{FifoPort}
 use Rattle.mb_queue.specs.Passes.{SendPassView}
-use Rattle.mb_queue.specs.Pushes.{IsRefusal}
+use Rattle.mb_queue.specs.Pushes.{IsForControl, IsForMain, IsPushed, IsReason}
 use Rattle.mb_queue.specs.Representation.{IsSending, parted, scope_in, sending}
-use Rattle.mb_queue.specs.Rule.{IsFifoRefusal, given_back, reason_of}
-use Rattle.mb_queue.specs.declared.refused.PushError.{PushError}
-use Rattle.mb_queue.specs.declared.refused.PushError.TheVariants.{Full, NoMemory}
+use Rattle.mb_queue.specs.Rule.{IsFifoRefusal}
+use Rattle.mb_queue.specs.declared.refused.Refusal.{Refusal}
+use Rattle.mb_queue.specs.declared.refused.Refusal.TheVariants as why
 use Rattle.mb_queue.proofs.RefusedLemmas.{refused}
-
--- the envelope goes to the fifo of all but control messages, or the queue has one fifo
-abbrev pub IsForMain : Option FifoPort → Envelope → Type 0
-IsForMain None e = Unit {0}
-IsForMain (Some control) e = is_control e ≡ false
 
 -- a push leaves the scope as it is
 scope-pushing : (e : Envelope) (l : Ledger) → scope_in (pushing l e) ≡ scope_in l
@@ -86,53 +81,59 @@ module _ (by : ℕ) (main : FifoPort) (pushed : List Envelope) (e : Envelope) wh
 
 -- ---- the same, of the answer of a push
 
--- what the port and what was written down are after this answer
-abbrev pub IsPushed : {T : Type 0} → Envelope → Result T PushError → FifoPort → FifoPort → List Envelope → List Envelope → Type 0
-IsPushed e r port now pushed after =
-    MatchResult r (λ _. (now ≡ record port { ledger = pushing port.ledger e }) × (after ≡ pushed ++ e ∷ []))
-    (λ refused. (given_back refused ≡ e) × (now ≡ port) × (after ≡ pushed))
+pub is-pushed : {T : Type 0} (e : Envelope) (r : Result T Refusal) (port now : FifoPort) (pushed after : List Envelope) →
+    MatchResult r (λ _. now ≡ record port { ledger = pushing port.ledger e }) (λ _. now ≡ port) →
+    MatchResult r (λ _. after ≡ pushed ++ e ∷ []) (λ _. after ≡ pushed) → IsPushed e r port now pushed after
+is-pushed e (Ok x) port now pushed after did wrote = (did, wrote)
+is-pushed e (Err x) port now pushed after did wrote = (did, wrote)
 
 -- what contracts see after it
-abbrev pub IsSeen : {T : Type 0} → Envelope → Result T PushError → SendPassView → SendPassView → Type 0
-IsSeen e r old new =
-    MatchResult r (λ _. new ≡ record old { pushed = old.pushed ++ e ∷ [] }) (λ refused. (given_back refused ≡ e) × (new ≡ old))
+abbrev pub IsSeen : {T : Type 0} → Envelope → Result T Refusal → SendPassView → SendPassView → Type 0
+IsSeen e r old new = MatchResult r (λ _. new ≡ record old { pushed = old.pushed ++ e ∷ [] }) (λ _. new ≡ old)
+
+-- a control message goes to a fifo of them
+pub is-control : (control : Option FifoPort) (own : FifoPort) (e : Envelope) → control ≡ Some own → IsForControl control e → is_control e ≡ true
+is-control control own e is here = subst (λ k. IsForControl k e) is here
+
+pub no-control : (control : Option FifoPort) (e : Envelope) → control ≡ None → IsForControl control e → ⊥
+no-control control e is here = subst (λ k. IsForControl k e) is here
 
 module _ {T : Type 0} (by : ℕ) (main : FifoPort) (pushed : List Envelope) (e : Envelope) (after : List Envelope) (now : FifoPort) (v : SendPassView)
   where
     module _ (control : FifoPort) where
-      pub control-after : (r : Result T PushError) → IsSending by main (Some control) pushed → is_control e ≡ true →
+      pub control-after : (r : Result T Refusal) → IsSending by main (Some control) pushed → is_control e ≡ true →
           IsPushed e r control now pushed after → IsSending by main (Some now) after
       control-after (Ok x) kept is did = subst (IsSending by main (Some now)) (sym did.1) (control-kept by main pushed e control kept is now did.0)
       control-after (Err x) kept is did =
-          subst (λ (p : FifoPort × List Envelope). IsSending by main (Some p.0) p.1) (λ i. (sym did.1 i, sym did.2 i)) kept
+          subst (λ (p : FifoPort × List Envelope). IsSending by main (Some p.0) p.1) (λ i. (sym did.0 i, sym did.1 i)) kept
 
-      pub control-seen : (r : Result T PushError) → sending by main (Some control) pushed ≡ v → IsPushed e r control now pushed after →
+      pub control-seen : (r : Result T Refusal) → sending by main (Some control) pushed ≡ v → IsPushed e r control now pushed after →
           IsSeen e r v (sending by main (Some now) after)
       control-seen (Ok x) view did =
           (λ i. sending by main (Some (did.0 i)) (did.1 i)) ∙ ap (λ (u : SendPassView). record u { pushed = u.pushed ++ e ∷ [] }) view
-      control-seen (Err x) view did = (did.0, (λ i. sending by main (Some (did.1 i)) (did.2 i)) ∙ view)
+      control-seen (Err x) view did = (λ i. sending by main (Some (did.0 i)) (did.1 i)) ∙ view
 
-      pub control-refused : (r : Result T PushError) → IsSending by main (Some control) pushed → sending by main (Some control) pushed ≡ v →
-          IfErr r (λ x. IsFifoRefusal control.fifo.capacity control.ledger (reason_of x)) → IfErr r (IsRefusal v)
-      control-refused (Ok x) kept view why = why
-      control-refused (Err (Full x)) kept view why = let never : None ≡ Some why.0 = sym kept.3 ∙ why.1 in absurd (cc)
-      control-refused (Err (NoMemory x)) kept view why = subst (λ (u : SendPassView). IsRefusal u (NoMemory x)) view kept.2
+      pub control-refused : (r : Result T Refusal) → IsSending by main (Some control) pushed → sending by main (Some control) pushed ≡ v →
+          IfErr r (IsFifoRefusal control.fifo.capacity control.ledger) → IfErr r (IsReason v)
+      control-refused (Ok x) kept view found = found
+      control-refused (Err why.Full) kept view found = let never : None ≡ Some found.0 = sym kept.3 ∙ found.1 in absurd (cc)
+      control-refused (Err why.NoMemory) kept view found = subst (λ (u : SendPassView). IsReason u why.NoMemory) view kept.2
 
     module _ (control : Option FifoPort) where
-      pub main-after : (r : Result T PushError) → IsSending by main control pushed → IsForMain control e → IsPushed e r main now pushed after →
+      pub main-after : (r : Result T Refusal) → IsSending by main control pushed → IsForMain control e → IsPushed e r main now pushed after →
           IsSending by now control after
       main-after (Ok x) kept is did = subst (IsSending by now control) (sym did.1) (main-kept by main pushed e control now did.0 kept is)
       main-after (Err x) kept is did =
-          subst (λ (p : FifoPort × List Envelope). IsSending by p.0 control p.1) (λ i. (sym did.1 i, sym did.2 i)) kept
+          subst (λ (p : FifoPort × List Envelope). IsSending by p.0 control p.1) (λ i. (sym did.0 i, sym did.1 i)) kept
 
-      pub main-seen : (r : Result T PushError) → sending by main control pushed ≡ v → IsPushed e r main now pushed after →
+      pub main-seen : (r : Result T Refusal) → sending by main control pushed ≡ v → IsPushed e r main now pushed after →
           IsSeen e r v (sending by now control after)
       main-seen (Ok x) view did =
           ap (sending by now control) did.1
           ∙ (main-is by main pushed e control now did.0 ∙ ap (λ (u : SendPassView). record u { pushed = u.pushed ++ e ∷ [] }) view)
-      main-seen (Err x) view did = (did.0, (λ i. sending by (did.1 i) control (did.2 i)) ∙ view)
+      main-seen (Err x) view did = (λ i. sending by (did.0 i) control (did.1 i)) ∙ view
 
-      pub main-refused : (r : Result T PushError) → IsSending by main control pushed → sending by main control pushed ≡ v →
-          IfErr r (λ x. IsFifoRefusal main.fifo.capacity main.ledger (reason_of x)) → IfErr r (IsRefusal v)
-      main-refused (Ok x) kept view why = why
-      main-refused (Err x) kept view why = subst (λ (u : SendPassView). IsRefusal u x) view (refused by main control pushed x kept why)
+      pub main-refused : (r : Result T Refusal) → IsSending by main control pushed → sending by main control pushed ≡ v →
+          IfErr r (IsFifoRefusal main.fifo.capacity main.ledger) → IfErr r (IsReason v)
+      main-refused (Ok x) kept view found = found
+      main-refused (Err x) kept view found = subst (λ (u : SendPassView). IsReason u x) view (refused by main control pushed x kept found)

@@ -1,10 +1,10 @@
 -- A port as contracts see it, by the queue and the pass that it consists of.
-use Rattle.std.specs.Prelude.{◌≡◌, ℕ, Option, Some, None}
+use Rattle.std.specs.Prelude.{Some, None}
 use Rattle.crossbeam_queue.specs.SegTies.{IsSegPassOf}
 use Rattle.crossbeam_queue.specs.Passes.{view, IsPassOf, ruled_capacity}
 use Rattle.mb_queue.specs.declared.port.End.{End}
 use Rattle.mb_queue.specs.declared.port.End.TheVariants.{Unbounded, Bounded}
-use Rattle.mb_queue.specs.Port.{Fifo, FifoPort, blocks_at, slots_at}
+use Rattle.mb_queue.specs.Port.{FifoPort, blocks_at, slots_at}
 
 -- the pass is of the queue beside it
 abbrev pub IsTied : End → Type 0

@@ -1,5 +1,5 @@
 -- What contracts see of a port.
-use Rattle.std.specs.Prelude.{◌≡◌, ℕ, Option}
+use Rattle.std.specs.Prelude.{ℕ, Option}
 use Rattle.atomic_blocks.specs.Laid.{WebId}
 use Rattle.atomic_table.specs.Seated.{TableId}
 use Rattle.mb_queue.specs.declared.ledger.Ledger.{Ledger}

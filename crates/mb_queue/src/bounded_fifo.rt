@@ -1,18 +1,14 @@
 //! A fifo with a bound, over the bounded queue of `crossbeam_queue`.
-ghost use Rattle.std.specs.Prelude.{◌≡◌, ◌<◌, [], IfOk, MatchResult};
+ghost use Rattle.std.specs.Prelude.{◌≡◌, ◌<◌, [], IfOk};
 ghost use Rattle.crossbeam_queue.specs.Passes.{view, IsPassOf, ruled_capacity};
 ghost use Rattle.mb_queue.specs.declared.ledger.Ledger.TheVariants.{Taker};
-ghost use Rattle.mb_queue.specs.declared.refused.Refusal.TheVariants.{Full};
-ghost use Rattle.mb_queue.specs.Ledger.{IsSender, IsTaker, IsUnused, MayLend, MayPush, pushing, lending, borrowing, joining};
-ghost use Rattle.mb_queue.specs.Rule.{FoundFull};
+ghost use Rattle.mb_queue.specs.Ledger.{IsSender, IsTaker, IsUnused, MayLend, lending, borrowing, joining};
 
 use crate::ledger::Ledger;
-use crate::refused::Refusal;
-use crate::rule::{FifoPush, FifoRule, FifoScope, FifoSender, JoinAccount, LendAccount, OpenFifo};
+use crate::rule::{FifoRule, FifoScope, FifoSender, JoinAccount, LendAccount, OpenFifo};
 use crossbeam_queue::{Pass, RuledArrayQueue};
 use mb_msg::Envelope;
 use std::alloc::{AllocError, Global};
-use std::sync::Wait;
 
 #[derive(Drop)]
 /// A bounded queue under the fifo's rule.
@@ -33,26 +29,6 @@ impl BoundedFifo {
     {
         let (queue, pass) = RuledArrayQueue::ruled(alloc, capacity)?;
         Ok((BoundedFifo { queue }, pass))
-    }
-
-    /// Pushes the envelope, or answers `Full` where the fifo was full at a moment of the call.
-    #[inline(always)]
-    pub fn push<R: Wait>(
-        &self,
-        rt: &R,
-        pass: &mut BoundedFifoPass,
-        envelope: Envelope,
-    ) -> Result<(), Refusal>
-        requires queue { IsPassOf self.now.queue pass.old }
-        requires sender { MayPush envelope (view pass.old) }
-        ensures queue { IsPassOf self.now.queue pass.new }
-        ensures pushed { MatchResult result (λ _. (view pass.new) ≡ pushing (view pass.old) envelope)
-            (λ refusal. (refusal ≡ Full) × ((view pass.new) ≡ (view pass.old)) × FoundFull (ruled_capacity self.now.queue) (view pass.old)) }
-    {
-        match self.queue.push_as::<FifoPush, R>(rt, pass, envelope) {
-            Ok(()) => Ok(()),
-            Err(_) => Err(Refusal::Full),
-        }
     }
 
     /// Fixes which envelopes the fifo is for.

@@ -7,7 +7,7 @@ ghost use Rattle.mb_queue.specs.Rule.{FoundEmpty, FoundNext, IsFifoRefusal};
 use crate::bounded_fifo::{BoundedFifo, BoundedFifoPass};
 use crate::ledger::QueuePart;
 use crate::refused::Refusal;
-use crate::rule::{FifoScope, FifoSender, FifoTake};
+use crate::rule::{FifoPush, FifoScope, FifoSender, FifoTake};
 use crate::unbounded_fifo::{UnboundedFifo, UnboundedFifoPass};
 use mb_msg::{ActorId, Envelope, SenderId};
 use std::alloc::{AllocError, Global};
@@ -76,7 +76,8 @@ impl Port {
     }
 
     /// Pushes the envelope. Where it is refused, nothing has changed.
-    // Not inlined: its answer fits a register, so that a call costs less than the code in each caller would.
+    // Not inlined: its answer fits a register, so that a call costs less than the code in each caller would. The queues
+    // are asked right here, as in `take`.
     #[inline(never)]
     pub fn push<R: Wait>(&mut self, rt: &R, envelope: Envelope) -> Result<(), Refusal>
         requires { MayPush envelope self.old.ledger }
@@ -85,8 +86,19 @@ impl Port {
         ensures refused { IfErr result (IsFifoRefusal self.old.fifo.capacity self.old.ledger) }
     {
         match &mut self.end {
-            End::Unbounded(blocks, pass) => blocks.push(rt, pass, envelope),
-            End::Bounded(slots, pass) => slots.push(rt, pass, envelope),
+            End::Unbounded(blocks, pass) => match blocks
+                .queue
+                .push_as::<FifoPush, R>(rt, pass, envelope)
+            {
+                Ok(()) => Ok(()),
+                Err(_) => Err(Refusal::NoMemory),
+            },
+            End::Bounded(slots, pass) => {
+                match slots.queue.push_as::<FifoPush, R>(rt, pass, envelope) {
+                    Ok(()) => Ok(()),
+                    Err(_) => Err(Refusal::Full),
+                }
+            }
         }
     }
 

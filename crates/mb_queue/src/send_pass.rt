@@ -1,11 +1,11 @@
 //! The pass by which one sender pushes into a queue.
-ghost use Rattle.std.specs.Prelude.{◌≡◌, [], ◌∷◌, ◌++◌, IfErr, MatchResult};
-ghost use Rattle.mb_queue.specs.Ledger.{MayPush, is_control_body, pushing};
-ghost use Rattle.mb_queue.specs.Rule.{IsFifoRefusal, given_back, reason_of};
-ghost use Rattle.mb_queue.specs.Pushes.{IsRefusal};
+ghost use Rattle.std.specs.Prelude.{◌≡◌, [], ◌∷◌, ◌++◌, IfErr, MatchBool, MatchResult};
+ghost use Rattle.mb_queue.specs.Ledger.{MayPush, is_control_body};
+ghost use Rattle.mb_queue.specs.Rule.{IsFifoRefusal, given_back};
+ghost use Rattle.mb_queue.specs.Pushes.{IsForControl, IsForMain, IsPushed, IsReason, IsRefusal};
 
 use crate::port::Port;
-use crate::refused::PushError;
+use crate::refused::{PushError, Refusal};
 use mb_ghost::Log;
 use mb_msg::{Body, Envelope, SenderId};
 use std::marker::Model;
@@ -50,39 +50,70 @@ impl SendPass {
             (λ refused. (given_back refused ≡ envelope) × (self.new ≡ self.old)) }
         ensures refused { IfErr result (IsRefusal self.old) }
     {
-        let Some(control) = &mut self.control else {
-            return push_to(&mut self.main, &mut self.pushed, rt, envelope);
-        };
-        if is_control(envelope.body) {
-            push_to(control, &mut self.pushed, rt, envelope)
-        } else {
-            push_to(&mut self.main, &mut self.pushed, rt, envelope)
+        match self.put(rt, envelope) {
+            Ok(()) => Ok(()),
+            Err(refusal) => Err(refusal.of(envelope)),
         }
+    }
+
+    /// Pushes as `push` does, and answers only why the envelope was refused.
+    // The answer fits a register, as a `PushError` does not. The caller has its envelope still.
+    #[inline(always)]
+    pub fn put<R: Wait>(&mut self, rt: &R, envelope: Envelope) -> Result<(), Refusal>
+        requires sender { envelope.by.0 ≡ self.old.by }
+        requires addressed { envelope.to.0 ≡ self.old.queue.to }
+        ensures pushed { MatchResult result (λ _. self.new ≡ record self.old { pushed = self.old.pushed ++ envelope ∷ [] })
+            (λ _. self.new ≡ self.old) }
+        ensures refused { IfErr result (IsReason self.old) }
+    {
+        if is_for_control(&self.control, envelope) {
+            let Some(control) = &mut self.control else {
+                unreachable!()
+            };
+            return put_to(control, &mut self.pushed, rt, envelope);
+        }
+        let answer = self.main.push(rt, envelope);
+        add_pushed(&mut self.pushed, envelope, &answer);
+        answer
     }
 }
 
 /// Pushes the envelope to this port, and writes down that it did.
-#[inline(always)]
-fn push_to<R: Wait>(
+// Not inlined: few queues have a fifo of control messages.
+#[inline(never)]
+fn put_to<R: Wait>(
     port: &mut Port,
     pushed: &mut Log<Envelope>,
     rt: &R,
     envelope: Envelope,
-) -> Result<(), PushError>
+) -> Result<(), Refusal>
     requires { MayPush envelope port.old.ledger }
-    ensures pushed { MatchResult result
-        (λ _. (port.new ≡ record port.old { ledger = pushing port.old.ledger envelope })
-        × (pushed.new ≡ pushed.old ++ envelope ∷ []))
-        (λ refused. (given_back refused ≡ envelope) × (port.new ≡ port.old) × (pushed.new ≡ pushed.old)) }
-    ensures refused { IfErr result
-        (λ refused. IsFifoRefusal port.old.fifo.capacity port.old.ledger (reason_of refused)) }
+    ensures pushed { IsPushed envelope result port.old port.new pushed.old pushed.new }
+    ensures refused { IfErr result (IsFifoRefusal port.old.fifo.capacity port.old.ledger) }
 {
-    match port.push(rt, envelope) {
-        Ok(()) => {
-            pushed.add(envelope);
-            Ok(())
-        }
-        Err(refusal) => Err(refusal.of(envelope)),
+    let answer = port.push(rt, envelope);
+    add_pushed(pushed, envelope, &answer);
+    answer
+}
+
+/// Writes down the envelope, if it was pushed.
+#[inline(always)]
+fn add_pushed(pushed: &mut Log<Envelope>, envelope: Envelope, answer: &Result<(), Refusal>)
+    ensures { MatchResult answer.now (λ _. pushed.new ≡ pushed.old ++ envelope ∷ []) (λ _. pushed.new ≡ pushed.old) }
+{
+    if let Ok(()) = answer {
+        pushed.add(envelope);
+    }
+}
+
+/// Whether the queue has a fifo of control messages, and this is one.
+#[inline(always)]
+fn is_for_control(control: &Option<Port>, envelope: Envelope) -> bool
+    ensures { MatchBool result (IsForControl control.now envelope) (IsForMain control.now envelope) }
+{
+    match control {
+        Some(_) => is_control(envelope.body),
+        None => false,
     }
 }
 

@@ -23,6 +23,20 @@ pub fn take_next<R: Wait>(rt: &R, main: &mut Port, order: &mut TakeOrder) -> Opt
     requires { AllTake main.old order.old }
     ensures { IsStep main.old order.old result main.new order.new }
 {
+    let TakeOrder::FirstInFirstOut = order else {
+        // Bound to a name, so that the two answers lie in two places: then that of the first order stays in registers.
+        let next = take_by_order(rt, main, order);
+        return next;
+    };
+    main.take(rt)
+}
+
+/// Takes the next envelope, in whatever order.
+#[inline(never)]
+fn take_by_order<R: Wait>(rt: &R, main: &mut Port, order: &mut TakeOrder) -> Option<Envelope>
+    requires { AllTake main.old order.old }
+    ensures { IsStep main.old order.old result main.new order.new }
+{
     match order {
         TakeOrder::FirstInFirstOut => main.take(rt),
         TakeOrder::ControlFirst(control) => take_control_first(rt, control, main),

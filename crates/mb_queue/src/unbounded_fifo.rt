@@ -1,17 +1,14 @@
 //! A fifo without a bound, over the unbounded queue of `crossbeam_queue`.
-ghost use Rattle.std.specs.Prelude.{◌≡◌, [], IfOk, MatchResult};
+ghost use Rattle.std.specs.Prelude.{◌≡◌, [], IfOk};
 ghost use Rattle.crossbeam_queue.specs.SegTies.{IsSegPassOf};
 ghost use Rattle.mb_queue.specs.declared.ledger.Ledger.TheVariants.{Taker};
-ghost use Rattle.mb_queue.specs.declared.refused.Refusal.TheVariants.{NoMemory};
-ghost use Rattle.mb_queue.specs.Ledger.{IsSender, IsTaker, IsUnused, MayLend, MayPush, pushing, lending, borrowing, joining};
+ghost use Rattle.mb_queue.specs.Ledger.{IsSender, IsTaker, IsUnused, MayLend, lending, borrowing, joining};
 
 use crate::ledger::Ledger;
-use crate::refused::Refusal;
-use crate::rule::{FifoPush, FifoRule, FifoScope, FifoSender, JoinAccount, LendAccount, OpenFifo};
+use crate::rule::{FifoRule, FifoScope, FifoSender, JoinAccount, LendAccount, OpenFifo};
 use crossbeam_queue::{RuledSegQueue, SegPass};
 use mb_msg::Envelope;
 use std::alloc::{AllocError, Global};
-use std::sync::Wait;
 
 /// An unbounded queue under the fifo's rule.
 pub struct UnboundedFifo {
@@ -36,26 +33,6 @@ impl UnboundedFifo {
     {
         let (queue, pass) = RuledSegQueue::with_rule(alloc)?;
         Ok((UnboundedFifo { queue }, pass))
-    }
-
-    /// Pushes the envelope, or answers `NoMemory`.
-    #[inline(always)]
-    pub fn push<R: Wait>(
-        &self,
-        rt: &R,
-        pass: &mut UnboundedFifoPass,
-        envelope: Envelope,
-    ) -> Result<(), Refusal>
-        requires queue { IsSegPassOf self.now.queue pass.old }
-        requires sender { MayPush envelope pass.old.me.view.client }
-        ensures queue { IsSegPassOf self.now.queue pass.new }
-        ensures pushed { MatchResult result (λ _. pass.new.me.view.client ≡ pushing pass.old.me.view.client envelope)
-            (λ refusal. (refusal ≡ NoMemory) × (pass.new.me.view.client ≡ pass.old.me.view.client)) }
-    {
-        match self.queue.push_as::<FifoPush, R>(rt, pass, envelope) {
-            Ok(()) => Ok(()),
-            Err(_) => Err(Refusal::NoMemory),
-        }
     }
 
     /// Fixes which envelopes the fifo is for.

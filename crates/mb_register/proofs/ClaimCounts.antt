@@ -1,5 +1,5 @@
 -- Which claims a pass got, and which it gave back.
-use Rattle.std.proofs.Common.{◌≡◌, ◌==◌, ℕ, ◌+◌, Bool, true, false, if◌then◌else◌, inl, inr}
+use Rattle.std.proofs.Common.{◌≡◌, ◌==◌, ℕ, ◌+◌, Bool, true, false, if◌then◌else◌, inl, inr, Option, Some, None, MatchOption}
 use Rattle.std.proofs.Common.{List, [], ◌∷◌, ◌++◌, refl, sym, ap, ◌∙◌, subst, arith, append_assoc, append-nil}
 use Rattle.mb_msg.specs.declared.system.SysMsg.{SysMsg}
 use Rattle.mb_journal.specs.Entry.{Entry}
@@ -21,6 +21,13 @@ claims-then g b h r u v w x y = record {
   got = y.got ∙ ap (λ l. h ++ l) x.got ∙ sym (append_assoc h g u.got);
   returned = y.returned ∙ ap (λ l. r ++ l) x.returned ∙ sym (append_assoc r b u.returned);
 }
+
+-- after reading, which gets no claim, a claim or none
+pub claims-later : {X : Type 0} (id : ℕ) (u v w : View) (r : Option X) → GotAndGaveBack [] [] u v
+    → MatchOption r (GotAndGaveBack [] [] v w) (λ _. GotAndGaveBack (id ∷ []) [] v w)
+    → MatchOption r (GotAndGaveBack [] [] u w) (λ _. GotAndGaveBack (id ∷ []) [] u w)
+claims-later id u v w None a b = claims-then [] [] [] [] u v w a b
+claims-later id u v w (Some x) a b = claims-then [] [] (id ∷ []) [] u v w a b
 
 module _ (id : ℕ) where
   pub claims-read : (a : ℕ) (v w : View) → w ≡ reading id a v → GotAndGaveBack [] [] v w

@@ -4,9 +4,9 @@ use Rattle.std.proofs.Common.{List, [], ◌∷◌, ◌++◌, refl, sym, ap, ◌�
 use Rattle.mb_status.specs.Mailbox.{word_of}
 use Rattle.mb_ghost.specs.Seen.{Each}
 use Rattle.mb_ghost.proofs.SeenLemmas.{each_append, each_weaker}
-use Rattle.mb_gate.specs.View.{View, Observation, Read, Looked, Counted, Sent, Pushed}
+use Rattle.mb_gate.specs.View.{View, Observation, Read, Looked, Counted, Pushed}
 use Rattle.mb_register.specs.Hint.{has_message_hint, has_system_message_hint}
-use Rattle.mb_register.specs.Due.{SawSince, SawDue, GotOnlyDue, CountedOne, ListedOne, IsDueSince, GotDue}
+use Rattle.mb_register.specs.Due.{SawSince, SawDue, GotOnlyDue, SawWaiting, ListedOne, IsDueSince, GotDue}
 use Rattle.mb_register.specs.Registering.{QueueAccount, HandsClaimOn}
 use Rattle.mb_register.specs.declared.hint.Hint.{Hint}
 use Rattle.mb_register.specs.declared.hint.Hint.TheVariants as hint
@@ -47,10 +47,6 @@ module _ (u v x y : View) (carries : Carries u v x y) where
   saw-carried : (s : Observation) → SawSince s u v → SawSince s x y
   saw-carried s a = let there = carries (s ∷ []) a.later a.earlier a.log in record { later = there.0; earlier = there.1; log = there.2 }
 
-  counted-carried : (id : ℕ) → CountedOne id u v → CountedOne id x y
-  counted-carried id a = let there = carries (a.look ∷ Sent id 1 ∷ []) a.later a.earlier a.log in
-      record { look = a.look; is_look = a.is_look; later = there.0; earlier = there.1; log = there.2 }
-
   pub due-carried : (id : ℕ) → IsDueSince id u v → IsDueSince id x y
   due-carried id d = record {
     status = d.status;
@@ -58,7 +54,7 @@ module _ (u v x y : View) (carries : Carries u v x y) where
     has_system = d.has_system;
     due = d.due;
     read = saw-carried (Read id (word_of d.status)) d.read;
-    waiting = λ has. either (counted-carried id) (λ s. (s.0, s.1, saw-carried (Counted id s.0) s.2)) (d.waiting has);
+    waiting = λ has. let s = d.waiting has in (s.0, s.1, saw-carried (Counted id s.0) s.2);
     listed = λ has. either (λ s. (s.0, s.1, saw-carried (Pushed id s.0 s.1) s.2)) (saw-carried (Looked id true)) (d.listed has);
   }
 
@@ -77,17 +73,23 @@ got-further u v w looks more is further a b = record {
       (all-carried u v u w (carries-later u v w more further) a.of_these a.due);
 }
 
+-- where the hint tells of no envelope, the caller read that some are counted
+saw-unhinted : (id : ℕ) (hint : Hint) (b d : View) → has_message_hint hint ≡ false → (has_message_hint hint ≡ true) ⊎ SawWaiting id b d → SawWaiting id b d
+saw-unhinted id hint b d unhinted (inl hinted) = let e : false ≡ true = sym unhinted ∙ hinted in absurd (cc)
+saw-unhinted id hint b d unhinted (inr saw) = saw
+
 -- what a hint told is what the caller did itself
 pub due-hinted-by : (id : ℕ) (hint : Hint) (a b d : View) (did : List Observation) → b.log ≡ did ++ a.log →
-    (SawDue id hint b d → has_message_hint hint ≡ true → CountedOne id a d) → (has_system_message_hint hint ≡ true → ListedOne id a d) →
+    has_message_hint hint ≡ false → (has_system_message_hint hint ≡ true → ListedOne id a d) →
     SawDue id hint b d → IsDueSince id a d
-due-hinted-by id hint a b d did is counted put due = record {
+due-hinted-by id hint a b d did is unhinted put due = record {
   status = due.status;
   has_messages = due.has_messages;
   has_system = due.has_system;
   due = due.due;
   read = saw-carried b d a d (carries-earlier a b d did is) (Read id (word_of due.status)) due.read;
-  waiting = λ has. either (counted due) (λ s. (s.0, s.1, saw-carried b d a d (carries-earlier a b d did is) (Counted id s.0) s.2)) (due.waiting has);
+  waiting = λ has. let s = saw-unhinted id hint b d unhinted (due.waiting has) in
+      (s.0, s.1, saw-carried b d a d (carries-earlier a b d did is) (Counted id s.0) s.2);
   listed = λ has. either put (saw-carried b d a d (carries-earlier a b d did is) (Looked id true)) (due.listed has);
 }
 
@@ -124,7 +126,7 @@ got-registered id hint old new a b d false (inr h) due so same = record {
 -- what is due without a hint is due by what was seen alone
 pub due-unhinted : (id : ℕ) (a d : View) → SawDue id hint.None a d → IsDueSince id a d
 due-unhinted id a d =
-    due-hinted-by id hint.None a a d [] refl (λ seen has. let e : false ≡ true = has in absurd (cc)) (λ has. let e : false ≡ true = has in absurd (cc))
+    due-hinted-by id hint.None a a d [] refl refl (λ has. let e : false ≡ true = has in absurd (cc))
 
 pub got-unhinted : (a d : View) → GotOnlyDue hint.None a d → GotDue a d
 got-unhinted a d g = record {

@@ -1,10 +1,9 @@
 -- Of which actors a caller gets claims: only of those that it saw to be due (`Mailbox.canBeScheduledForExecution`).
-use Rattle.std.specs.Prelude.{◌≡◌, ◌≢◌, ◌⊎◌, ℕ, Bool, true, List, ◌∷◌, ◌++◌}
+use Rattle.std.specs.Prelude.{◌≡◌, ◌≢◌, ◌⊎◌, ℕ, Bool, true, List, ◌++◌, ◌∷◌}
 use Rattle.mb_status.specs.Mailbox.{Mailbox, word_of, can_schedule}
 use Rattle.mb_msg.specs.declared.system.SysMsg.{SysMsg}
 use Rattle.mb_ghost.specs.Seen.{Each}
-use Rattle.mb_gate.specs.View.{View, Observation, Read, Counted, Looked, Sent, Pushed}
-use Rattle.mb_register.specs.Views.{IsLook}
+use Rattle.mb_gate.specs.View.{View, Observation, Read, Counted, Looked, Pushed}
 use Rattle.mb_register.specs.Hint.{has_message_hint, has_system_message_hint}
 use Rattle.mb_register.specs.declared.hint.Hint.{Hint}
 
@@ -39,27 +38,19 @@ pub record GotOnlyDue (hint : Hint) (old new : View) : Type 0 where
   pub got : new.got ≡ of_these ++ old.got
   pub due : Each (λ id. SawDue id hint old new) of_these
 
--- It counted an envelope for the actor, and read something there right after that, so that it did not take the count back.
-pub record CountedOne (id : ℕ) (old new : View) : Type 0 where
-  pub look : Observation
-  pub is_look : IsLook id look
-  pub later : List Observation
-  pub earlier : List Observation
-  pub log : new.log ≡ later ++ (look ∷ Sent id 1 ∷ (earlier ++ old.log))
-
 -- It put a system message last into the actor's list.
 abbrev pub ListedOne : ℕ → View → View → Type 0
 ListedOne id old new = (number : ℕ) × (message : SysMsg) × SawSince (Pushed id number message) old new
 
 -- It read a status of the actor with which the actor has to be given to a worker: for system work, which it put into the list itself or saw at the
--- gate; or for envelopes that the actor may handle, of which it counted one itself or saw that some are counted.
+-- gate; or for envelopes that the actor may handle, of which it read that some are counted.
 pub record IsDueSince (id : ℕ) (old new : View) : Type 0 where
   pub status : Mailbox
   pub has_messages : Bool
   pub has_system : Bool
   pub due : can_schedule status has_messages has_system ≡ true
   pub read : SawSince (Read id (word_of status)) old new
-  pub waiting : has_messages ≡ true → CountedOne id old new ⊎ SawWaiting id old new
+  pub waiting : has_messages ≡ true → SawWaiting id old new
   pub listed : has_system ≡ true → ListedOne id old new ⊎ SawListed id old new
 
 -- Each claim that it got is of an actor that was due then, by what it did and saw itself.

@@ -7,7 +7,10 @@ ghost use Rattle.mb_register.specs.Views.{GotAndGaveBack, LooksAfter};
 
 use mb_gate::{Claim, Gates, MailboxState, Pass};
 
-/// Gives a claim back as it was taken. From now on the pass owes the actor a look.
+/// Gives a claim back as it was taken. From now on the pass owes the actor a look. It is a function of its own, so that where the
+/// run queue takes the claim, no register is kept for it.
+#[cold]
+#[inline(never)]
 pub(crate) fn give_home<H: MailboxState>(gates: &Gates<H>, pass: &mut Pass<H>, claim: Claim<H>)
     requires same_gates { pass_id pass.old ≡ gates_id gates.now }
     requires untouched { IsUntouched H.is_of H.facts (Some (origin_of gates.now)) claim }

@@ -6,6 +6,8 @@ use Rattle.std.proofs.lemmas.List.{reverse-append}
 use Rattle.std.proofs.lemmas.Option.{same_Some, slice_get_within, slice_get-get_or}
 use Rattle.std.proofs.lemmas.List.Sums.{count_by_more_yes, count_by_more_no, sum_by-append}
 use Rattle.mb_journal.specs.Entry.{Entry}
+use Rattle.mb_journal.specs.Entry.Entry.{Handled, System, Dropped}
+use Rattle.mb_report.specs.Counts.{tells_of_envelope, tells_of_restart}
 
 -- one entry more
 pub count_more : (p : Entry → Bool) (xs : List Entry) (i : ℕ) (x : Entry) → slice_get xs i ≡ Some x →
@@ -38,3 +40,9 @@ count_by-reverse p (x ∷ xs) =
     let rest = count_by-reverse p xs in
     let both : count_by p (x ∷ xs) ≡ count_by p (x ∷ []) + count_by p xs = count_by-append p (x ∷ []) xs in
     omega (arith, split, rest, both)
+
+-- an entry of an envelope is of no restart
+pub envelope_is_no_restart : (e : Entry) → tells_of_envelope e ≡ true → tells_of_restart e ≡ false
+envelope_is_no_restart (Handled envelope reading outcome) is = refl
+envelope_is_no_restart (System number message outcome) is = absurd (cc is)
+envelope_is_no_restart (Dropped envelope) is = refl

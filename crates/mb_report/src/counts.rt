@@ -23,7 +23,10 @@ pub(crate) fn counts_of(journal: &Journal) -> Counts
     let mut restarts = 0;
     for index in 0..journal.len() {
         let record = journal.get(index);
-        handled = plus_if(handled, tells_of_envelope(&record));
+        if tells_of_envelope(&record) {
+            handled += 1;
+            continue;
+        }
         restarts = plus_if(restarts, tells_of_restart(&record));
     }
     Counts { handled, restarts }

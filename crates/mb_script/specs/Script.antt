@@ -47,6 +47,7 @@ pub record Work : Type 0 where
   pub operations : List Operation
   pub value : ℤ
 
+-- the work of performing these operations with this value
 abbrev pub work_with : ℤ → List Operation → Work
 work_with value operations = record { operations = operations; value = value }
 

@@ -1,6 +1,6 @@
 //! The index that finds the first row of a kind.
 
-ghost use Rattle.std.specs.Prelude.{◌≡◌, All, IfOk, length, map, option_map};
+ghost use Rattle.std.specs.Prelude.{◌≡◌, All, IfOk, IfSome, Some, length, map, option_map};
 ghost use Rattle.std.specs.BTreeMap.{IsEmpty};
 ghost use Rattle.mb_script.specs.Index.{IsIndexFrom};
 ghost use Rattle.mb_script.specs.Script.{row_data, row_for};
@@ -42,6 +42,17 @@ fn empty_maps(alloc: Global, count: usize) -> Result<Index, AllocError>
 
 /// Up to this many rows a linear search is faster than the index.
 const FEW: usize = 8;
+
+/// The first row of all, if it is for messages of the kind. Most messages are of the first row's kind.
+#[inline(always)]
+pub(crate) fn leading_row(rows: &[Row], kind: u32) -> Option<&Row>
+    ensures { IfSome result (λ row. Some (row_data row.now) ≡ row_for kind (map row_data rows.now)) }
+{
+    match rows.first() {
+        Some(row) if row.kind == kind => Some(row),
+        _ => None,
+    }
+}
 
 /// The first row for messages of the kind.
 pub(crate) fn first_of_kind<'a>(

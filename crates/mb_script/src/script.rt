@@ -1,12 +1,12 @@
 //! The actor that runs a script.
-ghost use Rattle.std.specs.Prelude.{◌≡◌, IfOk, map, option_map};
-ghost use Rattle.mb_script.specs.Script.{answer_with, after_work, asked_with, row_data, work_of_kind};
+ghost use Rattle.std.specs.Prelude.{◌≡◌, IfOk, map, option_map, pos};
+ghost use Rattle.mb_script.specs.Script.{answer_with, after_work, asked_with, row_data, work_of_kind, work_with};
 
-use crate::index::{Index, first_of_kind, index_of};
+use crate::index::{Index, first_of_kind, index_of, leading_row};
 use crate::operation::{Operation, Row};
-use crate::perform::{Performed, perform};
+use crate::perform::{perform, perform_rest, perform_row};
 use mb_actor::{Actor, Answer, CallPermit, Message, Outbox};
-use mb_msg::Cause;
+use mb_msg::{ActorId, Cause};
 use std::alloc::{AllocError, Global};
 use std::marker::Model;
 
@@ -114,12 +114,39 @@ impl Script {
         ensures actors { out.new.actors ≡ out.old.actors }
         ensures unspawned { out.new.unspawned ≡ out.old.unspawned }
     {
+        match leading_row(&self.rows, kind) {
+            Some(row) => perform_row(&mut self.state, value, out, &row.operations),
+            None => self.do_searched_kind(kind, value, out),
+        }
+    }
+
+    /// The same, for a kind that is searched for. It is called last, so that `do_kind` has to save no register.
+    #[cold]
+    #[inline(never)]
+    fn do_searched_kind(&mut self, kind: u32, value: i64, out: &mut Outbox) -> Answer
+        ensures state { self.new ≡ record self.old { state = after_work self.old.state (work_of_kind self.old.script.rows kind value) } }
+        ensures answer { result ≡ answer_with (work_of_kind self.old.script.rows kind value) }
+        ensures asked { out.new ≡ asked_with (work_of_kind self.old.script.rows kind value) out.old }
+        ensures actors { out.new.actors ≡ out.old.actors }
+        ensures unspawned { out.new.unspawned ≡ out.old.unspawned }
+    {
         match first_of_kind(&self.rows, &self.index, kind) {
-            Some(row) => {
-                let Performed { state, answer } = perform(&row.operations, value, self.state, out);
-                self.state = state;
-                answer
-            }
+            Some(row) => perform_rest(&mut self.state, value, out, &row.operations),
+            None => Answer::Unhandled,
+        }
+    }
+
+    /// Does what it does when an actor that it watches has ended. It is called last too.
+    #[cold]
+    #[inline(never)]
+    fn do_terminated(&self, id: ActorId, out: &mut Outbox) -> Answer
+        ensures answer { result ≡ answer_with (option_map (work_with (pos id.0)) self.now.script.terminated) }
+        ensures asked { out.new ≡ asked_with (option_map (work_with (pos id.0)) self.now.script.terminated) out.old }
+        ensures actors { out.new.actors ≡ out.old.actors }
+        ensures unspawned { out.new.unspawned ≡ out.old.unspawned }
+    {
+        match &self.hooks.terminated {
+            Some(operations) => perform(operations, i64::from(id.0), 0, out).answer,
             None => Answer::Unhandled,
         }
     }
@@ -142,11 +169,8 @@ impl Actor for Script {
     fn receive(&mut self, message: &Message, out: &mut Outbox, _: CallPermit) -> Answer {
         match *message {
             Message::User { kind, value } => self.do_kind(kind, value, out),
-            Message::Control { kind, value } => self.do_kind(kind, value, out),
-            Message::Terminated(id) => match &self.hooks.terminated {
-                Some(operations) => perform(operations, i64::from(id.0), 0, out).answer,
-                None => Answer::Unhandled,
-            },
+            Message::Control { kind, value } => self.do_searched_kind(kind, value, out),
+            Message::Terminated(id) => self.do_terminated(id, out),
         }
     }
 

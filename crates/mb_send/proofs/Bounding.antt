@@ -9,12 +9,12 @@ use Rattle.mb_msg.specs.declared.dead_letter.DeadLetter.{DeadLetter}
 use Rattle.mb_msg.specs.declared.dead_letter.Why.{Why}
 use Rattle.mb_msg.specs.declared.dead_letter.Why.TheVariants as why
 use Rattle.mb_msg.specs.declared.envelope.Envelope.{Envelope}
-use Rattle.mb_queue.specs.declared.refused.PushError.{PushError}
-use Rattle.mb_queue.specs.declared.refused.PushError.TheVariants.{Full, NoMemory}
+use Rattle.mb_queue.specs.declared.refused.Refusal.{Refusal}
+use Rattle.mb_queue.specs.declared.refused.Refusal.TheVariants.{Full, NoMemory}
 use Rattle.mb_journal.specs.declared.sent_envelope.SentEnvelope.{SentEnvelope}
 use Rattle.mb_journal.specs.Accepted.{dead_letters}
 use Rattle.mb_queue.specs.Passes.{Queue, SendPassView}
-use Rattle.mb_queue.specs.Pushes.{IsRefusal}
+use Rattle.mb_queue.specs.Pushes.{IsReason}
 use Rattle.mb_send.specs.Answers.{reason}
 use Rattle.mb_send.specs.Posted.{posting}
 use Rattle.mb_send.specs.Bounded.{may_be_refused, are_of_bounded, queue_to}
@@ -37,10 +37,10 @@ bounded-dead queues ps e w may all =
     ∙ and-both (list_all p (dead_letters ps)) (p letter && true) all (and-both (p letter) true may refl)
 
 -- a queue refuses as full only where it has a bound
-pub may-find-full : (queues : List Queue) (k : ℕ) (pass : SendPassView) (refused : PushError) (w : Why) → slice_get queues k ≡ Some pass.queue →
-    IsRefusal pass refused → w ≡ reason refused → may_be_refused (queue_to queues (suc k)) w ≡ true
-may-find-full queues k pass (Full e) w there full is = (λ i. may_be_refused (there i) (is i)) ∙ ap is_some full.1
-may-find-full queues k pass (NoMemory e) w there full is = λ i. may_be_refused (there i) (is i)
+pub may-find-full : (queues : List Queue) (k : ℕ) (pass : SendPassView) (refused : Refusal) (w : Why) → slice_get queues k ≡ Some pass.queue →
+    IsReason pass refused → w ≡ reason refused → may_be_refused (queue_to queues (suc k)) w ≡ true
+may-find-full queues k pass Full w there full is = (λ i. may_be_refused (there i) (is i)) ∙ ap is_some full.1
+may-find-full queues k pass NoMemory w there full is = λ i. may_be_refused (there i) (is i)
 
 -- an envelope to a receiver that was seen closed
 closed-there : (queues : List Queue) (k : ℕ) → k < length queues → may_be_refused (queue_to queues (suc k)) why.Closed ≡ true

@@ -6,8 +6,8 @@ use Rattle.mb_msg.specs.declared.dead_letter.DeadLetter.{DeadLetter}
 use Rattle.mb_msg.specs.declared.dead_letter.Why.{Why}
 use Rattle.mb_msg.specs.declared.dead_letter.Why.TheVariants as why
 use Rattle.mb_msg.specs.declared.envelope.Envelope.{Envelope}
-use Rattle.mb_queue.specs.declared.refused.PushError.{PushError}
-use Rattle.mb_queue.specs.declared.refused.PushError.TheVariants.{Full, NoMemory}
+use Rattle.mb_queue.specs.declared.refused.Refusal.{Refusal}
+use Rattle.mb_queue.specs.declared.refused.Refusal.TheVariants.{Full, NoMemory}
 use Rattle.mb_gate.specs.View.{View, Observation, SentSystem}
 use Rattle.mb_journal.specs.declared.sent_envelope.SentEnvelope.{SentEnvelope}
 use Rattle.mb_journal.specs.Accepted.{dead_letters}
@@ -75,6 +75,6 @@ was_seen_closed-dead log ps e w may all =
     ∙ and-both (list_all p (dead_letters ps)) (p letter && true) all (and-both (p letter) true may refl)
 
 -- a push is refused for another reason
-pub may-refuse : (seen : Bool) (refused : PushError) (w : Why) → w ≡ reason refused → may_be_dead seen w ≡ true
-may-refuse seen (Full e) w is = ap (may_be_dead seen) is
-may-refuse seen (NoMemory e) w is = ap (may_be_dead seen) is
+pub may-refuse : (seen : Bool) (refused : Refusal) (w : Why) → w ≡ reason refused → may_be_dead seen w ≡ true
+may-refuse seen Full w is = ap (may_be_dead seen) is
+may-refuse seen NoMemory w is = ap (may_be_dead seen) is

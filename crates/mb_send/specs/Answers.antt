@@ -14,8 +14,8 @@ use Rattle.mb_send.specs.declared.ticket.Look.{Look}
 use Rattle.mb_send.specs.declared.ticket.Look.TheVariants.{Open, Closed}
 use Rattle.mb_msg.specs.declared.dead_letter.Why.{Why}
 use Rattle.mb_msg.specs.declared.dead_letter.Why.TheVariants as why
-use Rattle.mb_queue.specs.declared.refused.PushError.{PushError}
-use Rattle.mb_queue.specs.declared.refused.PushError.TheVariants.{Full, NoMemory}
+use Rattle.mb_queue.specs.declared.refused.Refusal.{Refusal}
+use Rattle.mb_queue.specs.declared.refused.Refusal.TheVariants.{Full, NoMemory}
 use Rattle.mb_send.specs.declared.put.Put.{Put}
 use Rattle.mb_send.specs.declared.put.Put.TheVariants.{Queued, Dead}
 use Rattle.mb_send.specs.Posted.{envelope_of, posting}
@@ -43,9 +43,9 @@ pub record IsSeen (to : ActorId) (look : Look) (before after : View) : Type 0 wh
   pub answer : AnswersLook to seen look
 
 -- Why a push was refused, as the sender is told.
-abbrev pub reason : PushError → Why
-reason (Full e) = why.Full
-reason (NoMemory e) = why.NoMemory
+abbrev pub reason : Refusal → Why
+reason Full = why.Full
+reason NoMemory = why.NoMemory
 
 -- The pass refused the envelope for this reason, or did not refuse it. A queue with a bound refuses only if it was full at some moment, one without a
 -- bound only if memory was refused, and none because its actor is closed.

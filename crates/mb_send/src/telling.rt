@@ -19,7 +19,7 @@ use crate::sender::GatesSender;
 use crate::ticket::{Look, Ticket};
 use mb_gate::{Gates, MailboxState, RunQueue};
 use mb_msg::{ActorId, Payload, Why};
-use mb_queue::PushError;
+use mb_queue::Refusal;
 use mb_register::Hint;
 use std::sync::Wait;
 
@@ -60,7 +60,7 @@ impl<H: MailboxState, W: RunQueue<H>> GatesSender<H, W> {
         // Counted before its queue gets it, and taken back where that refuses it (`counts` of `mb_register`). A run does so too with
         // what its actor tells (`send` of `mb_mailbox`, which says why these are two functions).
         gates.note_sent(&mut self.registrar.pass, to);
-        match self.sends[to.0 as usize - 1].push(rt, envelope) {
+        match self.sends[to.0 as usize - 1].put(rt, envelope) {
             Ok(()) => {
                 self.send_log.record_queued(envelope);
                 self.registrar.register(rt, gates, to, Hint::Message);
@@ -131,11 +131,11 @@ impl<H: MailboxState, W: RunQueue<H>> GatesSender<H, W> {
 }
 
 // Why a push was refused, as the sender is told.
-fn why_of(refused: PushError) -> Why
+fn why_of(refused: Refusal) -> Why
     ensures { result ≡ reason refused }
 {
     match refused {
-        PushError::Full(_) => Why::Full,
-        PushError::NoMemory(_) => Why::NoMemory,
+        Refusal::Full => Why::Full,
+        Refusal::NoMemory => Why::NoMemory,
     }
 }

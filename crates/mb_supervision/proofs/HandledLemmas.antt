@@ -70,9 +70,8 @@ with-tells who effects b all = λ i. record b {
 }
 
 pub handled-telling : (who : Identity) (carried : Body) (a : Option Answer) (effects : List Effect) (b : CellState) → list_all is_tell effects ≡ true →
-    failure_of carried a ≡ None → due_told carried b.due ≡ b.due → b.acts ≡ [] →
-    record b { acts = b.acts ++ stop_acts effects; is_ready = false } ≡ handled who carried a effects b
-handled-telling who carried a effects b all no_failure same no_acts =
-    (λ i. record b { acts = no_acts i ++ stop_acts effects; is_ready = false })
-    ∙ sym ((λ i. failing_if who (no_failure i) (with_effects who effects (record b { due = same i; acts = []; is_ready = false })))
+    failure_of carried a ≡ None → due_told carried b.due ≡ b.due →
+    record b { acts = stop_acts effects; is_ready = false } ≡ handled who carried a effects b
+handled-telling who carried a effects b all no_failure same =
+    sym ((λ i. failing_if who (no_failure i) (with_effects who effects (record b { due = same i; acts = []; is_ready = false })))
     ∙ with-tells who effects (record b { acts = []; is_ready = false }) all)

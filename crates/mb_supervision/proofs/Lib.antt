@@ -1,3 +1,4 @@
+pub mod ActLemmas
 pub mod Crossing
 pub mod EffectLemmas
 pub mod HandledLemmas

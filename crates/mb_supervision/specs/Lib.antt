@@ -6,3 +6,5 @@ pub mod ActQueueView
 pub mod RetryCounts
 pub mod Rows
 pub mod Tells
+pub mod TaskQueue
+pub mod TaskQueueView

@@ -44,7 +44,7 @@ pub struct CellState {
     acts: ActQueue,
     fanout: usize,
     ready: bool,
-    /// Whether the room for a message is still there, since the last message left enough of it.
+    /// Whether the room for a message is still there, since the last message used none of it.
     unused: bool,
 }
 
@@ -147,7 +147,7 @@ impl CellState {
             self.watching.len(),
             self.fanout,
         );
-        self.acts.make_room(most + EFFECTS)?;
+        self.acts.make_room(most)?;
         self.ready = true;
         Ok(())
     }
@@ -230,7 +230,7 @@ impl CellState {
 
 /// How many acts one message can have, of an actor with so many in its lists.
 #[inline(always)]
-pub(crate) fn most_acts(children: usize, watchers: usize, watching: usize, fanout: usize) -> usize
+fn most_acts(children: usize, watchers: usize, watching: usize, fanout: usize) -> usize
     requires { most_acts children watchers watching fanout < 2 ^ 64 }
     ensures { result ≡ most_acts children watchers watching fanout }
 {

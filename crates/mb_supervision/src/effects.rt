@@ -5,8 +5,9 @@ ghost use Rattle.mb_actor.specs.OutboxView.{spawns_of};
 ghost use Rattle.mb_journal.specs.Acts.{effect_acts, stop_acts};
 ghost use Rattle.mb_journal.specs.Watching.{watching_after, due_after};
 
-use crate::act_queue::{ActQueue, Task};
+use crate::act_queue::ActQueue;
 use crate::actor_list::{has, join, leave};
+use crate::task_queue::Task;
 use mb_actor::Effect;
 use mb_msg::{ActorId, Body, SysMsg};
 

@@ -5,9 +5,10 @@ ghost use Rattle.mb_journal.specs.Acts.{end_acts, to_each};
 ghost use Rattle.mb_journal.specs.ActorList.{without};
 ghost use Rattle.mb_supervision.specs.ActorIdentity.{identity_of};
 
-use crate::act_queue::{ActQueue, Task};
+use crate::act_queue::ActQueue;
 use crate::effects::carry_out_last;
 use crate::identity::ActorIdentity;
+use crate::task_queue::Task;
 use mb_actor::Effect;
 use mb_msg::{ActorId, SysMsg};
 

@@ -6,9 +6,10 @@ ghost use Rattle.mb_journal.specs.Acts.{fail_acts, report, to_each};
 ghost use Rattle.mb_journal.specs.Failure.{is_nobody};
 ghost use Rattle.mb_supervision.specs.ActorIdentity.{identity_of};
 
-use crate::act_queue::{ActQueue, Task};
+use crate::act_queue::ActQueue;
 use crate::actor_list::has;
 use crate::identity::ActorIdentity;
+use crate::task_queue::Task;
 use mb_journal::FailedBy;
 use mb_msg::{ActorId, Cause, SysMsg};
 

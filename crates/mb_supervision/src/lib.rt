@@ -14,6 +14,7 @@ mod end;
 mod fail;
 mod identity;
 mod retries;
+mod task_queue;
 
 pub use act::Act;
 pub use cell_state::CellState;

@@ -18,6 +18,8 @@ use std::sync::Wait;
 impl<A: Actor, K: Behaviours> Home<A, K> {
     /// Takes the next envelope of the actor's queue; `None` if none was there (`Mailbox.processMailbox`). It has to be handled
     /// next. It takes no memory.
+    // Inlined, so that its caller has the envelope in registers.
+    #[inline(always)]
     pub fn take_next<R: Wait>(&mut self, rt: &R) -> Option<Envelope>
         requires settled { AgreesWithJournal (K.gives self.old.cell.who.this.0) self.old.cell.acts self.old }
         ensures took { IfSome result (λ envelope. TakesOut self.old self.new envelope) }

@@ -1,20 +1,18 @@
 //! The acts of a message, and the envelopes that an actor tells.
 
-ghost use Rattle.std.specs.Prelude.{◌≡◌, ◌+◌, ◌-◌, ◌%◌, ◌^◌, ◌<◌, [], ◌∷◌, ◌++◌, map, option_to_list, length, slice_get, Some, IfErr, IfNone};
-ghost use Rattle.std.specs.Prelude.{IfSome, MatchResult};
+ghost use Rattle.std.specs.Prelude.{◌≡◌, ◌+◌, ◌-◌, ◌%◌, ◌^◌, ◌<◌, [], ◌∷◌, ◌++◌, map, option_to_list, IfErr, IfNone, MatchResult};
 ghost use Rattle.mb_msg.specs.declared.dead_letter.Why.TheVariants.{Closed};
 ghost use Rattle.mb_journal.specs.Acts.Act.{Tell};
 ghost use Rattle.mb_supervision.specs.ActQueue.{act_of};
 ghost use Rattle.mb_queue.specs.Rule.{given_back};
-ghost use Rattle.mb_queue.specs.Passes.{SendPassView};
 ghost use Rattle.mb_home.specs.AgreesWithJournal.{AgreesWithJournal};
-ghost use Rattle.mb_home.specs.Steps.{Pushes, RecordsDeadLetter, Delivers, Fits, IsRefusedBy, PushesInto, RefusesPush, next_envelope, reason_of};
+ghost use Rattle.mb_home.specs.Steps.{Pushes, RecordsDeadLetter, RefusesPush, next_envelope, reason_of};
 
 use super::Home;
 use mb_actor::{Actor, Behaviours};
 use mb_cell::Act;
 use mb_msg::{ActorId, Body, DeadLetter, Envelope, SenderId, Why};
-use mb_queue::{PushError, SendPass};
+use mb_queue::PushError;
 use std::sync::Wait;
 
 impl<A: Actor, K: Behaviours> Home<A, K> {
@@ -43,30 +41,17 @@ impl<A: Actor, K: Behaviours> Home<A, K> {
     {
         let envelope = self.envelope(to, body);
         let place = to.0 as usize - 1;
-        match self.deliver(rt, place, envelope) {
-            Ok(()) => Ok(()),
-            Err(refused) => {
+        match self.sends[place].put(rt, envelope) {
+            Ok(()) => {
+                self.sent = self.sent.wrapping_add(1);
+                Ok(())
+            }
+            Err(refusal) => {
+                let refused = refusal.of(envelope);
                 self.record_dead_letter(envelope, reason(&refused));
                 Err(refused)
             }
         }
-    }
-
-    /// Pushes an envelope by the pass of this place.
-    fn deliver<R: Wait>(
-        &mut self,
-        rt: &R,
-        place: usize,
-        envelope: Envelope,
-    ) -> Result<(), PushError>
-        requires present { place < length self.old.sends }
-        requires fits { (p : SendPassView) → slice_get self.old.sends place ≡ Some p → Fits envelope p }
-        ensures delivered { MatchResult result (λ _. Delivers self.old self.new place envelope)
-            (λ refused. (given_back refused ≡ envelope) × (self.new ≡ self.old) × RefusesPush self.old place refused) }
-    {
-        push_into(rt, &mut self.sends, place, envelope)?;
-        self.sent = self.sent.wrapping_add(1);
-        Ok(())
     }
 
     /// Makes what the actor tells a dead letter, since its receiver's mailbox was seen closed.
@@ -104,21 +89,6 @@ impl<A: Actor, K: Behaviours> Home<A, K> {
         self.dead.push_reserved(DeadLetter { envelope, why });
         self.sent = self.sent.wrapping_add(1);
     }
-}
-
-/// Pushes an envelope by the pass of this place.
-fn push_into<R: Wait>(
-    rt: &R,
-    sends: &mut Vec<SendPass>,
-    place: usize,
-    envelope: Envelope,
-) -> Result<(), PushError>
-    requires present { place < length sends.old.items }
-    requires fits { (p : SendPassView) → slice_get sends.old.items place ≡ Some p → Fits envelope p }
-    ensures pushed { MatchResult result (λ _. PushesInto sends.old.items sends.new.items place envelope)
-        (λ refused. (given_back refused ≡ envelope) × (sends.new.items ≡ sends.old.items) × IsRefusedBy sends.old.items place refused) }
-{
-    sends[place].push(rt, envelope)
 }
 
 /// Why a refused envelope is a dead letter.

@@ -4,12 +4,12 @@ ghost use Rattle.mb_msg.specs.Limits.{most_effects};
 ghost use Rattle.mb_supervision.specs.ActorIdentity.{identity_of};
 ghost use Rattle.mb_supervision.specs.Rows.{told_of_death, ended};
 
-use crate::act_queue::Task;
 use crate::actor_list::{has, join, leave};
 use crate::cell_state::CellState;
 use crate::cell_state::aside::forget;
 use crate::end::end;
 use crate::identity::ActorIdentity;
+use crate::task_queue::Task;
 use mb_actor::{Effect, Phase};
 use mb_msg::{ActorId, Body};
 

@@ -8,12 +8,13 @@ ghost use Rattle.mb_supervision.specs.ActorIdentity.{identity_of};
 ghost use Rattle.mb_supervision.specs.RetryCounts.{retry_count_of};
 ghost use Rattle.mb_supervision.specs.Rows.{counted_now, supervised};
 
-use crate::act_queue::{ActQueue, Task};
+use crate::act_queue::ActQueue;
 use crate::cell_state::CellState;
 use crate::cell_state::aside::forget;
 use crate::fail::fail;
 use crate::identity::ActorIdentity;
 use crate::retries::ask;
+use crate::task_queue::Task;
 use mb_journal::FailedBy;
 use mb_msg::{ActorId, Cause, Directive, SysMsg, by_default};
 

@@ -1,23 +1,21 @@
 //! The rules of envelopes (`ActorCell.invoke`, `autoReceiveMessage`).
-ghost use Rattle.std.specs.Prelude.{◌≡◌, ◌+◌, ◌≤◌, ◌<◌, ◌^◌, ◌++◌, List, [], false, true, IsTrue, Some, None, length};
-ghost use Rattle.std.specs.List.{list_all};
+ghost use Rattle.std.specs.Prelude.{◌≡◌, ◌≤◌, ◌<◌, ◌^◌, List, [], false, IsTrue, Some, None, length, vec_len, vec_capacity};
 ghost use Rattle.mb_msg.specs.declared.id.ActorId.{ActorId};
 ghost use Rattle.mb_msg.specs.Limits.{most_effects};
-ghost use Rattle.mb_journal.specs.Acts.{stop_acts};
 ghost use Rattle.mb_journal.specs.Failure.{failure_of as cause_of};
-ghost use Rattle.mb_supervision.specs.Tells.{is_tell};
+ghost use Rattle.mb_journal.specs.Identity.{Identity};
 ghost use Rattle.mb_supervision.specs.ActorIdentity.{identity_of};
-ghost use Rattle.mb_supervision.specs.Rows.{due_told, handled, poisoned, discard};
+ghost use Rattle.mb_supervision.specs.Rows.{due_told, handled, failing_if, with_effects, poisoned, discard};
 
-use crate::act_queue::Task;
 use crate::actor_list::leave;
-use crate::cell_state::{CellState, most_acts};
-use crate::effects::{carry_out, carry_out_last};
+use crate::cell_state::CellState;
+use crate::effects::carry_out;
 use crate::fail::fail;
 use crate::identity::ActorIdentity;
+use crate::task_queue::Task;
 use mb_actor::{Answer, Effect};
 use mb_journal::FailedBy;
-use mb_msg::{Body, Cause, SysMsg};
+use mb_msg::{ActorId, Body, Cause, SysMsg};
 
 impl CellState {
     /// An envelope with this body was handled, with this answer (if the actor was called) and these effects.
@@ -35,51 +33,46 @@ impl CellState {
         requires within_limit { length effects.now ≤ most_effects }
         ensures { self.new ≡ handled (identity_of place.now 0) body answer effects.now self.old }
     {
-        if only_tells(body, answer, effects) {
-            self.tell_all(effects);
-        } else {
-            self.handle_all(place, body, answer, effects);
+        if self.tell_all(body, answer, effects) {
+            return;
         }
+        tell_of_end(body, &mut self.due);
+        self.handle_all(place, failure_of(body, answer), effects);
     }
 
-    /// The same, where each effect is a tell. What is left of the room serves the next message, if it is enough.
+    /// The same, where nothing else changes and each effect is a tell: most messages are such. Else it answers `false`, and
+    /// nothing has changed. The room serves the next message.
     #[inline(always)]
-    fn tell_all(&mut self, effects: &[Effect])
+    fn tell_all(&mut self, body: Body, answer: Option<Answer>, effects: &[Effect]) -> bool
         requires ready { IsTrue self.old.is_ready }
+        requires carried_out { self.old.acts ≡ [] }
         requires within_limit { length effects.now ≤ most_effects }
-        ensures { self.new ≡ record self.old { acts = self.old.acts ++ stop_acts effects.now; is_ready = false } }
+        ensures told { IsTrue result → (who : Identity) → self.new ≡ handled who body answer effects.now self.old }
+        ensures not_told { result ≡ false → self.new ≡ self.old }
     {
+        if !is_calm(body, answer) {
+            return false;
+        }
+        if !self.acts.tell_all(effects) {
+            return false;
+        }
         self.ready = false;
-        carry_out_last(effects, &mut self.acts);
-        self.unused = effects.is_empty()
-            || self.acts.room()
-                >= most_acts(
-                    self.children.len(),
-                    self.watchers.len(),
-                    self.watching.len(),
-                    self.fanout,
-                );
+        self.unused = true;
+        true
     }
 
-    /// The same, where some of the room may be used.
+    /// An envelope was handled with these effects, and the actor fails, if there is a cause. Some of the room may be used.
+    #[cold]
     #[inline(never)]
-    fn handle_all(
-        &mut self,
-        place: &ActorIdentity,
-        body: Body,
-        answer: Option<Answer>,
-        effects: &[Effect],
-    )
+    fn handle_all(&mut self, place: &ActorIdentity, cause: Option<Cause>, effects: &[Effect])
         requires ready { IsTrue self.old.is_ready }
         requires carried_out { self.old.acts ≡ [] }
         requires below_bound { self.old.count < 2 ^ 60 }
         requires within_limit { length effects.now ≤ most_effects }
-        ensures { self.new ≡ handled (identity_of place.now 0) body answer effects.now self.old }
+        ensures { self.new ≡ failing_if (identity_of place.now 0) cause
+            (with_effects (identity_of place.now 0) effects.now (record self.old { acts = []; is_ready = false })) }
     {
         self.ready = false;
-        if let Body::Terminated(id) = body {
-            leave(&mut self.due, id);
-        }
         carry_out(
             place.this,
             effects,
@@ -88,7 +81,7 @@ impl CellState {
             &mut self.watching,
             &mut self.due,
         );
-        let Some(cause) = failure_of(body, answer) else {
+        let Some(cause) = cause else {
             return;
         };
         fail(
@@ -122,39 +115,35 @@ impl CellState {
     }
 }
 
-/// Whether a message with this body, answer and effects changes nothing beside the journal but for what it tells. Most
-/// messages are such.
+/// Whether a message with this body and answer changes nothing beside the journal but by its effects.
 #[inline(always)]
-fn only_tells(body: Body, answer: Option<Answer>, effects: &[Effect]) -> bool
+fn is_calm(body: Body, answer: Option<Answer>) -> bool
     ensures no_failure { IsTrue result → cause_of body answer ≡ None }
     ensures same_due { IsTrue result → (list : List ActorId) → due_told body list ≡ list }
-    ensures tells { IsTrue result → list_all is_tell effects.now ≡ true }
 {
-    match (body, answer) {
-        (Body::User { .. } | Body::Control { .. }, Some(Answer::Handled | Answer::Unhandled)) =>
-            are_tells(effects),
-        _ => false,
-    }
+    matches!(
+        (body, answer),
+        (
+            Body::User { .. } | Body::Control { .. },
+            Some(Answer::Handled | Answer::Unhandled)
+        )
+    )
 }
 
-/// Whether each of these effects is a tell, of a control message too.
+/// After a Terminated its actor's end is no longer to be told.
 #[inline(always)]
-fn are_tells(effects: &[Effect]) -> bool
-    ensures { result ≡ list_all is_tell effects.now }
+fn tell_of_end(body: Body, due: &mut Vec<ActorId>)
+    ensures items { due.new.items ≡ due_told body due.old.items }
+    ensures no_more { vec_len due.new ≤ vec_len due.old }
+    ensures capacity { vec_capacity due.old ≤ vec_capacity due.new }
 {
-    effects.iter().all(|effect| is_tell(*effect))
-}
-
-fn is_tell(effect: Effect) -> bool
-    ensures { result ≡ is_tell effect }
-{
-    match effect {
-        Effect::Tell { .. } | Effect::Control { .. } => true,
-        Effect::Watch(_) | Effect::Unwatch(_) | Effect::Stop(_) | Effect::Spawn(_) => false,
+    if let Body::Terminated(id) = body {
+        leave(due, id);
     }
 }
 
 /// Why the actor fails that was given this body and gave this answer, if it fails.
+#[inline(always)]
 fn failure_of(body: Body, answer: Option<Answer>) -> Option<Cause>
     ensures { result ≡ cause_of body answer }
 {

@@ -4,12 +4,12 @@ ghost use Rattle.mb_msg.specs.Limits.{most_effects};
 ghost use Rattle.mb_supervision.specs.ActorIdentity.{identity_of};
 ghost use Rattle.mb_supervision.specs.Rows.{recreated};
 
-use crate::act_queue::Task;
 use crate::cell_state::CellState;
 use crate::cell_state::aside::forget;
 use crate::effects::carry_out;
 use crate::fail::fail;
 use crate::identity::ActorIdentity;
+use crate::task_queue::Task;
 use mb_actor::{Answer, Effect, Phase};
 use mb_journal::FailedBy;
 use mb_msg::{Cause, SysMsg};

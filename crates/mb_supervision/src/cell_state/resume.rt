@@ -5,9 +5,10 @@ ghost use Rattle.mb_journal.specs.Acts.Act.{Sys};
 ghost use Rattle.mb_journal.specs.Failure.{is_child as failed_by};
 ghost use Rattle.mb_supervision.specs.Rows.{resumed};
 
-use crate::act_queue::{ActQueue, Task};
+use crate::act_queue::ActQueue;
 use crate::cell_state::CellState;
 use crate::cell_state::aside::forget;
+use crate::task_queue::Task;
 use mb_journal::FailedBy;
 use mb_msg::{ActorId, SysMsg};
 

@@ -2,9 +2,9 @@
 ghost use Rattle.std.specs.Prelude.{◌≡◌, ◌<◌, ◌^◌, [], IsTrue};
 ghost use Rattle.mb_supervision.specs.Rows.{suspended};
 
-use crate::act_queue::Task;
 use crate::cell_state::CellState;
 use crate::cell_state::aside::forget;
+use crate::task_queue::Task;
 use mb_msg::SysMsg;
 
 impl CellState {

@@ -3,7 +3,6 @@ use Rattle.std.specs.Global.{Box}
 use Rattle.mb_status.specs.Mailbox.{Mailbox, word_of}
 use Rattle.mb_supervision.specs.declared.act.Act.{Act as Handed}
 use Rattle.mb_supervision.specs.ActQueue.{act_of}
-use Rattle.mb_cell.specs.CellView.{CellView}
 use Rattle.mb_gate.specs.Accessors.{pass_view, status_of}
 use Rattle.mb_gate.specs.SentSystem.{messages_of}
 use Rattle.mb_gate.specs.Untouched.{origin_of}
@@ -18,21 +17,9 @@ use Rattle.mb_mailbox.proofs.StatusLemmas.{keeps-written, backlog-written, runni
 use Rattle.mb_mailbox.proofs.RecordedLemmas.{alike-still}
 use Rattle.mb_mailbox.proofs.RunSendsLemmas.{due-none}
 use Rattle.mb_mailbox.specs.RunSends.{SendsDue}
-use Rattle.mb_mailbox.specs.Sending.{IsToldRight}
 use Rattle.mb_mailbox.proofs.acts.carry.Goals as goal
 
--- ---- a tell, and a system message
-
-pub tell-requires-clause-same_gates : goal.tell-requires-clause-same_gates
-tell-requires-clause-same_gates g c = c.requires.same_gates
-
-pub tell-requires-clause-running : goal.tell-requires-clause-running
-tell-requires-clause-running g c =
-    subst (λ (a : Handed). IsRunning g.K.Behaviours.gives (origin_of c.args.gates.now) (act_of a ∷ c.args.claim.now.home.value.cell.acts)
-    (pass_view c.args.registrar.now.pass).log (run_state c.args.claim.now)) c.in-Tell.is c.requires.running
-
-pub tell-requires-clause-backlog : goal.tell-requires-clause-backlog
-tell-requires-clause-backlog g c = c.requires.backlog
+-- ---- a system message
 
 pub send_system-requires-clause-same_gates : goal.send_system-requires-clause-same_gates
 send_system-requires-clause-same_gates g c = c.requires.same_gates
@@ -44,24 +31,6 @@ send_system-requires-clause-running g c =
 
 pub send_system-requires-clause-backlog : goal.send_system-requires-clause-backlog
 send_system-requires-clause-backlog g c = c.requires.backlog
-
-pub returns-in-Tell-clause-same_gates : goal.returns-in-Tell-clause-same_gates
-returns-in-Tell-clause-same_gates g c = c.tell.ensures.same_gates
-
-pub returns-in-Tell-clause-running : goal.returns-in-Tell-clause-running
-returns-in-Tell-clause-running g c = c.tell.ensures.running
-
-pub returns-in-Tell-clause-backlog : goal.returns-in-Tell-clause-backlog
-returns-in-Tell-clause-backlog g c = c.tell.ensures.backlog
-
-pub returns-in-Tell-clause-same : goal.returns-in-Tell-clause-same
-returns-in-Tell-clause-same g c = c.tell.ensures.same
-
-pub returns-in-Tell-clause-ended : goal.returns-in-Tell-clause-ended
-returns-in-Tell-clause-ended g c = tt
-
-pub returns-in-Tell-clause-caller_advances : goal.returns-in-Tell-clause-caller_advances
-returns-in-Tell-clause-caller_advances g c = c.tell.ensures.caller_advances
 
 pub returns-in-Sys-clause-same_gates : goal.returns-in-Sys-clause-same_gates
 returns-in-Sys-clause-same_gates g c = c.send_system.ensures.same_gates
@@ -81,14 +50,8 @@ returns-in-Sys-clause-ended g c = tt
 pub returns-in-Sys-clause-caller_advances : goal.returns-in-Sys-clause-caller_advances
 returns-in-Sys-clause-caller_advances g c = c.send_system.ensures.caller_advances
 
-pub returns-in-Tell-clause-left : goal.returns-in-Tell-clause-left
-returns-in-Tell-clause-left g c = ap (λ (x : CellView). x.acts) c.tell.ensures.left
-
 pub returns-in-Sys-clause-left : goal.returns-in-Sys-clause-left
 returns-in-Sys-clause-left g c = ap (λ (b : Box Contents). b.value.cell.acts) c.send_system.ensures.left
-
-pub returns-in-Tell-clause-cleared : goal.returns-in-Tell-clause-cleared
-returns-in-Tell-clause-cleared g c = c.tell.ensures.cleared
 
 pub returns-in-Sys-clause-cleared : goal.returns-in-Sys-clause-cleared
 returns-in-Sys-clause-cleared g c = c.send_system.ensures.cleared
@@ -229,9 +192,6 @@ returns-in-CloseSelf-clause-ended g c = err-always c.close.result c.close.ensure
 
 -- ---- what was sent stands in the record
 
-pub returns-in-Tell-clause-sends : goal.returns-in-Tell-clause-sends
-returns-in-Tell-clause-sends g c = c.tell.ensures.sends
-
 pub returns-in-Sys-clause-sends : goal.returns-in-Sys-clause-sends
 returns-in-Sys-clause-sends g c = c.send_system.ensures.sends
 
@@ -245,11 +205,6 @@ pub returns-in-CloseSelf-clause-sends : goal.returns-in-CloseSelf-clause-sends
 returns-in-CloseSelf-clause-sends g c = c.close.ensures.sends
 
 -- ---- what was due was sent
-
-pub returns-in-Tell-clause-due : goal.returns-in-Tell-clause-due
-returns-in-Tell-clause-due g c =
-    let old = run_state c.args.claim.now in
-    subst (λ (a : Handed). SendsDue (messages_of (act_of a ∷ [])) [] old (run_state c.tell.new.claim)) (sym c.in-Tell.is) c.tell.ensures.due
 
 pub returns-in-Sys-clause-due : goal.returns-in-Sys-clause-due
 returns-in-Sys-clause-due g c =
@@ -277,30 +232,7 @@ returns-in-CloseSelf-clause-due g c =
     let old = run_state c.args.claim.now in
     subst (λ (a : Handed). SendsDue (messages_of (act_of a ∷ [])) [] old (run_state c.close.new.claim)) (sym c.in-CloseSelf.is) c.close.ensures.due
 
--- ---- a tell ended rightly
+-- ---- it is no tell
 
-pub returns-in-Tell-clause-told : goal.returns-in-Tell-clause-told
-returns-in-Tell-clause-told g c =
-    let told = c.tell.ensures.told in
-    subst (λ (a : Handed). IsToldRight (act_of a) (pass_view c.args.registrar.now.pass) (pass_view c.tell.new.registrar.pass)
-    c.args.claim.now.home.value c.tell.new.claim.home.value) (sym c.in-Tell.is) told
-
-pub returns-in-Sys-clause-told : goal.returns-in-Sys-clause-told
-returns-in-Sys-clause-told g c =
-    subst (λ (a : Handed). IsToldRight (act_of a) (pass_view c.args.registrar.now.pass) (pass_view c.send_system.new.registrar.pass)
-    c.args.claim.now.home.value c.send_system.new.claim.home.value) (sym c.in-Sys.is) tt
-
-pub returns-in-SuspendSelf-clause-told : goal.returns-in-SuspendSelf-clause-told
-returns-in-SuspendSelf-clause-told g c =
-    subst (λ (a : Handed). IsToldRight (act_of a) (pass_view c.args.registrar.now.pass) (pass_view c.args.registrar.now.pass)
-    c.args.claim.now.home.value c.suspend.new.claim.home.value) (sym c.in-SuspendSelf.is) tt
-
-pub returns-in-ResumeSelf-clause-told : goal.returns-in-ResumeSelf-clause-told
-returns-in-ResumeSelf-clause-told g c =
-    subst (λ (a : Handed). IsToldRight (act_of a) (pass_view c.args.registrar.now.pass) (pass_view c.args.registrar.now.pass)
-    c.args.claim.now.home.value c.resume.new.claim.home.value) (sym c.in-ResumeSelf.is) tt
-
-pub returns-in-CloseSelf-clause-told : goal.returns-in-CloseSelf-clause-told
-returns-in-CloseSelf-clause-told g c =
-    subst (λ (a : Handed). IsToldRight (act_of a) (pass_view c.args.registrar.now.pass) (pass_view c.close.new.registrar.pass)
-    c.args.claim.now.home.value c.close.new.claim.home.value) (sym c.in-CloseSelf.is) tt
+pub unreachable-unreachable : goal.unreachable-unreachable
+unreachable-unreachable g c = c.requires.no_tell c.in-Tell.field-0 c.in-Tell.field-1 c.in-Tell.is

@@ -1,6 +1,8 @@
 use Rattle.std.proofs.Common.{◌≡◌, ◌∷◌, [], ◌++◌, append_assoc, append-nil, ℕ, List, length, refl, sym, ap, ◌∙◌, subst, arith}
 use Rattle.std.specs.Prelude.{◌&&◌, is_ok}
+use Rattle.mb_supervision.specs.declared.act.Act.{Act as Handed}
 use Rattle.mb_supervision.specs.ActQueue.{act_of}
+use Rattle.mb_cell.specs.CellView.{CellView}
 use Rattle.mb_journal.specs.Acts.{Act}
 use Rattle.mb_gate.specs.Accessors.{pass_view}
 use Rattle.mb_gate.specs.SentSystem.{messages_of}
@@ -41,7 +43,81 @@ next_act-requires g c = record {
       (running-own _ _ _ _ (run_state c.loop-act.claim) c.loop-act.invariant.1);
 }
 
--- ---- an act is left
+-- ---- a tell is left
+
+pub tell-requires-clause-same_gates : goal.tell-requires-clause-same_gates
+tell-requires-clause-same_gates g c = c.loop-act.invariant.0
+
+pub tell-requires-clause-running : goal.tell-requires-clause-running
+tell-requires-clause-running g c =
+    let new : Contents = c.next_act.new.self in
+    let same = subst (λ (x : Contents). new ≡ record x { cell = record x.cell { acts = new.cell.acts } }) c.deref_mut.ensures.value
+    c.next_act.ensures.same in
+    let taken = sym (ap (λ (x : Contents). x.cell.acts) c.deref_mut.ensures.value) ∙ c.in-Some.ensures.taken in
+    subst (λ (a : Handed). IsRunning g.K.Behaviours.gives (origin_of c.args.gates.now) (act_of a ∷ new.cell.acts) (pass_view c.loop-act.registrar.pass).log
+    (record (run_state c.loop-act.claim) { home = new })) c.in-Tell.is
+    (running-next (run_state c.loop-act.claim) new same g.K.Behaviours.gives (origin_of c.args.gates.now) (pass_view c.loop-act.registrar.pass).log
+    (act_of c.in-Some.act ∷ new.cell.acts) taken c.in-Some.ensures.settled c.loop-act.invariant.1)
+
+pub tell-requires-clause-backlog : goal.tell-requires-clause-backlog
+tell-requires-clause-backlog g c =
+    let new : Contents = c.next_act.new.self in
+    let same = subst (λ (x : Contents). new ≡ record x { cell = record x.cell { acts = new.cell.acts } }) c.deref_mut.ensures.value
+    c.next_act.ensures.same in
+    backlog-next (run_state c.loop-act.claim) new same c.loop-act.invariant.2
+
+pub register_if_awaited-requires : goal.register_if_awaited-requires
+register_if_awaited-requires g c = record { same_gates = c.tell.ensures.same_gates }
+
+pub loop-act-preserved-in-Tell : goal.loop-act-preserved-in-Tell
+loop-act-preserved-in-Tell g c =
+    let new : Contents = c.next_act.new.self in
+    let same = subst (λ (x : Contents). new ≡ record x { cell = record x.cell { acts = new.cell.acts } }) c.deref_mut.ensures.value
+    c.next_act.ensures.same in (
+      c.register_if_awaited.ensures.same_gates,
+      running-caller_advances g.K.Behaviours.gives (origin_of c.args.gates.now) c.tell.new.claim.home.value.cell.acts _ _ (run_state c.tell.new.claim)
+          c.register_if_awaited.ensures.caller_advances c.tell.ensures.running,
+      c.tell.ensures.backlog,
+      keeps-then _ _ _ c.loop-act.invariant.3 (keeps-then _ _ _ (keeps-next (run_state c.loop-act.claim) new same) c.tell.ensures.same),
+      further-then _ _ _ c.loop-act.invariant.4 (further-then _ _ _ c.tell.ensures.caller_advances c.register_if_awaited.ensures.caller_advances),
+      λ clean. let before = run_state c.loop-act.claim in
+          let next : RunState = record before { home = new } in
+          cleared-then (run_state c.args.claim.now) before (run_state c.tell.new.claim) c.loop-act.invariant.3.same.takes (c.loop-act.invariant.5 clean)
+          (cleared-then before next (run_state c.tell.new.claim) (keeps-next before new same).same.takes
+          (cleared-same before next refl (ap (λ (x : Contents). x.take) same)) c.tell.ensures.cleared),
+      λ not_clean. let before = run_state c.loop-act.claim in
+          ended-keeps before (run_state c.tell.new.claim)
+          (keeps-then before (record before { home = new }) (run_state c.tell.new.claim) (keeps-next before new same) c.tell.ensures.same)
+          (c.loop-act.invariant.6 not_clean),
+      alike-then _ _ _ _ _ _ c.loop-act.invariant.7 (alike-then _ _ _ _ _ _ c.tell.ensures.sends (alike-looks _ _ _ c.register_if_awaited.ensures.looks _)),
+      let inv = c.loop-act.invariant in
+          let before = run_state c.loop-act.claim in
+          let next : RunState = record before { home = new } in
+          let last = run_state c.tell.new.claim in
+          let sent = messages_of (act_of c.in-Some.act ∷ []) in
+          let taken = sym (ap (λ (x : Contents). x.cell.acts) c.deref_mut.ensures.value) ∙ c.in-Some.ensures.taken in
+          let rest = ap (λ (x : Contents). x.rest) same in
+          let keeps = (keeps-next before new same).same in
+          let step = due-then before next last keeps.actor keeps.who [] [] sent [] (due-none before next refl refl rest (λ shut. shut))
+          (subst (λ (a : Handed). SendsDue (messages_of (act_of a ∷ [])) [] next last) (sym c.in-Tell.is) c.tell.ensures.due) in
+          record {
+            due = inv.8.due ++ sent;
+            left =
+                inv.8.left ∙ ap (λ l. inv.8.due ++ messages_of l) taken ∙ ap (λ l. inv.8.due ++ l) (one-first (act_of c.in-Some.act) new.cell.acts)
+                ∙ sym (append_assoc inv.8.due sent (messages_of new.cell.acts))
+                ∙ ap (λ l. (inv.8.due ++ sent) ++ messages_of l) (sym (ap (λ (x : CellView). x.acts) c.tell.ensures.left));
+            sends = due-then (run_state c.args.claim.now) before last inv.3.same.actor inv.3.same.who inv.8.due [] sent [] inv.8.sends step;
+          },
+    )
+
+pub loop-act-smaller-in-Tell : goal.loop-act-smaller-in-Tell
+loop-act-smaller-in-Tell g c =
+    let left = ap (λ (x : CellView). length x.acts) c.tell.ensures.left in
+    let taken = sym (ap (λ (x : Contents). x.cell.acts) c.deref_mut.ensures.value) ∙ c.in-Some.ensures.taken in
+    let before = ap (λ (l : List Act). length l) taken in
+    omega (arith, left, before)
+
+-- ---- another act is left
 
 pub carry-requires-clause-running : goal.carry-requires-clause-running
 carry-requires-clause-running g c =
@@ -59,20 +135,23 @@ carry-requires-clause-backlog g c =
     c.next_act.ensures.same in
     backlog-next (run_state c.loop-act.claim) new same c.loop-act.invariant.2
 
-pub register_if_awaited-requires : goal.register_if_awaited-requires
-register_if_awaited-requires g c = record { same_gates = c.carry.ensures.same_gates }
+pub carry-requires-clause-no_tell : goal.carry-requires-clause-no_tell
+carry-requires-clause-no_tell g c = c.in_default-act.not-Tell
+
+pub register_if_awaited-requires-in_default-act : goal.register_if_awaited-requires-in_default-act
+register_if_awaited-requires-in_default-act g c = record { same_gates = c.carry.ensures.same_gates }
 
 pub loop-act-preserved : goal.loop-act-preserved
 loop-act-preserved g c =
     let new : Contents = c.next_act.new.self in
     let same = subst (λ (x : Contents). new ≡ record x { cell = record x.cell { acts = new.cell.acts } }) c.deref_mut.ensures.value
     c.next_act.ensures.same in (
-      c.register_if_awaited.ensures.same_gates,
+      c.register_if_awaited-in_default-act.ensures.same_gates,
       running-caller_advances g.K.Behaviours.gives (origin_of c.args.gates.now) c.carry.new.claim.home.value.cell.acts _ _ (run_state c.carry.new.claim)
-          c.register_if_awaited.ensures.caller_advances c.carry.ensures.running,
+          c.register_if_awaited-in_default-act.ensures.caller_advances c.carry.ensures.running,
       c.carry.ensures.backlog,
       keeps-then _ _ _ c.loop-act.invariant.3 (keeps-then _ _ _ (keeps-next (run_state c.loop-act.claim) new same) c.carry.ensures.same),
-      further-then _ _ _ c.loop-act.invariant.4 (further-then _ _ _ c.carry.ensures.caller_advances c.register_if_awaited.ensures.caller_advances),
+      further-then _ _ _ c.loop-act.invariant.4 (further-then _ _ _ c.carry.ensures.caller_advances c.register_if_awaited-in_default-act.ensures.caller_advances),
       λ clean. let both = and-both c.loop-act.is_clean c.is_ok-is_clean.result clean in
           let before = run_state c.loop-act.claim in
           let next : RunState = record before { home = new } in
@@ -85,7 +164,7 @@ loop-act-preserved g c =
           ended-either before (run_state c.carry.new.claim) c.carry.result keeps c.loop-act.invariant.6 c.carry.ensures.ended
           (and-one c.loop-act.is_clean (is_ok c.carry.result)
           (ap (λ b. c.loop-act.is_clean && b) (sym c.is_ok-is_clean.ensures.value) ∙ not_clean)),
-      alike-then _ _ _ _ _ _ c.loop-act.invariant.7 (alike-then _ _ _ _ _ _ c.carry.ensures.sends (alike-looks _ _ _ c.register_if_awaited.ensures.looks _)),
+      alike-then _ _ _ _ _ _ c.loop-act.invariant.7 (alike-then _ _ _ _ _ _ c.carry.ensures.sends (alike-looks _ _ _ c.register_if_awaited-in_default-act.ensures.looks _)),
       let inv = c.loop-act.invariant in
           let before = run_state c.loop-act.claim in
           let next : RunState = record before { home = new } in
@@ -114,8 +193,8 @@ loop-act-smaller g c =
 
 -- ---- none is left, and the run told nobody anything that it has not registered since
 
-pub returns-then-is_empty-clause-running : goal.returns-then-is_empty-clause-running
-returns-then-is_empty-clause-running g c =
+pub returns-then-has_looked-clause-running : goal.returns-then-has_looked-clause-running
+returns-then-has_looked-clause-running g c =
     let new : Contents = c.next_act.new.self in
     let same = subst (λ (x : Contents). new ≡ record x { cell = record x.cell { acts = new.cell.acts } }) c.deref_mut.ensures.value
     c.next_act.ensures.same in
@@ -126,25 +205,25 @@ returns-then-is_empty-clause-running g c =
     (running-next (run_state c.loop-act.claim) new same g.K.Behaviours.gives (origin_of c.args.gates.now) (pass_view c.loop-act.registrar.pass).log
     new.cell.acts taken c.in_default.ensures.settled c.loop-act.invariant.1)
 
-pub returns-then-is_empty-clause-backlog : goal.returns-then-is_empty-clause-backlog
-returns-then-is_empty-clause-backlog g c =
+pub returns-then-has_looked-clause-backlog : goal.returns-then-has_looked-clause-backlog
+returns-then-has_looked-clause-backlog g c =
     let new : Contents = c.next_act.new.self in
     let same = subst (λ (x : Contents). new ≡ record x { cell = record x.cell { acts = new.cell.acts } }) c.deref_mut.ensures.value
     c.next_act.ensures.same in
     backlog-next (run_state c.loop-act.claim) new same c.loop-act.invariant.2
 
-pub returns-then-is_empty-clause-carried_out : goal.returns-then-is_empty-clause-carried_out
-returns-then-is_empty-clause-carried_out g c = sym c.in_default.ensures.taken ∙ c.in_default.ensures.none
+pub returns-then-has_looked-clause-carried_out : goal.returns-then-has_looked-clause-carried_out
+returns-then-has_looked-clause-carried_out g c = sym c.in_default.ensures.taken ∙ c.in_default.ensures.none
 
-pub returns-then-is_empty-clause-same : goal.returns-then-is_empty-clause-same
-returns-then-is_empty-clause-same g c =
+pub returns-then-has_looked-clause-same : goal.returns-then-has_looked-clause-same
+returns-then-has_looked-clause-same g c =
     let new : Contents = c.next_act.new.self in
     let same = subst (λ (x : Contents). new ≡ record x { cell = record x.cell { acts = new.cell.acts } }) c.deref_mut.ensures.value
     c.next_act.ensures.same in
     keeps-then _ _ _ c.loop-act.invariant.3 (keeps-next (run_state c.loop-act.claim) new same)
 
-pub returns-then-is_empty-clause-cleared : goal.returns-then-is_empty-clause-cleared
-returns-then-is_empty-clause-cleared g c =
+pub returns-then-has_looked-clause-cleared : goal.returns-then-has_looked-clause-cleared
+returns-then-has_looked-clause-cleared g c =
     let new : Contents = c.next_act.new.self in
     let same = subst (λ (x : Contents). new ≡ record x { cell = record x.cell { acts = new.cell.acts } }) c.deref_mut.ensures.value
     c.next_act.ensures.same in
@@ -154,8 +233,8 @@ returns-then-is_empty-clause-cleared g c =
     (c.loop-act.invariant.5 clean)
     (cleared-same before (record before { home = new }) refl (ap (λ (x : Contents). x.take) same))) c.answer_of.ensures.clean
 
-pub returns-then-is_empty-clause-ended : goal.returns-then-is_empty-clause-ended
-returns-then-is_empty-clause-ended g c =
+pub returns-then-has_looked-clause-ended : goal.returns-then-has_looked-clause-ended
+returns-then-has_looked-clause-ended g c =
     let new : Contents = c.next_act.new.self in
     let same = subst (λ (x : Contents). new ≡ record x { cell = record x.cell { acts = new.cell.acts } }) c.deref_mut.ensures.value
     c.next_act.ensures.same in
@@ -164,11 +243,11 @@ returns-then-is_empty-clause-ended g c =
     (λ not_clean. ended-keeps before (record before { home = new }) (keeps-next before new same) (c.loop-act.invariant.6 not_clean))
     c.answer_of.ensures.not_clean
 
-pub returns-then-is_empty-clause-sends : goal.returns-then-is_empty-clause-sends
-returns-then-is_empty-clause-sends g c = c.loop-act.invariant.7
+pub returns-then-has_looked-clause-sends : goal.returns-then-has_looked-clause-sends
+returns-then-has_looked-clause-sends g c = c.loop-act.invariant.7
 
-pub returns-then-is_empty-clause-due : goal.returns-then-is_empty-clause-due
-returns-then-is_empty-clause-due g c =
+pub returns-then-has_looked-clause-due : goal.returns-then-has_looked-clause-due
+returns-then-has_looked-clause-due g c =
     let inv = c.loop-act.invariant in
     let new : Contents = c.next_act.new.self in
     let same = subst (λ (x : Contents). new ≡ record x { cell = record x.cell { acts = new.cell.acts } }) c.deref_mut.ensures.value

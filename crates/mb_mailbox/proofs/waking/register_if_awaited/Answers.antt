@@ -4,8 +4,8 @@ use Rattle.mb_register.proofs.CallerLemmas.{further-none}
 use Rattle.mb_register.proofs.Retries.{among-none}
 use Rattle.mb_mailbox.proofs.waking.register_if_awaited.Goals as goal
 
-pub returns-else-not-is_empty-clause-caller_advances : goal.returns-else-not-is_empty-clause-caller_advances
-returns-else-not-is_empty-clause-caller_advances g c = further-none _
+pub returns-else-is_any-clause-caller_advances : goal.returns-else-is_any-clause-caller_advances
+returns-else-is_any-clause-caller_advances g c = further-none _
 
-pub returns-else-not-is_empty-clause-looks : goal.returns-else-not-is_empty-clause-looks
-returns-else-not-is_empty-clause-looks g c = among-none (is_owed c.args.registrar.now.told) (pass_view c.args.registrar.now.pass)
+pub returns-else-is_any-clause-looks : goal.returns-else-is_any-clause-looks
+returns-else-is_any-clause-looks g c = among-none (is_owed c.args.registrar.now.told) (pass_view c.args.registrar.now.pass)

@@ -1,75 +1,48 @@
-use Rattle.std.proofs.Common.{◌∙◌, [], ◌∷◌, refl}
 use Rattle.mb_status.specs.Mailbox.{word_of}
 use Rattle.mb_gate.specs.Accessors.{pass_view}
-use Rattle.mb_register.proofs.Views.{looks-none, looks-then, looks-read, looks-read-twice, looks-read-won}
-use Rattle.mb_register.proofs.ClaimCounts.{claims-none, claims-then, claims-read, claims-read-twice, claims-read-won}
+use Rattle.mb_register.proofs.Views.{looks-then, looks-read, looks-read-twice, looks-read-won}
+use Rattle.mb_register.proofs.ClaimCounts.{claims-later, claims-read, claims-read-twice, claims-read-won}
 use Rattle.mb_register.proofs.due.take_due.Goals as goal
 
 pub returns-in-Got-clause-looks : goal.returns-in-Got-clause-looks
 returns-in-Got-clause-looks g c =
-    let id = c.args.id.0 in let a = pass_view c.args.pass.now in let b = pass_view c.loop.pass in let d = pass_view c.try_schedule.new.pass in
-    let got = c.in-Got.ensures.answer in
-    looks-then id a b d c.loop.invariant.3 (looks-read-won id (word_of got.0) b d got.1.pass)
+    let id = c.args.id.0 in let a = pass_view c.args.pass.now in let b = pass_view c.try_schedule.new.pass in
+    let tried = c.in-Got.ensures.answer in looks-read-won id (word_of tried.0) a b tried.1.pass
 
 pub returns-in-Got-clause-claims : goal.returns-in-Got-clause-claims
 returns-in-Got-clause-claims g c =
-    let id = c.args.id.0 in let a = pass_view c.args.pass.now in let b = pass_view c.loop.pass in let d = pass_view c.try_schedule.new.pass in
-    let got = c.in-Got.ensures.answer in
-    claims-then [] [] (id ∷ []) [] a b d c.loop.invariant.4 (claims-read-won id (word_of got.0) b d got.1.pass)
+    let id = c.args.id.0 in let a = pass_view c.args.pass.now in let b = pass_view c.try_schedule.new.pass in
+    let tried = c.in-Got.ensures.answer in claims-read-won id (word_of tried.0) a b tried.1.pass
 
 pub returns-in-Already-clause-looks : goal.returns-in-Already-clause-looks
 returns-in-Already-clause-looks g c =
-    let id = c.args.id.0 in let a = pass_view c.args.pass.now in let b = pass_view c.loop.pass in let d = pass_view c.try_schedule.new.pass in
-    let tried = c.in-Already.ensures.answer in
-    looks-then id a b d c.loop.invariant.3 (looks-read id (word_of tried.0) b d tried.1.2)
-
-pub returns-in-Closed-clause-looks : goal.returns-in-Closed-clause-looks
-returns-in-Closed-clause-looks g c =
-    let id = c.args.id.0 in let a = pass_view c.args.pass.now in let b = pass_view c.loop.pass in let d = pass_view c.try_schedule.new.pass in
-    let tried = c.in-Closed.ensures.answer in
-    looks-then id a b d c.loop.invariant.3 (looks-read id (word_of tried.0) b d tried.1.1)
+    let id = c.args.id.0 in let a = pass_view c.args.pass.now in let b = pass_view c.try_schedule.new.pass in
+    let tried = c.in-Already.ensures.answer in looks-read id (word_of tried.0) a b tried.1.2
 
 pub returns-in-Already-clause-claims : goal.returns-in-Already-clause-claims
 returns-in-Already-clause-claims g c =
-    let id = c.args.id.0 in let a = pass_view c.args.pass.now in let b = pass_view c.loop.pass in let d = pass_view c.try_schedule.new.pass in
-    let tried = c.in-Already.ensures.answer in
-    claims-then [] [] [] [] a b d c.loop.invariant.4 (claims-read id (word_of tried.0) b d tried.1.2)
+    let id = c.args.id.0 in let a = pass_view c.args.pass.now in let b = pass_view c.try_schedule.new.pass in
+    let tried = c.in-Already.ensures.answer in claims-read id (word_of tried.0) a b tried.1.2
+
+pub returns-in-Closed-clause-looks : goal.returns-in-Closed-clause-looks
+returns-in-Closed-clause-looks g c =
+    let id = c.args.id.0 in let a = pass_view c.args.pass.now in let b = pass_view c.try_schedule.new.pass in
+    let tried = c.in-Closed.ensures.answer in looks-read id (word_of tried.0) a b tried.1.1
 
 pub returns-in-Closed-clause-claims : goal.returns-in-Closed-clause-claims
 returns-in-Closed-clause-claims g c =
-    let id = c.args.id.0 in let a = pass_view c.args.pass.now in let b = pass_view c.loop.pass in let d = pass_view c.try_schedule.new.pass in
-    let tried = c.in-Closed.ensures.answer in
-    claims-then [] [] [] [] a b d c.loop.invariant.4 (claims-read id (word_of tried.0) b d tried.1.1)
+    let id = c.args.id.0 in let a = pass_view c.args.pass.now in let b = pass_view c.try_schedule.new.pass in
+    let tried = c.in-Closed.ensures.answer in claims-read id (word_of tried.0) a b tried.1.1
 
-pub returns-then-not-is_due-clause-looks : goal.returns-then-not-is_due-clause-looks
-returns-then-not-is_due-clause-looks g c =
-    let id = c.args.id.0 in let a = pass_view c.args.pass.now in let b = pass_view c.loop.pass in
-    let d = pass_view c.try_schedule.new.pass in let e = pass_view c.is_due.new.pass in
-    let tried = c.in-Lost.ensures.answer in
-    let lost = looks-then id a b d c.loop.invariant.3 (looks-read-twice id (word_of tried.0) (word_of c.in-Lost.field-0) b d tried.1.2) in
-    looks-then id a d e lost c.is_due.ensures.looks
+pub returns-in-Lost-clause-looks : goal.returns-in-Lost-clause-looks
+returns-in-Lost-clause-looks g c =
+    let id = c.args.id.0 in let a = pass_view c.args.pass.now in let b = pass_view c.try_schedule.new.pass in
+    let d = pass_view c.take_due_again.new.pass in let tried = c.in-Lost.ensures.answer in
+    looks-then id a b d (looks-read-twice id (word_of tried.0) (word_of c.in-Lost.field-0) a b tried.1.2) c.take_due_again.ensures.looks
 
-pub returns-then-not-is_due-clause-claims : goal.returns-then-not-is_due-clause-claims
-returns-then-not-is_due-clause-claims g c =
-    let id = c.args.id.0 in let a = pass_view c.args.pass.now in let b = pass_view c.loop.pass in
-    let d = pass_view c.try_schedule.new.pass in let e = pass_view c.is_due.new.pass in
-    let tried = c.in-Lost.ensures.answer in
-    let lost = claims-then [] [] [] [] a b d c.loop.invariant.4 (claims-read-twice id (word_of tried.0) (word_of c.in-Lost.field-0) b d tried.1.2) in
-    claims-then [] [] [] [] a d e lost c.is_due.ensures.claims
-
-pub loop-init : goal.loop-init
-loop-init g c = let a = pass_view c.args.pass.now in (tt, tt, refl, looks-none c.args.id.0 a, claims-none a)
-
-pub loop-preserved : goal.loop-preserved
-loop-preserved g c =
-    let id = c.args.id.0 in let a = pass_view c.args.pass.now in let b = pass_view c.loop.pass in
-    let d = pass_view c.try_schedule.new.pass in let e = pass_view c.is_due.new.pass in
-    let tried = c.in-Lost.ensures.answer in
-    let lost = looks-then id a b d c.loop.invariant.3 (looks-read-twice id (word_of tried.0) (word_of c.in-Lost.field-0) b d tried.1.2) in
-    let after = claims-then [] [] [] [] a b d c.loop.invariant.4 (claims-read-twice id (word_of tried.0) (word_of c.in-Lost.field-0) b d tried.1.2) in (
-      tt,
-      tt,
-      c.is_due.ensures.same_gates ∙ c.in-Lost.ensures.same_gates.0 ∙ c.loop.invariant.2,
-      looks-then id a d e lost c.is_due.ensures.looks,
-      claims-then [] [] [] [] a d e after c.is_due.ensures.claims,
-    )
+pub returns-in-Lost-clause-claims : goal.returns-in-Lost-clause-claims
+returns-in-Lost-clause-claims g c =
+    let id = c.args.id.0 in let a = pass_view c.args.pass.now in let b = pass_view c.try_schedule.new.pass in
+    let d = pass_view c.take_due_again.new.pass in let tried = c.in-Lost.ensures.answer in
+    claims-later id a b d c.take_due_again.result (claims-read-twice id (word_of tried.0) (word_of c.in-Lost.field-0) a b tried.1.2)
+    c.take_due_again.ensures.claims

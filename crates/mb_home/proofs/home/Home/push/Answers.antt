@@ -1,32 +1,66 @@
-use Rattle.std.proofs.Common.{◌-◌, sym, subst, arith}
+use Rattle.std.proofs.Common.{◌≡◌, ◌∙◌, ◌-◌, ap, length, sym, subst, arith}
 use Rattle.mb_msg.specs.declared.envelope.Envelope.{Envelope}
-use Rattle.mb_home.specs.Steps.{Delivers, Fits}
-use Rattle.mb_home.proofs.TellSteps.{told-there, fits-next, pushes-next, settled-pushes, settled-dead_letter}
+use Rattle.mb_queue.specs.Pushes.{IsReason}
+use Rattle.mb_queue.proofs.RefusedLemmas.{refusal-of}
+use Rattle.mb_home.specs.Contents.{Contents}
+use Rattle.mb_home.specs.Steps.{next_envelope, with_pushed}
+use Rattle.mb_home.proofs.TellSteps.{delivered, told-there, fits-next, pass-next, pushes-next, settled-pushes, settled-dead_letter, undelivered}
 use Rattle.mb_home.proofs.home.Home.push.Goals as goal
+use Rattle.mb_home.proofs.home.Home.push.Goals.{After-index_mut, After-put}
 
 pub overflow_sub-place : goal.overflow_sub-place
 overflow_sub-place g c = omega (arith, (told-there _ _ _ _ _ c.requires.settled).0)
 
-pub deliver-requires-clause-present : goal.deliver-requires-clause-present
-deliver-requires-clause-present g c =
-    omega (arith, (told-there _ _ _ _ _ c.requires.settled).0, (told-there _ _ _ _ _ c.requires.settled).1)
+pub index_mut-requires : goal.index_mut-requires
+index_mut-requires g c =
+    let sends = ap (λ (h : Contents). length h.sends) c.self.view_is in
+    omega (arith, (told-there _ _ _ _ _ c.requires.settled).0, (told-there _ _ _ _ _ c.requires.settled).1, sends)
 
-pub deliver-requires-clause-fits : goal.deliver-requires-clause-fits
-deliver-requires-clause-fits g c =
-    λ p there. subst (λ (e : Envelope). Fits e p) (sym c.envelope-envelope.ensures) (fits-next _ _ _ _ _ c.requires.settled p there)
+-- the pass of the place may push the envelope
+
+pub put-requires-clause-sender : goal.put-requires-clause-sender
+put-requires-clause-sender g c =
+    let there = pass-next _ _ _ _ _ c.requires.settled _ c.index_mut.result.now c.self.view_is c.index_mut.ensures.value in
+    subst (λ (e : Envelope). e.by.0 ≡ c.index_mut.result.now.by) (sym c.envelope-envelope.ensures)
+    (fits-next _ _ _ _ _ c.requires.settled c.index_mut.result.now there).0
+
+pub put-requires-clause-addressed : goal.put-requires-clause-addressed
+put-requires-clause-addressed g c =
+    let there = pass-next _ _ _ _ _ c.requires.settled _ c.index_mut.result.now c.self.view_is c.index_mut.ensures.value in
+    subst (λ (e : Envelope). e.to.0 ≡ c.index_mut.result.now.queue.to) (sym c.envelope-envelope.ensures)
+    (fits-next _ _ _ _ _ c.requires.settled c.index_mut.result.now there).1
+
+-- it was pushed
 
 pub returns-in-Ok-clause-pushed : goal.returns-in-Ok-clause-pushed
 returns-in-Ok-clause-pushed g c =
-    pushes-next _ _ _ _ _ c.requires.settled c.deliver.new.self
-    (subst (λ (e : Envelope). Delivers c.args.self.now c.deliver.new.self (c.args.to.0 - 1) e) c.envelope-envelope.ensures c.in-Ok.ensures.delivered)
+    let there = pass-next _ _ _ _ _ c.requires.settled _ c.index_mut.result.now c.self.view_is c.index_mut.ensures.value in
+    pushes-next _ _ _ _ _ c.requires.settled _
+    (delivered c.args.self.now _ (c.args.to.0 - 1) c.index_mut.result.now c.put.new.self (next_envelope c.args.self.now c.args.to c.args.body)
+    c.self.view_is there (c.in-Ok.ensures.pushed ∙ ap (λ e. with_pushed e c.index_mut.result.now) c.envelope-envelope.ensures))
 
 pub returns-in-Ok-clause-settled : goal.returns-in-Ok-clause-settled
 returns-in-Ok-clause-settled g c =
-    settled-pushes c.args.self.now c.deliver.new.self g.K.Behaviours.gives c.args.to c.args.body c.requires.settled
-    (subst (λ (e : Envelope). Delivers c.args.self.now c.deliver.new.self (c.args.to.0 - 1) e) c.envelope-envelope.ensures c.in-Ok.ensures.delivered)
+    let there = pass-next _ _ _ _ _ c.requires.settled _ c.index_mut.result.now c.self.view_is c.index_mut.ensures.value in
+    settled-pushes c.args.self.now _ g.K.Behaviours.gives c.args.to c.args.body c.requires.settled
+    (delivered c.args.self.now _ (c.args.to.0 - 1) c.index_mut.result.now c.put.new.self (next_envelope c.args.self.now c.args.to c.args.body)
+    c.self.view_is there (c.in-Ok.ensures.pushed ∙ ap (λ e. with_pushed e c.index_mut.result.now) c.envelope-envelope.ensures))
+
+-- it was refused
+
+pub returns-in-Err-clause-refused : goal.returns-in-Err-clause-refused
+returns-in-Err-clause-refused g c = record {
+  pass = c.index_mut.result.now;
+  was = pass-next _ _ _ _ _ c.requires.settled _ c.index_mut.result.now c.self.view_is c.index_mut.ensures.value;
+  refusal = refusal-of c.index_mut.result.now c.of-refused.result
+      (subst (IsReason c.index_mut.result.now) (sym c.of-refused.ensures.1) c.in-Err.ensures.refused);
+}
 
 pub returns-in-Err-clause-settled : goal.returns-in-Err-clause-settled
 returns-in-Err-clause-settled g c =
-    settled-dead_letter c.args.self.now c.deliver.new.self c.record_dead_letter.new.self g.K.Behaviours.gives c.args.to c.args.body c.in-Err.refused
-    c.envelope-envelope.result c.reason.result c.requires.settled c.in-Err.ensures.delivered.1 c.in-Err.ensures.delivered.2
-    c.envelope-envelope.ensures c.reason.ensures c.record_dead_letter.ensures.same c.record_dead_letter.ensures.room
+    let there = pass-next _ _ _ _ _ c.requires.settled _ c.index_mut.result.now c.self.view_is c.index_mut.ensures.value in
+    settled-dead_letter c.args.self.now _ c.record_dead_letter.new.self g.K.Behaviours.gives c.args.to c.args.body c.of-refused.result
+    c.envelope-envelope.result c.reason.result c.requires.settled
+    (undelivered c.args.self.now _ (c.args.to.0 - 1) c.index_mut.result.now c.put.new.self c.self.view_is there c.in-Err.ensures.pushed)
+    (returns-in-Err-clause-refused g c) c.envelope-envelope.ensures c.reason.ensures c.record_dead_letter.ensures.same
+    c.record_dead_letter.ensures.room

@@ -8,6 +8,6 @@ returns-in-User-clause-kept c = script_keeps _ _ c.args.out.now c.do_kind.new.ou
     (sym (ap (λ (s : Scripted). s.script) c.do_kind.ensures.state)) c.do_kind.ensures.actors c.do_kind.ensures.unspawned
 
 pub returns-in-Control-clause-kept : goal.returns-in-Control-clause-kept
-returns-in-Control-clause-kept c = script_keeps _ _ c.args.out.now c.do_kind-in-Control.new.out
-    (sym (ap (λ (s : Scripted). s.script) c.do_kind-in-Control.ensures.state)) c.do_kind-in-Control.ensures.actors
-    c.do_kind-in-Control.ensures.unspawned
+returns-in-Control-clause-kept c = script_keeps _ _ c.args.out.now c.do_searched_kind.new.out
+    (sym (ap (λ (s : Scripted). s.script) c.do_searched_kind.ensures.state)) c.do_searched_kind.ensures.actors
+    c.do_searched_kind.ensures.unspawned

@@ -70,7 +70,7 @@ returns-in-Ok-clause-queues g c =
     let items = c.args.self.now.sends.items in
     let old = c.index_mut.result.now in
     let lt : id - 1 < length items = omega (arith, c.requires.all, c.requires.present.0, c.requires.present.1) in
-    queues-set items (id - 1) old c.push.new.self (slice_get_read items (length items) (id - 1) old refl lt c.index_mut.ensures.value)
+    queues-set items (id - 1) old c.put.new.self (slice_get_read items (length items) (id - 1) old refl lt c.index_mut.ensures.value)
     (ap (λ (s : SendPassView). s.queue) c.in-Ok.ensures.pushed)
 
 pub returns-in-Err-clause-queues : goal.returns-in-Err-clause-queues
@@ -79,8 +79,8 @@ returns-in-Err-clause-queues g c =
     let items = c.args.self.now.sends.items in
     let old = c.index_mut.result.now in
     let lt : id - 1 < length items = omega (arith, c.requires.all, c.requires.present.0, c.requires.present.1) in
-    queues-set items (id - 1) old c.push.new.self (slice_get_read items (length items) (id - 1) old refl lt c.index_mut.ensures.value)
-    (ap (λ (s : SendPassView). s.queue) c.in-Err.ensures.pushed.1)
+    queues-set items (id - 1) old c.put.new.self (slice_get_read items (length items) (id - 1) old refl lt c.index_mut.ensures.value)
+    (ap (λ (s : SendPassView). s.queue) c.in-Err.ensures.pushed)
 
 pub invariant_of-self-in-Ok : goal.invariant_of-self-in-Ok
 invariant_of-self-in-Ok g c =
@@ -100,10 +100,10 @@ invariant_of-self-in-Ok g c =
     let q = ap (λ (s : SenderId). s.0) (c.record_queued.ensures.same_sender ∙ c.ready.ensures.same.0) in
     let qs = sym q in
     let ps = sym p in
-    let queues = queues-set items k old c.push.new.self there (ap (λ (s : SendPassView). s.queue) c.in-Ok.ensures.pushed) in
+    let queues = queues-set items k old c.put.new.self there (ap (λ (s : SendPassView). s.queue) c.in-Ok.ensures.pushed) in
     record {
-      routes = subst (λ (y : ℕ × List SentEnvelope). AreRoutes y.0 y.1 (slice_set items k c.push.new.self)) (λ i. (qs i, ps i))
-          (routes-more send_log.by.0 send_log.posted items c.args.self.now.routes k old there e c.push.new.self c.in-Ok.ensures.pushed here);
+      routes = subst (λ (y : ℕ × List SentEnvelope). AreRoutes y.0 y.1 (slice_set items k c.put.new.self)) (λ i. (qs i, ps i))
+          (routes-more send_log.by.0 send_log.posted items c.args.self.now.routes k old there e c.put.new.self c.in-Ok.ensures.pushed here);
       was_seen_closed = subst (λ (l : List SentEnvelope). were_seen_closed (pass_view after).log (dead_letters l) ≡ true) ps
           (was_seen_closed-queued (pass_view after).log send_log.posted e
           (was_seen_closed-does to (counts to None) [] (pass_view before) (pass_view after) (dead_letters send_log.posted)
@@ -133,12 +133,12 @@ invariant_of-self-in-Err g c =
     let q = ap (λ (s : SenderId). s.0) (c.record_dead.ensures.same_sender ∙ c.ready.ensures.same.0) in
     let qs = sym q in
     let ps = sym p in
-    let queues = queues-set items k old c.push.new.self there (ap (λ (s : SendPassView). s.queue) c.in-Err.ensures.pushed.1) in
+    let queues = queues-set items k old c.put.new.self there (ap (λ (s : SendPassView). s.queue) c.in-Err.ensures.pushed) in
     let its : e.to.0 ≡ to = ap (λ (x : Envelope). x.to.0) c.next-envelope.ensures in
     let above : suc k ≡ e.to.0 = omega (arith, its, c.requires.present.0) in
     record {
-      routes = subst (λ (y : ℕ × List SentEnvelope). AreRoutes y.0 y.1 (slice_set items k c.push.new.self)) (λ i. (qs i, ps i))
-          (routes-dead send_log.by.0 send_log.posted items c.args.self.now.routes k old there e c.push.new.self why c.in-Err.ensures.pushed.1);
+      routes = subst (λ (y : ℕ × List SentEnvelope). AreRoutes y.0 y.1 (slice_set items k c.put.new.self)) (λ i. (qs i, ps i))
+          (routes-dead send_log.by.0 send_log.posted items c.args.self.now.routes k old there e c.put.new.self why c.in-Err.ensures.pushed);
       was_seen_closed = subst (λ (l : List SentEnvelope). were_seen_closed (pass_view after).log (dead_letters l) ≡ true) ps
           (was_seen_closed-dead (pass_view after).log send_log.posted e why (may-refuse (has_seen_closed (pass_view after).log e.to.0) c.in-Err.refused why
           c.why_of-why.ensures)
@@ -176,16 +176,16 @@ returns-in_err-ready-clause-registered g c =
     registers-nobody g.W.RunQueue.pushed g.W.RunQueue.refused c.args.ticket.to.0 registrar registrar refl refl
 
 -- the pass is the sender's, and pushes to the receiver's queue
-pub push-requires-clause-sender : goal.push-requires-clause-sender
-push-requires-clause-sender g c =
+pub put-requires-clause-sender : goal.put-requires-clause-sender
+put-requires-clause-sender g c =
     let id = c.args.ticket.to.0 in let items = c.args.self.now.sends.items in let send_log = c.args.self.now.send_log in
     let k = id - 1 in let old = c.index_mut.result.now in
     let lt : k < length items = omega (arith, c.requires.all, c.requires.present.0, c.requires.present.1) in
     let route = c.args.self.now.routes k old (slice_get_read items (length items) k old refl lt c.index_mut.ensures.value) in
     ap (λ (x : Envelope). x.by.0) c.next-envelope.ensures ∙ ap (λ (s : SenderId). s.0) c.ready.ensures.same.0 ∙ sym route.sender
 
-pub push-requires-clause-addressed : goal.push-requires-clause-addressed
-push-requires-clause-addressed g c =
+pub put-requires-clause-addressed : goal.put-requires-clause-addressed
+put-requires-clause-addressed g c =
     let id = c.args.ticket.to.0 in let items = c.args.self.now.sends.items in let send_log = c.args.self.now.send_log in
     let k = id - 1 in let old = c.index_mut.result.now in
     let lt : k < length items = omega (arith, c.requires.all, c.requires.present.0, c.requires.present.1) in

@@ -1,7 +1,7 @@
 use Rattle.std.proofs.Common.{◌≡◌, []}
 use Rattle.mb_gate.specs.Accessors.{pass_id, pass_view}
 use Rattle.mb_register.specs.Views.{GotAndGaveBack, LooksAfter}
-use Rattle.mb_register.proofs.due.take_due.Given as goal
+use Rattle.mb_register.proofs.due.take_due_again.Given as goal
 
 abbrev pub invariant-loop : goal.invariant-loop
 invariant-loop g l =

@@ -1,0 +1,125 @@
+//! The queue of tasks: acts that have no node yet.
+ghost use Rattle.std.specs.Prelude.{◌≡◌, ◌+◌, ◌-◌, ◌<◌, ◌≤◌, ◌^◌, [], ◌∷◌, ◌++◌, length, map, option_to_list, vec_len, IfNone, IsOk, OnOk, OnErr};
+ghost use Rattle.mb_supervision.specs.ActQueue.{act_of};
+ghost use Rattle.mb_supervision.specs.TaskQueue.{task_act};
+
+use crate::act::Act;
+use mb_msg::{ActorId, Body, SysMsg};
+use mb_syslist::Node;
+use std::alloc::{AllocError, Global};
+use std::marker::Model;
+
+/// An act before it has a node.
+#[derive(Clone, Copy)]
+pub(crate) enum Task {
+    Tell(ActorId, Body),
+    Sys(ActorId, SysMsg),
+    SuspendSelf,
+    ResumeSelf,
+    CloseSelf,
+}
+
+/// Acts that have no node yet, in order, with room for more.
+///
+/// Room is a place in the list and a node for each act. So neither adding nor taking out an act takes memory.
+#[derive(Drop)]
+pub(crate) struct TaskQueue {
+    alloc: Global,
+    tasks: Vec<Task>,
+    next: usize,
+    nodes: Vec<Node>,
+    room: usize,
+}
+
+impl Model for TaskQueue {
+    ghost use Rattle.std.specs.Prelude.{map, drop};
+    ghost use Rattle.mb_supervision.specs.TaskQueueView.{TaskQueueView};
+
+    ghost Value = { TaskQueueView };
+
+    ghost use Rattle.mb_supervision.specs.TaskQueue.{task_act, IsTaskQueue};
+
+    ghost view = { λ q. record { acts = map task_act (drop q.next q.tasks.items); room = q.room } };
+
+    ghost invariant = { IsTaskQueue };
+}
+
+impl TaskQueue {
+    /// No acts, and no room.
+    pub(crate) fn new(alloc: Global) -> Self
+        ensures { result ≡ record { acts = []; room = 0 } }
+    {
+        TaskQueue {
+            alloc,
+            tasks: Vec::new(alloc),
+            next: 0,
+            nodes: Vec::new(alloc),
+            room: 0,
+        }
+    }
+
+    /// Makes room for this many acts, unless there is room already.
+    ///
+    /// It answers `AllocError` if memory was refused. Nothing has changed then.
+    pub(crate) fn make_room(&mut self, most: usize) -> Result<(), AllocError>
+        requires below_bound { most < 2 ^ 48 }
+        ensures room { OnOk result (most ≤ self.new.room) }
+        ensures same { self.new.acts ≡ self.old.acts }
+        ensures err { OnErr result (self.new ≡ self.old) }
+        ensures again { most ≤ self.old.room → IsOk result }
+    {
+        if most <= self.room {
+            return Ok(());
+        }
+        self.tasks.reserve(most)?;
+        let waiting = self.tasks.len() - self.next;
+        make_nodes(self.alloc, &mut self.nodes, waiting + most)?;
+        self.room = most;
+        Ok(())
+    }
+
+    pub(crate) fn push(&mut self, task: Task)
+        requires { 0 < self.old.room }
+        ensures { self.new ≡ record { acts = self.old.acts ++ task_act task ∷ []; room = self.old.room - 1 } }
+    {
+        self.tasks.push_reserved(task);
+        self.room -= 1;
+    }
+
+    /// Takes out the earliest act; `None` if none is left.
+    pub(crate) fn pop(&mut self) -> Option<Act>
+        ensures taken { self.old.acts ≡ map act_of (option_to_list result) ++ self.new.acts }
+        ensures none { IfNone result (self.old.acts ≡ []) }
+        ensures room { self.new.room ≡ self.old.room }
+    {
+        let task = *self.tasks.get(self.next)?;
+        self.next += 1;
+        if self.next == self.tasks.len() {
+            self.tasks.clear();
+            self.next = 0;
+        }
+        let act = match task {
+            Task::Tell(to, body) => Act::Tell(to, body),
+            Task::Sys(to, message) => {
+                let mut node = self.nodes.pop().unwrap();
+                node.set(message);
+                Act::Sys(to, node)
+            }
+            Task::SuspendSelf => Act::SuspendSelf,
+            Task::ResumeSelf => Act::ResumeSelf,
+            Task::CloseSelf => Act::CloseSelf,
+        };
+        Some(act)
+    }
+}
+
+/// Makes nodes until there are `wanted`.
+fn make_nodes(alloc: Global, nodes: &mut Vec<Node>, wanted: usize) -> Result<(), AllocError>
+    ensures enough { OnOk result (wanted ≤ vec_len nodes.new) }
+    ensures no_fewer { vec_len nodes.old ≤ vec_len nodes.new }
+{
+    for _made in nodes.len()..wanted {
+        nodes.push(Node::new(alloc, SysMsg::Create)?)?;
+    }
+    Ok(())
+}
