@@ -30,7 +30,7 @@ use Rattle.mb_msg.specs.declared.id.ActorId.{ActorId}
 use Rattle.mb_msg.specs.declared.supervision.Cause.{Cause}
 use Rattle.mb_quantity.proofs.Sums.{sum-append}
 use Rattle.mb_quantity.specs.Quantity.{AllBooked, Holding, HoldsWhatItBooks, SendsEvenly, all_sent, sum_of}
-use Rattle.mb_report.specs.Counts.{tells_of_restart}
+use Rattle.mb_journal.specs.Counts.{tells_of_restart}
 use Rattle.heddleorange.proofs.Lives.{all-handled}
 use Rattle.heddleorange.proofs.Told.{by_entry, guardian-told, told-by-calls, told-of-call}
 use Rattle.heddleorange.proofs.Worth.{told_worth, worth-asked, worth-begun, worth-notice}

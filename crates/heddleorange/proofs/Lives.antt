@@ -17,7 +17,7 @@ use Rattle.mb_journal.specs.Lawful.{AreLawful, IsGiven, IsLawfulEntry, call_of, 
 use Rattle.mb_journal.specs.Life.{has_start, is_beginning, is_create, is_last, is_restart, is_start}
 use Rattle.mb_msg.specs.declared.system.SysMsg.{SysMsg}
 use Rattle.mb_msg.specs.declared.system.SysMsg.TheVariants as system
-use Rattle.mb_report.specs.Counts.{tells_of_restart}
+use Rattle.mb_journal.specs.Counts.{tells_of_restart}
 use Rattle.heddleorange.specs.Reading.{handled_messages}
 
 or-false : (a b : Bool) → (a || b) ≡ false → (a ≡ false) × (b ≡ false)

@@ -5,7 +5,7 @@ use Rattle.mb_actor.specs.declared.message.Message.{Message}
 use Rattle.mb_journal.specs.Entry.{Entry}
 use Rattle.mb_journal.specs.Incarnation.{entry_messages}
 use Rattle.mb_journal.specs.JournalView.{JournalView}
-use Rattle.mb_report.specs.Counts.{tells_of_envelope}
+use Rattle.mb_journal.specs.Counts.{tells_of_envelope}
 use Rattle.mb_report.specs.declared.report.ActorReport.{ActorReport}
 use Rattle.mb_report.specs.declared.report.Report.{Report}
 use Rattle.mb_report.specs.declared.report.SenderReport.{SenderReport}

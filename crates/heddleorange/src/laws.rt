@@ -11,7 +11,7 @@ ghost use Rattle.mb_msg.specs.declared.envelope.Body.TheVariants.{Terminated};
 ghost use Rattle.mb_msg.specs.declared.id.ActorId.{ActorId as Id};
 ghost use Rattle.mb_msg.specs.declared.order.Order.{Order};
 ghost use Rattle.mb_msg.specs.declared.plan.Plan.{Plan};
-ghost use Rattle.mb_report.specs.Counts.{tells_of_restart};
+ghost use Rattle.mb_journal.specs.Counts.{tells_of_restart};
 ghost use Rattle.mb_report.specs.declared.report.Report.{Report};
 ghost use Rattle.heddleorange.specs.Arrived.{EachAskedForArrives, EachGetsWhatIsAskedFor, EachOfTheGuardianIsStarted};
 ghost use Rattle.heddleorange.specs.Arrived.{EachSpawnedIsStarted, EachStopArrives, GuardianIsStarted};

@@ -1,10 +1,8 @@
 //! Reading a report, one actor at a time.
-ghost use Rattle.std.specs.Prelude.{◌≡◌, ◌+◌, ◌-◌, ◌<◌, ◌≤◌, ◌^◌, count_by, if◌then◌else◌, option_copied};
-ghost use Rattle.mb_journal.specs.JournalView.{entry_of};
-ghost use Rattle.mb_report.specs.Counts.{tells_of_envelope};
+ghost use Rattle.std.specs.Prelude.{◌≡◌, option_copied};
 ghost use Rattle.heddleorange.specs.Reading.{dead_in, handled_in, journal_in, state_in};
 
-use mb_journal::{EntryRef, Journal, Received};
+use mb_journal::Journal;
 use mb_msg::{ActorId, DeadLetter};
 use mb_report::Report;
 
@@ -27,7 +25,7 @@ pub fn handled(report: &Report, id: ActorId) -> Option<usize>
     ensures { result ≡ handled_in report.now id.0 }
 {
     match report.actors.get(id.0 as usize) {
-        Some(actor) => Some(count_handled(&actor.journal)),
+        Some(actor) => Some(actor.journal.envelopes()),
         None => None,
     }
 }
@@ -50,36 +48,5 @@ pub fn journal(report: &Report, id: ActorId) -> Option<&Journal>
     match report.actors.get(id.0 as usize) {
         Some(actor) => Some(&actor.journal),
         None => None,
-    }
-}
-
-// How many entries are of envelopes.
-fn count_handled(journal: &Journal) -> usize
-    ensures { result ≡ count_by tells_of_envelope journal.now.entries }
-{
-    let mut count = 0;
-    for index in 0..journal.len() {
-        let record = journal.get(index);
-        count = plus_if(count, tells_of_envelope(&record));
-    }
-    count
-}
-
-// The count, plus one if the condition holds.
-fn plus_if(count: usize, is_so: bool) -> usize
-    requires { count < 2 ^ 64 - 1 }
-    ensures value { result ≡ count + (if is_so then 1 else 0) }
-    ensures grows { result ≤ count + 1 }
-{
-    if is_so { count + 1 } else { count }
-}
-
-// Whether the entry is of an envelope, which was handled or dropped.
-fn tells_of_envelope(entry: &EntryRef<'_>) -> bool
-    ensures { result ≡ tells_of_envelope (entry_of entry.now) }
-{
-    match entry.arrival {
-        Received::Handled { .. } | Received::Dropped { .. } => true,
-        Received::System { .. } | Received::SetAside { .. } => false,
     }
 }

@@ -37,6 +37,7 @@ use mb_actor::{Actor, Behaviours, Outbox, Phase, RecordedActor};
 use mb_journal::{Journal, ReadyError};
 use mb_msg::{ActorId, Strategy, SysMsg};
 use mb_supervision::{Act, ActorIdentity, CellState};
+use mb_syslist::Node;
 use std::alloc::Global;
 use std::marker::{Model, PhantomData};
 
@@ -176,6 +177,13 @@ impl<A: Actor, K: Behaviours> Cell<A, K> {
             return Err(ReadyError::NoMemory);
         }
         self.journal.ready()
+    }
+
+    /// Keeps the node of a message that was taken, for an act that comes later. This takes no memory.
+    pub fn keep_node(&mut self, node: Node)
+        ensures { self.new ≡ self.old }
+    {
+        self.cell_state.keep_node(node);
     }
 
     /// Takes out the earliest act that is still to be carried out; `None` if there is none. This takes no memory.

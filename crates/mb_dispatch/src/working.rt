@@ -67,6 +67,11 @@ fn work_on<A: Actor, K: Behaviours, R: Wait>(
     ensures fault { IfErr result (BreaksWork K.gives system.now (pass_view end.old.registrar.pass) end.new) }
 {
     for _ in rt.forever() {
+        // Tried first, so that a claim which is there is run from registers.
+        if let Some(claim) = end.try_take() {
+            run_mailbox(rt, system, end, claim)?;
+            continue;
+        }
         let Some(claim) = next_claim(rt, system, end)? else {
             return Ok(());
         };

@@ -179,7 +179,7 @@ swapped a b c e = omega arith
 none_more : (m : ℕ) → 0 + m ≡ m
 none_more m = omega arith
 
-pub words_few : (w : Word) → word_offset w < 16
+pub words_few : (w : Word) → word_offset w < 32
 words_few Status = omega arith
 words_few Flag = omega arith
 words_few Gate = omega arith
@@ -378,7 +378,7 @@ module _ {H : Type 0} (is_of : ℕ → H → Type 0) (facts : H → HomeFacts) w
       (sym keeps ∙ list')) (subst (λ (z : MessageList). All (NamesBelow n) z.messages) (sym taken) f.named))
 
   module _ (n slots id : ℕ) (me : M) (actor i : ℕ) (inside : actor < n) where
-    told_read : (x : Place) (vs : List View) → F n actor x vs → get_elem? vs id ≡ some me.0 → (a : ℕ) → word_at actor 8 ≡ word_at a 8
+    told_read : (x : Place) (vs : List View) → F n actor x vs → get_elem? vs id ≡ some me.0 → (a : ℕ) → word_at actor 16 ≡ word_at a 16
         → (let now : M = (reading actor (x.row Status) me.0, me.1) in (now ≡ (reading a (x.row Status) me.0, me.1)) × IsTrue (is_valid (x.row
         Status)) × StaysClosed a (x.row Status) me.0)
     told_read x vs f at a e = subst (λ (b : ℕ). (let now : M = (reading actor (x.row Status) me.0, me.1) in (now ≡ (
@@ -386,25 +386,25 @@ module _ {H : Type 0} (is_of : ℕ → H → Type 0) (facts : H → HomeFacts) w
           me.0,
       me.1,
     )) × IsTrue (is_valid (x.row Status)) × StaysClosed b (x.row Status) me.0))
-        (same_actor actor a 8 e) (refl, f.valid, still_closed actor x me.0 f.ended (f.seen id me.0 at))
+        (same_actor actor a 16 e) (refl, f.valid, still_closed actor x me.0 f.ended (f.seen id me.0 at))
 
-    pub reads_allowed : i ≡ word_at actor 8 → Allows (Rule n) slots id me i (λ k. k) (Reads (step slots i 0 0 none) me)
+    pub reads_allowed : i ≡ word_at actor 16 → Allows (Rule n) slots id me i (λ k. k) (Reads (step slots i 0 0 none) me)
     reads_allowed e = subst (λ j. Allows (Rule n) slots id me j (λ k. k) (Reads (step slots j 0 0 none) me)) (sym e)
-        (allows word_offset slot_offset words_few slots_few n (F n) slots id me actor Status (λ k. k) (Reads (step slots (word_at actor 8) 0 0 none)
+        (allows word_offset slot_offset words_few slots_few n (F n) slots id me actor Status (λ k. k) (Reads (step slots (word_at actor 16) 0 0 none)
         me) inside
-        (λ x vs f at fits. reads is_of facts n actor id me (Reads (step slots (word_at actor 8) 0 0 none) me
+        (λ x vs f at fits. reads is_of facts n actor id me (Reads (step slots (word_at actor 16) 0 0 none) me
         (x.row Status)) x vs
         f at (told_read x vs f at)))
 
-    pub writes_allowed : (c : Held) (new : ℕ) → i ≡ word_at actor 8 → me.0.claim ≡ Some c → c.actor ≡ actor → IsTrue (is_valid new) → (new % 4 ≡
+    pub writes_allowed : (c : Held) (new : ℕ) → i ≡ word_at actor 16 → me.0.claim ≡ Some c → c.actor ≡ actor → IsTrue (is_valid new) → (new % 4 ≡
         2) ⊎ (new ≡ 1) → (c.word ≡ 1 → new ≡ 1) → IsHolderChange (mailbox_of c.word) (mailbox_of new)
         → Allows (Rule n) slots id me i (λ _. new) (λ _. Writes (step slots i new 0 none) me new)
     writes_allowed c new e has of valid busy closed change = subst (λ j. Allows (Rule n) slots id me j (λ _. new) (λ _. Writes (step slots j new 0 none)
         me new)) (sym e)
-        (allows word_offset slot_offset words_few slots_few n (F n) slots id me actor Status (λ _. new) (λ _. Writes (step slots (word_at actor 8)
+        (allows word_offset slot_offset words_few slots_few n (F n) slots id me actor Status (λ _. new) (λ _. Writes (step slots (word_at actor 16)
         new 0 none) me new) inside
         (λ x vs f at fits. writes is_of facts n actor id me c new (Writes (step slots
-        (word_at actor 8) new 0 none) me new) x vs f
+        (word_at actor 16) new 0 none) me new) x vs f
         at has of valid busy closed (
           refl,
           (λ c' has'. subst (λ (h : Held). IsHolderChange (mailbox_of h.word) (mailbox_of new)) (some_same c c' (sym has ∙ has'))
@@ -429,7 +429,7 @@ module _ {H : Type 0} (is_of : ℕ → H → Type 0) (facts : H → HomeFacts) w
           subst (λ b. ClaimGoesOn b me.0) who further,
         )
 
-    pub idles_allowed : (c : Held) (home : H) (new : ℕ) → i ≡ word_at actor 8 → me.0.claim ≡ Some c → c.actor ≡ actor → me.1 ≡ (
+    pub idles_allowed : (c : Held) (home : H) (new : ℕ) → i ≡ word_at actor 16 → me.0.claim ≡ Some c → c.actor ≡ actor → me.1 ≡ (
       slot_at actor 0,
       Home home,
     ) ∷ [] → is_of actor home → Extends (facts home).journal c.journal → (facts home).given ≡ c.given
@@ -441,10 +441,10 @@ module _ {H : Type 0} (is_of : ℕ → H → Type 0) (facts : H → HomeFacts) w
         (λ _. new) (λ _.
         Idles facts (step slots j new 0 none) me new)) (sym e)
         (allows word_offset slot_offset words_few slots_few n (F n) slots id me actor Status (λ _. new) (λ _. Idles facts
-        (step slots (word_at actor 8) new 0 none) me new) inside
+        (step slots (word_at actor 16) new 0 none) me new) inside
         (λ x vs f at fits. idles is_of facts n actor id me c home new (Idles facts (step slots (word_at
-        actor 8) new 0 none) me new) x vs f at has of carried of_actor longer count known gave unshut valid free word rest share
-        (told_idle home (step slots (word_at actor 8) new 0 none) new carried (λ c' has'. (
+        actor 16) new 0 none) me new) x vs f at has of carried of_actor longer count known gave unshut valid free word rest share
+        (told_idle home (step slots (word_at actor 16) new 0 none) new carried (λ c' has'. (
           (λ _. ap (λ (h : Held). h.word) (some_same c' c (sym has' ∙ has)) ∙ bit (let h = (is_held is_of facts n actor id x vs me.0 c f at has of).1 in
               ⊎_elim (λ two. ap (λ k. k % 4) (sym h.word) ∙ two) (λ one. absurd (unshut (sym h.word ∙ one))) h.busy)),
           (λ flag. absurd (omega arith)),
@@ -511,23 +511,23 @@ module _ {H : Type 0} (is_of : ℕ → H → Type 0) (facts : H → HomeFacts) w
               (λ whole. own_balance is_of facts n actor x vs id me.0 f at whole whole),
         ))))
 
-    pub looks_allowed : i ≡ word_at actor 9 → Allows (Rule n) slots id me i (λ k. k) (ReadsGate (step slots i 0 0 none) me)
+    pub looks_allowed : i ≡ word_at actor 17 → Allows (Rule n) slots id me i (λ k. k) (ReadsGate (step slots i 0 0 none) me)
     looks_allowed e = subst (λ j. Allows (Rule n) slots id me j (λ k. k) (ReadsGate (step slots j 0 0 none) me)) (sym e)
-        (allows word_offset slot_offset words_few slots_few n (F n) slots id me actor Gate (λ k. k) (ReadsGate (step slots (word_at actor 9) 0 0 none)
+        (allows word_offset slot_offset words_few slots_few n (F n) slots id me actor Gate (λ k. k) (ReadsGate (step slots (word_at actor 17) 0 0 none)
         me) inside
         (λ x vs f at fits. looks is_of facts n actor id me (shows_work (x.row Gate)) (ReadsGate (step slots
-        (word_at actor 9) 0 0
+        (word_at actor 17) 0 0
         none) me (x.row Gate)) x vs (shown_by x x.ghost.lent_to f.list_place) f at
-        (λ a w z. (looking (same_actor actor a 9 w z) (shows_work (x.row Gate)) me.0, me.1))))
+        (λ a w z. (looking (same_actor actor a 17 w z) (shows_work (x.row Gate)) me.0, me.1))))
 
-    pub grips_allowed : (old new : ℕ) → i ≡ word_at actor 9 → old % 2 ≡ 0 → new ≡ old + 1 → me.0.list ≡ None → may_lock_list actor me.0 ≡ true
+    pub grips_allowed : (old new : ℕ) → i ≡ word_at actor 17 → old % 2 ≡ 0 → new ≡ old + 1 → me.0.list ≡ None → may_lock_list actor me.0 ≡ true
         → Allows (Rule n) slots id me i (λ
         k. either (k == old) new k) (LocksList (step slots i old new none) me)
     grips_allowed old new e even is_new bare may = subst (λ j. Allows (Rule n) slots id me j (λ k. either (k == old) new k) (LocksList (step slots j old
         new none) me)) (sym e)
         (allows word_offset slot_offset words_few slots_few n (F n) slots id me actor Gate (λ k. either (k == old) new k) (LocksList (step slots (word_at
-        actor 9) old new none) me) inside
-        (λ x vs f at fits. let tell = LocksList (step slots (word_at actor 9) old new none) me (x.row Gate) in
+        actor 17) old new none) me) inside
+        (λ x vs f at fits. let tell = LocksList (step slots (word_at actor 17) old new none) me (x.row Gate) in
         exchanged (x.row Gate) old new (λ k. RuledStep word_offset slot_offset (F n) actor id me Gate k tell x vs)
         (λ hit. let here : x.row Gate % 2 ≡ 0 = ap (λ k. k % 2) hit ∙ even in
         subst (λ k. RuledStep word_offset slot_offset (F n) actor id me Gate k tell x vs) (sym is_new)
@@ -536,7 +536,7 @@ module _ {H : Type 0} (is_of : ℕ → H → Type 0) (facts : H → HomeFacts) w
           lending actor x.ghost.listed x.ghost.gave me.0,
           (slot_at actor 1, Listing x.ghost.listed) ∷ me.1,
         ) in
-        (x.row Gate ≡ old → ListLocked b (x.row Gate) me now) × (x.row Gate ≢ old → now ≡ me))) (same_actor actor a 9 w) (
+        (x.row Gate ≡ old → ListLocked b (x.row Gate) me now) × (x.row Gate ≢ old → now ≡ me))) (same_actor actor a 17 w) (
           (λ _. record {
             listed = x.ghost.listed;
             gave = x.ghost.gave;
@@ -575,7 +575,7 @@ module _ {H : Type 0} (is_of : ℕ → H → Type 0) (facts : H → HomeFacts) w
           subst (λ (z : Lent). z.listed.closed ≡ false) lent unended,
         )
 
-    pub enlists_allowed : (l : Lent) (m : SysMsg) (new : ℕ) → i ≡ word_at actor 9 → me.0.list ≡ Some l → l.actor ≡ actor → me.1 ≡ (
+    pub enlists_allowed : (l : Lent) (m : SysMsg) (new : ℕ) → i ≡ word_at actor 17 → me.0.list ≡ Some l → l.actor ≡ actor → me.1 ≡ (
       slot_at actor
           1,
       Listing (with_last l.listed m),
@@ -585,24 +585,24 @@ module _ {H : Type 0} (is_of : ℕ → H → Type 0) (facts : H → HomeFacts) w
         new 0 none) me new)
     enlists_allowed l m new e has of carried word unended names few =
         subst (λ j. Allows (Rule n) slots id me j (λ _. new) (λ _. Enlists (step slots j new 0 none) me new)) (sym e)
-        (allows word_offset slot_offset words_few slots_few n (F n) slots id me actor Gate (λ _. new) (λ _. Enlists (step slots (word_at actor 9) new
+        (allows word_offset slot_offset words_few slots_few n (F n) slots id me actor Gate (λ _. new) (λ _. Enlists (step slots (word_at actor 17) new
         0 none) me new) inside
         (λ x vs f at fits. enlists is_of facts n actor id new me l m (Enlists (step slots
-        (word_at actor 9) new 0 none) me new) x
+        (word_at actor 17) new 0 none) me new) x
         vs f at has of carried word names few
-        (told_enlist l m (step slots (word_at actor 9) new 0 none) new has of carried word unended)))
+        (told_enlist l m (step slots (word_at actor 17) new 0 none) new has of carried word unended)))
 
-    pub drains_allowed : (c : Held) (l : Lent) (new : ℕ) → i ≡ word_at actor 9 → slots ≡ 2 * n → me.0.claim ≡ Some c → c.actor ≡ actor
+    pub drains_allowed : (c : Held) (l : Lent) (new : ℕ) → i ≡ word_at actor 17 → slots ≡ 2 * n → me.0.claim ≡ Some c → c.actor ≡ actor
         → me.0.list ≡ Some l → l.actor ≡ actor
         → me.1 ≡ (slot_at actor 1, Listing (drained l.listed)) ∷ tail_of me.1 → new ≡ gate_word false (drained l.listed) (is_some_item
         l.listed.messages)
         → Allows (Rule n) slots id me i (λ _. new) (λ _. Drains (step slots i new 0 none) me new)
     drains_allowed c l new e slot_count has of keeps of_list carried word = subst (λ j. Allows (Rule n) slots id me j (λ _. new) (λ _. Drains (step slots j
         new 0 none) me new)) (sym e)
-        (allows word_offset slot_offset words_few slots_few n (F n) slots id me actor Gate (λ _. new) (λ _. Drains (step slots (word_at actor 9) new
+        (allows word_offset slot_offset words_few slots_few n (F n) slots id me actor Gate (λ _. new) (λ _. Drains (step slots (word_at actor 17) new
         0 none) me new) inside
         (λ x vs f at fits. unloads is_of facts n actor id new (Drained actor (listed l.listed)) me c l
-        (drained l.listed) (is_some_item l.listed.messages) (Drains (step slots (word_at actor 9) new 0 none) me new) x vs f at
+        (drained l.listed) (is_some_item l.listed.messages) (Drains (step slots (word_at actor 17) new 0 none) me new) x vs f at
         has of keeps of_list carried word refl (λ e. e) (λ e. inl e) (given_listed l.listed) (λ a. (refl, refl, λ q. refl)) (λ a z e w. (e (sym w)).1)
         (λ l' c' has' claim'. (
           (λ z. (
@@ -619,20 +619,20 @@ module _ {H : Type 0} (is_of : ℕ → H → Type 0) (facts : H → HomeFacts) w
           ) ∷ tail_of me.1) (sym of_list) carried),
         ))))
 
-    pub ends_allowed : (c : Held) (l : Lent) (new : ℕ) → i ≡ word_at actor 9 → slots ≡ 2 * n → me.0.claim ≡ Some c → c.actor ≡ actor
+    pub ends_allowed : (c : Held) (l : Lent) (new : ℕ) → i ≡ word_at actor 17 → slots ≡ 2 * n → me.0.claim ≡ Some c → c.actor ≡ actor
         → me.0.list ≡ Some l → l.actor ≡ actor
         → me.1 ≡ (slot_at actor 1, Listing (ended l.listed)) ∷ tail_of me.1 → new ≡ gate_word false (ended l.listed) l.gave → c.word ≡ 1
         → Allows (Rule n) slots id me i (λ _. new) (λ _. Ends (step slots i new 0 none) me new)
     ends_allowed c l new e slot_count has of keeps of_list carried word closed =
         subst (λ j. Allows (Rule n) slots id me j (λ _. new) (λ _. Ends (step slots j new 0 none) me new)) (sym e)
-        (allows word_offset slot_offset words_few slots_few n (F n) slots id me actor Gate (λ _. new) (λ _. Ends (step slots (word_at actor 9) new 0
+        (allows word_offset slot_offset words_few slots_few n (F n) slots id me actor Gate (λ _. new) (λ _. Ends (step slots (word_at actor 17) new 0
         none) me new) inside
         (λ x vs f at fits.
         let gave : l.gave ≡ c.gave = (is_lent is_of facts n actor id x vs me.0 l f at keeps of_list).1.gave
         ∙ sym (is_held is_of
         facts n actor id x vs me.0 c f at has of).1.gave in
         unloads is_of facts n actor id new (Ended actor (listed l.listed)) me c l (ended l.listed)
-        l.gave (Ends (step slots (word_at actor 9) new 0 none) me new) x vs f at
+        l.gave (Ends (step slots (word_at actor 17) new 0 none) me new) x vs f at
         has of keeps of_list carried word refl (λ e. refl) (λ e. inr closed) (given_listed l.listed) (λ a. (refl, refl, λ q. refl))
         (λ a z e w. (ap (λ (m : MessageList). m.closed) (e (sym w)).0, (e (sym w)).1))
         (λ l' c' list' claim'. (
@@ -650,15 +650,15 @@ module _ {H : Type 0} (is_of : ℕ → H → Type 0) (facts : H → HomeFacts) w
           ) ∷ tail_of me.1) (sym of_list) carried),
         ))))
 
-    pub glances_allowed : i ≡ word_at actor 9 → Allows (Rule n) slots id me i (λ k. k) (ChecksDrained (step slots i 0 0 none) me)
+    pub glances_allowed : i ≡ word_at actor 17 → Allows (Rule n) slots id me i (λ k. k) (ChecksDrained (step slots i 0 0 none) me)
     glances_allowed e = subst (λ j. Allows (Rule n) slots id me j (λ k. k) (ChecksDrained (step slots j 0 0 none) me)) (sym e)
-        (allows word_offset slot_offset words_few slots_few n (F n) slots id me actor Gate (λ k. k) (ChecksDrained (step slots (word_at actor 9) 0 0 none)
+        (allows word_offset slot_offset words_few slots_few n (F n) slots id me actor Gate (λ k. k) (ChecksDrained (step slots (word_at actor 17) 0 0 none)
         me) inside
-        (λ x vs f at fits. let tell = ChecksDrained (step slots (word_at actor 9) 0 0 none) me (x.row Gate) in
+        (λ x vs f at fits. let tell = ChecksDrained (step slots (word_at actor 17) 0 0 none) me (x.row Gate) in
         dite (ℕ_discrete (x.row Gate % 8) 0)
         (λ hit. sees is_of facts n actor id Gate (Drained actor []) me tell x vs
         (λ a y e. record { before = []; after = all_numbered y.ghost; joined = refl }) (λ a. (refl, refl, λ q. refl)) f at
-        (λ a c w has of bare. let who : actor ≡ a = same_actor actor a 9 w in
+        (λ a c w has of bare. let who : actor ≡ a = same_actor actor a 17 w in
         let gave : c.gave ≡ false = (is_held is_of facts n actor id x vs me.0 c f at has (of ∙ sym who)).1.gave
         ∙ (gave_by x
         x.ghost.lent_to f.list_place hit).1 in
@@ -670,21 +670,21 @@ module _ {H : Type 0} (is_of : ℕ → H → Type 0) (facts : H → HomeFacts) w
         )))
         (λ miss. sees is_of facts n actor id Gate (Looked actor true) me tell x vs (λ a y. tt) (λ a. (refl, refl, λ q. refl)) f at (λ a c w has of bare. (
           (λ hit. absurd (miss hit)),
-          (λ _ z. (looking (same_actor actor a 9 w z) true me.0, me.1)),
+          (λ _ z. (looking (same_actor actor a 17 w z) true me.0, me.1)),
         )))))
 
-    pub refuses_allowed : (old : ℕ) (m : SysMsg) → i ≡ word_at actor 9 → old / 8 % 2 ≡ 1 → Allows (Rule n) slots id me i (λ k. either (k == old)
+    pub refuses_allowed : (old : ℕ) (m : SysMsg) → i ≡ word_at actor 17 → old / 8 % 2 ≡ 1 → Allows (Rule n) slots id me i (λ k. either (k == old)
         old k) (Refuses (step slots i old old (some (Note m))) me)
     refuses_allowed old m e shut = subst (λ j. Allows (Rule n) slots id me j (λ k. either (k == old) old k) (Refuses (step slots j old old (some
         (Note m))) me)) (sym e)
         (allows word_offset slot_offset words_few slots_few n (F n) slots id me actor Gate (λ k. either (k == old) old k) (Refuses (step slots
-        (word_at actor 9) old old (some (Note m))) me) inside
-        (λ x vs f at fits. let tell = Refuses (step slots (word_at actor 9) old old (some (Note m))) me (x.row Gate) in
+        (word_at actor 17) old old (some (Note m))) me) inside
+        (λ x vs f at fits. let tell = Refuses (step slots (word_at actor 17) old old (some (Note m))) me (x.row Gate) in
         exchanged (x.row Gate) old old (λ k. RuledStep word_offset slot_offset (F n) actor id me Gate k tell x vs)
         (λ hit. subst (λ k. RuledStep word_offset slot_offset (F n) actor id me Gate k tell x vs) hit
         (let ended = ends_by x x.ghost.lent_to f.list_place (ap (λ k. k / 8 % 2) hit ∙ shut) in
         refuses is_of facts n actor id me m tell x vs f at ended
-        (λ a m' w sent_system. let who : actor ≡ a = same_actor actor a 9 w in let what : m ≡ m' = note_same {H = H} m m' sent_system in
+        (λ a m' w sent_system. let who : actor ≡ a = same_actor actor a 17 w in let what : m ≡ m' = note_same {H = H} m m' sent_system in
         let had : WasHeldBy actor me.0 = (λ whole. was_held is_of facts n actor x vs id me.0 f at whole
         (f.ended ended)) in
         ((λ _. ((λ z. (refusing (who z) (what z) me.0, me.1)), subst (λ b. WasHeldBy b me.0) who had)), (λ miss. absurd (miss hit))))))
@@ -773,15 +773,15 @@ module _ {H : Type 0} (all_of : H → ℕ → H → Type 0) (first : Snapshot (S
 
   module _ (n slots id : ℕ) (me : N) (actor i : ℕ) (inside : actor < n) where
     -- a seat that knows the first home tries to schedule the actor
-    pub schedules_allowed : (old new : ℕ) (note : Slot H) → note ≡ First first → i ≡ word_at actor 8 → old % 4 ≡ 0 → new ≡ old + 2
+    pub schedules_allowed : (old new : ℕ) (note : Slot H) → note ≡ First first → i ≡ word_at actor 16 → old % 4 ≡ 0 → new ≡ old + 2
         → me.0.claim ≡ None → is_some_item me.0.share ≡ true
         → Allows (Ruled word_offset slot_offset n (G n)) slots id me i (λ k. either (k == old) new k) (Schedules all_of facts (step slots i old new
         (some note)) me)
     schedules_allowed old new note is_note e free is_new bare share = subst (λ j. Allows (Ruled word_offset slot_offset n (G n)) slots id me j
         (λ k. either (k == old) new k) (Schedules all_of facts (step slots j old new (some note)) me)) (sym e)
         (allows word_offset slot_offset words_few slots_few n (G n) slots id me actor Status (λ k. either (k == old) new k)
-        (Schedules all_of facts (step slots (word_at actor 8) old new (some note)) me) inside
-        (λ x vs f at fits. let tell = Schedules all_of facts (step slots (word_at actor 8) old new
+        (Schedules all_of facts (step slots (word_at actor 16) old new (some note)) me) inside
+        (λ x vs f at fits. let tell = Schedules all_of facts (step slots (word_at actor 16) old new
         (some note)) me (x.row Status) in
         exchanged (x.row Status) old new (λ k. RuledStep word_offset slot_offset (G n) actor id me Status k tell x vs)
         (λ hit. let here : x.row Status % 4 ≡ 0 = ap (λ k. k % 4) hit ∙ free in let h = is_home
@@ -795,7 +795,7 @@ module _ {H : Type 0} (all_of : H → ℕ → H → Type 0) (first : Snapshot (S
         ) in
         (x.row Status ≡ old → Won (all_of b.1.value.value) facts b.0 (x.row Status) me now)
         × (x.row Status ≢ old → (now ≡ (reading b.0 (x.row Status) me.0, me.1)) × IsTrue (is_valid (x.row Status)) × StaysClosed b.0 (x.row Status)
-        me.0))) (λ z. (same_actor actor a 8 w z, first_same_home first other (sym (ap (λ (y : Slot H). some y) is_note) ∙ sent_system) z)) (
+        me.0))) (λ z. (same_actor actor a 16 w z, first_same_home first other (sym (ap (λ (y : Slot H). some y) is_note) ∙ sent_system) z)) (
           (λ _. record {
             home = h.1.home;
             of_actor = h.1.of_actor;

@@ -79,7 +79,7 @@ mailbox_again m possible = cases m.closed m.scheduled m.count possible
 
 -- ---- the step
 
-same_place : (a b : ℕ) → word_at a 8 ≡ word_at b 8 → a ≡ b
+same_place : (a b : ℕ) → word_at a 16 ≡ word_at b 16 → a ≡ b
 same_place a b e = omega arith
 
 module _ {H : Type 0} (is_of : ℕ → H → Type 0) (facts : H → HomeFacts) (n : ℕ) where
@@ -122,17 +122,17 @@ module _ {H : Type 0} (is_of : ℕ → H → Type 0) (facts : H → HomeFacts) (
   module _ (slots id : ℕ) (me : M) (actor i : ℕ) (inside : actor < n) where
     -- it finds the word that the claim knows
     told_held : (x : Place) (vs : List View) → F actor x vs → get_elem? vs id ≡ some me.0 →
-        ReadsHeld (step slots (word_at actor 8) 0 0 none) me (x.row Status) (reading_held actor (x.row Status) me.0, me.1)
+        ReadsHeld (step slots (word_at actor 16) 0 0 none) me (x.row Status) (reading_held actor (x.row Status) me.0, me.1)
     told_held x vs f at a c where_is has of =
         let who : actor ≡ a = same_place actor a where_is in (
           (λ j. (reading_held (who j) (x.row Status) me.0, me.1)),
           (is_held is_of facts n actor id x vs me.0 c f at has (of ∙ sym who)).1.word,
         )
 
-    pub reads_held_allowed : i ≡ word_at actor 8 →
+    pub reads_held_allowed : i ≡ word_at actor 16 →
         Allows (Ruled word_offset slot_offset n F) slots id me i (λ k. k) (ReadsHeld (step slots i 0 0 none) me)
     reads_held_allowed e =
         subst (λ j. Allows (Ruled word_offset slot_offset n F) slots id me j (λ k. k) (ReadsHeld (step slots j 0 0 none) me)) (sym e)
-        (allows word_offset slot_offset words_few slots_few n F slots id me actor Status (λ k. k) (ReadsHeld (step slots (word_at actor 8) 0 0 none) me)
+        (allows word_offset slot_offset words_few slots_few n F slots id me actor Status (λ k. k) (ReadsHeld (step slots (word_at actor 16) 0 0 none) me)
         inside
-        (λ x vs f at fits. reads_held actor id me (ReadsHeld (step slots (word_at actor 8) 0 0 none) me (x.row Status)) x vs f at (told_held x vs f at)))
+        (λ x vs f at fits. reads_held actor id me (ReadsHeld (step slots (word_at actor 16) 0 0 none) me (x.row Status)) x vs f at (told_held x vs f at)))

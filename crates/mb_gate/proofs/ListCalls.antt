@@ -1,5 +1,5 @@
--- A list that was taken out and put back, and the words of its gate.
-use Rattle.std.proofs.Common.{◌≡◌, ◌≢◌, ℕ, ◌+◌, ◌%◌, ◌==◌, if◌then◌else◌, Bool, true, false, not, ◌||◌, IsTrue, Option, Some, is_some, List, [], ◌∷◌, ◌++◌, sym, refl, ap, ◌∙◌, eq-eqb, ne_eqb, arith}
+-- A list that was taken and given back, and the words of its gate.
+use Rattle.std.proofs.Common.{get_or, subst, MatchBool, ◌≡◌, ◌≢◌, ℕ, ◌+◌, ◌%◌, ◌==◌, if◌then◌else◌, Bool, true, false, not, ◌||◌, IsTrue, Option, Some, is_some, List, [], ◌∷◌, ◌++◌, sym, refl, ap, ◌∙◌, eq-eqb, ne_eqb, arith}
 use mathlib.Core.Logic.{dite}
 use native.Mathlib.Decide.{ℕ_discrete}
 use Rattle.std.proofs.lemmas.Bool.Decides.{nat_tests}
@@ -8,19 +8,13 @@ use Rattle.mb_msg.specs.declared.system.SysMsg.{SysMsg}
 use Rattle.mb_syslist.specs.MessageList.{MessageList, with_last, drained, ended, listed, numbered}
 use Rattle.mb_ghost.specs.Layout.{slot_at}
 use Rattle.mb_gate.specs.declared.slot.Slot.{Slot}
-use Rattle.mb_gate.specs.declared.slot.Slot.TheVariants.{Empty, List as Listing}
+use Rattle.mb_gate.specs.declared.slot.Slot.TheVariants.{List as Listing}
 use Rattle.mb_gate.specs.View.{View, Held, lending}
 use Rattle.mb_gate.specs.Rule.{is_some_item, held_of, claim_for, gate_word}
 use Rattle.mb_gate.specs.TableSteps.{ListLocked}
 use Rattle.mb_gate.proofs.Views.{held_here}
-use Rattle.mb_gate.specs.Lists.{may_lock_list, IsLentBy, IsOut}
+use Rattle.mb_gate.specs.Lists.{may_lock_list, IsOut}
 use Rattle.mb_gate.specs.ListWord.{is_locked, is_ended, with_listed, with_drained, with_ended}
-
-head_same : {A : Type 0} (a b : A) (xs ys : List A) → a ∷ xs ≡ b ∷ ys → a ≡ b
-head_same a b xs ys e = cc
-
-rest_same : {A : Type 0} (a b : A) (xs ys : List A) → a ∷ xs ≡ b ∷ ys → xs ≡ ys
-rest_same a b xs ys e = cc
 
 list_same : {H : Type 0} (a b : MessageList) → (let x : Slot H = Listing a in x ≡ Listing b) → a ≡ b
 list_same a b e = cc
@@ -30,33 +24,6 @@ pub choose : {A : Type 0} (found word : ℕ) (now hit miss : A) → (found ≡ w
 choose found word now hit miss won lost = dite (ℕ_discrete found word)
     (λ e. won e ∙ sym (ap (λ b. if b then hit else miss) (eq-eqb found word e)))
     (λ n. lost n ∙ sym (ap (λ b. if b then hit else miss) (ne_eqb found word n)))
-
-module _ {H : Type 0} (actor found slot : ℕ) (m m1 : Me (Slot H) View) (lock_list : ListLocked actor found m m1) (r : Slot H) (carried : m1.1 ≡ (slot, r)
-    ∷ rest m1.1) where
-  carried_now : (slot, r) ∷ rest m1.1 ≡ (slot_at actor 1, Listing lock_list.listed) ∷ m.1
-  carried_now = sym carried ∙ ap (λ (z : Me (Slot H) View). z.1) lock_list.now
-
-  -- what was in the slot is the list
-  pub is_list : r ≡ Listing lock_list.listed
-  is_list = ap (λ (z : ℕ × Slot H). z.1) (head_same _ _ _ _ carried_now)
-
-  pub lent_by : (word : ℕ) (list : MessageList) (m2 : Me (Slot H) View) → found ≡ word → r ≡ Listing list → m2 ≡ (
-    m1.0,
-    (slot, Empty) ∷ rest
-        m1.1,
-  ) → IsLentBy actor word list m m2
-  lent_by word list m2 is_word is now =
-      let same : lock_list.listed ≡ list = list_same {H = H} lock_list.listed list (sym is_list ∙ is) in
-      let where_is : slot ≡ slot_at actor 1 = ap (λ (z : ℕ × Slot H). z.0) (head_same _ _ _ _ carried_now) in
-      let others : rest m1.1 ≡ m.1 = rest_same _ _ _ _ carried_now in record {
-        gave = lock_list.gave;
-        found = sym is_word ∙ (lock_list.word ∙ ap (λ l. gate_word false l lock_list.gave) same);
-        now = now ∙ (λ i. (
-          (ap (λ (z : Me (Slot H) View). z.0) lock_list.now ∙ ap (λ l. lending actor l lock_list.gave m.0) same) i,
-          (where_is i, Empty) ∷
-              others i,
-        ));
-      }
 
 more_items : (l : List SysMsg) (m : SysMsg) → is_some_item (l ++ m ∷ []) ≡ true
 more_items [] m = refl
@@ -148,22 +115,40 @@ some_listed l = items l.given l.messages
     items n [] = refl
     items n (m ∷ ms) = refl
 
--- what was taken out is out
-pub lent_out : {H : Type 0} (actor word : ℕ) (l : MessageList) (m m' : Me (Slot H) View) → IsLentBy actor word l m m' → IsOut actor word l m'
-lent_out actor word l m m' lent = record {
-  gave = lent.gave;
-  found = lent.found;
-  has = ap (λ (z : Me (Slot _) View). z.0.list) lent.now;
-  carried = ap (λ (z : Me (Slot _) View). z.1) lent.now ∙ ap (λ c. (slot_at actor 1, Empty) ∷ rest c) (sym (ap (λ (z : Me (Slot _) View). z.1)
-      lent.now));
+-- a list that was locked is out, in its slot
+pub locked_out : {H : Type 0} (actor word : ℕ) (m m' : Me (Slot H) View) → ListLocked actor word m m' → IsOut actor word m'
+locked_out actor word m m' locked = record {
+  listed = locked.listed;
+  gave = locked.gave;
+  found = locked.word;
+  has = ap (λ (z : Me (Slot _) View). z.0.list) locked.now;
+  carried = ap (λ (z : Me (Slot _) View). z.1) locked.now ∙ ap (λ c. (slot_at actor 1, Listing locked.listed) ∷ rest c) (sym (ap (λ (z : Me (Slot _) View). z.1)
+      locked.now));
 }
 
--- what was laid into the slot is carried
-pub laid_back : {H : Type 0} (actor : ℕ) (a b : MessageList) (m m' : Me (Slot H) View) → m' ≡ (m.0, (slot_at actor 1, Listing a) ∷ rest m.1) → a
-    ≡ b → m'.1 ≡ (slot_at actor 1, Listing b) ∷ rest m'.1
-laid_back {H} actor a b m m' laid same =
-    let now : m'.1 ≡ (slot_at actor 1, Listing a) ∷ rest m.1 = ap (λ (z : Me (Slot H) View). z.1) laid in
-    now ∙ (λ i. (slot_at actor 1, Listing (same i)) ∷ rest (sym now i))
+-- the same of a list that is not ended
+pub open_out : {H : Type 0} (actor word : ℕ) (m m' : Me (Slot H) View) (locked : ListLocked actor word m m') → locked.listed.closed ≡ false
+    → (out : IsOut actor word m') × (out.listed.closed ≡ false)
+unfolding locked_out
+open_out actor word m m' locked is_open = (locked_out actor word m m' locked, is_open)
+
+-- what an exchange answers that compares: whether it won
+pub won_or_lost : (found word : ℕ) (won lost : Type 0) → (found ≡ word → won) → (found ≢ word → lost) → MatchBool (found == word) won lost
+won_or_lost found word won lost hit miss = dite (ℕ_discrete found word)
+    (λ e. subst (λ b. MatchBool b won lost) (sym (eq-eqb found word e)) (hit e))
+    (λ n. subst (λ b. MatchBool b won lost) (sym (ne_eqb found word n)) (miss n))
+
+pub when_true : (won lost : Type 0) (b : Bool) → b ≡ true → MatchBool b won lost → won
+when_true won lost b e h = subst (λ b. MatchBool b won lost) e h
+
+pub when_false : (won lost : Type 0) (b : Bool) → b ≡ false → MatchBool b won lost → lost
+when_false won lost b e h = subst (λ b. MatchBool b won lost) e h
+
+-- the list that was found in the slot is the one that was taken
+pub list_taken : {H : Type 0} (actor k : ℕ) (l list : MessageList) (s : Slot H) (m : Me (Slot H) View) → m.1 ≡ (slot_at actor 1, Listing l) ∷ rest m.1
+    → m.1 ≡ (k, s) ∷ rest m.1 → s ≡ Listing list → list ≡ l
+list_taken {H} actor k l list s m has now is =
+    list_same {H = H} list l (sym is ∙ ap (λ (c : List (ℕ × Slot H)). (get_or c 0 (0, s)).1) (sym now ∙ has))
 
 pub empty_is : {A : Type 0} (b : Bool) (xs : List A) → (IsTrue b → xs ≡ []) × (xs ≡ [] → IsTrue b) → b ≡ not (is_some_item xs)
 empty_is true [] h = refl

@@ -172,9 +172,9 @@ module _ {H : Type 0} (is_of : ℕ → H → Type 0) (facts : H → HomeFacts) w
         (Some left)
     some_left left t =
         let f = r.each actor inside in
-        let status = found (word_at actor 8) t.0.status t.0.status_is in
+        let status = found (word_at actor 16) t.0.status t.0.status_is in
         let flag = found (word_at actor 7) t.0.flag t.0.flag_is in
-        let gate = found (word_at actor 9) t.0.gate t.0.gate_is in
+        let gate = found (word_at actor 17) t.0.gate t.0.gate_is in
         let k = at_home actor here here.ghost.holder f.cell (⊎_elim (λ z. inl (ap (λ w. w % 4) status ∙ z)) (λ o. inr (flag ∙ o)) t.0.cell) in
         let l = (is_shelved is_of facts n actor here s.views f (ap (λ w. w % 2) gate ∙ t.0.list)).1 in
         let home : k.home ≡ left.home = home_same k.home left.home (some-injective _ _ (sym (same (slot_at actor 0) (Home k.home) k.present) ∙ t.1)) in
@@ -208,7 +208,7 @@ module _ {H : Type 0} (is_of : ℕ → H → Type 0) (facts : H → HomeFacts) w
     none_holds : (left : ReturnedActor H) → IsTakenOut ws xs actor (Some left) → here.ghost.holder ≡ None
     none_holds left t =
         let f = r.each actor inside in
-        let status = found (word_at actor 8) t.0.status t.0.status_is in
+        let status = found (word_at actor 16) t.0.status t.0.status_is in
         let flag = found (word_at actor 7) t.0.flag t.0.flag_is in
         no_holder actor here here.ghost.holder f.cell (⊎_elim (λ z. inl (ap (λ w. w % 4) status ∙ z)) (λ o. inr (flag ∙ o)) t.0.cell)
 
@@ -217,7 +217,7 @@ module _ {H : Type 0} (is_of : ℕ → H → Type 0) (facts : H → HomeFacts) w
         here.ghost.closed_to
     says_closed left t other is =
         let f = r.each actor inside in
-        let status = found (word_at actor 8) t.0.status t.0.status_is in
+        let status = found (word_at actor 16) t.0.status t.0.status_is in
         let flag = found (word_at actor 7) t.0.flag t.0.flag_is in
         let k = at_home actor here here.ghost.holder f.cell (⊎_elim (λ z. inl (ap (λ w. w % 4) status ∙ z)) (λ o. inr (flag ∙ o)) t.0.cell) in
         let home : k.home ≡ left.home = home_same k.home left.home (some-injective _ _ (sym (same (slot_at actor 0) (Home k.home) k.present) ∙ t.1)) in
@@ -227,7 +227,7 @@ module _ {H : Type 0} (is_of : ℕ → H → Type 0) (facts : H → HomeFacts) w
     says_drained : (left : ReturnedActor H) → IsTakenOut ws xs actor (Some left) → Each (WasPushed here.ghost) (facts left.home).drained
     says_drained left t =
         let f = r.each actor inside in
-        let status = found (word_at actor 8) t.0.status t.0.status_is in
+        let status = found (word_at actor 16) t.0.status t.0.status_is in
         let flag = found (word_at actor 7) t.0.flag t.0.flag_is in
         let k = at_home actor here here.ghost.holder f.cell (⊎_elim (λ z. inl (ap (λ w. w % 4) status ∙ z)) (λ o. inr (flag ∙ o)) t.0.cell) in
         let home : k.home ≡ left.home = home_same k.home left.home (some-injective _ _ (sym (same (slot_at actor 0) (Home k.home) k.present) ∙ t.1)) in
@@ -237,7 +237,7 @@ module _ {H : Type 0} (is_of : ℕ → H → Type 0) (facts : H → HomeFacts) w
     says_journal : (left : ReturnedActor H) → IsTakenOut ws xs actor (Some left) → here.ghost.journal ≡ (facts left.home).journal
     says_journal left t =
         let f = r.each actor inside in
-        let status = found (word_at actor 8) t.0.status t.0.status_is in
+        let status = found (word_at actor 16) t.0.status t.0.status_is in
         let flag = found (word_at actor 7) t.0.flag t.0.flag_is in
         let k = at_home actor here here.ghost.holder f.cell (⊎_elim (λ z. inl (ap (λ w. w % 4) status ∙ z)) (λ o. inr (flag ∙ o)) t.0.cell) in
         let home : k.home ≡ left.home = home_same k.home left.home (some-injective _ _ (sym (same (slot_at actor 0) (Home k.home) k.present) ∙ t.1)) in
@@ -246,7 +246,7 @@ module _ {H : Type 0} (is_of : ℕ → H → Type 0) (facts : H → HomeFacts) w
     none_left : IsTakenOut ws xs actor None → IsReturned is_of facts actor here v None
     none_left t = let f = r.each actor inside in cases here.ghost.holder here.ghost.lent_to f.cell f.list_place
       where
-        at : (k : ℕ) → k < 16 * n → get_elem? ws k ≡ some (slice_index s.words k)
+        at : (k : ℕ) → k < 32 * n → get_elem? ws k ≡ some (slice_index s.words k)
         at k l = subst (λ z. get_elem? z k ≡ some (slice_index s.words k)) words (word_there s.words k (let word_count = r.word_count in omega arith))
 
         cases : (holder : Option (ℕ × Held)) (lent_to : Option (ℕ × Lent)) → CellPlace is_of facts actor here
@@ -258,9 +258,9 @@ module _ {H : Type 0} (is_of : ℕ → H → Type 0) (facts : H → HomeFacts) w
           status = here.row Status;
           flag = here.row Flag;
           gate = here.row Gate;
-          status_is = at (word_at actor 8) (omega arith);
+          status_is = at (word_at actor 16) (omega arith);
           flag_is = at (word_at actor 7) (omega arith);
-          gate_is = at (word_at actor 9) (omega arith);
+          gate_is = at (word_at actor 17) (omega arith);
           cell = home_tells actor here k;
           list = ap (λ w. w % 2) l.word ∙ gate_even here.ghost.listed here.ghost.gave;
         }) (same (slot_at actor 0) (Home k.home) k.present) (same (slot_at actor 1) (Listing here.ghost.listed) l.present))

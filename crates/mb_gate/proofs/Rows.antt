@@ -29,7 +29,7 @@ module _ {H : Type 0} where
   homes_in-slots_of [] = refl
   homes_in-slots_of (h ∷ hs) = ap (λ z. h ∷ z) (homes_in-slots_of hs)
 
-  pub length-rows_of : (facts : H → HomeFacts) (hs : List H) → length (rows_of facts hs) ≡ 16 * length hs
+  pub length-rows_of : (facts : H → HomeFacts) (hs : List H) → length (rows_of facts hs) ≡ 32 * length hs
   length-rows_of facts [] = refl
   length-rows_of facts (h ∷ hs) = let e = length-rows_of facts hs in omega arith
 

@@ -66,16 +66,15 @@ module _ {H : Type 0} (facts : H → HomeFacts) where
   record Begun (hs : List H) (a : ℕ) (h : H) : Type 0 where
     present : slice_get hs a ≡ Some h
     tale : journal_at hs a ≡ (facts h).journal
-    status : get_or (rows_of facts hs) (word_at a 8) 0 ≡ word_of (facts h).mailbox
+    status : get_or (rows_of facts hs) (word_at a 16) 0 ≡ word_of (facts h).mailbox
     flag : get_or (rows_of facts hs) (word_at a 7) 0 ≡ 0
-    gate : get_or (rows_of facts hs) (word_at a 9) 0 ≡ 0
+    gate : get_or (rows_of facts hs) (word_at a 17) 0 ≡ 0
     waiting : get_or (rows_of facts hs) (word_at a 0) 0 ≡ 0
     cell : get_elem? (map some (slots_of hs)) (slot_at a 0) ≡ some (some (Home h))
     list : get_elem? (map some (slots_of hs)) (slot_at a 1) ≡ some (some (Listing no_messages))
 
-  next_row : (w : ℕ) (rest : List ℕ) (i j : ℕ) → i ≡ j + 16 → get_or (row_of w ++ rest) i 0 ≡ get_or rest j 0
-  next_row w rest i j e = ap (λ k. get_or (row_of w ++ rest) k 0) (let n : i ≡ suc (suc (suc (suc (suc (suc (suc (suc (suc (suc (suc (suc (suc
-      (suc (suc (suc j))))))))))))))) = omega arith in n)
+  next_row : (w : ℕ) (rest : List ℕ) (i j : ℕ) → i ≡ j + 32 → get_or (row_of w ++ rest) i 0 ≡ get_or rest j 0
+  next_row w rest i j e = ap (λ k. get_or (row_of w ++ rest) k 0) (let n : i ≡ suc (suc (suc (suc (suc (suc (suc (suc (suc (suc (suc (suc (suc (suc (suc (suc (suc (suc (suc (suc (suc (suc (suc (suc (suc (suc (suc (suc (suc (suc (suc (suc j))))))))))))))))))))))))))))))) = omega arith in n)
 
   next_shelves : (h : H) (rest : List (maybe.Option (Slot H))) (i j : ℕ) → i ≡ j + 2 → get_elem? (some (Home h) ∷ some (Listing no_messages) ∷
       rest) i ≡ get_elem? rest j
@@ -102,9 +101,9 @@ module _ {H : Type 0} (facts : H → HomeFacts) where
     record {
       present = b.1.present;
       tale = b.1.tale;
-      status = next_row w (rows_of facts hs) (word_at (suc a) 8) (word_at a 8) (omega arith) ∙ b.1.status;
+      status = next_row w (rows_of facts hs) (word_at (suc a) 16) (word_at a 16) (omega arith) ∙ b.1.status;
       flag = next_row w (rows_of facts hs) (word_at (suc a) 7) (word_at a 7) (omega arith) ∙ b.1.flag;
-      gate = next_row w (rows_of facts hs) (word_at (suc a) 9) (word_at a 9) (omega arith) ∙ b.1.gate;
+      gate = next_row w (rows_of facts hs) (word_at (suc a) 17) (word_at a 17) (omega arith) ∙ b.1.gate;
       waiting = next_row w (rows_of facts hs) (word_at (suc a) 0) (word_at a 0) (omega arith) ∙ b.1.waiting;
       cell = next_shelves h (map some (slots_of hs)) (slot_at (suc a) 0) (slot_at a 0) (omega arith) ∙ b.1.cell;
       list = next_shelves h (map some (slots_of hs)) (slot_at (suc a) 1) (slot_at a 1) (omega arith) ∙ b.1.list;
@@ -148,7 +147,7 @@ module _ {H : Type 0} (is_of : ℕ → H → Type 0) (facts : H → HomeFacts) w
       (opening z.0 z.1 alone)) (λ i.
       (sym rows i, sym shelves i)) record {
         ghosts = begins hs;
-        word_count = length-rows_of facts hs ∙ ap (λ k. 16 * k) (sym many);
+        word_count = length-rows_of facts hs ∙ ap (λ k. 32 * k) (sym many);
         slot_count = length-map (slots_of hs) (λ (x : Slot H). some x) ∙ (length-slots_of hs ∙ ap (λ k. 2 * k) (sym many));
         each = λ a l. let b = begun facts hs a (omega arith) in let f = fresh a b.0 b.1.present in let m = (facts b.0).mailbox in record {
           valid = subst (λ k. IsTrue (is_valid k)) (sym b.1.status) (valid_word m f.possible);

@@ -6,23 +6,18 @@ use Rattle.mb_syslist.specs.MessageList.{MessageList, numbered}
 use Rattle.mb_msg.specs.declared.system.SysMsg.{SysMsg}
 use Rattle.mb_ghost.specs.Layout.{slot_at}
 use Rattle.mb_gate.specs.declared.slot.Slot.{Slot}
-use Rattle.mb_gate.specs.declared.slot.Slot.TheVariants.{Empty}
-use Rattle.mb_gate.specs.View.{View, lending}
+use Rattle.mb_gate.specs.declared.slot.Slot.TheVariants.{List as Listing}
+use Rattle.mb_gate.specs.View.{View}
 use Rattle.mb_gate.specs.Claims.{held_in}
 use Rattle.mb_gate.specs.Rule.{gate_word, is_some_item, claim_for}
 
--- The seat took out the actor's list, by an exchange that found this word at its gate.
-pub record IsLentBy {H : Type 0} (actor : ℕ) (word : ℕ) (listed : MessageList) (m m' : Me (Slot H) View) : Type 0 where
-  pub gave : Bool
-  pub found : word ≡ gate_word false listed gave
-  pub now : m' ≡ (lending actor listed gave m.0, (slot_at actor 1, Empty) ∷ m.1)
-
--- The seat has the actor's list, its slot is empty, and the gate showed this word before.
-pub record IsOut {H : Type 0} (actor : ℕ) (word : ℕ) (listed : MessageList) (m : Me (Slot H) View) : Type 0 where
+-- The seat has taken the actor's list, which lies in its slot, and the gate showed this word before.
+pub record IsOut {H : Type 0} (actor : ℕ) (word : ℕ) (m : Me (Slot H) View) : Type 0 where
+  pub listed : MessageList
   pub gave : Bool
   pub found : word ≡ gate_word false listed gave
   pub has : m.0.list ≡ Some (record { actor = actor; listed = listed; gave = gave })
-  pub carried : m.1 ≡ (slot_at actor 1, Empty) ∷ rest m.1
+  pub carried : m.1 ≡ (slot_at actor 1, Listing listed) ∷ rest m.1
 
 -- The seat has the claim of the actor.
 pub record HasClaim {H : Type 0} (actor : ℕ) (m : Me (Slot H) View) : Type 0 where

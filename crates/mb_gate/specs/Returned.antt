@@ -28,9 +28,9 @@ pub record TellsHome (words : List ℕ) (actor : ℕ) : Type 0 where
   pub status : ℕ
   pub flag : ℕ
   pub gate : ℕ
-  pub status_is : get_elem? words (word_at actor 8) ≡ some status
+  pub status_is : get_elem? words (word_at actor 16) ≡ some status
   pub flag_is : get_elem? words (word_at actor 7) ≡ some flag
-  pub gate_is : get_elem? words (word_at actor 9) ≡ some gate
+  pub gate_is : get_elem? words (word_at actor 17) ≡ some gate
   pub cell : (status % 4 ≡ 0) ⊎ (flag ≡ 1)
   pub list : gate % 2 ≡ 0
 

@@ -55,9 +55,9 @@ pub data Word : Type 0 where
 
 -- Where each word lies among the words of its actor.
 abbrev pub word_offset : Word → ℕ
-word_offset Status = 8
+word_offset Status = 16
 word_offset Flag = 7
-word_offset Gate = 9
+word_offset Gate = 17
 word_offset Waiting = 0
 
 -- An actor's slots: one for its cell, and one for its list.

@@ -12,9 +12,9 @@ use Rattle.mb_gate.specs.Tries.{IsFree}
 abbrev pub no_messages : MessageList
 no_messages = record { messages = []; given = 0; closed = false }
 
--- An actor's sixteen words: the status word is the ninth, and all others are 0.
+-- An actor's thirty-two words: the status word is the seventeenth, and all others are 0.
 abbrev pub row_of : ℕ → List ℕ
-row_of word = 0 ∷ 0 ∷ 0 ∷ 0 ∷ 0 ∷ 0 ∷ 0 ∷ 0 ∷ word ∷ 0 ∷ 0 ∷ 0 ∷ 0 ∷ 0 ∷ 0 ∷ 0 ∷ []
+row_of word = 0 ∷ 0 ∷ 0 ∷ 0 ∷ 0 ∷ 0 ∷ 0 ∷ 0 ∷ 0 ∷ 0 ∷ 0 ∷ 0 ∷ 0 ∷ 0 ∷ 0 ∷ 0 ∷ word ∷ 0 ∷ 0 ∷ 0 ∷ 0 ∷ 0 ∷ 0 ∷ 0 ∷ 0 ∷ 0 ∷ 0 ∷ 0 ∷ 0 ∷ 0 ∷ 0 ∷ 0 ∷ []
 
 module _ {H : Type 0} where
   -- The words with which the gates of these homes begin.

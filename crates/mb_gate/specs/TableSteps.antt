@@ -75,7 +75,7 @@ IsHolderChange before after = ((before.count < most_suspensions) × (after ≡ s
 -- The claim, if any, knew another word before it gave the cell back: two more where that is shown by the status word, and the closed one where
 -- it is shown by the flag.
 abbrev pub IsIdleWord : {S : Type 0} → Step S → ℕ → ℕ → View → Type 0
-IsIdleWord st actor n v = (c : Held) → v.claim ≡ Some c → (st.word ≡ word_at actor 8 → c.word ≡ n + 2) × (st.word ≡ word_at actor 7 → c.word ≡ 1)
+IsIdleWord st actor n v = (c : Held) → v.claim ≡ Some c → (st.word ≡ word_at actor 16 → c.word ≡ n + 2) × (st.word ≡ word_at actor 7 → c.word ≡ 1)
 
 -- This observation allows that the actor's status is this word: the word is the closed one if the actor was seen closed or its list was ended.
 abbrev pub IsWord : ℕ → ℕ → Observation → Type 0
@@ -101,11 +101,11 @@ module _ {H : Type 0} where
 
   -- What a seat knows after it read a status word.
   abbrev pub Reads : Step (Slot H) → Me (Slot H) View → ℕ → Me (Slot H) View → Type 0
-  Reads st m found m' = (actor : ℕ) → st.word ≡ word_at actor 8 → HasRead actor found m m'
+  Reads st m found m' = (actor : ℕ) → st.word ≡ word_at actor 16 → HasRead actor found m m'
 
   -- What a seat knows after its claim read its actor's status word. The word is the one that the claim knows.
   abbrev pub ReadsHeld : Step (Slot H) → Me (Slot H) View → ℕ → Me (Slot H) View → Type 0
-  ReadsHeld st m found m' = (actor : ℕ) (c : Held) → st.word ≡ word_at actor 8 → m.0.claim ≡ Some c → c.actor ≡ actor
+  ReadsHeld st m found m' = (actor : ℕ) (c : Held) → st.word ≡ word_at actor 16 → m.0.claim ≡ Some c → c.actor ≡ actor
       → (m' ≡ (reading_held actor found m.0, m.1)) × (found ≡ c.word)
 
   -- What a seat knows after its claim wrote a status word.
@@ -130,7 +130,7 @@ module _ {H : Type 0} where
 
   -- What a seat knows after it read the gate of a list.
   abbrev pub ReadsGate : Step (Slot H) → Me (Slot H) View → ℕ → Me (Slot H) View → Type 0
-  ReadsGate st m found m' = (actor : ℕ) → st.word ≡ word_at actor 9 → m' ≡ (looking actor (shows_work found) m.0, m.1)
+  ReadsGate st m found m' = (actor : ℕ) → st.word ≡ word_at actor 17 → m' ≡ (looking actor (shows_work found) m.0, m.1)
 
   -- The list was taken out by an exchange that found this word at its gate; the seat knows what was listed.
   pub record ListLocked (actor found : ℕ) (m m' : Me (Slot H) View) : Type 0 where
@@ -141,7 +141,7 @@ module _ {H : Type 0} where
 
   -- What a seat knows after it tried to take a list out: what was listed where its exchange won, and nothing more where it lost.
   abbrev pub LocksList : Step (Slot H) → Me (Slot H) View → ℕ → Me (Slot H) View → Type 0
-  LocksList st m found m' = (actor : ℕ) → st.word ≡ word_at actor 9 → (found ≡ st.first → ListLocked actor found m m') × (found ≢ st.first → m' ≡ m)
+  LocksList st m found m' = (actor : ℕ) → st.word ≡ word_at actor 17 → (found ≡ st.first → ListLocked actor found m m') × (found ≢ st.first → m' ≡ m)
 
   -- The list was put back with one message more, which is the last in it.
   abbrev pub Enlists : Step (Slot H) → Me (Slot H) View → ℕ → Me (Slot H) View → Type 0
@@ -155,7 +155,7 @@ module _ {H : Type 0} where
 
   -- The list was found ended, so that the actor had been claimed at some time.
   abbrev pub Refuses : Step (Slot H) → Me (Slot H) View → ℕ → Me (Slot H) View → Type 0
-  Refuses st m found m' = (actor : ℕ) (message : SysMsg) → st.word ≡ word_at actor 9 → st.said ≡ some (Note message)
+  Refuses st m found m' = (actor : ℕ) (message : SysMsg) → st.word ≡ word_at actor 17 → st.said ≡ some (Note message)
       → (found ≡ st.first → (m' ≡ (refusing actor message m.0, m.1)) × WasHeldBy actor m.0) × (found ≢ st.first → m' ≡ m)
 
   -- What was listed names only actors that exist. A step does not know how many there are, so the number of slots tells it.
@@ -177,7 +177,7 @@ module _ {H : Type 0} where
   -- The holder read the gate's word. Where it shows that nothing is listed and that the last drain gave nothing, this counts as a drain that gives
   -- nothing; else as a look that found work. (A list that is out counts as work too, since a message may be on its way into it.)
   abbrev pub ChecksDrained : Step (Slot H) → Me (Slot H) View → ℕ → Me (Slot H) View → Type 0
-  ChecksDrained st m found m' = (actor : ℕ) (c : Held) → st.word ≡ word_at actor 9 → m.0.claim ≡ Some c → c.actor ≡ actor → m.0.list ≡ None
+  ChecksDrained st m found m' = (actor : ℕ) (c : Held) → st.word ≡ word_at actor 17 → m.0.claim ≡ Some c → c.actor ≡ actor → m.0.list ≡ None
       → (found % 8 ≡ 0 → m' ≡ (draining actor [] false m.0, m.1)) × (found % 8 ≢ 0 → m' ≡ (looking actor true m.0, m.1))
 
 module _ {H : Type 0} (is_of : ℕ → H → Type 0) (facts : H → HomeFacts) where
@@ -196,7 +196,7 @@ module _ {H : Type 0} (is_of : ℕ → H → Type 0) (facts : H → HomeFacts) w
 module _ {H : Type 0} (is_of : H → ℕ → H → Type 0) (facts : H → HomeFacts) where
   -- a step that knows the first home tried to schedule an actor
   abbrev pub Schedules : Step (Slot H) → Me (Slot H) View → ℕ → Me (Slot H) View → Type 0
-  Schedules st m found m' = (actor : ℕ) (first : Snapshot (Snapshot H)) → st.word ≡ word_at actor 8 → st.said ≡ some (First first)
+  Schedules st m found m' = (actor : ℕ) (first : Snapshot (Snapshot H)) → st.word ≡ word_at actor 16 → st.said ≡ some (First first)
       → (found ≡ st.first → Won (is_of first.value.value) facts actor found m m')
       × (found ≢ st.first → HasRead actor found m m')
 

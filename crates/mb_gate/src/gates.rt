@@ -38,7 +38,7 @@ pub struct Gates<H: MailboxState> {
     pub(crate) idle_workers: IdleWorkers,
     /// Padding that nobody reads or writes.
     pub(crate) behind: [u64; 8],
-    ghost word_count: { table.shared.table_id.words ≡ 16 * actors },
+    ghost word_count: { table.shared.table_id.words ≡ 32 * actors },
     ghost slot_count: { table.shared.table_id.slots ≡ 2 * actors },
     ghost keyed: { table.shared.key.actors ≡ actors },
     ghost known: { first ≡ table.shared.key.first },

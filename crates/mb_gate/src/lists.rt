@@ -1,16 +1,15 @@
 //! The lists of system messages. Each is behind a gate, which is locked for one step and then opened again.
-ghost use Rattle.std.specs.Prelude.{◌≡◌, ◌+◌, ◌*◌, ◌/◌, ◌%◌, ◌<◌, ◌==◌, [], ◌∷◌};
-ghost use Rattle.std.specs.Prelude.{◌++◌, false, true, None, IfErr, IfOk, IfSome, MatchOption, if◌then◌else◌, is_err};
+ghost use Rattle.std.specs.Prelude.{◌≡◌, ◌+◌, ◌^◌, ◌<◌, [], ◌∷◌};
+ghost use Rattle.std.specs.Prelude.{◌++◌, false, true, None, IfErr, IfOk, IfSome, MatchBool, if◌then◌else◌, is_err};
 ghost use Rattle.atomic_table.specs.Table.{rest};
-ghost use Rattle.mb_syslist.specs.MessageList.{MessageList};
-ghost use Rattle.mb_ghost.specs.Layout.{slot_at};
-ghost use Rattle.mb_gate.specs.declared.slot.Slot.TheVariants.{Empty, List};
+ghost use Rattle.mb_syslist.specs.MessageList.{pushed, with_last};
 ghost use Rattle.mb_gate.specs.View.{enlisting, refusing, draining, ending, looking, given_after};
 ghost use Rattle.mb_gate.specs.Rule.{is_some_item};
 ghost use Rattle.mb_gate.specs.Claims.{held_in};
 ghost use Rattle.mb_gate.specs.NamedActors.{NamesBelow, EachNamesBelow};
 ghost use Rattle.mb_gate.specs.ClaimCounts.{WasHeldBy};
-ghost use Rattle.mb_gate.specs.Lists.{IsLentBy, IsOut, HasClaim, IsNumberedFrom, may_lock_list};
+ghost use Rattle.mb_gate.specs.TableSteps.{ListLocked};
+ghost use Rattle.mb_gate.specs.Lists.{IsOut, HasClaim, IsNumberedFrom, may_lock_list};
 ghost use Rattle.mb_gate.specs.ListWord.{is_locked, is_ended};
 ghost use Rattle.mb_gate.specs.Accessors.{gates_id, pass_id, claim_id, actors_of, pass_view};
 ghost use Rattle.mb_gate.specs.Accessors.{claim_view, held_actor, status_of, taken_with, closed_with, gave_last, given_to};
@@ -32,34 +31,23 @@ use std::sync::Wait;
 use std::thread;
 
 impl<H: MailboxState> Gates<H> {
-    // Tries once to take the list out, where the gate shows this word.
-    fn try_lock_list(
-        &self,
-        seat: &mut Seat<Slot<H>, SeatView>,
-        id: ActorId,
-        word: ListWord,
-    ) -> Option<SysList>
+    // Tries once to take the list, where the gate shows this word. The list stays in its slot, which no other seat can see then.
+    #[inline(always)]
+    fn try_lock_list(&self, seat: &mut Seat<Slot<H>, SeatView>, id: ActorId, word: ListWord) -> bool
         requires same_gates { seat.old.table_id ≡ gates_id self.now }
         requires present { id.0 < actors_of self.now }
         requires in_slot { is_locked word.bits ≡ false }
         requires no_list { seat.old.me.0.list ≡ None }
         requires may_lock { may_lock_list id.0 seat.old.me.0 ≡ true }
         ensures same_gates { seat.new.table_id ≡ seat.old.table_id }
-        ensures answer { MatchOption result (seat.new.me ≡ seat.old.me) (λ list. IsLentBy id.0 word.bits list seat.old.me seat.new.me) }
+        ensures answer { MatchBool result (ListLocked id.0 word.bits seat.old.me seat.new.me) (seat.new.me ≡ seat.old.me) }
     {
         let gate = word_index(id, GATE);
         let found = self
             .table
             .shared
             .compare_exchange::<LockList>(seat, gate, word.bits, word.locked().bits);
-        if found != word.bits {
-            return None;
-        }
-        let slot = slot_index(id, LIST);
-        match self.table.shared.exchange(seat, slot, Slot::Empty) {
-            Slot::List(list) => Some(list),
-            _ => unreachable!(),
-        }
+        found == word.bits
     }
 
     // Tries once to note that a message found the list ended, where the gate shows this word.
@@ -93,7 +81,7 @@ impl<H: MailboxState> Gates<H> {
         seat: &mut Seat<Slot<H>, SeatView>,
         id: ActorId,
         message: SysMsg,
-    ) -> Option<(ListWord, SysList)>
+    ) -> Option<ListWord>
         requires same_gates { seat.old.table_id ≡ gates_id self.now }
         requires present { id.0 < actors_of self.now }
         requires no_list { seat.old.me.0.list ≡ None }
@@ -101,7 +89,7 @@ impl<H: MailboxState> Gates<H> {
         ensures same_gates { seat.new.table_id ≡ seat.old.table_id }
         ensures refused { result ≡ None → seat.new.me ≡ (refusing id.0 message seat.old.me.0, seat.old.me.1) }
         ensures held { result ≡ None → WasHeldBy id.0 seat.old.me.0 }
-        ensures lent { IfSome result (λ got. IsLentBy id.0 got.0.bits got.1 seat.old.me seat.new.me × (got.1.closed ≡ false)) }
+        ensures lent { IfSome result (λ word. (locked : ListLocked id.0 word.bits seat.old.me seat.new.me) × (locked.listed.closed ≡ false)) }
     {
         for _ in rt.forever() {
             let word = ListWord::of(self.table.shared.peek(word_index(id, GATE)));
@@ -111,33 +99,33 @@ impl<H: MailboxState> Gates<H> {
                 if self.try_refuse(seat, id, word, message) {
                     return None;
                 }
-            } else if let Some(list) = self.try_lock_list(seat, id, word) {
-                return Some((word, list));
+            } else if self.try_lock_list(seat, id, word) {
+                return Some(word);
             }
         }
         unreachable!()
     }
 
-    // Takes the list out.
+    // Takes the list, which stays in its slot.
     fn lock_list<R: Wait>(
         &self,
         rt: &R,
         seat: &mut Seat<Slot<H>, SeatView>,
         id: ActorId,
-    ) -> (ListWord, SysList)
+    ) -> ListWord
         requires same_gates { seat.old.table_id ≡ gates_id self.now }
         requires present { id.0 < actors_of self.now }
         requires no_list { seat.old.me.0.list ≡ None }
         requires holder { HasClaim id.0 seat.old.me }
         ensures same_gates { seat.new.table_id ≡ seat.old.table_id }
-        ensures answer { IsLentBy id.0 result.0.bits result.1 seat.old.me seat.new.me }
+        ensures answer { ListLocked id.0 result.bits seat.old.me seat.new.me }
     {
         for _ in rt.forever() {
             let word = ListWord::of(self.table.shared.peek(word_index(id, GATE)));
             if word.is_locked() {
                 thread::yield_now();
-            } else if let Some(list) = self.try_lock_list(seat, id, word) {
-                return (word, list);
+            } else if self.try_lock_list(seat, id, word) {
+                return word;
             }
         }
         unreachable!()
@@ -167,7 +155,7 @@ impl<H: MailboxState> Gates<H> {
         ensures held { IfErr result (λ _. WasHeldBy id.0 (pass_view pass.old)) }
     {
         match self.lock_open_list(rt, &mut pass.seat, id, node.msg()) {
-            Some((word, list)) => Ok(self.enlist(rt, &mut pass.seat, id, word, list, node)),
+            Some(word) => Ok(self.enlist(rt, &mut pass.seat, id, word, node)),
             None => Err(ListClosed(node)),
         }
     }
@@ -196,38 +184,29 @@ impl<H: MailboxState> Gates<H> {
         answer
     }
 
-    // Puts the node last into the list that is out, and puts the list back. It waits for ever where the list has taken 2^64 - 1
-    // messages: no run comes there, and so no two messages have the same number.
+    // Puts the node last into the list that was taken, and gives the list back. It waits for ever where the list has taken
+    // 2^64 - 1 messages: no run comes there, and so no two messages have the same number.
     fn enlist<R: Wait>(
         &self,
         rt: &R,
         seat: &mut Seat<Slot<H>, SeatView>,
         id: ActorId,
         word: ListWord,
-        mut list: SysList,
         node: Node,
     ) -> u64
         requires same_gates { seat.old.table_id ≡ gates_id self.now }
         requires present { id.0 < actors_of self.now }
-        requires lent { IsOut id.0 word.bits list seat.old.me }
-        requires not_ended { list.closed ≡ false }
+        requires lent { (out : IsOut id.0 word.bits seat.old.me) × (out.listed.closed ≡ false) }
         requires named { NamesBelow (actors_of self.now) node }
         ensures same_gates { seat.new.table_id ≡ seat.old.table_id }
         ensures listed { seat.new.me ≡ (enlisting id.0 result node seat.old.me.0, rest seat.old.me.1) }
     {
-        if list.is_full() {
-            for _ in rt.forever() {
-                thread::yield_now();
-            }
-            unreachable!()
-        }
+        let number = match seat.slot_mut(&self.table.shared, slot_index(id, LIST)) {
+            Slot::List(list) => push_last(rt, list, node),
+            _ => unreachable!(),
+        };
         let gate = word_index(id, GATE);
         let new = word.with_listed();
-        let number = match list.push(node) {
-            Ok(number) => number,
-            Err(_) => unreachable!(),
-        };
-        self.put_back(seat, id, LIST, Slot::List(list));
         self.table.shared.store::<Enlist>(seat, gate, new.bits);
         number
     }
@@ -247,42 +226,32 @@ impl<H: MailboxState> Gates<H> {
         ListWord::of(bits).is_drained()
     }
 
-    // Takes all out of the list that is out, and puts the list back.
-    fn drain_list(
-        &self,
-        seat: &mut Seat<Slot<H>, SeatView>,
-        id: ActorId,
-        word: ListWord,
-        mut list: SysList,
-    ) -> Chain
+    // Takes all out of the list that was taken, and gives the list back.
+    fn drain_list(&self, seat: &mut Seat<Slot<H>, SeatView>, id: ActorId, word: ListWord) -> Chain
         requires same_gates { seat.old.table_id ≡ gates_id self.now }
         requires present { id.0 < actors_of self.now }
-        requires lent { IsOut id.0 word.bits list seat.old.me }
+        requires lent { IsOut id.0 word.bits seat.old.me }
         requires holder { HasClaim id.0 seat.old.me }
         ensures same_gates { seat.new.table_id ≡ seat.old.table_id }
         ensures drained { seat.new.me ≡ (draining id.0 result (is_some_item result) seat.old.me.0, rest seat.old.me.1) }
         ensures numbers { IsNumberedFrom (held_in seat.old.me.0).given result }
         ensures named { EachNamesBelow (actors_of self.now) result }
     {
+        let chain = match seat.slot_mut(&self.table.shared, slot_index(id, LIST)) {
+            Slot::List(list) => list.drain(),
+            _ => unreachable!(),
+        };
         let gate = word_index(id, GATE);
-        let chain = list.drain();
         let new = word.with_drained(chain.is_empty());
-        self.put_back(seat, id, LIST, Slot::List(list));
         self.table.shared.store::<Drain>(seat, gate, new.bits);
         chain
     }
 
-    // Takes all out of the list that is out, and puts the list back ended.
-    fn end_list(
-        &self,
-        seat: &mut Seat<Slot<H>, SeatView>,
-        id: ActorId,
-        word: ListWord,
-        mut list: SysList,
-    ) -> Chain
+    // Takes all out of the list that was taken, and gives the list back ended.
+    fn end_list(&self, seat: &mut Seat<Slot<H>, SeatView>, id: ActorId, word: ListWord) -> Chain
         requires same_gates { seat.old.table_id ≡ gates_id self.now }
         requires present { id.0 < actors_of self.now }
-        requires lent { IsOut id.0 word.bits list seat.old.me }
+        requires lent { IsOut id.0 word.bits seat.old.me }
         requires holder { HasClaim id.0 seat.old.me }
         requires closed { (held_in seat.old.me.0).word ≡ 1 }
         ensures same_gates { seat.new.table_id ≡ seat.old.table_id }
@@ -290,10 +259,12 @@ impl<H: MailboxState> Gates<H> {
         ensures numbers { IsNumberedFrom (held_in seat.old.me.0).given result }
         ensures named { EachNamesBelow (actors_of self.now) result }
     {
+        let chain = match seat.slot_mut(&self.table.shared, slot_index(id, LIST)) {
+            Slot::List(list) => list.close(),
+            _ => unreachable!(),
+        };
         let gate = word_index(id, GATE);
-        let chain = list.close();
         let new = word.with_ended();
-        self.put_back(seat, id, LIST, Slot::List(list));
         self.table.shared.store::<End>(seat, gate, new.bits);
         chain
     }
@@ -336,8 +307,8 @@ impl<H: MailboxState> Gates<H> {
         ensures gave { gave_last claim.new ≡ is_some_item result }
         ensures drained { drained_by claim.new ≡ drained_by claim.old ++ result }
     {
-        let (word, list) = self.lock_list(rt, &mut claim.seat, claim.actor);
-        self.drain_list(&mut claim.seat, claim.actor, word, list)
+        let word = self.lock_list(rt, &mut claim.seat, claim.actor);
+        self.drain_list(&mut claim.seat, claim.actor, word)
     }
 
     /// Takes out all that is listed, as `sys_drain` does, and ends the list for good (`systemDrain` that leaves no list). The
@@ -357,7 +328,27 @@ impl<H: MailboxState> Gates<H> {
         ensures gave { gave_last claim.new ≡ gave_last claim.old }
         ensures drained { drained_by claim.new ≡ drained_by claim.old ++ result }
     {
-        let (shown, list) = self.lock_list(rt, &mut claim.seat, claim.actor);
-        self.end_list(&mut claim.seat, claim.actor, shown, list)
+        let shown = self.lock_list(rt, &mut claim.seat, claim.actor);
+        self.end_list(&mut claim.seat, claim.actor, shown)
+    }
+}
+
+// Puts the node last into this list, and answers its number. It waits for ever where the list has taken 2^64 - 1 messages.
+#[inline(always)]
+fn push_last<R: Wait>(rt: &R, list: &mut SysList, node: Node) -> u64
+    requires not_ended { list.old.closed ≡ false }
+    ensures list { list.new ≡ with_last list.old node }
+    ensures number { result ≡ pushed list.old }
+    ensures not_full { pushed list.old + 1 < 2 ^ 64 }
+{
+    if list.is_full() {
+        for _ in rt.forever() {
+            thread::yield_now();
+        }
+        unreachable!()
+    }
+    match list.push(node) {
+        Ok(number) => number,
+        Err(_) => unreachable!(),
     }
 }

@@ -93,7 +93,10 @@ fn rows<H: MailboxState>(alloc: Global, homes: &[H]) -> Result<Vec<u64>, AllocEr
 fn push_row(words: &mut Vec<u64>, word: u64) -> Result<(), AllocError>
     ensures { OnOk result (words.new.items ≡ words.old.items ++ row_of word) }
 {
-    words.extend_from_slice(&[0, 0, 0, 0, 0, 0, 0, 0, word, 0, 0, 0, 0, 0, 0, 0])
+    words.extend_from_slice(&[
+        0, 0, 0, 0, 0, 0, 0, 0, 0, 0, 0, 0, 0, 0, 0, 0, word, 0, 0, 0, 0, 0, 0, 0, 0, 0, 0, 0, 0,
+        0, 0, 0,
+    ])
 }
 
 // The slots of all actors, and the vector in which the homes were.

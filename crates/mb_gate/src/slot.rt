@@ -3,10 +3,10 @@ use mb_msg::SysMsg;
 use mb_syslist::SysList;
 use std::snapshot::Snapshot;
 
-/// What lies in a slot of the table: an actor's home or its list, or nothing while a seat has it out.
+/// What lies in a slot of the table: an actor's list, or its home, or nothing while a seat has the home out.
 #[derive(Drop)]
 pub enum Slot<H> {
-    /// Nothing: a seat has it out.
+    /// Nothing: a seat has the home out.
     Empty,
     /// An actor's home.
     Home(H),

@@ -44,13 +44,13 @@ module _ {G : Type 0} (ghosts : ℕ → G) (place : ℕ) (g : G) where
   put_else a n = ap (λ b. if b then g else ghosts a) (ne_eqb a place n)
 
 -- the words of two places are different ones
-pub words_apart : (a b i j : ℕ) → i < 16 → j < 16 → a ≢ b → word_at a i ≢ word_at b j
+pub words_apart : (a b i j : ℕ) → i < 32 → j < 32 → a ≢ b → word_at a i ≢ word_at b j
 words_apart a b i j ri rj n e = n (omega arith)
 
 pub slots_apart : (a b i j : ℕ) → i < 2 → j < 2 → a ≢ b → slot_at a i ≢ slot_at b j
 slots_apart a b i j ri rj n e = n (omega arith)
 
-pub word_inside : (a i n : ℕ) → i < 16 → a < n → word_at a i < 16 * n
+pub word_inside : (a i n : ℕ) → i < 32 → a < n → word_at a i < 32 * n
 word_inside a i n r l = omega arith
 
 pub slot_inside : (a i n : ℕ) → i < 2 → a < n → slot_at a i < 2 * n

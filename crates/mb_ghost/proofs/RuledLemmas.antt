@@ -34,7 +34,7 @@ use Rattle.mb_ghost.specs.Layout.{word_at, slot_at, Spot, spot_of, write, fill, 
 use Rattle.mb_ghost.specs.Ruled.{Ruled, SlotStep, stays, takes_from, gives_to, act_of, IsAble, slot_after, RuledStep}
 use Rattle.mb_ghost.proofs.LayoutLemmas.{put_here, put_else, words_apart, slots_apart, word_inside, slot_inside, set_word, set_slot, same_spot}
 
-module _ {W P S G V : Type 0} (word_offset : W → ℕ) (slot_offset : P → ℕ) (words_few : (w : W) → word_offset w < 16) (slots_few : (p : P) →
+module _ {W P S G V : Type 0} (word_offset : W → ℕ) (slot_offset : P → ℕ) (words_few : (w : W) → word_offset w < 32) (slots_few : (p : P) →
     slot_offset p < 2) (places : ℕ) (Fact : ℕ → Spot W P S G → List V → Type 0) where
   abbrev Rule : State S V → Type 0
   Rule = Ruled word_offset slot_offset places Fact
@@ -74,7 +74,7 @@ module _ {W P S G V : Type 0} (word_offset : W → ℕ) (slot_offset : P → ℕ
   valid_done homes carried place (takes_from p x) able = able
   valid_done homes carried place (gives_to p x) able = tt
 
-  at_place : (s : State S V) (ghosts : ℕ → G) (place : ℕ) → place < places → length s.words ≡ 16 * places → (name : W) (n : ℕ) (g : G) (homes' :
+  at_place : (s : State S V) (ghosts : ℕ → G) (place : ℕ) → place < places → length s.words ≡ 32 * places → (name : W) (n : ℕ) (g : G) (homes' :
       List (Option S)) (slot' : P → Option (Option S)) (vs' : List V)
       → Homes s.homes homes' place slot'
       → At record { words = set s.words (word_at place (word_offset name)) n; homes = homes'; views = vs' } (put ghosts place g) place

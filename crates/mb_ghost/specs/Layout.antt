@@ -1,12 +1,12 @@
--- Where the words and slots of a place lie in a table: sixteen words and two slots for each place.
+-- Where the words and slots of a place lie in a table: thirty-two words and two slots for each place.
 use Rattle.std.specs.Prelude.{◌≡◌, ℕ, ◌+◌, ◌*◌, ◌<◌, ◌==◌, if◌then◌else◌, slice_index}
 use mathlib.Core.Option.{Option, none, some}
 use lib.ListN.{get_elem?}
 use Rattle.atomic_table.specs.Table.{State}
 
--- the number of a word of a place: each place has sixteen
+-- the number of a word of a place: each place has thirty-two
 abbrev pub word_at : ℕ → ℕ → ℕ
-word_at place offset = 16 * place + offset
+word_at place offset = 32 * place + offset
 
 -- the number of a slot of a place: each place has two
 abbrev pub slot_at : ℕ → ℕ → ℕ

@@ -8,7 +8,7 @@ use Rattle.mb_ghost.specs.Layout.{slot_at, Spot, spot_of, write, fill}
 pub record Ruled {W P S G V : Type 0} (word_offset : W → ℕ) (slot_offset : P → ℕ) (places : ℕ) (Fact : ℕ → Spot W P S G → List V → Type 0) (s :
     State S V) : Type 0 where
   pub ghosts : ℕ → G
-  pub word_count : length s.words ≡ 16 * places
+  pub word_count : length s.words ≡ 32 * places
   pub slot_count : length s.homes ≡ 2 * places
   pub each : (place : ℕ) → place < places → Fact place (spot_of word_offset slot_offset s ghosts place) s.views
 

@@ -7,6 +7,7 @@ pub mod CreateLemmas
 pub mod CreateSteps
 pub mod DiedSteps
 pub mod DueLaw
+pub mod EntryCounts
 pub mod EnvelopeLemmas
 pub mod EnvelopeSteps
 mod Examples

@@ -2,6 +2,7 @@ pub mod Accepted
 pub mod ActorList
 pub mod Acts
 pub mod Aside
+pub mod Counts
 pub mod Effects
 pub mod Entry
 pub mod Failure

@@ -1,7 +1,8 @@
 //! The journal and its operations.
 ghost use Rattle.std.specs.Prelude.{◌≡◌, ◌↔◌, ◌+◌, ◌<◌, ◌≤◌, [], ◌∷◌, ◌++◌, false, true};
-ghost use Rattle.std.specs.Prelude.{List, length, map, reverse, slice_get, slice_range, vec_len, vec_capacity, Some, IsTrue, IsErrOf, IsOk, OnOk, OnErr};
+ghost use Rattle.std.specs.Prelude.{List, length, count_by, map, reverse, slice_get, slice_range, vec_len, vec_capacity, Some, IsTrue, IsErrOf, IsOk, OnOk, OnErr};
 ghost use Rattle.mb_msg.specs.Limits.{most_effects};
+ghost use Rattle.mb_journal.specs.Counts.{tells_of_envelope, tells_of_restart};
 ghost use Rattle.mb_journal.specs.Entry.Entry.{Handled, System, Dropped};
 ghost use Rattle.mb_journal.specs.Entry.Outcome.{Applied, SetAside};
 ghost use Rattle.mb_journal.specs.Stored as stored;
@@ -10,6 +11,7 @@ ghost use Rattle.mb_journal.specs.declared.entry.Received.{Received};
 ghost use Rattle.mb_journal.specs.declared.row.Row.TheVariants.{Wide};
 ghost use Rattle.mb_journal.specs.JournalView.{entry_of, entry_with};
 
+use crate::counts::Counts;
 use crate::entry::{EntryRef, Received};
 use crate::error::ReadyError;
 use crate::row::Row;
@@ -34,6 +36,7 @@ pub struct Journal {
     ready: bool,
     /// Up to this many entries there is room, each with as many effects as a call may ask for.
     prepared: usize,
+    counts: Counts,
 }
 
 // `Drop` is written by hand: with a derived one, each crate above would prove again how the fields are dropped.
@@ -46,6 +49,7 @@ impl Drop for Journal {
             limit: _,
             ready: _,
             prepared: _,
+            counts: _,
         } = self;
     }
 }
@@ -75,6 +79,7 @@ impl Journal {
             limit,
             ready: false,
             prepared: 0,
+            counts: Counts::zero(),
         }
     }
 
@@ -84,6 +89,20 @@ impl Journal {
         ensures within { result ≤ self.now.limit }
     {
         self.rows.len()
+    }
+
+    /// How many entries are of envelopes, which were handled or dropped.
+    pub fn envelopes(&self) -> usize
+        ensures { result ≡ count_by tells_of_envelope self.now.entries }
+    {
+        self.counts.envelopes
+    }
+
+    /// How many entries are of restarts.
+    pub fn restarts(&self) -> usize
+        ensures { result ≡ count_by tells_of_restart self.now.entries }
+    {
+        self.counts.restarts
     }
 
     /// Whether it has no entry.
@@ -232,6 +251,7 @@ impl Journal {
         ensures within { length self.new.entries ≤ self.new.limit }
     {
         self.ready = false;
+        self.counts.add(&arrival);
         add_all(&mut self.effects, effects);
         let end = self.effects.len();
         self.rows
@@ -261,8 +281,8 @@ fn room_of<T>(list: &Vec<T>) -> usize
 
 /// Makes room for this many more items, unless there is room already.
 ///
-/// A list of fewer than 256 items gets room for at least four times as many, and a longer one for 4,096 more, so that items
-/// are seldom moved.
+/// A list of fewer than 32 items gets room for at least four times as many, and a longer one for 8,192 more, so that items
+/// are seldom moved. Memory that is not written yet costs nothing.
 fn make_room<T>(list: &mut Vec<T>, more: usize) -> Result<(), AllocError>
     requires { more ≤ 256 }
     ensures room { OnOk result (vec_len list.new + more ≤ vec_capacity list.new) }
@@ -273,7 +293,7 @@ fn make_room<T>(list: &mut Vec<T>, more: usize) -> Result<(), AllocError>
         return Ok(());
     }
     let len = list.len();
-    let further = if len < 256 { 3 * len } else { 4_096 };
+    let further = if len < 32 { 3 * len } else { 8_192 };
     list.reserve(more + further)
 }
 

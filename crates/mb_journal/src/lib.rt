@@ -10,6 +10,7 @@
 //! and a take gave none, what the receiver took, and what each sender was answered. Nothing here runs.
 #![tactic(auto)]
 
+mod counts;
 mod entry;
 mod error;
 mod failed_by;

@@ -89,8 +89,8 @@ fn answer_of(is_clean: bool) -> Result<(), ReadyError>
     }
 }
 
-// Carries out one act that is no tell. Not inlined, so that a message that only tells has less to do.
-#[inline(never)]
+// Carries out one act that is no tell.
+#[inline(always)]
 fn carry<A: Actor, K: Behaviours, W: RunQueue<BoxedHome<A, K>>, R: Wait>(
     rt: &R,
     gates: &Gates<BoxedHome<A, K>>,
@@ -132,7 +132,9 @@ fn carry<A: Actor, K: Behaviours, W: RunQueue<BoxedHome<A, K>>, R: Wait>(
     }
 }
 
-// Closes the mailbox for good, and cleans up.
+// Closes the mailbox for good, and cleans up. It happens once in an actor's life.
+#[cold]
+#[inline(never)]
 fn close<A: Actor, K: Behaviours, W: RunQueue<BoxedHome<A, K>>, R: Wait>(
     rt: &R,
     gates: &Gates<BoxedHome<A, K>>,

@@ -24,6 +24,8 @@ use std::sync::Wait;
 /// Sends a system message in the run of a claim. If the receiver's list is ended, who waits for an answer is told that the
 /// receiver has ended, with the same node: of a Watch the watcher, of a Create the claim's actor, which is the parent
 /// (`EmptyLocalActorRef.sendSystemMessage`; that a Create is answered is this project's own profile).
+// Not inlined, so that a message that only tells has less to do.
+#[inline(never)]
 pub(crate) fn send_system<A: Actor, K: Behaviours, W: RunQueue<BoxedHome<A, K>>, R: Wait>(
     rt: &R,
     gates: &Gates<BoxedHome<A, K>>,

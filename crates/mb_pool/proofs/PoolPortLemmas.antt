@@ -43,6 +43,11 @@ module _ {H : Type 0} (IsFit : Option (Origin H) → Claim H → Type 0) where
   taken-same A None old new h = ap (λ w. pushed_first (ports_of w)) h.0
   taken-same A (Some c) old new h = takes-first old new c h
 
+  pub tried-same : (r : Option (Claim H)) (old new : PoolEndpoint H) → MatchOption r (new ≡ old) (λ c. Takes IsFit old c new)
+      → pushed_first (ports_of new) ≡ pushed_first (ports_of old)
+  tried-same None old new h = ap (λ w. pushed_first (ports_of w)) h
+  tried-same (Some c) old new h = takes-first old new c h
+
   -- what was pushed and refused, where one attempt changed nothing and gave the claim back, and it was pushed again then
   pub pushed-later : (old mid new : PoolEndpoint H) (c again : Claim H) → mid ≡ old → again ≡ c → (before after : List (Claim H))
       → {X : Type 0} (claim_of : X → Claim H) (r : Result (Unit {0}) X)
@@ -62,6 +67,10 @@ module _ {H : Type 0} (IsFit : Option (Origin H) → Claim H → Type 0) where
 pub none-tells : {X : Type 0} (A B C : Type 0) (P : X → Type 0) (r : Option X) → (A → C) → MatchOption r (A × B) P → IfNone r (C × B)
 none-tells A B C P None f h = (f h.0, h.1)
 none-tells A B C P (Some x) f h = tt
+
+pub none-stays : {X : Type 0} (A C : Type 0) (P : X → Type 0) (r : Option X) → (A → C) → MatchOption r A P → IfNone r C
+none-stays A C P None f h = f h
+none-stays A C P (Some x) f h = tt
 
 -- what an answer of some says
 pub some-tells : {X : Type 0} (A : Type 0) (P : X → Type 0) (r : Option X) → MatchOption r A P → IfSome r P

@@ -51,6 +51,21 @@ impl<H: MailboxState> WorkerPort<H> {
         self.end.take(rt)
     }
 
+    /// Takes a claim by one attempt, as it was pushed: the first of the first queue in which the end looks. `None` where that
+    /// queue was empty, or another thread was in the way; then the end is as it was. It does not wait.
+    #[inline(always)]
+    pub fn try_take(&mut self) -> Option<Claim<H>>
+        ensures untouched { IfSome result (IsUntouched H.is_of H.facts (gates_of self.old.end)) }
+        ensures taken { IfSome result (λ claim.
+            Takes (IsUntouched H.is_of H.facts) self.old.end claim self.new.end) }
+        ensures parts { parts_of self.new.end ≡ parts_of self.old.end }
+        ensures none { IfNone result (self.new ≡ self.old) }
+        ensures same { (gates_of self.new.end ≡ gates_of self.old.end) × (pushed_first (ports_of self.new.end) ≡ pushed_first (ports_of self.old.end))
+            × (self.new.refused ≡ self.old.refused) }
+    {
+        self.end.try_take()
+    }
+
     // Pushes a claim that one attempt did not push. It is a function of its own, so that the compiler keeps the claim of
     // the attempt in registers.
     #[cold]

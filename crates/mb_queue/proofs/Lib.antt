@@ -7,6 +7,7 @@ pub mod Keeps
 pub mod Lends
 pub mod Lists
 pub mod Moves
+pub mod NextTaken
 pub mod Ours
 pub mod Pairs
 pub mod RankCrossing

@@ -1,5 +1,5 @@
 //! The pass by which the mailbox takes from its queue.
-ghost use Rattle.std.specs.Prelude.{◌≡◌, ◌≢◌, ℕ, None, Some, [], ◌∷◌, ◌++◌, All, Contains, IfNone, IfSome, option_to_list};
+ghost use Rattle.std.specs.Prelude.{◌≡◌, ◌≢◌, ℕ, None, Some, [], ◌∷◌, ◌++◌, All, Contains, IfNone, IfSome, MatchOption, option_to_list};
 ghost use Rattle.mb_queue.specs.Ledger.{home};
 ghost use Rattle.mb_queue.specs.Fates.{AllJoined, InOrder, NothingLeft, pushed_by};
 ghost use Rattle.mb_queue.specs.Passes.{first_in_first_out, IsOfQueue};
@@ -61,13 +61,8 @@ impl TakePass {
         ensures ended { NothingLeft self.old → result ≡ None }
     {
         let next = take_next(rt, &mut self.main, &mut self.order);
-        match next {
-            Some(envelope) => {
-                self.taken.add(envelope);
-                Some(envelope)
-            }
-            None => None,
-        }
+        add_taken(&mut self.taken, &next);
+        next
     }
 
     /// Joins a send pass of this queue: from now on contracts know here what it pushed.
@@ -94,5 +89,15 @@ impl TakePass {
             by: by.0,
             pushed: Some(pushed),
         });
+    }
+}
+
+/// Writes down the envelope, if one was taken.
+#[inline(always)]
+fn add_taken(taken: &mut Log<Envelope>, next: &Option<Envelope>)
+    ensures { MatchOption next.now (taken.new ≡ taken.old) (λ e. taken.new ≡ taken.old ++ e ∷ []) }
+{
+    if let Some(envelope) = next {
+        taken.add(*envelope);
     }
 }

@@ -39,9 +39,8 @@ module _ {H : Type 0} (facts : H → HomeFacts) where
   abbrev word_for : H → ℕ
   word_for h = word_of (facts h).mailbox
 
-  next_row : (w : ℕ) (rest : List ℕ) (i j : ℕ) → i ≡ j + 16 → get_or (row_of w ++ rest) i 0 ≡ get_or rest j 0
-  next_row w rest i j e = ap (λ k. get_or (row_of w ++ rest) k 0) (let n : i ≡ suc (suc (suc (suc (suc (suc (suc (suc (suc (suc (suc (suc (suc
-      (suc (suc (suc j))))))))))))))) = omega arith in n)
+  next_row : (w : ℕ) (rest : List ℕ) (i j : ℕ) → i ≡ j + 32 → get_or (row_of w ++ rest) i 0 ≡ get_or rest j 0
+  next_row w rest i j e = ap (λ k. get_or (row_of w ++ rest) k 0) (let n : i ≡ suc (suc (suc (suc (suc (suc (suc (suc (suc (suc (suc (suc (suc (suc (suc (suc (suc (suc (suc (suc (suc (suc (suc (suc (suc (suc (suc (suc (suc (suc (suc (suc j))))))))))))))))))))))))))))))) = omega arith in n)
 
   next_shelves : (h : H) (rest : List (maybe.Option (Slot H))) (i j : ℕ) → i ≡ j + 2 → get_elem? (some (Home h) ∷ some (Listing no_messages) ∷
       rest) i ≡ get_elem? rest j
@@ -49,7 +48,7 @@ module _ {H : Type 0} (facts : H → HomeFacts) where
 
   -- an actor's words and its list, as they begin
   record Begins (hs : List H) (a : ℕ) : Type 0 where
-    status : get_or (rows_of facts hs) (word_at a 8) 0 ≡ get_or (map word_for hs) a 0
+    status : get_or (rows_of facts hs) (word_at a 16) 0 ≡ get_or (map word_for hs) a 0
     waiting : get_or (rows_of facts hs) (word_at a 0) 0 ≡ 0
     list : get_elem? (map some (slots_of hs)) (slot_at a 1) ≡ some (some (Listing no_messages))
 
@@ -57,7 +56,7 @@ module _ {H : Type 0} (facts : H → HomeFacts) where
   begins [] a l = absurd (omega arith)
   begins (h ∷ hs) zero l = record { status = refl; waiting = refl; list = refl }
   begins (h ∷ hs) (suc a) l = let b = begins hs a (omega arith) in record {
-    status = next_row (word_for h) (rows_of facts hs) (word_at (suc a) 8) (word_at a 8) (omega arith) ∙ b.status;
+    status = next_row (word_for h) (rows_of facts hs) (word_at (suc a) 16) (word_at a 16) (omega arith) ∙ b.status;
     waiting = next_row (word_for h) (rows_of facts hs) (word_at (suc a) 0) (word_at a 0) (omega arith) ∙ b.waiting;
     list = next_shelves h (map some (slots_of hs)) (slot_at (suc a) 1) (slot_at a 1) (omega arith) ∙ b.list;
   }

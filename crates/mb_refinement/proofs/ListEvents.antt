@@ -131,7 +131,7 @@ module _ {H : Type 0} (is_of : ℕ → H → Type 0) (facts : H → HomeFacts) w
       let w = made.view in
       let x : Place = spot_of word_offset slot_offset s r.ghosts actor in
       let f = r.each actor inside in
-      let found = get_or s.words (word_at actor 9) 0 in
+      let found = get_or s.words (word_at actor 17) 0 in
       let is : w ≡ looking actor (shows_work found) v = first_of _ _ (made.told actor word) in
       let debt : WakeObligation = record (obligation_to actor v) { system = false } in
       let quiet : shows_work found ≡ false → IsEvent is_of facts n s r s' r' actor id SysRead rest rest =
@@ -154,10 +154,10 @@ module _ {H : Type 0} (is_of : ℕ → H → Type 0) (facts : H → HomeFacts) w
       )
     where
       by_work : (s s' : State (Slot H) View) (r : Rule is_of facts n s) (r' : Rule is_of facts n s') (actor id : ℕ) (v w : View) (carried : List (ℕ × Slot H))
-          (rest : List SysMsg) → actor < n → get_elem? s.views id ≡ some v → s' ≡ stepped s (word_at actor 9) (get_or s.words (word_at actor 9) 0) id carried w
+          (rest : List SysMsg) → actor < n → get_elem? s.views id ≡ some v → s' ≡ stepped s (word_at actor 17) (get_or s.words (word_at actor 17) 0) id carried w
           keeps
-          → (shows_work (get_or s.words (word_at actor 9) 0) ≡ false → IsEvent is_of facts n s r s' r' actor id SysRead rest rest)
-          → (b : Bool) → shows_work (get_or s.words (word_at actor 9) 0) ≡ b → (shows_work (get_or s.words (word_at actor 9) 0) ≡ true → w ≡ seeing (Looked
+          → (shows_work (get_or s.words (word_at actor 17) 0) ≡ false → IsEvent is_of facts n s r s' r' actor id SysRead rest rest)
+          → (b : Bool) → shows_work (get_or s.words (word_at actor 17) 0) ≡ b → (shows_work (get_or s.words (word_at actor 17) 0) ≡ true → w ≡ seeing (Looked
           actor true) v)
           → IsTrue (has_work (shows is_of facts n s r actor rest).system) → IsEvent is_of facts n s r s' r' actor id SysRead rest rest
       by_work s s' r r' actor id v w carried rest inside at after quiet false shut seen work = quiet shut
@@ -176,7 +176,7 @@ module _ {H : Type 0} (is_of : ℕ → H → Type 0) (facts : H → HomeFacts) w
         claim = ap (claim_for a) so;
         list = ap (list_for a) so;
         debt = ap (obligation_to a) so;
-      }) s' (made.after ∙ ap (λ k. stepped s (word_at actor 9) k id me.1 made.view keeps) (lost_word (get_or s.words (word_at actor 9) 0) st.first st.second
+      }) s' (made.after ∙ ap (λ k. stepped s (word_at actor 17) k id me.1 made.view keeps) (lost_word (get_or s.words (word_at actor 17) 0) st.first st.second
       miss)) r'
 
   pub take_is_none : TakeOfListIsNone is_of facts
@@ -186,7 +186,7 @@ module _ {H : Type 0} (is_of : ℕ → H → Type 0) (facts : H → HomeFacts) w
       let new = st.second in
       let x : Place = spot_of word_offset slot_offset s r.ghosts actor in
       let f = r.each actor inside in
-      let found = get_or s.words (word_at actor 9) 0 in
+      let found = get_or s.words (word_at actor 17) 0 in
       let out : ListLocked actor found me _ = (made.told actor word).0 hit in
       let l : Lent = record { actor = actor; listed = out.listed; gave = out.gave } in
       let is : w ≡ lending actor out.listed out.gave v = first_of _ _ out.now in
@@ -204,8 +204,8 @@ module _ {H : Type 0} (is_of : ℕ → H → Type 0) (facts : H → HomeFacts) w
         debt = ap (obligation_to a) is;
       })
       (λ a apart. set_else s.homes (slot_at actor 1) (slot_at a 1) none (slots_apart a actor 1 1 (omega arith) (omega arith) apart)) s'
-      (made.after ∙ ap (λ k. stepped s (word_at actor 9) k id me.1 w (takes (slot_at actor 1) (Listing list))) (won_word found st.first st.second hit)) r'
-      (λ q. let x' : Place = spot_of word_offset slot_offset (stepped s (word_at actor 9) new id me.1 w (takes (slot_at actor 1) (Listing list))) q.ghosts actor
+      (made.after ∙ ap (λ k. stepped s (word_at actor 17) k id me.1 w (takes (slot_at actor 1) (Listing list))) (won_word found st.first st.second hit)) r'
+      (λ q. let x' : Place = spot_of word_offset slot_offset (stepped s (word_at actor 17) new id me.1 w (takes (slot_at actor 1) (Listing list))) q.ghosts actor
       in
       let f' = q.each actor inside in
       let now = list_out is_of facts n actor x x' s.views id v w made.present f f' l before.0 (ap (list_for actor) is ∙ lent_here actor l refl) in record {
@@ -217,8 +217,8 @@ module _ {H : Type 0} (is_of : ℕ → H → Type 0) (facts : H → HomeFacts) w
 
   pub refusal_is_none : RefusalIsNone is_of facts
   refusal_is_none n s s' r r' actor id me st message inside word said same made =
-      let found = get_or s.words (word_at actor 9) 0 in
-      let stays : s' ≡ stepped s (word_at actor 9) found id me.1 made.view keeps = made.after ∙ ap (λ k. stepped s (word_at actor 9) k id me.1 made.view keeps)
+      let found = get_or s.words (word_at actor 17) 0 in
+      let stays : s' ≡ stepped s (word_at actor 17) found id me.1 made.view keeps = made.after ∙ ap (λ k. stepped s (word_at actor 17) k id me.1 made.view keeps)
       (kept_word found st.first st.second same) in
       dite (ℕ_discrete found st.first)
       (λ hit. let so : made.view ≡ refusing actor message me.0 = first_of _ _ ((made.told actor message word said).0 hit).0 in
@@ -272,7 +272,7 @@ module _ {H : Type 0} (is_of : ℕ → H → Type 0) (facts : H → HomeFacts) w
         list = ap (list_for a) is ∙ sym (ap (lent_of a) has ∙ lent_else a l (λ e. apart (sym e ∙ of)));
         debt = ap (obligation_to a) is ∙ owes_else actor a debt u apart;
       }) put.1 s' made.after r' (SysAdd message) rest rest
-      (λ q. let x' : Place = spot_of word_offset slot_offset (stepped s (word_at actor 9) st.first id me.1 w gives) q.ghosts actor in
+      (λ q. let x' : Place = spot_of word_offset slot_offset (stepped s (word_at actor 17) st.first id me.1 w gives) q.ghosts actor in
       let f' = q.each actor inside in
       let lacks = ap (list_for actor) is in
       let now = list_put is_of facts n actor x x' s.views id v w made.present f f' l new lent.0 lacks put.0 in (
@@ -297,8 +297,8 @@ module _ {H : Type 0} (is_of : ℕ → H → Type 0) (facts : H → HomeFacts) w
   unloads_as : (n : ℕ) (s s' : State (Slot H) View) (r : Rule is_of facts n s) (r' : Rule is_of facts n s') (actor id word : ℕ) (v w : View) (l : Lent) (c :
       Held) (seen : Observation) (gave : Bool) (new : MessageList) (carried : List (ℕ × Slot H)) (rest : List SysMsg) → actor < n → get_elem? s.views id ≡ some v
       → v.list ≡ Some l → l.actor ≡ actor → v.claim ≡ Some c → c.actor ≡ actor → carried ≡ (slot_at actor 1, Listing new) ∷ tail_of carried
-      → w ≡ unloading seen (listed l.listed) gave v → s' ≡ stepped s (word_at actor 9) word id carried w gives → (step : event.Step)
-      → ((x' : Place) → x'.ghost.listed ≡ new → (IsTrue x'.ghost.listed.closed → x'.row Status ≡ 1) → x'.row Status ≡ get_or s.words (word_at actor 8) 0
+      → w ≡ unloading seen (listed l.listed) gave v → s' ≡ stepped s (word_at actor 17) word id carried w gives → (step : event.Step)
+      → ((x' : Place) → x'.ghost.listed ≡ new → (IsTrue x'.ghost.listed.closed → x'.row Status ≡ 1) → x'.row Status ≡ get_or s.words (word_at actor 16) 0
       → (y : MachineActor) → holder_of (r.ghosts actor).holder ≡ Some id → (r.ghosts actor).listed ≡ l.listed
       → y ≡ record (shows is_of facts n s r actor rest) { system = work_of x'.ghost [] } → Change (shows is_of facts n s r actor rest) id step y)
       → IsEvent is_of facts n s r s' r' actor id step rest []
@@ -317,7 +317,7 @@ module _ {H : Type 0} (is_of : ℕ → H → Type 0) (facts : H → HomeFacts) w
         list = ap (list_for a) is ∙ sym (ap (lent_of a) has ∙ lent_else a l (λ e. apart (sym e ∙ of_list)));
         debt = ap (obligation_to a) is;
       }) put.1 s' after r' step rest []
-      (λ q. let x' : Place = spot_of word_offset slot_offset (stepped s (word_at actor 9) word id carried w gives) q.ghosts actor in
+      (λ q. let x' : Place = spot_of word_offset slot_offset (stepped s (word_at actor 17) word id carried w gives) q.ghosts actor in
       let f' = q.each actor inside in
       let lacks = ap (list_for actor) is in
       let now = list_put is_of facts n actor x x' s.views id v w at f f' l new lent.0 lacks put.0 in
@@ -352,7 +352,7 @@ module _ {H : Type 0} (is_of : ℕ → H → Type 0) (facts : H → HomeFacts) w
       inside made.present has of_list owns of carried (first_of _ _ (made.told l c has owns).0) made.after SysEnd
       (λ x' now ends status y held was e. (
         held,
-        eq-eqb (get_or s.words (word_at actor 8) 0) 1 (sym status ∙ ends (ap (λ (z : MessageList). z.closed) now)),
+        eq-eqb (get_or s.words (word_at actor 16) 0) 1 (sym status ∙ ends (ap (λ (z : MessageList). z.closed) now)),
         e ∙ ap (λ z. record (shows is_of facts n s r actor rest) { system = z }) (ap (λ (z : MessageList). if z.closed then None else Some ([] ++ z.messages)) now),
       ))
 
@@ -365,7 +365,7 @@ module _ {H : Type 0} (is_of : ℕ → H → Type 0) (facts : H → HomeFacts) w
       let w = made.view in
       let x : Place = spot_of word_offset slot_offset s r.ghosts actor in
       let f = r.each actor inside in
-      let found = get_or s.words (word_at actor 9) 0 in
+      let found = get_or s.words (word_at actor 17) 0 in
       let h = is_held is_of facts n actor id x s.views v c f made.present owns of in
       let told = made.told actor c word owns of bare in (
         (λ hit. let quiet = no_work_shown found hit in

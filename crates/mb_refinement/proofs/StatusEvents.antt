@@ -126,10 +126,10 @@ module _ {H : Type 0} (is_of : ℕ → H → Type 0) (facts : H → HomeFacts) w
 
   -- a load or a lost exchange is a reading
   reads_as : (n : ℕ) (s s' : State (Slot H) View) (r : Rule is_of facts n s) (r' : Rule is_of facts n s') (actor id : ℕ) (v w : View) (carried : List
-      (ℕ × Slot H)) (rest : List SysMsg) → actor < n → get_elem? s.views id ≡ some v → w ≡ reading actor (get_or s.words (word_at actor 8) 0) v
-      → s' ≡ stepped s (word_at actor 8) (get_or s.words (word_at actor 8) 0) id carried w keeps → IsEvent is_of facts n s r s' r' actor id Read rest rest
+      (ℕ × Slot H)) (rest : List SysMsg) → actor < n → get_elem? s.views id ≡ some v → w ≡ reading actor (get_or s.words (word_at actor 16) 0) v
+      → s' ≡ stepped s (word_at actor 16) (get_or s.words (word_at actor 16) 0) id carried w keeps → IsEvent is_of facts n s r s' r' actor id Read rest rest
   reads_as n s s' r r' actor id v w carried rest inside at is after =
-      let found = get_or s.words (word_at actor 8) 0 in
+      let found = get_or s.words (word_at actor 16) 0 in
       let x : Place = spot_of word_offset slot_offset s r.ghosts actor in
       load_event is_of facts n s r actor inside Status id v w carried (after_reading (mailbox_of found) (obligation_to actor v)) at
       (λ a. ap (claim_for a) is) (λ a. ap (list_for a) is)
@@ -144,7 +144,7 @@ module _ {H : Type 0} (is_of : ℕ → H → Type 0) (facts : H → HomeFacts) w
   -- a store by the holder changes the mailbox alone
   pub writes_as : (n : ℕ) (s s' : State (Slot H) View) (r : Rule is_of facts n s) (r' : Rule is_of facts n s') (actor id : ℕ) (v w : View) (c : Held) (new : ℕ)
       (carried : List (ℕ × Slot H)) (rest : List SysMsg) → actor < n → get_elem? s.views id ≡ some v → v.claim ≡ Some c → c.actor ≡ actor
-      → w ≡ writing new v → s' ≡ stepped s (word_at actor 8) new id carried w keeps → (step : event.Step)
+      → w ≡ writing new v → s' ≡ stepped s (word_at actor 16) new id carried w keeps → (step : event.Step)
       → ((x y : MachineActor) → x.holder ≡ Some id → x.mailbox ≡ mailbox_of c.word → y ≡ record x { mailbox = mailbox_of new } → Change x id step y)
       → IsEvent is_of facts n s r s' r' actor id step rest rest
   writes_as n s s' r r' actor id v w c new carried rest inside at has of is after step so =
@@ -155,7 +155,7 @@ module _ {H : Type 0} (is_of : ℕ → H → Type 0) (facts : H → HomeFacts) w
       let owns : claim_for actor w ≡ Some c' = ap (claim_for actor) is ∙ (ap (λ z. held_of actor (rewritten new z)) has ∙ held_here actor c' of) in
       event_at is_of facts n s r actor inside Status new id v w carried keeps at
       (λ a apart. aside_of {H = H} a v w (writing new v) is (writing_elsewhere actor a new c v apart has of)) (λ a apart. refl) s' after r' step rest rest
-      (λ q. let x' : Place = spot_of word_offset slot_offset (stepped s (word_at actor 8) new id carried w keeps) q.ghosts actor in
+      (λ q. let x' : Place = spot_of word_offset slot_offset (stepped s (word_at actor 16) new id carried w keeps) q.ghosts actor in
       let f' = q.each actor inside in
       let same = ap (list_for actor) is in (
         so (shown actor x s.views rest) (shown actor x' (set s.views id w) rest) (ap holder_of h.0) (ap mailbox_of h.1.word)
@@ -186,7 +186,7 @@ module _ {H : Type 0} (is_of : ℕ → H → Type 0) (facts : H → HomeFacts) w
   -- a load by the holder changes nothing of what the table shows
   pub load_by_the_holder_is_none : LoadByTheHolderIsNone is_of facts
   load_by_the_holder_is_none n s s' r r' actor id me st c inside word has of made =
-      let is : made.view ≡ reading_held actor (get_or s.words (word_at actor 8) 0) me.0 = first_of _ _ (made.told actor c word has of).0 in
+      let is : made.view ≡ reading_held actor (get_or s.words (word_at actor 16) 0) me.0 = first_of _ _ (made.told actor c word has of).0 in
       load_silent is_of facts n s r actor inside Status id me.0 made.view me.1 made.present
       (λ a. record { claim = ap (claim_for a) is; list = ap (list_for a) is; debt = ap (obligation_to a) is }) s' made.after r'
 
@@ -196,7 +196,7 @@ module _ {H : Type 0} (is_of : ℕ → H → Type 0) (facts : H → HomeFacts) w
       → c.actor ≡ actor → carried ≡ (slot_at actor 0, Home home) ∷ [] → w ≡ idling actor (facts home).journal v
       → s' ≡ stepped s (word_at actor (word_offset name)) new id carried w gives → (c.gave ≡ false → left ≡ [])
       → word_offset Waiting ≢ word_offset name → word_offset Gate ≢ word_offset name
-      → get_or (set s.words (word_at actor (word_offset name)) new) (word_at actor 8) 0 ≡ now → ((q : Rule is_of facts n (stepped s (word_at actor
+      → get_or (set s.words (word_at actor (word_offset name)) new) (word_at actor 16) 0 ≡ now → ((q : Rule is_of facts n (stepped s (word_at actor
       (word_offset name)) new id carried w gives)) → mailbox_of now ≡ idle (mailbox_of c.word))
       → IsEvent is_of facts n s r s' r' actor id (Idle left) rest (left ++ rest)
   idles_as n s s' r r' actor id v w c home name new now carried rest left inside at has of carries is after quiet_left no_waiting no_gate status mailbox =
@@ -259,13 +259,13 @@ module _ {H : Type 0} (is_of : H → ℕ → H → Type 0) (first : H) (facts : 
   pub lost_is_read : LostExchangeIsRead is_of first facts
   lost_is_read n s s' r r' actor id me st note rest inside word said miss made =
       reads_as (is_of first) facts n s s' r r' actor id me.0 made.view me.1 rest inside made.present (first_of _ _ ((made.told actor note word said).1 miss).0)
-      (made.after ∙ ap (λ k. stepped s (word_at actor 8) k id me.1 made.view keeps) (lost_word (get_or s.words (word_at actor 8) 0) st.first st.second miss))
+      (made.after ∙ ap (λ k. stepped s (word_at actor 16) k id me.1 made.view keeps) (lost_word (get_or s.words (word_at actor 16) 0) st.first st.second miss))
 
   pub won_is_schedule : WonExchangeIsSchedule is_of first facts
   won_is_schedule n s s' r r' actor id me st note home rest inside word said bit bare hit made =
       let v = me.0 in
       let w = made.view in
-      let found = get_or s.words (word_at actor 8) 0 in
+      let found = get_or s.words (word_at actor 16) 0 in
       let new = found + 2 in
       let x : Place (is_of first) facts = spot_of word_offset slot_offset s r.ghosts actor in
       let f = r.each actor inside in
@@ -283,9 +283,9 @@ module _ {H : Type 0} (is_of : H → ℕ → H → Type 0) (first : H) (facts : 
       event_at (is_of first) facts n s r actor inside Status new id v w me.1 (takes (slot_at actor 0) (Home home)) made.present
       (λ a apart. aside_of {H = H} a v w (taking actor j shut found won.gave given drained v) is (taking_elsewhere actor a found given j shut won.gave drained v apart bare))
       (λ a apart. lists a) s'
-      (made.after ∙ ap (λ k. stepped s (word_at actor 8) k id me.1 w (takes (slot_at actor 0) (Home home))) (won_word found st.first st.second hit ∙ (bit ∙ ap
+      (made.after ∙ ap (λ k. stepped s (word_at actor 16) k id me.1 w (takes (slot_at actor 0) (Home home))) (won_word found st.first st.second hit ∙ (bit ∙ ap
       (λ k. k + 2) (sym hit)))) r' Schedule rest rest
-      (λ q. let x' : Place (is_of first) facts = spot_of word_offset slot_offset (stepped s (word_at actor 8) new id me.1 w (takes (slot_at actor 0) (Home
+      (λ q. let x' : Place (is_of first) facts = spot_of word_offset slot_offset (stepped s (word_at actor 16) new id me.1 w (takes (slot_at actor 0) (Home
       home))) q.ghosts actor in
       let f' = q.each actor inside in
       let same = ap (list_for actor) is in

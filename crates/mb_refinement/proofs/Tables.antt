@@ -120,9 +120,9 @@ module _ {H : Type 0} (is_of : ℕ → H → Type 0) (facts : H → HomeFacts) (
       q.ghosts actor in
       let f = r.each actor inside in let f' = q.each actor inside in (
         so (shows is_of facts n (stepped s (word_at actor (word_offset name)) found id carried w keeps) q actor rest)
-            (owes_now is_of facts n actor x x' s.views id v w at f f' debt (claims actor) (lists actor) owes (words_stay name (word_at actor 8))
+            (owes_now is_of facts n actor x x' s.views id v w at f f' debt (claims actor) (lists actor) owes (words_stay name (word_at actor 16))
             (words_stay name (word_at actor 0)) refl rest),
-        (λ m quiet. m (sym (mark_stays is_of facts n actor x x' s.views id v w at f f' (lists actor) refl (words_stay name (word_at actor 9))) ∙ quiet)),
+        (λ m quiet. m (sym (mark_stays is_of facts n actor x x' s.views id v w at f f' (lists actor) refl (words_stay name (word_at actor 17))) ∙ quiet)),
       ))
 
   -- a load after which the seat owes each actor what it owed is no event
@@ -136,8 +136,8 @@ module _ {H : Type 0} (is_of : ℕ → H → Type 0) (facts : H → HomeFacts) (
       let x : Spot Word SlotName (Slot H) Ghost = spot_of word_offset slot_offset s r.ghosts a in
       let x' : Spot Word SlotName (Slot H) Ghost = spot_of word_offset slot_offset (stepped s (word_at actor (word_offset name)) found id carried w keeps)
       q.ghosts a in record {
-        same = λ rest. shown_same is_of facts n a x x' s.views id v w at (r.each a there) (q.each a there) (aside a) (words_stay name (word_at a 8))
+        same = λ rest. shown_same is_of facts n a x x' s.views id v w at (r.each a there) (q.each a there) (aside a) (words_stay name (word_at a 16))
             (words_stay name (word_at a 0)) refl rest;
         marked = λ rest m quiet. m (sym (mark_stays is_of facts n a x x' s.views id v w at (r.each a there) (q.each a there) (aside a).list refl (words_stay
-            name (word_at a 9))) ∙ quiet);
+            name (word_at a 17))) ∙ quiet);
       }) r'

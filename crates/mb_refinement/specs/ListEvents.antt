@@ -21,9 +21,9 @@ use Rattle.mb_refinement.specs.Refines.{IsStep, IsMarked, Rule, shows, IsEvent, 
 abbrev pub LoadIsSysRead : {H : Type 0} → (ℕ → H → Type 0) → (H → HomeFacts) → Type 0
 LoadIsSysRead {H} is_of facts =
     (n : ℕ) (s s' : State (Slot H) View) (r : Rule is_of facts n s) (r' : Rule is_of facts n s') (actor id : ℕ) (me : Me (Slot H) View) (st : Step (Slot
-    H)) (rest : List SysMsg) → actor < n → st.word ≡ word_at actor 9 → IsMarked (r.ghosts actor) rest
-    → IsStep (word_at actor 9) id me (λ k. k) keeps (ReadsGate st me) s s'
-    → (let finds = shows_work (slice_index s.words (word_at actor 9)) in
+    H)) (rest : List SysMsg) → actor < n → st.word ≡ word_at actor 17 → IsMarked (r.ghosts actor) rest
+    → IsStep (word_at actor 17) id me (λ k. k) keeps (ReadsGate st me) s s'
+    → (let finds = shows_work (slice_index s.words (word_at actor 17)) in
     ((finds ≡ false) ⊎ IsTrue (has_work (shows is_of facts n s r actor rest).system) → IsEvent is_of facts n s r s' r' actor id SysRead rest rest)
     × (finds ≡ true → IsNoEvent is_of facts n s r s' r'))
 
@@ -31,24 +31,24 @@ LoadIsSysRead {H} is_of facts =
 abbrev pub TakeOfListIsNone : {H : Type 0} → (ℕ → H → Type 0) → (H → HomeFacts) → Type 0
 TakeOfListIsNone {H} is_of facts =
     (n : ℕ) (s s' : State (Slot H) View) (r : Rule is_of facts n s) (r' : Rule is_of facts n s') (actor id : ℕ) (me : Me (Slot H) View) (st : Step (Slot
-    H)) (list : MessageList) → actor < n → st.word ≡ word_at actor 9 → me.0.list ≡ None → slice_index s.words (word_at actor 9) ≡ st.first
-    → IsStep (word_at actor 9) id me (λ k. either (k == st.first) st.second k) (takes (slot_at actor 1) (Listing list)) (LocksList st me) s s'
+    H)) (list : MessageList) → actor < n → st.word ≡ word_at actor 17 → me.0.list ≡ None → slice_index s.words (word_at actor 17) ≡ st.first
+    → IsStep (word_at actor 17) id me (λ k. either (k == st.first) st.second k) (takes (slot_at actor 1) (Listing list)) (LocksList st me) s s'
     → IsNoEvent is_of facts n s r s' r'
 
 -- The same exchange where it finds another word.
 abbrev pub MissOfListIsNone : {H : Type 0} → (ℕ → H → Type 0) → (H → HomeFacts) → Type 0
 MissOfListIsNone {H} is_of facts =
     (n : ℕ) (s s' : State (Slot H) View) (r : Rule is_of facts n s) (r' : Rule is_of facts n s') (actor id : ℕ) (me : Me (Slot H) View) (st : Step (Slot
-    H)) → actor < n → st.word ≡ word_at actor 9 → slice_index s.words (word_at actor 9) ≢ st.first
-    → IsStep (word_at actor 9) id me (λ k. either (k == st.first) st.second k) keeps (LocksList st me) s s'
+    H)) → actor < n → st.word ≡ word_at actor 17 → slice_index s.words (word_at actor 17) ≢ st.first
+    → IsStep (word_at actor 17) id me (λ k. either (k == st.first) st.second k) keeps (LocksList st me) s s'
     → IsNoEvent is_of facts n s r s' r'
 
 -- An exchange of a gate's word for itself, by which a message is said to have found its list ended.
 abbrev pub RefusalIsNone : {H : Type 0} → (ℕ → H → Type 0) → (H → HomeFacts) → Type 0
 RefusalIsNone {H} is_of facts =
     (n : ℕ) (s s' : State (Slot H) View) (r : Rule is_of facts n s) (r' : Rule is_of facts n s') (actor id : ℕ) (me : Me (Slot H) View) (st : Step (Slot
-    H)) (message : SysMsg) → actor < n → st.word ≡ word_at actor 9 → st.said ≡ some (Note message) → st.second ≡ st.first
-    → IsStep (word_at actor 9) id me (λ k. either (k == st.first) st.second k) keeps (Refuses st me) s s'
+    H)) (message : SysMsg) → actor < n → st.word ≡ word_at actor 17 → st.said ≡ some (Note message) → st.second ≡ st.first
+    → IsStep (word_at actor 17) id me (λ k. either (k == st.first) st.second k) keeps (Refuses st me) s s'
     → IsNoEvent is_of facts n s r s' r'
 
 -- The store that puts back a list with one message more.
@@ -56,9 +56,9 @@ abbrev pub StoreIsSysAdd : {H : Type 0} → (ℕ → H → Type 0) → (H → Ho
 StoreIsSysAdd {H} is_of facts =
     (n : ℕ) (s s' : State (Slot H) View) (r : Rule is_of facts n s) (r' : Rule is_of facts n s') (actor id : ℕ) (me : Me (Slot H) View) (st : Step (Slot
     H)) (l : Lent) (message : SysMsg) (rest : List SysMsg)
-    → actor < n → st.word ≡ word_at actor 9 → me.0.list ≡ Some l → l.actor ≡ actor
+    → actor < n → st.word ≡ word_at actor 17 → me.0.list ≡ Some l → l.actor ≡ actor
     → me.1 ≡ (slot_at actor 1, Listing (with_last l.listed message)) ∷ tail_of me.1
-    → IsStep (word_at actor 9) id me (λ k. st.first) gives (λ k. Enlists st me st.first) s s'
+    → IsStep (word_at actor 17) id me (λ k. st.first) gives (λ k. Enlists st me st.first) s s'
     → IsEvent is_of facts n s r s' r' actor id (SysAdd message) rest rest
 
 -- The store by which the holder puts back a list that it emptied. Nothing is left then of what was drained before.
@@ -66,8 +66,8 @@ abbrev pub StoreIsSysDrain : {H : Type 0} → (ℕ → H → Type 0) → (H → 
 StoreIsSysDrain {H} is_of facts =
     (n : ℕ) (s s' : State (Slot H) View) (r : Rule is_of facts n s) (r' : Rule is_of facts n s') (actor id : ℕ) (me : Me (Slot H) View) (st : Step (Slot
     H)) (l : Lent) (c : Held) (rest : List SysMsg)
-    → actor < n → st.word ≡ word_at actor 9 → me.0.list ≡ Some l → l.actor ≡ actor → me.0.claim ≡ Some c → c.actor ≡ actor
-    → IsStep (word_at actor 9) id me (λ k. st.first) gives (λ k. Drains st me st.first) s s'
+    → actor < n → st.word ≡ word_at actor 17 → me.0.list ≡ Some l → l.actor ≡ actor → me.0.claim ≡ Some c → c.actor ≡ actor
+    → IsStep (word_at actor 17) id me (λ k. st.first) gives (λ k. Drains st me st.first) s s'
     → IsEvent is_of facts n s r s' r' actor id SysDrain rest []
 
 -- The store by which the holder puts back a list that it emptied and ended.
@@ -75,8 +75,8 @@ abbrev pub StoreIsSysEnd : {H : Type 0} → (ℕ → H → Type 0) → (H → Ho
 StoreIsSysEnd {H} is_of facts =
     (n : ℕ) (s s' : State (Slot H) View) (r : Rule is_of facts n s) (r' : Rule is_of facts n s') (actor id : ℕ) (me : Me (Slot H) View) (st : Step (Slot
     H)) (l : Lent) (c : Held) (rest : List SysMsg)
-    → actor < n → st.word ≡ word_at actor 9 → me.0.list ≡ Some l → l.actor ≡ actor → me.0.claim ≡ Some c → c.actor ≡ actor
-    → IsStep (word_at actor 9) id me (λ k. st.first) gives (λ k. Ends st me st.first) s s'
+    → actor < n → st.word ≡ word_at actor 17 → me.0.list ≡ Some l → l.actor ≡ actor → me.0.claim ≡ Some c → c.actor ≡ actor
+    → IsStep (word_at actor 17) id me (λ k. st.first) gives (λ k. Ends st me st.first) s s'
     → IsEvent is_of facts n s r s' r' actor id SysEnd rest []
 
 -- The holder's load of its gate's word, which has no list out. Where the word shows neither system work nor that the list is out, it is a drain that
@@ -85,7 +85,7 @@ abbrev pub CheckIsSysDrain : {H : Type 0} → (ℕ → H → Type 0) → (H → 
 CheckIsSysDrain {H} is_of facts =
     (n : ℕ) (s s' : State (Slot H) View) (r : Rule is_of facts n s) (r' : Rule is_of facts n s') (actor id : ℕ) (me : Me (Slot H) View) (st : Step (Slot
     H)) (c : Held) (rest : List SysMsg)
-    → actor < n → st.word ≡ word_at actor 9 → me.0.claim ≡ Some c → c.actor ≡ actor → me.0.list ≡ None → IsMarked (r.ghosts actor) rest
-    → IsStep (word_at actor 9) id me (λ k. k) keeps (ChecksDrained st me) s s'
-    → (slice_index s.words (word_at actor 9) % 8 ≡ 0 → IsEvent is_of facts n s r s' r' actor id SysDrain rest rest)
-    × (slice_index s.words (word_at actor 9) % 8 ≢ 0 → IsNoEvent is_of facts n s r s' r')
+    → actor < n → st.word ≡ word_at actor 17 → me.0.claim ≡ Some c → c.actor ≡ actor → me.0.list ≡ None → IsMarked (r.ghosts actor) rest
+    → IsStep (word_at actor 17) id me (λ k. k) keeps (ChecksDrained st me) s s'
+    → (slice_index s.words (word_at actor 17) % 8 ≡ 0 → IsEvent is_of facts n s r s' r' actor id SysDrain rest rest)
+    × (slice_index s.words (word_at actor 17) % 8 ≢ 0 → IsNoEvent is_of facts n s r s' r')

@@ -18,8 +18,8 @@ use Rattle.mb_refinement.specs.Refines.{IsStep, Rule, IsEvent, IsNoEvent}
 abbrev pub LoadIsRead : {H : Type 0} → (ℕ → H → Type 0) → (H → HomeFacts) → Type 0
 LoadIsRead {H} is_of facts =
     (n : ℕ) (s s' : State (Slot H) View) (r : Rule is_of facts n s) (r' : Rule is_of facts n s') (actor id : ℕ) (me : Me (Slot H) View) (st : Step (Slot
-    H)) (rest : List SysMsg) → actor < n → st.word ≡ word_at actor 8
-    → IsStep (word_at actor 8) id me (λ k. k) keeps (Reads st me) s s'
+    H)) (rest : List SysMsg) → actor < n → st.word ≡ word_at actor 16
+    → IsStep (word_at actor 16) id me (λ k. k) keeps (Reads st me) s s'
     → IsEvent is_of facts n s r s' r' actor id Read rest rest
 
 -- The exchange of a status word for one that is two more, which finds the word that it looks for, takes the cell, and schedules the actor.
@@ -27,9 +27,9 @@ abbrev pub WonExchangeIsSchedule : {H : Type 0} → (H → ℕ → H → Type 0)
 WonExchangeIsSchedule {H} is_of first facts =
     (n : ℕ) (s s' : State (Slot H) View) (r : Rule (is_of first) facts n s) (r' : Rule (is_of first) facts n s') (actor id : ℕ) (me : Me (Slot H) View)
     (st : Step (Slot H)) (note : Snapshot (Snapshot H)) (home : H) (rest : List SysMsg)
-    → actor < n → st.word ≡ word_at actor 8 → st.said ≡ some (First note) → st.second ≡ st.first + 2 → me.0.claim ≡ None
-    → slice_index s.words (word_at actor 8) ≡ st.first
-    → IsStep (word_at actor 8) id me (λ k. either (k == st.first) st.second k) (takes (slot_at actor 0) (Home home)) (Schedules is_of facts st me) s s'
+    → actor < n → st.word ≡ word_at actor 16 → st.said ≡ some (First note) → st.second ≡ st.first + 2 → me.0.claim ≡ None
+    → slice_index s.words (word_at actor 16) ≡ st.first
+    → IsStep (word_at actor 16) id me (λ k. either (k == st.first) st.second k) (takes (slot_at actor 0) (Home home)) (Schedules is_of facts st me) s s'
     → IsEvent (is_of first) facts n s r s' r' actor id Schedule rest rest
 
 -- The same exchange, which finds another word, is a reading.
@@ -37,16 +37,16 @@ abbrev pub LostExchangeIsRead : {H : Type 0} → (H → ℕ → H → Type 0) �
 LostExchangeIsRead {H} is_of first facts =
     (n : ℕ) (s s' : State (Slot H) View) (r : Rule (is_of first) facts n s) (r' : Rule (is_of first) facts n s') (actor id : ℕ) (me : Me (Slot H) View)
     (st : Step (Slot H)) (note : Snapshot (Snapshot H)) (rest : List SysMsg)
-    → actor < n → st.word ≡ word_at actor 8 → st.said ≡ some (First note) → slice_index s.words (word_at actor 8) ≢ st.first
-    → IsStep (word_at actor 8) id me (λ k. either (k == st.first) st.second k) keeps (Schedules is_of facts st me) s s'
+    → actor < n → st.word ≡ word_at actor 16 → st.said ≡ some (First note) → slice_index s.words (word_at actor 16) ≢ st.first
+    → IsStep (word_at actor 16) id me (λ k. either (k == st.first) st.second k) keeps (Schedules is_of facts st me) s s'
     → IsEvent (is_of first) facts n s r s' r' actor id Read rest rest
 
 -- A load of its actor's status word by a seat that has the claim is no event.
 abbrev pub LoadByTheHolderIsNone : {H : Type 0} → (ℕ → H → Type 0) → (H → HomeFacts) → Type 0
 LoadByTheHolderIsNone {H} is_of facts =
     (n : ℕ) (s s' : State (Slot H) View) (r : Rule is_of facts n s) (r' : Rule is_of facts n s') (actor id : ℕ) (me : Me (Slot H) View) (st : Step (Slot
-    H)) (c : Held) → actor < n → st.word ≡ word_at actor 8 → me.0.claim ≡ Some c → c.actor ≡ actor
-    → IsStep (word_at actor 8) id me (λ k. k) keeps (ReadsHeld st me) s s'
+    H)) (c : Held) → actor < n → st.word ≡ word_at actor 16 → me.0.claim ≡ Some c → c.actor ≡ actor
+    → IsStep (word_at actor 16) id me (λ k. k) keeps (ReadsHeld st me) s s'
     → IsNoEvent is_of facts n s r s' r'
 
 -- A store of a status word by a seat that has the claim suspends the mailbox once more, undoes one suspension, or closes it.
@@ -54,8 +54,8 @@ abbrev pub StoreIsByTheHolder : {H : Type 0} → (ℕ → H → Type 0) → (H �
 StoreIsByTheHolder {H} is_of facts =
     (n : ℕ) (s s' : State (Slot H) View) (r : Rule is_of facts n s) (r' : Rule is_of facts n s') (actor id : ℕ) (me : Me (Slot H) View) (st : Step (Slot
     H)) (c : Held) (rest : List SysMsg)
-    → actor < n → st.word ≡ word_at actor 8 → me.0.claim ≡ Some c → c.actor ≡ actor
-    → IsStep (word_at actor 8) id me (λ k. st.first) keeps (λ k. Writes st me st.first) s s'
+    → actor < n → st.word ≡ word_at actor 16 → me.0.claim ≡ Some c → c.actor ≡ actor
+    → IsStep (word_at actor 16) id me (λ k. st.first) keeps (λ k. Writes st me st.first) s s'
     → IsEvent is_of facts n s r s' r' actor id Suspend rest rest
     ⊎ (IsEvent is_of facts n s r s' r' actor id Resume rest rest ⊎ IsEvent is_of facts n s r s' r' actor id Close rest rest)
 
@@ -65,9 +65,9 @@ abbrev pub StoreIsIdle : {H : Type 0} → (ℕ → H → Type 0) → (H → Home
 StoreIsIdle {H} is_of facts =
     (n : ℕ) (s s' : State (Slot H) View) (r : Rule is_of facts n s) (r' : Rule is_of facts n s') (actor id : ℕ) (me : Me (Slot H) View) (st : Step (Slot
     H)) (c : Held) (home : H) (rest left : List SysMsg)
-    → actor < n → st.word ≡ word_at actor 8 → me.0.claim ≡ Some c → c.actor ≡ actor → me.1 ≡ (slot_at actor 0, Home home) ∷ []
+    → actor < n → st.word ≡ word_at actor 16 → me.0.claim ≡ Some c → c.actor ≡ actor → me.1 ≡ (slot_at actor 0, Home home) ∷ []
     → (c.gave ≡ false → left ≡ [])
-    → IsStep (word_at actor 8) id me (λ k. st.first) gives (λ k. Idles facts st me st.first) s s'
+    → IsStep (word_at actor 16) id me (λ k. st.first) gives (λ k. Idles facts st me st.first) s s'
     → IsEvent is_of facts n s r s' r' actor id (Idle left) rest (left ++ rest)
 
 -- The store of a closed actor's flag that puts its cell back is the machine's idle too.

@@ -61,23 +61,23 @@ IsHolderStep word new _ = ⊥
 -- or as the holder without what was listed; a seat is split off another, or takes another over.
 pub data IsTableStep {H : Type 0} (is_of : H → ℕ → H → Type 0) (first : H) (facts : H → HomeFacts) (n : ℕ) (s : State (Slot H) View) (r : Rule (is_of first) facts n
     s) (rests : Rests) (move : Move) (s' : State (Slot H) View) (rests' : Rests) : Type 0 where
-  loads_status : (actor id : ℕ) (me : Me (Slot H) View) (st : Step (Slot H)) → actor < n → st.word ≡ word_at actor 8
-      → IsStep (word_at actor 8) id me (λ k. k) keeps (Reads st me) s s' → move ≡ by id actor Read → RestsStay rests rests'
+  loads_status : (actor id : ℕ) (me : Me (Slot H) View) (st : Step (Slot H)) → actor < n → st.word ≡ word_at actor 16
+      → IsStep (word_at actor 16) id me (λ k. k) keeps (Reads st me) s s' → move ≡ by id actor Read → RestsStay rests rests'
       → IsTableStep is_of first facts n s r rests move s' rests'
-  schedules : (actor id : ℕ) (me : Me (Slot H) View) (st : Step (Slot H)) (note : Snapshot (Snapshot H)) (home : H) → actor < n → st.word ≡ word_at actor 8
-      → st.said ≡ some (First note) → st.second ≡ st.first + 2 → me.0.claim ≡ None → slice_index s.words (word_at actor 8) ≡ st.first
-      → IsStep (word_at actor 8) id me (λ k. either (k == st.first) st.second k) (takes (slot_at actor 0) (Home home)) (Schedules is_of facts st me) s s'
+  schedules : (actor id : ℕ) (me : Me (Slot H) View) (st : Step (Slot H)) (note : Snapshot (Snapshot H)) (home : H) → actor < n → st.word ≡ word_at actor 16
+      → st.said ≡ some (First note) → st.second ≡ st.first + 2 → me.0.claim ≡ None → slice_index s.words (word_at actor 16) ≡ st.first
+      → IsStep (word_at actor 16) id me (λ k. either (k == st.first) st.second k) (takes (slot_at actor 0) (Home home)) (Schedules is_of facts st me) s s'
       → move ≡ by id actor Schedule → RestsStay rests rests' → IsTableStep is_of first facts n s r rests move s' rests'
-  misses_status : (actor id : ℕ) (me : Me (Slot H) View) (st : Step (Slot H)) (note : Snapshot (Snapshot H)) → actor < n → st.word ≡ word_at actor 8
-      → st.said ≡ some (First note) → slice_index s.words (word_at actor 8) ≢ st.first
-      → IsStep (word_at actor 8) id me (λ k. either (k == st.first) st.second k) keeps (Schedules is_of facts st me) s s'
+  misses_status : (actor id : ℕ) (me : Me (Slot H) View) (st : Step (Slot H)) (note : Snapshot (Snapshot H)) → actor < n → st.word ≡ word_at actor 16
+      → st.said ≡ some (First note) → slice_index s.words (word_at actor 16) ≢ st.first
+      → IsStep (word_at actor 16) id me (λ k. either (k == st.first) st.second k) keeps (Schedules is_of facts st me) s s'
       → move ≡ by id actor Read → RestsStay rests rests' → IsTableStep is_of first facts n s r rests move s' rests'
-  loads_own_status : (actor id : ℕ) (me : Me (Slot H) View) (st : Step (Slot H)) (c : Held) → actor < n → st.word ≡ word_at actor 8 → me.0.claim ≡ Some c
-      → c.actor ≡ actor → IsStep (word_at actor 8) id me (λ k. k) keeps (ReadsHeld st me) s s' → move ≡ Still → RestsStay rests rests'
+  loads_own_status : (actor id : ℕ) (me : Me (Slot H) View) (st : Step (Slot H)) (c : Held) → actor < n → st.word ≡ word_at actor 16 → me.0.claim ≡ Some c
+      → c.actor ≡ actor → IsStep (word_at actor 16) id me (λ k. k) keeps (ReadsHeld st me) s s' → move ≡ Still → RestsStay rests rests'
       → IsTableStep is_of first facts n s r rests move s' rests'
-  gives_back : (actor id : ℕ) (me : Me (Slot H) View) (st : Step (Slot H)) (c : Held) (home : H) (left : List SysMsg) → actor < n → st.word ≡ word_at actor 8
+  gives_back : (actor id : ℕ) (me : Me (Slot H) View) (st : Step (Slot H)) (c : Held) (home : H) (left : List SysMsg) → actor < n → st.word ≡ word_at actor 16
       → me.0.claim ≡ Some c → c.actor ≡ actor → me.1 ≡ (slot_at actor 0, Home home) ∷ [] → (c.gave ≡ false → left ≡ [])
-      → IsStep (word_at actor 8) id me (λ k. st.first) gives (λ k. Idles facts st me st.first) s s'
+      → IsStep (word_at actor 16) id me (λ k. st.first) gives (λ k. Idles facts st me st.first) s s'
       → move ≡ by id actor (Idle left) → RestsAre actor (left ++ rests actor) rests rests' → IsTableStep is_of first facts n s r rests move s' rests'
   gives_back_closed : (actor id : ℕ) (me : Me (Slot H) View) (st : Step (Slot H)) (c : Held) (home : H) (left : List SysMsg) → actor < n → st.word ≡ word_at actor
       7 → me.0.claim ≡ Some c → c.actor ≡ actor → me.1 ≡ (slot_at actor 0, Home home) ∷ [] → (c.gave ≡ false → left ≡ [])
@@ -97,45 +97,45 @@ pub data IsTableStep {H : Type 0} (is_of : H → ℕ → H → Type 0) (first : 
   loads_count : (actor id : ℕ) (me : Me (Slot H) View) (st : Step (Slot H)) → actor < n → st.word ≡ word_at actor 0
       → IsStep (word_at actor 0) id me (λ k. k) keeps (ReadsWaiting st me) s s' → move ≡ by id actor Count → RestsStay rests rests'
       → IsTableStep is_of first facts n s r rests move s' rests'
-  looks : (actor id : ℕ) (me : Me (Slot H) View) (st : Step (Slot H)) → actor < n → st.word ≡ word_at actor 9
-      → (shows_work (slice_index s.words (word_at actor 9)) ≡ false) ⊎ IsTrue (has_work (shows (is_of first) facts n s r actor (rests actor)).system)
-      → IsStep (word_at actor 9) id me (λ k. k) keeps (ReadsGate st me) s s' → move ≡ by id actor SysRead → RestsStay rests rests'
+  looks : (actor id : ℕ) (me : Me (Slot H) View) (st : Step (Slot H)) → actor < n → st.word ≡ word_at actor 17
+      → (shows_work (slice_index s.words (word_at actor 17)) ≡ false) ⊎ IsTrue (has_work (shows (is_of first) facts n s r actor (rests actor)).system)
+      → IsStep (word_at actor 17) id me (λ k. k) keeps (ReadsGate st me) s s' → move ≡ by id actor SysRead → RestsStay rests rests'
       → IsTableStep is_of first facts n s r rests move s' rests'
-  finds_mark : (actor id : ℕ) (me : Me (Slot H) View) (st : Step (Slot H)) → actor < n → st.word ≡ word_at actor 9
-      → shows_work (slice_index s.words (word_at actor 9)) ≡ true
-      → IsStep (word_at actor 9) id me (λ k. k) keeps (ReadsGate st me) s s' → move ≡ Still → RestsStay rests rests'
+  finds_mark : (actor id : ℕ) (me : Me (Slot H) View) (st : Step (Slot H)) → actor < n → st.word ≡ word_at actor 17
+      → shows_work (slice_index s.words (word_at actor 17)) ≡ true
+      → IsStep (word_at actor 17) id me (λ k. k) keeps (ReadsGate st me) s s' → move ≡ Still → RestsStay rests rests'
       → IsTableStep is_of first facts n s r rests move s' rests'
-  takes_list : (actor id : ℕ) (me : Me (Slot H) View) (st : Step (Slot H)) (list : MessageList) → actor < n → st.word ≡ word_at actor 9 → me.0.list ≡ None
-      → slice_index s.words (word_at actor 9) ≡ st.first
-      → IsStep (word_at actor 9) id me (λ k. either (k == st.first) st.second k) (takes (slot_at actor 1) (Listing list)) (LocksList st me) s s'
+  takes_list : (actor id : ℕ) (me : Me (Slot H) View) (st : Step (Slot H)) (list : MessageList) → actor < n → st.word ≡ word_at actor 17 → me.0.list ≡ None
+      → slice_index s.words (word_at actor 17) ≡ st.first
+      → IsStep (word_at actor 17) id me (λ k. either (k == st.first) st.second k) (takes (slot_at actor 1) (Listing list)) (LocksList st me) s s'
       → move ≡ Still → RestsStay rests rests' → IsTableStep is_of first facts n s r rests move s' rests'
-  misses_list : (actor id : ℕ) (me : Me (Slot H) View) (st : Step (Slot H)) → actor < n → st.word ≡ word_at actor 9
-      → slice_index s.words (word_at actor 9) ≢ st.first
-      → IsStep (word_at actor 9) id me (λ k. either (k == st.first) st.second k) keeps (LocksList st me) s s'
+  misses_list : (actor id : ℕ) (me : Me (Slot H) View) (st : Step (Slot H)) → actor < n → st.word ≡ word_at actor 17
+      → slice_index s.words (word_at actor 17) ≢ st.first
+      → IsStep (word_at actor 17) id me (λ k. either (k == st.first) st.second k) keeps (LocksList st me) s s'
       → move ≡ Still → RestsStay rests rests' → IsTableStep is_of first facts n s r rests move s' rests'
-  refuses : (actor id : ℕ) (me : Me (Slot H) View) (st : Step (Slot H)) (message : SysMsg) → actor < n → st.word ≡ word_at actor 9 → st.said ≡ some (Note message)
+  refuses : (actor id : ℕ) (me : Me (Slot H) View) (st : Step (Slot H)) (message : SysMsg) → actor < n → st.word ≡ word_at actor 17 → st.said ≡ some (Note message)
       → st.second ≡ st.first
-      → IsStep (word_at actor 9) id me (λ k. either (k == st.first) st.second k) keeps (Refuses st me) s s'
+      → IsStep (word_at actor 17) id me (λ k. either (k == st.first) st.second k) keeps (Refuses st me) s s'
       → move ≡ Still → RestsStay rests rests' → IsTableStep is_of first facts n s r rests move s' rests'
-  enlists : (actor id : ℕ) (me : Me (Slot H) View) (st : Step (Slot H)) (l : Lent) (message : SysMsg) → actor < n → st.word ≡ word_at actor 9 → me.0.list ≡ Some l
+  enlists : (actor id : ℕ) (me : Me (Slot H) View) (st : Step (Slot H)) (l : Lent) (message : SysMsg) → actor < n → st.word ≡ word_at actor 17 → me.0.list ≡ Some l
       → l.actor ≡ actor → me.1 ≡ (slot_at actor 1, Listing (with_last l.listed message)) ∷ tail_of me.1
-      → IsStep (word_at actor 9) id me (λ k. st.first) gives (λ k. Enlists st me st.first) s s'
+      → IsStep (word_at actor 17) id me (λ k. st.first) gives (λ k. Enlists st me st.first) s s'
       → move ≡ by id actor (SysAdd message) → RestsStay rests rests' → IsTableStep is_of first facts n s r rests move s' rests'
-  drains : (actor id : ℕ) (me : Me (Slot H) View) (st : Step (Slot H)) (l : Lent) (c : Held) → actor < n → st.word ≡ word_at actor 9 → me.0.list ≡ Some l
+  drains : (actor id : ℕ) (me : Me (Slot H) View) (st : Step (Slot H)) (l : Lent) (c : Held) → actor < n → st.word ≡ word_at actor 17 → me.0.list ≡ Some l
       → l.actor ≡ actor → me.0.claim ≡ Some c → c.actor ≡ actor
-      → IsStep (word_at actor 9) id me (λ k. st.first) gives (λ k. Drains st me st.first) s s'
+      → IsStep (word_at actor 17) id me (λ k. st.first) gives (λ k. Drains st me st.first) s s'
       → move ≡ by id actor SysDrain → RestsAre actor [] rests rests' → IsTableStep is_of first facts n s r rests move s' rests'
-  ends : (actor id : ℕ) (me : Me (Slot H) View) (st : Step (Slot H)) (l : Lent) (c : Held) → actor < n → st.word ≡ word_at actor 9 → me.0.list ≡ Some l
+  ends : (actor id : ℕ) (me : Me (Slot H) View) (st : Step (Slot H)) (l : Lent) (c : Held) → actor < n → st.word ≡ word_at actor 17 → me.0.list ≡ Some l
       → l.actor ≡ actor → me.0.claim ≡ Some c → c.actor ≡ actor
-      → IsStep (word_at actor 9) id me (λ k. st.first) gives (λ k. Ends st me st.first) s s'
+      → IsStep (word_at actor 17) id me (λ k. st.first) gives (λ k. Ends st me st.first) s s'
       → move ≡ by id actor SysEnd → RestsAre actor [] rests rests' → IsTableStep is_of first facts n s r rests move s' rests'
-  finds_drained : (actor id : ℕ) (me : Me (Slot H) View) (st : Step (Slot H)) (c : Held) → actor < n → st.word ≡ word_at actor 9 → me.0.claim ≡ Some c → c.actor ≡
-      actor → me.0.list ≡ None → slice_index s.words (word_at actor 9) % 8 ≡ 0
-      → IsStep (word_at actor 9) id me (λ k. k) keeps (ChecksDrained st me) s s' → move ≡ by id actor SysDrain → RestsStay rests rests'
+  finds_drained : (actor id : ℕ) (me : Me (Slot H) View) (st : Step (Slot H)) (c : Held) → actor < n → st.word ≡ word_at actor 17 → me.0.claim ≡ Some c → c.actor ≡
+      actor → me.0.list ≡ None → slice_index s.words (word_at actor 17) % 8 ≡ 0
+      → IsStep (word_at actor 17) id me (λ k. k) keeps (ChecksDrained st me) s s' → move ≡ by id actor SysDrain → RestsStay rests rests'
       → IsTableStep is_of first facts n s r rests move s' rests'
-  finds_undrained : (actor id : ℕ) (me : Me (Slot H) View) (st : Step (Slot H)) (c : Held) → actor < n → st.word ≡ word_at actor 9 → me.0.claim ≡ Some c → c.actor
-      ≡ actor → me.0.list ≡ None → slice_index s.words (word_at actor 9) % 8 ≢ 0
-      → IsStep (word_at actor 9) id me (λ k. k) keeps (ChecksDrained st me) s s' → move ≡ Still → RestsStay rests rests'
+  finds_undrained : (actor id : ℕ) (me : Me (Slot H) View) (st : Step (Slot H)) (c : Held) → actor < n → st.word ≡ word_at actor 17 → me.0.claim ≡ Some c → c.actor
+      ≡ actor → me.0.list ≡ None → slice_index s.words (word_at actor 17) % 8 ≢ 0
+      → IsStep (word_at actor 17) id me (λ k. k) keeps (ChecksDrained st me) s s' → move ≡ Still → RestsStay rests rests'
       → IsTableStep is_of first facts n s r rests move s' rests'
   copies_pass : (id : ℕ) (v : View) → v.list ≡ None → v.claim ≡ None → IsCut id v (halving v) (copied v) s s' → move ≡ Split id → RestsStay rests rests'
       → IsTableStep is_of first facts n s r rests move s' rests'
@@ -145,8 +145,8 @@ pub data IsTableStep {H : Type 0} (is_of : H → ℕ → H → Type 0) (first : 
       → IsTableStep is_of first facts n s r rests move s' rests'
   joins : (id other : ℕ) (v w : View) → w.claim ≡ None → w.list ≡ None → IsMerge id other v w (taking_over v w) s s' ⊎ IsMerge id other v w (taking_in v w) s s'
       → move ≡ Join id other → RestsStay rests rests' → IsTableStep is_of first facts n s r rests move s' rests'
-  writes : (actor id : ℕ) (me : Me (Slot H) View) (st : Step (Slot H)) (c : Held) (step : event.Step) → actor < n → st.word ≡ word_at actor 8 → me.0.claim ≡ Some c
-      → c.actor ≡ actor → IsHolderStep c.word st.first step → IsStep (word_at actor 8) id me (λ k. st.first) keeps (λ k. Writes st me st.first) s s'
+  writes : (actor id : ℕ) (me : Me (Slot H) View) (st : Step (Slot H)) (c : Held) (step : event.Step) → actor < n → st.word ≡ word_at actor 16 → me.0.claim ≡ Some c
+      → c.actor ≡ actor → IsHolderStep c.word st.first step → IsStep (word_at actor 16) id me (λ k. st.first) keeps (λ k. Writes st me st.first) s s'
       → move ≡ by id actor step → RestsStay rests rests' → IsTableStep is_of first facts n s r rests move s' rests'
 
 -- nothing of what was drained is left at any actor, unless its last drain gave something

@@ -1,30 +1,9 @@
 -- The numbers of a report, as queries of its lists (this project's own profile: Akka has no such report).
-use Rattle.std.specs.Prelude.{ℕ, ◌+◌, ◌==◌, Bool, true, false, List, length, count_by, sum_by, Some}
+use Rattle.std.specs.Prelude.{ℕ, ◌+◌, ◌==◌, Bool, List, length, count_by, sum_by}
 use Rattle.mb_msg.specs.declared.dead_letter.DeadLetter.{DeadLetter}
-use Rattle.mb_msg.specs.declared.system.SysMsg.{SysMsg}
-use Rattle.mb_msg.specs.declared.system.SysMsg.TheVariants as system
-use Rattle.mb_journal.specs.Entry.{Entry}
-use Rattle.mb_journal.specs.Entry.Entry.{Handled, System, Dropped}
-use Rattle.mb_journal.specs.Entry.Outcome.{Applied}
+use Rattle.mb_journal.specs.Counts.{tells_of_envelope, tells_of_restart}
 use Rattle.mb_report.specs.declared.report.ActorReport.{ActorReport}
 use Rattle.mb_report.specs.declared.report.SenderReport.{SenderReport}
-
--- the entry is of an envelope, which the actor handled or which was dropped
-abbrev pub tells_of_envelope : Entry → Bool
-tells_of_envelope (Handled envelope reading outcome) = true
-tells_of_envelope (System number message outcome) = false
-tells_of_envelope (Dropped envelope) = true
-
--- the system messages that restart an actor: a Recreate, and for an actor whose last start failed a Resume
-abbrev pub may_restart : SysMsg → Bool
-may_restart (system.Recreate cause) = true
-may_restart (system.Resume of_failure) = true
-may_restart _ = false
-
--- the entry is of a call of the actor's `restart`: of a message that restarts, for which the actor was called
-abbrev pub tells_of_restart : Entry → Bool
-tells_of_restart (System number message (Applied (Some answer) effects)) = may_restart message
-tells_of_restart _ = false
 
 -- how many envelopes came to the actor, how many are left in its mailbox, and how often it was restarted
 abbrev pub handled_of : ActorReport → ℕ

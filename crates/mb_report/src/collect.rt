@@ -5,9 +5,9 @@ ghost use Rattle.std.specs.Prelude.{string_bytes};
 ghost use Rattle.mb_report.specs.Kept.{kept};
 ghost use Rattle.mb_report.specs.Lines.{line_data, lines_from};
 
-use crate::counts::{Counts, counts_of, refused_to};
 use crate::line::Line;
 use crate::lines::Lines;
+use crate::refused::refused_to;
 use crate::report::{ActorReport, Report, SenderReport};
 use std::alloc::{AllocError, Global};
 
@@ -53,16 +53,15 @@ fn line_of(
     ensures line { IfOk result (λ line. kept line ≡ line_data senders.now id name.now actor.now) }
     ensures below_bound { IfOk result (λ line. line.dead < 2 ^ 72) }
 {
-    let Counts { handled, restarts } = counts_of(&actor.journal);
     let dead = actor.cleaned.len() as u128 + refused_to(id, senders);
     Ok(Line {
         name: String::from_str(alloc, name)?,
         phase: actor.phase,
         state: actor.state,
         suspended: actor.count,
-        handled,
+        handled: actor.journal.envelopes(),
         left: actor.left.len(),
         dead,
-        restarts,
+        restarts: actor.journal.restarts(),
     })
 }

@@ -4,9 +4,9 @@
 #![tactic(auto)]
 
 mod collect;
-mod counts;
 mod line;
 mod lines;
+mod refused;
 mod report;
 mod text;
 mod totals;

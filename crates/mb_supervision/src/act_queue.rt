@@ -12,6 +12,7 @@ use crate::task_queue::{Task, TaskQueue};
 use mb_actor::Effect;
 use mb_msg::limits::EFFECTS;
 use mb_msg::{ActorId, Body, SysMsg};
+use mb_syslist::Node;
 use std::alloc::{AllocError, Global};
 use std::marker::Model;
 
@@ -22,10 +23,11 @@ pub(crate) struct Tell {
     body: Body,
 }
 
-/// The acts of one message, in order, with room for more.
+/// The acts of one message, in order, with room for more. Room was made before, so neither adding nor taking out an act takes
+/// memory.
 ///
-/// Where a message asks for tells alone, they are kept apart, in places of their own. So neither adding nor taking out an act
-/// takes memory.
+/// The acts of a message that asks for tells alone are in a vector of their own, which always has places for them. They use no
+/// room.
 #[derive(Drop)]
 pub(crate) struct ActQueue {
     tells: Vec<Tell>,
@@ -63,6 +65,7 @@ impl ActQueue {
     /// Makes room for this many acts, unless there is room already.
     ///
     /// It answers `AllocError` if memory was refused. Nothing has changed then.
+    #[inline(always)]
     pub(crate) fn make_room(&mut self, most: usize) -> Result<(), AllocError>
         requires below_bound { most < 2 ^ 48 }
         ensures room { OnOk result (most ≤ self.new.room) }
@@ -107,6 +110,13 @@ impl ActQueue {
             return false;
         }
         true
+    }
+
+    /// Keeps a node for an act that comes later, if there is a place for it. It takes no memory.
+    pub(crate) fn keep_node(&mut self, node: Node)
+        ensures { self.new ≡ self.old }
+    {
+        self.tasks.keep_node(node);
     }
 
     /// Takes out the earliest act; `None` if none is left.

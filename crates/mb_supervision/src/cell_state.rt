@@ -24,6 +24,7 @@ use mb_actor::Phase;
 use mb_journal::FailedBy;
 use mb_msg::limits::EFFECTS;
 use mb_msg::{ActorId, SysMsg};
+use mb_syslist::Node;
 use std::alloc::{AllocError, Global};
 use std::marker::Model;
 
@@ -150,6 +151,13 @@ impl CellState {
         self.acts.make_room(most)?;
         self.ready = true;
         Ok(())
+    }
+
+    /// Keeps the node of a message that was taken, for an act that comes later. It takes no memory.
+    pub fn keep_node(&mut self, node: Node)
+        ensures { self.new ≡ self.old }
+    {
+        self.acts.keep_node(node);
     }
 
     /// Takes out the earliest act; `None` if none is left.

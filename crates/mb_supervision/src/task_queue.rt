@@ -61,6 +61,7 @@ impl TaskQueue {
     /// Makes room for this many acts, unless there is room already.
     ///
     /// It answers `AllocError` if memory was refused. Nothing has changed then.
+    #[inline(always)]
     pub(crate) fn make_room(&mut self, most: usize) -> Result<(), AllocError>
         requires below_bound { most < 2 ^ 48 }
         ensures room { OnOk result (most ≤ self.new.room) }
@@ -73,7 +74,9 @@ impl TaskQueue {
         }
         self.tasks.reserve(most)?;
         let waiting = self.tasks.len() - self.next;
-        make_nodes(self.alloc, &mut self.nodes, waiting + most)?;
+        if self.nodes.len() < waiting + most {
+            make_nodes(self.alloc, &mut self.nodes, waiting + most)?;
+        }
         self.room = most;
         Ok(())
     }
@@ -84,6 +87,15 @@ impl TaskQueue {
     {
         self.tasks.push_reserved(task);
         self.room -= 1;
+    }
+
+    /// Keeps a node for an act that comes later, if the list of nodes has a place for it. It takes no memory.
+    pub(crate) fn keep_node(&mut self, node: Node)
+        ensures { self.new ≡ self.old }
+    {
+        if self.nodes.len() < self.nodes.capacity() {
+            self.nodes.push_reserved(node);
+        }
     }
 
     /// Takes out the earliest act; `None` if none is left.
@@ -114,6 +126,8 @@ impl TaskQueue {
 }
 
 /// Makes nodes until there are `wanted`.
+#[cold]
+#[inline(never)]
 fn make_nodes(alloc: Global, nodes: &mut Vec<Node>, wanted: usize) -> Result<(), AllocError>
     ensures enough { OnOk result (wanted ≤ vec_len nodes.new) }
     ensures no_fewer { vec_len nodes.old ≤ vec_len nodes.new }

@@ -50,6 +50,10 @@ pub none-tells : {X : Type 0} (A B C : Type 0) (r : Option X) → (A → B) → 
 none-tells A B C None f h = (f h.0, h.1)
 none-tells A B C (Some x) f h = tt
 
+pub none-still : {X : Type 0} (A B : Type 0) (r : Option X) → (A → B) → IfNone r A → IfNone r B
+none-still A B None f h = f h
+none-still A B (Some x) f h = tt
+
 -- it was looked at nobody, at one actor more, at some of a set, or at one after another
 pub only-none : (v : View) → OnlyLooks v v
 only-none = among-none (λ id. true)

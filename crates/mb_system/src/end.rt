@@ -116,6 +116,20 @@ impl<A: Actor, K: Behaviours> WorkerEnd<A, K> {
         self.registrar.run_queue.take(rt)
     }
 
+    /// Takes the claim of an actor out of the pool by one attempt, as it was pushed, and no other: the first of the first place in
+    /// which the end looks. The actor's mailbox is to be run. It answers `None` if that place was empty, or another thread was in
+    /// the way; then the end is as it was. It does not wait.
+    #[inline(always)]
+    pub fn try_take(&mut self) -> Option<Claim<BoxedHome<A, K>>>
+        ensures untouched { IfSome result (IsFreshClaim K.gives (gates_of self.old.registrar.run_queue.end)) }
+        ensures taken { IfSome result (λ claim. Takes (IsFreshClaim K.gives) self.old.registrar.run_queue.end claim self.new.registrar.run_queue.end) }
+        ensures none { IfNone result (self.new ≡ self.old) }
+        ensures same { (self.new.registrar.pass ≡ self.old.registrar.pass) × (self.new.registrar.owed ≡ self.old.registrar.owed)
+            × (gates_of self.new.registrar.run_queue.end ≡ gates_of self.old.registrar.run_queue.end) × (self.new.number ≡ self.old.number) }
+    {
+        self.registrar.run_queue.try_take()
+    }
+
     /// Registers each actor again to which the end owes a look.
     ///
     /// It answers `NoMemory` only if the run queue refused a claim again: then a look is still owed to that actor and to those

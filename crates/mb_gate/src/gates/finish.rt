@@ -58,7 +58,7 @@ fn take_out<H: MailboxState>(
     closed: &mut Closed<Slot<H>, Global>,
     actor: usize,
 ) -> Option<ReturnedActor<H>>
-    requires words { (16 * actor + 16 ≤ slots_len closed.old.words) × IsFull closed.old.words }
+    requires words { (32 * actor + 32 ≤ slots_len closed.old.words) × IsFull closed.old.words }
     requires slots { 2 * actor + 2 ≤ slots_len closed.old.slots }
     requires cell { slice_index_or (slots_filled closed.old.slots) (slot_at actor 0) false ≡ true }
     requires list { slice_index_or (slots_filled closed.old.slots) (slot_at actor 1) false ≡ true }
@@ -68,7 +68,7 @@ fn take_out<H: MailboxState>(
     ensures filled { slots_filled closed.new.slots ≡ emptied_at actor (slots_filled closed.old.slots) }
     ensures left { IsTakenOut (slots_items closed.old.words) (slots_items closed.old.slots) actor result }
 {
-    let first = 16 * actor;
+    let first = 32 * actor;
     let status = closed.word(first + STATUS);
     let flag = closed.word(first + FLAG);
     let gate = ListWord::of(closed.word(first + GATE));

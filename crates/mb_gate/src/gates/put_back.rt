@@ -15,7 +15,7 @@ use mb_msg::ActorId;
 use std::mem;
 
 impl<H: MailboxState> Gates<H> {
-    // Puts a home or a list into a slot of its actor, which no other seat can see before the next step. The slot is empty, so
+    // Puts a home into a slot of its actor, which no other seat can see before the next step. The slot is empty, so
     // nothing is dropped. Nor is it read, since a read would wait for the write that emptied it.
     pub(crate) fn put_back(
         &self,

@@ -30,7 +30,14 @@ impl<A: Actor, K: Behaviours> Home<A, K> {
     pub fn has_next(&self) -> bool
         ensures { MatchBool result (HasNext self.now) (HasNoBacklog self.now) }
     {
-        self.cell.next_front().is_some() || !self.rest.is_empty()
+        if !self.rest.is_empty() {
+            return true;
+        }
+        // Asked first, since mostly nothing is set aside.
+        if self.cell.aside().is_empty() {
+            return false;
+        }
+        self.cell.next_front().is_some()
     }
 
     /// Makes room for one message, and then for the dead letters that it can make.
@@ -112,7 +119,11 @@ impl<A: Actor, K: Behaviours> Home<A, K> {
             return front;
         }
         match self.rest.next() {
-            Some((number, node)) => (number, node.msg()),
+            Some((number, node)) => {
+                let message = node.msg();
+                self.cell.keep_node(node);
+                (number, message)
+            }
             None => unreachable!(),
         }
     }

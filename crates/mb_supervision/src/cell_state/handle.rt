@@ -36,7 +36,7 @@ impl CellState {
         if self.tell_all(body, answer, effects) {
             return;
         }
-        tell_of_end(body, &mut self.due);
+        end_was_told(body, &mut self.due);
         self.handle_all(place, failure_of(body, answer), effects);
     }
 
@@ -50,7 +50,7 @@ impl CellState {
         ensures told { IsTrue result → (who : Identity) → self.new ≡ handled who body answer effects.now self.old }
         ensures not_told { result ≡ false → self.new ≡ self.old }
     {
-        if !is_calm(body, answer) {
+        if !changes_by_effects_alone(body, answer) {
             return false;
         }
         if !self.acts.tell_all(effects) {
@@ -62,6 +62,8 @@ impl CellState {
     }
 
     /// An envelope was handled with these effects, and the actor fails, if there is a cause. Some of the room may be used.
+    // Not inlined, since most messages do not come here. It takes a cause, not the body and the answer, so that its callers need
+    // not store these in memory.
     #[cold]
     #[inline(never)]
     fn handle_all(&mut self, place: &ActorIdentity, cause: Option<Cause>, effects: &[Effect])
@@ -115,9 +117,9 @@ impl CellState {
     }
 }
 
-/// Whether a message with this body and answer changes nothing beside the journal but by its effects.
+/// Whether a message with this body and answer changes nothing but the journal and what its effects change.
 #[inline(always)]
-fn is_calm(body: Body, answer: Option<Answer>) -> bool
+fn changes_by_effects_alone(body: Body, answer: Option<Answer>) -> bool
     ensures no_failure { IsTrue result → cause_of body answer ≡ None }
     ensures same_due { IsTrue result → (list : List ActorId) → due_told body list ≡ list }
 {
@@ -132,7 +134,7 @@ fn is_calm(body: Body, answer: Option<Answer>) -> bool
 
 /// After a Terminated its actor's end is no longer to be told.
 #[inline(always)]
-fn tell_of_end(body: Body, due: &mut Vec<ActorId>)
+fn end_was_told(body: Body, due: &mut Vec<ActorId>)
     ensures items { due.new.items ≡ due_told body due.old.items }
     ensures no_more { vec_len due.new ≤ vec_len due.old }
     ensures capacity { vec_capacity due.old ≤ vec_capacity due.new }

@@ -1,60 +1,62 @@
-use Rattle.std.proofs.Common.{rules, not, ap, sym, ◌∙◌, refl, subst, arith}
+use Rattle.std.proofs.Common.{rules, ◌∷◌, not, ap, sym, ◌∙◌, refl, subst, arith}
 use Rattle.atomic_table.specs.Table.{rest}
+use Rattle.mb_syslist.specs.MessageList.{numbered, listed, drained}
+use Rattle.mb_gate.specs.declared.slot.Slot.TheVariants.{List as Listing}
 use Rattle.mb_gate.specs.View.{Lent, draining}
 use Rattle.mb_gate.specs.Rule.{is_some_item}
 use Rattle.mb_gate.specs.Claims.{held_in}
-use Rattle.mb_syslist.specs.MessageList.{numbered}
 use Rattle.mb_gate.specs.ListWord.{with_drained}
 use Rattle.mb_gate.specs.NamedActors.{NamesBelow, EachNamesBelow}
 use Rattle.mb_gate.specs.Accessors.{first_home, actors_of}
 use Rattle.mb_gate.proofs.Numbers.{all_with_numbers}
 use Rattle.mb_gate.proofs.Allowed.{drains_allowed}
-use Rattle.mb_gate.proofs.ListCalls.{word_drained, laid_back, empty_is, some_listed}
+use Rattle.mb_gate.proofs.ListCalls.{word_drained, list_taken, empty_is, some_listed}
 use Rattle.mb_gate.proofs.gates.Gates.drain_list.Goals as goal
 
 pub store-requires : goal.store-requires
 store-requires g c =
     let lent = c.requires.lent in
-    let l : Lent = record { actor = c.args.id.0; listed = c.args.list; gave = lent.gave } in
-    let laid = c.put_back.ensures.carries in
-    let some = ap is_some_item c.drain-chain.ensures.chain ∙ some_listed c.args.list in (
+    let l : Lent = record { actor = c.args.id.0; listed = lent.listed; gave = lent.gave } in
+    let same = list_taken c.args.id.0 _ lent.listed c.in-List.list c.slot_mut.result.now c.args.seat.now.me lent.carried c.slot_mut.ensures.value c.in-List.is in
+    let some = ap is_some_item (c.drain-chain.ensures.chain ∙ ap listed same) ∙ some_listed lent.listed in
+    let list = c.drain-chain.ensures.list ∙ ap drained same in (
       search rules,
       search rules,
       drains_allowed (g.H.MailboxState.is_of (first_home c.args.self.now)) g.H.MailboxState.facts _ _ _ _ c.args.id.0 _ (let k =
           c.args.self.now.keyed in let t = c.requires.present in omega arith) _ l _ c.word_index-gate.ensures
           (let k = c.args.self.now.keyed in let d = c.args.self.now.slot_count in omega arith)
-          (ap (λ m. m.0.claim) laid ∙ c.requires.holder.has) c.requires.holder.of (ap (λ m. m.0.list) laid ∙ lent.has) refl (laid_back
-          c.args.id.0 _ _ c.args.seat.now.me _ laid c.drain-chain.ensures.list)
+          c.requires.holder.has c.requires.holder.of lent.has refl
+          (λ i. (c.slot_index.ensures i, Listing (list i)) ∷ rest c.args.seat.now.me.1)
           (c.with_drained-new.ensures ∙ (ap (with_drained c.args.word.bits) (empty_is c.is_empty.result c.drain-chain.result c.is_empty.ensures ∙
-          ap not some) ∙ word_drained c.args.word.bits c.args.list lent.gave _ lent.found)),
+          ap not some) ∙ word_drained c.args.word.bits lent.listed lent.gave _ lent.found)),
     )
 
 pub returns-clause-drained : goal.returns-clause-drained
 returns-clause-drained g c =
     let lent = c.requires.lent in
-    let l : Lent = record { actor = c.args.id.0; listed = c.args.list; gave = lent.gave } in
-    let laid = c.put_back.ensures.carries in
-    let told = c.store.ensures.2 l (held_in c.args.seat.now.me.0) (ap (λ m. m.0.list) laid ∙ lent.has) (ap (λ m. m.0.claim) laid
-    ∙ c.requires.holder.has) in
-    let some = ap is_some_item c.drain-chain.ensures.chain ∙ some_listed c.args.list in
-    told.0 ∙ (λ i. (draining c.args.id.0 (sym c.drain-chain.ensures.chain i) (sym some i) (laid i).0, rest (laid i).1))
+    let l : Lent = record { actor = c.args.id.0; listed = lent.listed; gave = lent.gave } in
+    let same = list_taken c.args.id.0 _ lent.listed c.in-List.list c.slot_mut.result.now c.args.seat.now.me lent.carried c.slot_mut.ensures.value c.in-List.is in
+    let told = c.store.ensures.2 l (held_in c.args.seat.now.me.0) lent.has c.requires.holder.has in
+    let chain = c.drain-chain.ensures.chain ∙ ap listed same in
+    let some = ap is_some_item chain ∙ some_listed lent.listed in
+    told.0 ∙ (λ i. (draining c.args.id.0 (sym chain i) (sym some i) c.args.seat.now.me.0, rest c.args.seat.now.me.1))
 
 pub returns-clause-numbers : goal.returns-clause-numbers
 returns-clause-numbers g c =
     let lent = c.requires.lent in
-    let l : Lent = record { actor = c.args.id.0; listed = c.args.list; gave = lent.gave } in
-    let laid = c.put_back.ensures.carries in
-    let told = c.store.ensures.2 l (held_in c.args.seat.now.me.0) (ap (λ m. m.0.list) laid ∙ lent.has) (ap (λ m. m.0.claim) laid
-    ∙ c.requires.holder.has) in
-    record { messages = c.args.list.messages; each = c.drain-chain.ensures.chain ∙ ap (λ n. numbered n c.args.list.messages) told.1 }
+    let l : Lent = record { actor = c.args.id.0; listed = lent.listed; gave = lent.gave } in
+    let same = list_taken c.args.id.0 _ lent.listed c.in-List.list c.slot_mut.result.now c.args.seat.now.me lent.carried c.slot_mut.ensures.value c.in-List.is in
+    let told = c.store.ensures.2 l (held_in c.args.seat.now.me.0) lent.has c.requires.holder.has in
+    let chain = c.drain-chain.ensures.chain ∙ ap listed same in
+    record { messages = lent.listed.messages; each = chain ∙ ap (λ n. numbered n lent.listed.messages) told.1 }
 
 pub returns-clause-named : goal.returns-clause-named
 returns-clause-named g c =
     let lent = c.requires.lent in
-    let l : Lent = record { actor = c.args.id.0; listed = c.args.list; gave = lent.gave } in
-    let laid = c.put_back.ensures.carries in
-    let told = c.store.ensures.2 l (held_in c.args.seat.now.me.0) (ap (λ m. m.0.list) laid ∙ lent.has) (ap (λ m. m.0.claim) laid
-    ∙ c.requires.holder.has) in
+    let l : Lent = record { actor = c.args.id.0; listed = lent.listed; gave = lent.gave } in
+    let same = list_taken c.args.id.0 _ lent.listed c.in-List.list c.slot_mut.result.now c.args.seat.now.me lent.carried c.slot_mut.ensures.value c.in-List.is in
+    let told = c.store.ensures.2 l (held_in c.args.seat.now.me.0) lent.has c.requires.holder.has in
+    let chain = c.drain-chain.ensures.chain ∙ ap listed same in
     let actors = actors_of c.args.self.now in
-    subst (EachNamesBelow actors) (sym c.drain-chain.ensures.chain) (all_with_numbers (NamesBelow actors) c.args.list.given c.args.list.messages
+    subst (EachNamesBelow actors) (sym chain) (all_with_numbers (NamesBelow actors) lent.listed.given lent.listed.messages
     (told.2 actors c.args.self.now.slot_count))

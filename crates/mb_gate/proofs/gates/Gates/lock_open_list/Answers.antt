@@ -1,9 +1,10 @@
 use Rattle.std.proofs.Common.{refl, ap, sym, subst, ◌∙◌, if◌then◌else◌}
 use Rattle.atomic_table.specs.Table.{Me}
-use Rattle.mb_gate.specs.Lists.{IsLentBy, may_lock_list}
+use Rattle.mb_gate.specs.Lists.{may_lock_list}
+use Rattle.mb_gate.specs.TableSteps.{ListLocked}
 use Rattle.mb_gate.specs.ClaimCounts.{WasHeldBy}
 use Rattle.mb_gate.specs.View.{View, refusing}
-use Rattle.mb_gate.proofs.ListCalls.{is_not_ended, sharer_may}
+use Rattle.mb_gate.proofs.ListCalls.{is_not_ended, sharer_may, when_true, when_false}
 use Rattle.mb_gate.proofs.gates.Gates.lock_open_list.Goals as goal
 
 pub loop-init : goal.loop-init
@@ -45,20 +46,21 @@ pub try_lock_list-requires-clause-may_lock : goal.try_lock_list-requires-clause-
 try_lock_list-requires-clause-may_lock g c = ap (λ m. may_lock_list c.args.id.0 m.0) c.loop.invariant.1
     ∙ sharer_may c.args.id.0 c.args.seat.now.me.0 c.requires.share
 
-pub returns-in-Some-try_lock_list-clause-same_gates : goal.returns-in-Some-try_lock_list-clause-same_gates
-returns-in-Some-try_lock_list-clause-same_gates g c = c.try_lock_list.ensures.same_gates ∙ c.loop.invariant.0
+pub returns-then-try_lock_list-clause-same_gates : goal.returns-then-try_lock_list-clause-same_gates
+returns-then-try_lock_list-clause-same_gates g c = c.try_lock_list.ensures.same_gates ∙ c.loop.invariant.0
 
-pub returns-in-Some-try_lock_list-clause-refused : goal.returns-in-Some-try_lock_list-clause-refused
-returns-in-Some-try_lock_list-clause-refused g c = λ e. absurd (cc)
+pub returns-then-try_lock_list-clause-refused : goal.returns-then-try_lock_list-clause-refused
+returns-then-try_lock_list-clause-refused g c = λ e. absurd (cc)
 
-pub returns-in-Some-try_lock_list-clause-held : goal.returns-in-Some-try_lock_list-clause-held
-returns-in-Some-try_lock_list-clause-held g c = λ e. absurd (cc)
+pub returns-then-try_lock_list-clause-held : goal.returns-then-try_lock_list-clause-held
+returns-then-try_lock_list-clause-held g c = λ e. absurd (cc)
 
-pub returns-in-Some-try_lock_list-clause-lent : goal.returns-in-Some-try_lock_list-clause-lent
-returns-in-Some-try_lock_list-clause-lent g c =
-    let word = c.of-word.result in let list = c.in-Some-try_lock_list.list in
-    let lent = subst (λ m. IsLentBy c.args.id.0 word.bits list m c.try_lock_list.new.seat.me) c.loop.invariant.1 c.in-Some-try_lock_list.ensures.answer in
-    (lent, is_not_ended word.bits list lent.gave lent.found (sym c.is_ended.ensures ∙ c.if-is_ended.false))
+pub returns-then-try_lock_list-clause-lent : goal.returns-then-try_lock_list-clause-lent
+returns-then-try_lock_list-clause-lent g c =
+    let word = c.of-word.result in
+    let locked = subst (λ m. ListLocked c.args.id.0 word.bits m c.try_lock_list.new.seat.me) c.loop.invariant.1
+    (when_true _ _ _ c.if-try_lock_list.true c.try_lock_list.ensures.answer) in
+    (locked, is_not_ended word.bits locked.listed locked.gave locked.word (sym c.is_ended.ensures ∙ c.if-is_ended.false))
 
 pub loop-preserved : goal.loop-preserved
-loop-preserved g c = (c.try_lock_list.ensures.same_gates ∙ c.loop.invariant.0, c.in_default.ensures.answer ∙ c.loop.invariant.1)
+loop-preserved g c = (c.try_lock_list.ensures.same_gates ∙ c.loop.invariant.0, when_false _ _ _ c.if-try_lock_list.false c.try_lock_list.ensures.answer ∙ c.loop.invariant.1)

@@ -1,9 +1,8 @@
-use Rattle.std.proofs.Common.{rules, ◌∷◌, ap, sym, ◌∙◌, arith}
-use Rattle.atomic_table.specs.Table.{rest}
-use Rattle.mb_gate.specs.declared.slot.Slot.TheVariants.{List as Listing}
+use Rattle.std.proofs.Common.{rules, subst, arith}
 use Rattle.mb_gate.specs.Accessors.{first_home}
+use Rattle.mb_gate.specs.TableSteps.{ListLocked}
 use Rattle.mb_gate.proofs.Allowed.{grips_allowed}
-use Rattle.mb_gate.proofs.ListCalls.{is_even, is_list, lent_by}
+use Rattle.mb_gate.proofs.ListCalls.{is_even, won_or_lost}
 use Rattle.mb_gate.proofs.gates.Gates.try_lock_list.Goals as goal
 
 pub compare_exchange-found-requires : goal.compare_exchange-found-requires
@@ -16,21 +15,7 @@ compare_exchange-found-requires g c = (
       c.word_index-gate.ensures (is_even _ c.requires.in_slot) c.locked.ensures c.requires.no_list c.requires.may_lock,
 )
 
-pub returns-then-found-word-clause-answer : goal.returns-then-found-word-clause-answer
-returns-then-found-word-clause-answer g c = (c.compare_exchange-found.ensures.2 _ c.word_index-gate.ensures).1 c.if-found-word.true
-
-pub exchange-requires : goal.exchange-requires
-exchange-requires g c =
-    let lent = (c.compare_exchange-found.ensures.2 _ c.word_index-gate.ensures).0 c.if-found-word.false in
-    let carried = ap (λ m. m.1) lent.now in
-    (search rules, (Listing lent.listed, carried ∙ (λ i. (sym c.slot_index-slot.ensures i, Listing lent.listed) ∷ rest (sym carried i))))
-
-pub unreachable-requires : goal.unreachable-requires
-unreachable-requires g c =
-    let lent = (c.compare_exchange-found.ensures.2 _ c.word_index-gate.ensures).0 c.if-found-word.false in
-    c.in_default.not-List lent.listed (is_list c.args.id.0 _ _ _ _ lent c.exchange.result c.exchange.ensures.2)
-
 pub returns-clause-answer : goal.returns-clause-answer
 returns-clause-answer g c =
-    let lent = (c.compare_exchange-found.ensures.2 _ c.word_index-gate.ensures).0 c.if-found-word.false in
-    lent_by c.args.id.0 _ _ _ _ lent c.exchange.result c.exchange.ensures.2 _ _ _ c.if-found-word.false c.in-List.is c.exchange.ensures.3
+    let told = c.compare_exchange-found.ensures.2 _ c.word_index-gate.ensures in
+    won_or_lost _ _ _ _ (λ e. subst (λ w. ListLocked c.args.id.0 w c.args.seat.now.me c.compare_exchange-found.new.seat.me) e (told.0 e)) told.1

@@ -4,7 +4,7 @@ use Rattle.mb_journal.specs.Stored.{listed, StandInOrder}
 use Rattle.mb_journal.proofs.journal.Journal.new.Goals as goal
 
 pub invariant_of-result : goal.invariant_of-result
-unfolding StandInOrder
+unfolding StandInOrder listed
 invariant_of-result c = record {
   in_order = rw (c.new.ensures.items, c.new-3.ensures.items) refl;
   there = rw c.new.ensures.items (All-nil _);
@@ -14,6 +14,7 @@ invariant_of-result c = record {
   row_room = omega arith;
   wide_room = omega arith;
   effect_room = omega arith;
+  counted = rw c.zero.ensures (rw c.new.ensures.items (record { envelopes = refl; restarts = refl }));
 }
 
 pub returns : goal.returns

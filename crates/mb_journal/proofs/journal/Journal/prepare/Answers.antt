@@ -26,4 +26,5 @@ invariant_of-self-2 c =
       row_room = omega arith;
       wide_room = omega arith;
       effect_room = omega arith;
+      counted = rw (c.make_room.ensures.same.1, c.make_room-2.ensures.same.1, c.make_room-3.ensures.same.1) c.self.invariant.counted;
     }

@@ -1,8 +1,15 @@
 use Rattle.std.proofs.Common.{false, ap, ◌∙◌, arith}
+use Rattle.mb_journal.proofs.EntryCounts.{counts-pushed, counts-within}
 use Rattle.mb_journal.proofs.RowLemmas.{length-rows, rows-pushed, there-pushed}
 use Rattle.mb_journal.proofs.StoredLemmas.{order-pushed, entries-pushed}
-use Rattle.mb_journal.specs.JournalView.{JournalView}
+use Rattle.mb_journal.specs.JournalView.{JournalView, entry_with}
 use Rattle.mb_journal.proofs.journal.Journal.push.Goals as goal
+
+pub add-requires : goal.add-requires
+add-requires c =
+    let within = counts-within _ _ c.self.invariant.counted in
+    let same = length-rows c.self.inside.wide.items c.self.inside.rows.items c.self.inside.effects.items in
+    (omega (arith, within.0, c.self.inside.rows.ok.0), omega (arith, within.1, c.self.inside.rows.ok.0))
 
 pub add_all-requires : goal.add_all-requires
 add_all-requires c =
@@ -34,6 +41,12 @@ invariant_of-self c =
       prepared_within = c.self.invariant.prepared_within;
       row_room = omega (arith, c.self.invariant.row_room);
       wide_room = omega (arith, room, c.row_of.ensures.one, c.row_of.ensures.room, c.self.invariant.wide_room);
+      counted =
+          counts-pushed _ _ (entry_with c.args.arrival c.args.effects.now) _ _ c.self.invariant.counted
+          (entries-pushed _ _ _ _ _ _ _ c.self.invariant.in_order
+          (rows-pushed _ _ _ _ _ _ _ c.self.invariant.there c.push_reserved.ensures.items c.row_of.ensures.kept.1 c.row_of.ensures.says)
+          c.add_all.ensures.added (omega arith))
+          (c.add.ensures.envelopes c.args.effects.now) (c.add.ensures.restarts c.args.effects.now);
       effect_room = omega (arith, room, c.add_all.ensures.more, c.requires.within_limit, c.self.invariant.effect_room, c.add_all.ensures.room);
     }
 

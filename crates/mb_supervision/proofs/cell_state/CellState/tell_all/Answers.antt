@@ -12,4 +12,4 @@ returns-clause-told c told who =
     (c.tell_all.ensures.told c.if-not-tell_all.false)
     ∙ (ap (λ (s : CellState). record s { acts = stop_acts c.args.effects.now; is_ready = false }) c.self.view_is
     ∙ handled-telling who c.args.body c.args.answer c.args.effects.now c.args.self.now (c.tell_all.ensures.tells c.if-not-tell_all.false)
-    (c.is_calm.ensures.no_failure c.if-not-is_calm.false) (c.is_calm.ensures.same_due c.if-not-is_calm.false c.args.self.now.due))
+    (c.changes_by_effects_alone.ensures.no_failure c.if-not-changes_by_effects_alone.false) (c.changes_by_effects_alone.ensures.same_due c.if-not-changes_by_effects_alone.false c.args.self.now.due))

@@ -1,6 +1,6 @@
 use Rattle.std.proofs.Common.{◌≡◌, ◌*◌, ◌≤◌, ◌^◌, take}
 use Rattle.mb_report.specs.Counts.{refused_to}
-use Rattle.mb_report.proofs.counts.refused_to.Given as goal
+use Rattle.mb_report.proofs.refused.refused_to.Given as goal
 
 -- the letters of the senders so far are counted
 abbrev pub invariant-loop-sender : goal.invariant-loop-sender
