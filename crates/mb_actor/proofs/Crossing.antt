@@ -3,7 +3,6 @@ use denote.RattleType.{RattleType}
 use denote.Param.Send.{IsSend, sendable, view_send}
 use denote.Param.SendFields.{declared_send}
 use Rattle.std.proofs.Crossing.{crosses as std_crosses}
-use Rattle.arrayvec.proofs.array_vec.ArrayVec.TheSendSync as array_vec
 use Rattle.mb_actor.proofs.effect.Effect.TheSendSync as effect
 use Rattle.mb_actor.proofs.actor_set.ActorSet.TheSendSync as actor_set
 use Rattle.mb_actor.specs.declared.actor.Actor as actor
@@ -11,15 +10,23 @@ use Rattle.mb_actor.specs.contracts.recorded_actor.RecordedActor as called
 use Rattle.mb_actor.specs.contracts.recorded_actor.RecordedActor.TheInside as called_inside
 use Rattle.mb_actor.specs.contracts.history.History as history
 use Rattle.mb_actor.specs.contracts.history.History.TheInside as history_inside
+use Rattle.mb_actor.specs.contracts.effect_list.EffectList as effect_list
+use Rattle.mb_actor.specs.contracts.effect_list.EffectList.TheInside as effect_list_inside
 use Rattle.mb_actor.specs.contracts.outbox.Outbox as outbox
 use Rattle.mb_actor.specs.contracts.outbox.Outbox.TheInside as outbox_inside
 
 history_send : IsSend history.the_row
 history_send = view_send _ _ _ _ _ (declared_send history_inside.the_type (search (sendable, std_crosses) depth 20, tt))
 
+effect_list_send : IsSend effect_list.the_row
+effect_list_send = view_send _ _ _ _ _ (declared_send effect_list_inside.the_type (
+  search (sendable, std_crosses, effect.the_send) depth 20,
+  (search sendable, tt),
+))
+
 pub outbox_send : IsSend outbox.the_row
 outbox_send = view_send _ _ _ _ _ (declared_send outbox_inside.the_type (
-  search (sendable, std_crosses, array_vec.the_send, effect.the_send) depth 30,
+  effect_list_send,
   (
     search sendable,
     (

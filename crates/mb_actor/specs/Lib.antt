@@ -6,3 +6,4 @@ pub mod Held
 pub mod Outbox
 pub mod CallList
 pub mod OutboxView
+pub mod EffectListView

@@ -12,6 +12,7 @@ mod behaviours;
 mod boxed;
 mod call;
 mod effect;
+mod effect_list;
 mod history;
 mod message;
 mod outbox;

@@ -7,10 +7,9 @@ ghost use Rattle.mb_actor.specs.OutboxView.{added, answer_of, may_spawn, refusal
 
 use crate::actor_set::ActorSet;
 use crate::effect::Effect;
+use crate::effect_list::EffectList;
 use crate::outbox_error::OutboxError;
-use arrayvec::ArrayVec;
 use mb_msg::ActorId;
-use mb_msg::limits::EFFECTS;
 use std::marker::Model;
 use std::snapshot::Snapshot;
 
@@ -20,7 +19,7 @@ use std::snapshot::Snapshot;
 /// It never takes memory, and is made ready for the next call in a few steps.
 #[derive(Drop)]
 pub struct Outbox {
-    effects: ArrayVec<Effect, EFFECTS>,
+    effects: EffectList,
     actors: u32,
     /// The children that may still be spawned.
     unspawned: ActorSet,
@@ -59,7 +58,7 @@ impl Outbox {
             unspawned.insert(*id);
         }
         Outbox {
-            effects: ArrayVec::new(),
+            effects: EffectList::new(),
             actors,
             unspawned,
             asked: ActorSet::new(),
@@ -145,7 +144,7 @@ impl Outbox {
         ensures { self.new ≡ record self.old { effects = [] } }
     {
         self.asked = ActorSet::new();
-        self.effects.clear();
+        self.effects.truncate(0);
     }
 
     /// Puts the effect last, unless it is refused.

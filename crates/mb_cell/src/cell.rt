@@ -47,9 +47,9 @@ use std::marker::{Model, PhantomData};
 pub struct Cell<A: Actor, K: Behaviours> {
     place: ActorIdentity,
     actor: Option<RecordedActor<A>>,
-    outbox: Outbox,
     journal: Journal,
     cell_state: CellState,
+    outbox: Outbox,
     behaviours: PhantomData<K>,
 }
 

@@ -19,7 +19,7 @@ pub const GATE: usize = 17;
 /// A slot: the actor's home, and nothing while a claim has it.
 pub const CELL: usize = 0;
 
-/// A slot: the list of system messages, and nothing while a seat has it out.
+/// A slot: the list of system messages. It stays there: who changes it has locked its gate before.
 pub const LIST: usize = 1;
 
 /// Where a word of an actor lies. An actor has thirty-two, four cache lines. Wherever the first actor's begin (at an even word, as

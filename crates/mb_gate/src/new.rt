@@ -8,6 +8,7 @@ ghost use Rattle.mb_gate.specs.Accessors.{gates_id, pass_id, actors_of, first_ho
 use crate::gates::Gates;
 use crate::gates_key::GatesKey;
 use crate::idle_workers::IdleWorkers;
+use crate::layout::STATUS;
 use crate::mailbox_state::MailboxState;
 use crate::pass::Pass;
 use crate::slot::Slot;
@@ -93,10 +94,9 @@ fn rows<H: MailboxState>(alloc: Global, homes: &[H]) -> Result<Vec<u64>, AllocEr
 fn push_row(words: &mut Vec<u64>, word: u64) -> Result<(), AllocError>
     ensures { OnOk result (words.new.items ≡ words.old.items ++ row_of word) }
 {
-    words.extend_from_slice(&[
-        0, 0, 0, 0, 0, 0, 0, 0, 0, 0, 0, 0, 0, 0, 0, 0, word, 0, 0, 0, 0, 0, 0, 0, 0, 0, 0, 0, 0,
-        0, 0, 0,
-    ])
+    let mut row = [0; 32];
+    row[STATUS] = word;
+    words.extend_from_slice(&row)
 }
 
 // The slots of all actors, and the vector in which the homes were.

@@ -21,18 +21,27 @@ module _ (A K : RattleType) (gA : actor.Ghosts A.Denot) (gK : behaviours.Ghosts 
     (
       cell_send A K gA gK a k,
       (
-        take_pass_send,
+        chain_send,
         (
-          search (sendable, std_crosses, send_pass_send) depth 20,
+          search sendable,
           (
-            chain_send,
+            take_pass_send,
             (
-              search sendable,
+              search (sendable, std_crosses, send_pass_send) depth 20,
               (
                 search (sendable, std_crosses, dead_letter.the_send) depth 20,
                 (
                   search (sendable, std_crosses, envelope.the_send) depth 20,
-                  (search sendable, (search sendable, (search (sendable, std_crosses) depth 20, tt))),
+                  (
+                    search sendable,
+                    (
+                      search sendable,
+                      (
+                        search (sendable, std_crosses) depth 20,
+                        tt,
+                      ),
+                    ),
+                  ),
                 ),
               ),
             ),

@@ -25,10 +25,10 @@ mod tells;
 pub struct Home<A: Actor, K: Behaviours> {
     id: ActorId,
     cell: Cell<A, K>,
-    take: TakePass,
-    sends: Vec<SendPass>,
     rest: Chain,
     sent: u64,
+    take: TakePass,
+    sends: Vec<SendPass>,
     dead: Vec<DeadLetter>,
     cleaned: Vec<Envelope>,
     aside_dead: u64,

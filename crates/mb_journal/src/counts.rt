@@ -16,7 +16,7 @@ pub(crate) struct Counts {
 
 impl Counts {
     /// Those of a journal without entries.
-    pub(crate) fn zero() -> Counts
+    pub(crate) fn none() -> Counts
         ensures { result ≡ record { envelopes = 0; restarts = 0 } }
     {
         Counts {

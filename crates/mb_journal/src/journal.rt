@@ -22,21 +22,21 @@ use std::alloc::{AllocError, Global};
 use std::marker::Model;
 
 /// For how many more entries room is made at once at most.
-const MOST_AT_ONCE: usize = 16;
+const MOST_AT_ONCE: usize = 64;
 
 /// What came to an actor and what became of that (this project's own profile: Akka keeps no journal).
 ///
 /// `ready` makes room for an entry beforehand, so that adding one takes no memory.
 pub struct Journal {
     rows: Vec<Row>,
-    /// The entries that do not fit into a row.
-    wide: Vec<Received>,
-    effects: Vec<Effect>,
-    limit: u32,
-    ready: bool,
+    counts: Counts,
     /// Up to this many entries there is room, each with as many effects as a call may ask for.
     prepared: usize,
-    counts: Counts,
+    limit: u32,
+    ready: bool,
+    effects: Vec<Effect>,
+    /// The entries that do not fit into a row.
+    wide: Vec<Received>,
 }
 
 // `Drop` is written by hand: with a derived one, each crate above would prove again how the fields are dropped.
@@ -79,7 +79,7 @@ impl Journal {
             limit,
             ready: false,
             prepared: 0,
-            counts: Counts::zero(),
+            counts: Counts::none(),
         }
     }
 
@@ -282,9 +282,9 @@ fn room_of<T>(list: &Vec<T>) -> usize
 /// Makes room for this many more items, unless there is room already.
 ///
 /// A list of fewer than 32 items gets room for at least four times as many, and a longer one for 8,192 more, so that items
-/// are seldom moved. Memory that is not written yet costs nothing.
+/// are seldom moved. Memory that is not written yet is mostly not taken from the machine.
 fn make_room<T>(list: &mut Vec<T>, more: usize) -> Result<(), AllocError>
-    requires { more ≤ 256 }
+    requires { more ≤ 1_024 }
     ensures room { OnOk result (vec_len list.new + more ≤ vec_capacity list.new) }
     ensures no_less { vec_capacity list.old ≤ vec_capacity list.new }
     ensures same { (vec_len list.new ≡ vec_len list.old) × (list.new.items ≡ list.old.items) }

@@ -197,8 +197,14 @@ fn try_push_first<H: MailboxState>(
     ensures same { parts_of (endpoint_of (port_view shared_port.new) member.new) ≡ parts_of (endpoint_of (port_view shared_port.old) member.old) }
 {
     match member {
-        None => return shared_port.try_push(claim),
-        Some(member) => return member.own_deque.push(claim),
+        None => match shared_port.try_push(claim) {
+            Ok(()) => return Ok(()),
+            Err(back) => return Err(back),
+        },
+        Some(member) => match member.own_deque.push(claim) {
+            Ok(()) => return Ok(()),
+            Err(back) => return Err(back),
+        },
     }
 }
 
@@ -215,7 +221,13 @@ fn try_take_first<H: MailboxState>(
     ensures same { parts_of (endpoint_of (port_view shared_port.new) member.new) ≡ parts_of (endpoint_of (port_view shared_port.old) member.old) }
 {
     match member {
-        None => return shared_port.try_take(),
-        Some(member) => return member.own_deque.take(),
+        None => match shared_port.try_take() {
+            Some(claim) => return Some(claim),
+            None => return None,
+        },
+        Some(member) => match member.own_deque.take() {
+            Some(claim) => return Some(claim),
+            None => return None,
+        },
     }
 }

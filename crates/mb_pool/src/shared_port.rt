@@ -82,7 +82,10 @@ impl<H: MailboxState> SharedPort<H> {
             (λ back. (back ≡ claim) × (port_view self.new ≡ port_view self.old)) }
     {
         match self {
-            SharedPort::Bounded(port) => return port.try_push(claim),
+            SharedPort::Bounded(port) => match port.try_push(claim) {
+                Ok(()) => return Ok(()),
+                Err(back) => return Err(back),
+            },
             SharedPort::Unbounded(_) => return Err(claim),
         }
     }
@@ -98,7 +101,10 @@ impl<H: MailboxState> SharedPort<H> {
             (port_view self.new).ledger) }
     {
         match self {
-            SharedPort::Bounded(port) => return port.try_take(),
+            SharedPort::Bounded(port) => match port.try_take() {
+                Some(claim) => return Some(claim),
+                None => return None,
+            },
             SharedPort::Unbounded(_) => return None,
         }
     }

@@ -64,8 +64,8 @@ impl<H: MailboxState> Slots<H> {
             .queue
             .try_push_as::<Pushed>(pass, PooledClaim::new(claim))
         {
-            Ok(()) => Ok(()),
-            Err(pooled) => Err(pooled.open()),
+            Ok(()) => return Ok(()),
+            Err(pooled) => return Err(pooled.open()),
         }
     }
 
@@ -79,8 +79,8 @@ impl<H: MailboxState> Slots<H> {
             (λ c. TakesFirst (IsUntouched H.is_of H.facts) (view pass.old) c (view pass.new)) }
     {
         match self.queue.try_pop_as::<Taken>(pass) {
-            Some(pooled) => Some(pooled.open()),
-            None => None,
+            Some(pooled) => return Some(pooled.open()),
+            None => return None,
         }
     }
 

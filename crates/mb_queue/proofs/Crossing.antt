@@ -32,4 +32,4 @@ send_pass_send = view_send _ _ _ _ _ (declared_send send_inside.the_type (
 
 pub take_pass_send : IsSend take_pass.the_row
 take_pass_send = view_send _ _ _ _ _ (declared_send take_inside.the_type
-    (port.the_send, (order_send, (search (sendable, log_send) depth 20, (search (sendable, log_send) depth 20, tt)))))
+    (port.the_send, (order_send, (search sendable, (search (sendable, log_send) depth 20, (search (sendable, log_send) depth 20, tt))))))

@@ -101,6 +101,7 @@ fn begin(main: Port, order: TakeOrder) -> TakePass
     TakePass {
         main,
         order,
+        found_none: false,
         taken: Log::new(),
         accounts: Log::new(),
     }
@@ -115,6 +116,7 @@ fn lend(take: TakePass, by: SenderId) -> Result<(TakePass, SendPass), AllocError
     let TakePass {
         mut main,
         mut order,
+        found_none,
         taken,
         mut accounts,
     } = take;
@@ -127,6 +129,7 @@ fn lend(take: TakePass, by: SenderId) -> Result<(TakePass, SendPass), AllocError
     let take = TakePass {
         main,
         order,
+        found_none,
         taken,
         accounts,
     };

@@ -1,5 +1,5 @@
 //! A port of a fifo: it pushes for one sender, or it takes.
-ghost use Rattle.std.specs.Prelude.{◌≡◌, ◌<◌, [], Some, None, IfOk, MatchOption, MatchResult, IfErr};
+ghost use Rattle.std.specs.Prelude.{◌≡◌, ◌<◌, [], Some, None, IfOk, IsTrue, MatchOption, MatchResult, IfErr};
 ghost use Rattle.mb_queue.specs.declared.ledger.Ledger.TheVariants.{Taker};
 ghost use Rattle.mb_queue.specs.Ledger.{IsSender, IsTaker, IsUnused, MayLend, MayPush, pushing, scope_of, taking, lending, borrowing, joining};
 ghost use Rattle.mb_queue.specs.Rule.{FoundEmpty, FoundNext, IsFifoRefusal};
@@ -113,6 +113,19 @@ impl Port {
         match &mut self.end {
             End::Unbounded(blocks, pass) => blocks.queue.pop_as::<FifoTake, R>(rt, pass),
             End::Bounded(slots, pass) => slots.queue.pop_as::<FifoTake, R>(rt, pass),
+        }
+    }
+
+    /// Whether the fifo is empty: `true` only if it was so at a moment of the call.
+    #[inline(always)]
+    pub fn is_empty(&mut self) -> bool
+        requires { IsTaker self.old.ledger }
+        ensures same { self.new ≡ self.old }
+        ensures empty { IsTrue result → FoundEmpty self.old.ledger }
+    {
+        match &mut self.end {
+            End::Unbounded(blocks, pass) => blocks.queue.is_empty_as::<FifoTake>(pass),
+            End::Bounded(slots, pass) => slots.queue.is_empty_as::<FifoTake>(pass),
         }
     }
 

@@ -17,9 +17,15 @@ pub enum TakeOrder {
     ByRank(PriorityState),
 }
 
-/// Takes the next envelope.
+/// Takes the next envelope. `found_none` says whether the take before found none: then the fifo is looked at first, which costs less
+/// than a take of nothing.
 #[inline(always)]
-pub fn take_next<R: Wait>(rt: &R, main: &mut Port, order: &mut TakeOrder) -> Option<Envelope>
+pub fn take_next<R: Wait>(
+    rt: &R,
+    main: &mut Port,
+    order: &mut TakeOrder,
+    found_none: &mut bool,
+) -> Option<Envelope>
     requires { AllTake main.old order.old }
     ensures { IsStep main.old order.old result main.new order.new }
 {
@@ -28,7 +34,17 @@ pub fn take_next<R: Wait>(rt: &R, main: &mut Port, order: &mut TakeOrder) -> Opt
         let next = take_by_order(rt, main, order);
         return next;
     };
-    main.take(rt)
+    if *found_none {
+        if main.is_empty() {
+            return None;
+        }
+        *found_none = false;
+    }
+    let next = main.take(rt);
+    if next.is_none() {
+        *found_none = true;
+    }
+    next
 }
 
 /// Takes the next envelope, in whatever order.

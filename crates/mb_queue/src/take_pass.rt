@@ -22,6 +22,8 @@ pub struct TakePass {
     pub(crate) main: Port,
     /// The order, with what it needs: another port, or the envelopes that are held.
     pub(crate) order: TakeOrder,
+    /// Whether the last take found none.
+    pub(crate) found_none: bool,
     /// What it gave, for proofs alone.
     pub(crate) taken: Log<Envelope>,
     /// The accounts of the senders, for proofs alone.
@@ -60,7 +62,7 @@ impl TakePass {
         ensures emptied { IfNone result (AllJoined self.new → NothingLeft self.new) }
         ensures ended { NothingLeft self.old → result ≡ None }
     {
-        let next = take_next(rt, &mut self.main, &mut self.order);
+        let next = take_next(rt, &mut self.main, &mut self.order, &mut self.found_none);
         add_taken(&mut self.taken, &next);
         next
     }

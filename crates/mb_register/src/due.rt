@@ -91,39 +91,12 @@ pub(crate) fn is_due<H: MailboxState>(
     status.can_schedule(messages, system)
 }
 
-/// The claim of an actor that is due. `None` if a worker took it first, or it was closed, or it is due no longer: then the pass
-/// owes it nothing. An exchange that loses is tried again.
-#[inline(always)]
-pub(crate) fn take_due<H: MailboxState, R: Wait>(
-    rt: &R,
-    gates: &Gates<H>,
-    pass: &mut Pass<H>,
-    id: ActorId,
-    hint: Hint,
-) -> Option<Claim<H>>
-    requires same_gates { pass_id pass.old ≡ gates_id gates.now }
-    requires present { id.0 < actors_of gates.now }
-    ensures same_gates { pass_id pass.new ≡ pass_id pass.old }
-    ensures looks { LooksAfter id.0 (pass_view pass.old) (pass_view pass.new) }
-    ensures claims { MatchOption result (GotAndGaveBack [] [] (pass_view pass.old) (pass_view pass.new))
-        (λ _. GotAndGaveBack (id.0 ∷ []) [] (pass_view pass.old) (pass_view pass.new)) }
-    ensures discharged { obligation_to id.0 (pass_view pass.new) ≡ nothing }
-    ensures claim { IfSome result (λ claim. (held_actor claim ≡ id.0)
-        × IsUntouched H.is_of H.facts (Some (origin_of gates.now)) claim) }
-{
-    match gates.try_schedule(pass, id) {
-        Tried::Got(claim) => Some(claim),
-        Tried::Already => None,
-        Tried::Closed => None,
-        Tried::Lost(_) => take_due_again(rt, gates, pass, id, hint),
-    }
-}
-
-/// The same, of an actor whose exchange lost. It is a function of its own, so that where the first exchange wins, the claim
-/// stays in registers.
+/// The claim of an actor that was due when an exchange for it lost. `None` if a worker took it first, or it was closed, or it is
+/// due no longer: then the pass owes it nothing. An exchange that loses is tried again. It is a function of its own, so that
+/// where the first exchange wins, the claim stays in registers.
 #[cold]
 #[inline(never)]
-fn take_due_again<H: MailboxState, R: Wait>(
+pub(crate) fn take_due_again<H: MailboxState, R: Wait>(
     rt: &R,
     gates: &Gates<H>,
     pass: &mut Pass<H>,

@@ -9,11 +9,11 @@ ghost use Rattle.mb_register.specs.Due.{GotOnlyDue};
 ghost use Rattle.mb_register.specs.Views.{LooksAfter};
 ghost use Rattle.mb_register.specs.Registering.{HandsClaimOn, IsRegistered, JoinAsOwed};
 
-use crate::due::{is_due, take_due};
+use crate::due::{is_due, take_due_again};
 use crate::hint::Hint;
 use crate::owed::Owed;
 use crate::untouched::give_home;
-use mb_gate::{Gates, MailboxState, Pass, RefusedClaim, RunQueue};
+use mb_gate::{Gates, MailboxState, Pass, RefusedClaim, RunQueue, Tried};
 use mb_msg::ActorId;
 use std::sync::Wait;
 
@@ -79,7 +79,48 @@ impl<H: MailboxState, W: RunQueue<H>> Registrar<H, W> {
             (pass_view self.old.pass) (pass_view self.new.pass) result }
         ensures told { self.new.told ≡ self.old.told }
     {
-        let Some(claim) = take_due(rt, gates, &mut self.pass, id, hint) else {
+        // Each answer is given in its own arm, and the claim is handed on right where it was got: so it stays in registers.
+        match gates.try_schedule(&mut self.pass, id) {
+            Tried::Got(claim) => match self.run_queue.push(rt, claim) {
+                Ok(()) => return true,
+                Err(RefusedClaim { claim }) => {
+                    give_home(gates, &mut self.pass, claim);
+                    self.owed.insert(id);
+                    return false;
+                }
+            },
+            Tried::Already => return false,
+            Tried::Closed => return false,
+            Tried::Lost(_) => return self.register_due_again(rt, gates, id, hint),
+        }
+    }
+
+    // The same, of an actor whose exchange lost.
+    #[cold]
+    #[inline(never)]
+    fn register_due_again<R: Wait>(
+        &mut self,
+        rt: &R,
+        gates: &Gates<H>,
+        id: ActorId,
+        hint: Hint,
+    ) -> bool
+        requires same_gates { (pass_id self.old.pass ≡ gates_id gates.now) × (W.origin self.old.run_queue ≡ Some (origin_of gates.now)) }
+        requires present { (id.0 < actors_of gates.now) × (id.0 < 64) }
+        ensures same_gates { (pass_id self.new.pass ≡ pass_id self.old.pass) × (W.origin self.new.run_queue ≡ W.origin self.old.run_queue) }
+        ensures looks { LooksAfter id.0 (pass_view self.old.pass) (pass_view self.new.pass) }
+        ensures discharged { (obligation_to id.0 (pass_view self.new.pass) ≡ nothing) ⊎ (is_owed self.new.owed id.0 ≡ true) }
+        ensures owes { JoinAsOwed self.old.owed self.new.owed (pass_view self.new.pass) }
+        ensures registered { IsRegistered id.0
+            (record { pushed = W.pushed self.old.run_queue; refused = W.refused self.old.run_queue; owed = self.old.owed })
+            (record { pushed = W.pushed self.new.run_queue; refused = W.refused self.new.run_queue; owed = self.new.owed }) result }
+        ensures handed { HandsClaimOn id.0
+            (record { pushed = W.pushed self.old.run_queue; refused = W.refused self.old.run_queue; owed = self.old.owed })
+            (record { pushed = W.pushed self.new.run_queue; refused = W.refused self.new.run_queue; owed = self.new.owed })
+            (pass_view self.old.pass) (pass_view self.new.pass) result }
+        ensures told { self.new.told ≡ self.old.told }
+    {
+        let Some(claim) = take_due_again(rt, gates, &mut self.pass, id, hint) else {
             return false;
         };
         match self.run_queue.push(rt, claim) {

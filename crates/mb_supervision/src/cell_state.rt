@@ -32,21 +32,21 @@ use std::marker::Model;
 /// (fields of Akka's `ActorCell`, `Children`, `DeathWatch` and `FaultHandling`).
 #[derive(Drop)]
 pub struct CellState {
-    phase: Phase,
-    count: u64,
-    failed: FailedBy,
-    children: Vec<ActorId>,
-    watchers: Vec<ActorId>,
-    watching: Vec<ActorId>,
-    due: Vec<ActorId>,
-    aside: Vec<(u64, SysMsg)>,
-    was_live: bool,
-    retries: Vec<(ActorId, u64)>,
-    acts: ActQueue,
-    fanout: usize,
     ready: bool,
     /// Whether the room for a message is still there, since the last message used none of it.
     unused: bool,
+    phase: Phase,
+    was_live: bool,
+    count: u64,
+    failed: FailedBy,
+    fanout: usize,
+    acts: ActQueue,
+    aside: Vec<(u64, SysMsg)>,
+    due: Vec<ActorId>,
+    children: Vec<ActorId>,
+    watchers: Vec<ActorId>,
+    watching: Vec<ActorId>,
+    retries: Vec<(ActorId, u64)>,
 }
 
 impl Model for CellState {

@@ -36,7 +36,7 @@ impl CellState {
         if self.tell_all(body, answer, effects) {
             return;
         }
-        end_was_told(body, &mut self.due);
+        forget_told_end(body, &mut self.due);
         self.handle_all(place, failure_of(body, answer), effects);
     }
 
@@ -132,9 +132,9 @@ fn changes_by_effects_alone(body: Body, answer: Option<Answer>) -> bool
     )
 }
 
-/// After a Terminated its actor's end is no longer to be told.
+/// Takes the actor of a Terminated out of those whose end is still to be told.
 #[inline(always)]
-fn end_was_told(body: Body, due: &mut Vec<ActorId>)
+fn forget_told_end(body: Body, due: &mut Vec<ActorId>)
     ensures items { due.new.items ≡ due_told body due.old.items }
     ensures no_more { vec_len due.new ≤ vec_len due.old }
     ensures capacity { vec_capacity due.old ≤ vec_capacity due.new }

@@ -14,7 +14,7 @@ invariant_of-result c = record {
   row_room = omega arith;
   wide_room = omega arith;
   effect_room = omega arith;
-  counted = rw c.zero.ensures (rw c.new.ensures.items (record { envelopes = refl; restarts = refl }));
+  counted = rw c.none.ensures (rw c.new.ensures.items (record { envelopes = refl; restarts = refl }));
 }
 
 pub returns : goal.returns
