@@ -55,7 +55,7 @@ fn measure<R: Clock + Threads + Wait + Sync>(
     kind: PoolKind,
     ends: u32,
 ) -> Made
-    requires { 0 < ends }
+    requires { (0 < ends) × (ends ≤ 4) }
 {
     let (gates, mut pass) = gates_of(alloc, ends as usize).ok()?;
     measure_at(rt, alloc, &gates, &mut pass, kind, ends)

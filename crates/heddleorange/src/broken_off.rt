@@ -78,7 +78,7 @@ fn missing(actors: &[Option<UnfinishedActor>]) -> ActorId
 {
     for number in 0..actors.len() {
         if actors[number].is_none() {
-            return ActorId(number as u32);
+            return ActorId(number as u16);
         }
     }
     unreachable!()

@@ -37,7 +37,7 @@ impl Names {
         }
         for (place, text) in self.texts.iter().enumerate() {
             if name == text.as_str() {
-                return Some(ActorId(place as u32 + 1));
+                return Some(ActorId(place as u16 + 1));
             }
         }
         None

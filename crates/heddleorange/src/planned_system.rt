@@ -212,7 +212,7 @@ impl<A: Actor> PlannedSystem<A> {
         self.plan.actors.push_reserved(plan);
         self.actors.push_reserved(actor);
         self.names.texts.push_reserved(name);
-        Ok(ActorId(self.actors.len() as u32))
+        Ok(ActorId(self.actors.len() as u16))
     }
 
     // Makes room for one actor more, with its plan and its name.

@@ -104,7 +104,7 @@ fn write_form<W: Write>(
 }
 
 /// The numbers of the actors with these names, of which each is one of the scenario's or the guardian's.
-fn numbers_of(alloc: Global, wanted: &[String], names: &[String]) -> Result<Vec<u32>, Failure> {
+fn numbers_of(alloc: Global, wanted: &[String], names: &[String]) -> Result<Vec<u16>, Failure> {
     let mut numbers = Vec::new(alloc);
     for name in wanted {
         match number_of(name.as_str(), names) {
@@ -118,7 +118,7 @@ fn numbers_of(alloc: Global, wanted: &[String], names: &[String]) -> Result<Vec<
     Ok(numbers)
 }
 
-fn number_of(wanted: &str, names: &[String]) -> Option<u32> {
+fn number_of(wanted: &str, names: &[String]) -> Option<u16> {
     if wanted == "guardian" {
         return Some(0);
     }

@@ -30,8 +30,11 @@ outbox_send = view_send _ _ _ _ _ (declared_send outbox_inside.the_type (
   (
     search sendable,
     (
-      search (sendable, actor_set.the_send) depth 20,
-      (search (sendable, actor_set.the_send) depth 20, (search (sendable, std_crosses) depth 20, tt)),
+      search sendable,
+      (
+        search (sendable, actor_set.the_send) depth 20,
+        (search (sendable, actor_set.the_send) depth 20, (search (sendable, std_crosses) depth 20, tt)),
+      ),
     ),
   ),
 ))

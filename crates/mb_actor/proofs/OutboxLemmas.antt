@@ -1,7 +1,8 @@
 -- What an outbox answers, from what it keeps.
 use Rattle.std.proofs.Common.{ℕ, ◌+◌, ◌^◌, ◌<◌, ◌≤◌, ◌≡◌, Bool, true, false, not, ◌&&◌, ◌||◌, cond, if◌then◌else◌}
 use Rattle.std.proofs.Common.{List, [], ◌∷◌, ◌++◌, length, get_or, take, take_all, filter, ap, sym, ◌∙◌, subst, refl, Some, None, arith, rules}
-use Rattle.std.proofs.lemmas.List.Folds.{list_any-append, list_any_more}
+use Rattle.std.specs.List.{list_all}
+use Rattle.std.proofs.lemmas.List.Folds.{list_all-append, list_any-append, list_any_more}
 use Rattle.std.proofs.lemmas.Bool.Decides.{nat_tests}
 use Rattle.std.proofs.lemmas.Map.Views.{any-filter_same}
 use Rattle.std.proofs.lemmas.List.Elements.{filter_agree, filter_map-append}
@@ -11,7 +12,7 @@ use Rattle.mb_actor.specs.ActorSet.{contains}
 use Rattle.mb_actor.proofs.ActorSetLemmas.{no_bit_above}
 use Rattle.mb_actor.specs.Held.{CanHold}
 use Rattle.mb_actor.specs.Outbox.{IsOutbox, outbox_view_of}
-use Rattle.mb_actor.specs.OutboxView.{OutboxView, refusal, is_actor, actor_of, may_spawn, spawn_of, spawns_of}
+use Rattle.mb_actor.specs.OutboxView.{OutboxView, refusal, is_actor, actor_of, is_tell, may_spawn, spawn_of, spawns_of}
 use Rattle.mb_actor.specs.declared.actor_set.ActorSet.{ActorSet}
 use Rattle.mb_actor.specs.declared.effect.Effect.{Effect}
 use Rattle.mb_actor.specs.declared.effect.Effect.TheVariants as effect
@@ -103,15 +104,21 @@ has-push effects e x =
     ap (λ l. has l x) (filter_map-append spawn_of effects (e ∷ [])) ∙ list_any-append (is_same x) (spawns_of effects) (spawns_of (e ∷ []))
     ∙ or_comm (has (spawns_of effects) x) (has (spawns_of (e ∷ [])) x)
 
+and-true : (a b : Bool) → (a && b) ≡ (a && (b && true))
+and-true a b = grind rules
+
 -- one effect more, and the set of those that are to be spawned with it
 pub with_effect : (o : Inside) → IsOutbox o → (tray : OutboxView) → outbox_view_of o ≡ tray → (e : Effect) → None ≡ refusal tray e →
     CanHold (record tray { effects = tray.effects ++ e ∷ [] }) → (new : Inside) → new.effects.items ≡ o.effects.items ++ e ∷ [] →
     new.actors ≡ o.actors → new.unspawned ≡ o.unspawned → new.prepared ≡ o.prepared →
-    ((x : ActorId) → contains new.asked x ≡ (has (spawns_of (e ∷ [])) x || contains o.asked x)) → IsOutbox new
-with_effect o kept tray view e goes more new items same_actors same_set same_list says = record {
+    ((x : ActorId) → contains new.asked x ≡ (has (spawns_of (e ∷ [])) x || contains o.asked x)) →
+    new.only_tells ≡ (o.only_tells && is_tell e) → IsOutbox new
+with_effect o kept tray view e goes more new items same_actors same_set same_list says tells = record {
   prepared = λ x here. ap (λ p. has p.value.items x) same_list ∙ kept.prepared x (ap (λ s. contains s x) (sym same_set) ∙ here);
   asked = λ x. says x ∙ ap (λ b. has (spawns_of (e ∷ [])) x || b) (kept.asked x) ∙ sym (has-push o.effects.items e x)
       ∙ ap (λ l. has (spawns_of l) x) (sym items);
+  telling = tells ∙ ap (λ b. b && is_tell e) kept.telling ∙ and-true (list_all is_tell o.effects.items) (is_tell e)
+      ∙ sym (list_all-append is_tell o.effects.items (e ∷ [])) ∙ ap (list_all is_tell) (sym items);
   held =
       subst (λ (t : OutboxView). CanHold t)
       (sym (same_tray (outbox_view_of new) (record tray { effects = tray.effects ++ e ∷ [] })

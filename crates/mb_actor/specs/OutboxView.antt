@@ -1,5 +1,5 @@
 -- An outbox as contracts see it: what it holds, what an actor may ask for, and what it holds after.
-use Rattle.std.specs.Prelude.{ℕ, ◌==◌, Bool, true, not, ◌&&◌, if◌then◌else◌, List, [], ◌∷◌, ◌++◌, length, filter}
+use Rattle.std.specs.Prelude.{ℕ, ◌==◌, Bool, true, false, not, ◌&&◌, if◌then◌else◌, List, [], ◌∷◌, ◌++◌, length, filter}
 use Rattle.std.specs.Prelude.{nat_lt, nat_le, Option, Some, None, Result, Ok, Err}
 use Rattle.std.specs.List.{filter_map}
 use Rattle.mb_msg.specs.declared.id.ActorId.{ActorId}
@@ -24,6 +24,12 @@ actor_of (effect.Watch x) = x
 actor_of (effect.Unwatch x) = x
 actor_of (effect.Stop x) = x
 actor_of (effect.Spawn x) = x
+
+-- whether an effect is a tell, of a control message too (`ActorRef.tell`)
+abbrev pub is_tell : Effect → Bool
+is_tell (effect.Tell to kind value) = true
+is_tell (effect.Control to kind value) = true
+is_tell _ = false
 
 -- what fills the places of an outbox without an effect: one that no actor can ask for (this project's own profile)
 abbrev pub blank : Effect

@@ -25,7 +25,7 @@ impl ActorSet {
     pub(crate) fn contains(self, id: ActorId) -> bool
         ensures { result ≡ contains self id }
     {
-        id.0 < ACTORS && (self.bits >> id.0) & 1 == 1
+        u32::from(id.0) < ACTORS && (self.bits >> id.0) & 1 == 1
     }
 
     pub(crate) fn insert(&mut self, id: ActorId)

@@ -1,6 +1,6 @@
 //! Effects: what an actor asks for during a call.
 ghost use Rattle.std.specs.Prelude.{◌≡◌};
-ghost use Rattle.mb_actor.specs.OutboxView.{actor_of};
+ghost use Rattle.mb_actor.specs.OutboxView.{actor_of, is_tell};
 
 use mb_msg::ActorId;
 
@@ -31,6 +31,14 @@ impl Effect {
             Effect::Tell { to, .. } | Effect::Control { to, .. } => to,
             Effect::Watch(id) | Effect::Unwatch(id) | Effect::Stop(id) | Effect::Spawn(id) => id,
         }
+    }
+
+    /// Whether it is a tell, of a control message too.
+    #[inline]
+    pub fn is_tell(&self) -> bool
+        ensures { result ≡ is_tell self.now }
+    {
+        matches!(*self, Effect::Tell { .. } | Effect::Control { .. })
     }
 }
 

@@ -1,9 +1,9 @@
 //! The outbox, by which an actor asks for effects.
 ghost use Rattle.std.specs.Prelude.{◌≡◌, ◌<◌, ◌≤◌, [], length};
-ghost use Rattle.std.specs.List.{All};
+ghost use Rattle.std.specs.List.{All, list_all};
 ghost use Rattle.mb_msg.specs.Limits.{most_actors, most_effects};
 ghost use Rattle.mb_actor.specs.Held.{CanHold};
-ghost use Rattle.mb_actor.specs.OutboxView.{added, answer_of, may_spawn, refusal, settled};
+ghost use Rattle.mb_actor.specs.OutboxView.{added, answer_of, is_tell, may_spawn, refusal, settled};
 
 use crate::actor_set::ActorSet;
 use crate::effect::Effect;
@@ -21,6 +21,8 @@ use std::snapshot::Snapshot;
 pub struct Outbox {
     effects: EffectList,
     actors: u32,
+    /// Whether each effect is a tell, of a control message too.
+    only_tells: bool,
     /// The children that may still be spawned.
     unspawned: ActorSet,
     /// Those whose spawn is among the effects.
@@ -60,6 +62,7 @@ impl Outbox {
         Outbox {
             effects: EffectList::new(),
             actors,
+            only_tells: true,
             unspawned,
             asked: ActorSet::new(),
             prepared: Snapshot::of(prepared),
@@ -129,6 +132,14 @@ impl Outbox {
         self.effects.as_slice()
     }
 
+    /// Whether each effect is a tell, of a control message too.
+    #[inline]
+    pub fn has_only_tells(&self) -> bool
+        ensures { result ≡ list_all is_tell self.now.effects }
+    {
+        self.only_tells
+    }
+
     /// Makes it ready for the next call where the effects are carried out: it is empty, and the children that they
     /// start may not be spawned again.
     pub fn settle(&mut self)
@@ -144,6 +155,7 @@ impl Outbox {
         ensures { self.new ≡ record self.old { effects = [] } }
     {
         self.asked = ActorSet::new();
+        self.only_tells = true;
         self.effects.truncate(0);
     }
 
@@ -155,6 +167,7 @@ impl Outbox {
         if let Some(fault) = self.refusal(&effect) {
             return Err(fault);
         }
+        self.only_tells &= effect.is_tell();
         if let Effect::Spawn(child) = effect {
             self.asked.insert(child);
         }
@@ -170,7 +183,7 @@ impl Outbox {
         if self.effects.is_full() {
             return Some(OutboxError::OutboxFull);
         }
-        if id.0 == 0 || id.0 >= self.actors || !self.may_ask(effect) {
+        if id.0 == 0 || u32::from(id.0) >= self.actors || !self.may_ask(effect) {
             return Some(OutboxError::NoSuchActor);
         }
         None

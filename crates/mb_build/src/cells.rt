@@ -90,7 +90,7 @@ fn add_cell<A: Actor, K: Behaviours>(
     ensures cell { IfOk result (λ _. cells.new.items ≡ cells.old.items
         ++ unstarted (planned (length parents.now + 1) journal_limit parents.now (length cells.old.items) plan.parent plan.strategy) ∷ []) }
 {
-    let this = ActorId(cells.len() as u32);
+    let this = ActorId(cells.len() as u16);
     let prepared = children(alloc, this, parents)?;
     cells.push_reserved(Cell::new(
         alloc,

@@ -139,7 +139,7 @@ fn add_homes<A: Actor, K: Behaviours>(
         };
         let home = Home::new(
             alloc,
-            ActorId(homes.len() as u32),
+            ActorId(homes.len() as u16),
             cell,
             take,
             sends,

@@ -106,7 +106,7 @@ fn add_queue(
         × (IsEmpty kind (length takes.old.items) (numbers_of senders.now) take × (take.accounts ≡ map lent (numbers_of senders.now)))
         × (map (λ row. row.items) rows.new ≡ handed (map (λ row. row.items) rows.old) (map (unused take.queue) (numbers_of senders.now)))) }
 {
-    let to = ActorId(takes.len() as u32);
+    let to = ActorId(takes.len() as u16);
     let (take, sends) = MailQueue::new(alloc, kind, to, senders)?;
     takes.push(take)?;
     hand_out(rows, sends)

@@ -10,7 +10,7 @@ use std::alloc::{AllocError, Global};
 /// So many messages that are the same and go to the same actor.
 #[derive(Clone, Copy)]
 struct Row {
-    to: u32,
+    to: u16,
     message: SysMsg,
     count: u64,
 }
@@ -32,14 +32,14 @@ impl Outstanding {
     }
 
     /// Whether such a message to this actor has not come.
-    pub(crate) fn has(&self, to: u32, message: SysMsg) -> bool
+    pub(crate) fn has(&self, to: u16, message: SysMsg) -> bool
         ensures { IsTrue result → (test : ℕ → Message → Bool) → (if test to message then 1 else 0) ≤ outstanding test self.now.rows.items }
     {
         self.place_of(to, message).is_some()
     }
 
     /// So many such messages are sent to this actor. The only error: memory was refused.
-    pub(crate) fn send(&mut self, to: u32, message: SysMsg, times: u64) -> Result<(), AllocError>
+    pub(crate) fn send(&mut self, to: u16, message: SysMsg, times: u64) -> Result<(), AllocError>
         ensures { OnOk result ((test : ℕ → Message → Bool) →
             outstanding test self.new.rows.items ≤ outstanding test self.old.rows.items + (if test to message then times else 0)) }
     {
@@ -58,7 +58,7 @@ impl Outstanding {
     }
 
     /// Such a message comes to this actor, if one was sent and has not come.
-    pub(crate) fn take(&mut self, to: u32, message: SysMsg) -> bool
+    pub(crate) fn take(&mut self, to: u16, message: SysMsg) -> bool
         ensures { IsTrue result → (test : ℕ → Message → Bool) →
             outstanding test self.new.rows.items + (if test to message then 1 else 0) ≤ outstanding test self.old.rows.items }
     {
@@ -72,7 +72,7 @@ impl Outstanding {
     }
 
     /// The row of such messages that has some.
-    fn place_of(&self, to: u32, message: SysMsg) -> Option<usize>
+    fn place_of(&self, to: u16, message: SysMsg) -> Option<usize>
         ensures { IfSome result (λ place. (place < length self.now.rows.items)
             × ((d : Shown) → ((get_or self.now.rows.items place d).to ≡ to) × ((get_or self.now.rows.items place d).message ≡ message)
             × (0 < (get_or self.now.rows.items place d).count))) }
@@ -87,7 +87,7 @@ impl Outstanding {
     }
 
     /// A row to which such a message can be added: one of such messages, or one that has none.
-    fn place_for(&self, to: u32, message: SysMsg) -> Option<usize>
+    fn place_for(&self, to: u16, message: SysMsg) -> Option<usize>
         ensures { IfSome result (λ place. (place < length self.now.rows.items)
             × ((d : Shown) → ((get_or self.now.rows.items place d).count ≡ 0)
             ⊎ (((get_or self.now.rows.items place d).to ≡ to) × ((get_or self.now.rows.items place d).message ≡ message)))) }

@@ -38,7 +38,7 @@ pub(crate) fn planned_cells<'a>(
         cells.push(cell_of(
             alloc,
             &parents,
-            index as u32 + 1,
+            index as u16 + 1,
             actor,
             plan.journal_limit,
             journal,
@@ -90,7 +90,7 @@ fn guardian<'a>(
 fn cell_of<'a>(
     alloc: Global,
     parents: &[ActorId],
-    number: u32,
+    number: u16,
     plan: &ActorPlan,
     journal_limit: u32,
     journal: &'a Journal,

@@ -101,12 +101,12 @@ impl<'a> Replay<'a> {
 
     /// What was sent for this message to come to the actor, and to whom: the message itself, but of a Died that is not outstanding the Watch
     /// or the Create that came too late.
-    fn sent_for(&self, to: usize, message: SysMsg) -> (u32, SysMsg)
+    fn sent_for(&self, to: usize, message: SysMsg) -> (u16, SysMsg)
         requires few { to < 64 }
         ensures { (test : ℕ → Message → Bool) → AnswersByCells self.now.cells.items test → test to message ≡ true →
             test result.0 result.1 ≡ true }
     {
-        let receiver = to as u32;
+        let receiver = to as u16;
         let SysMsg::Died(ended) = message else {
             return (receiver, message);
         };

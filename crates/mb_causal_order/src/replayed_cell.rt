@@ -21,7 +21,7 @@ use std::marker::Model;
 #[derive(Drop)]
 pub(crate) struct ReplayedCell<'a> {
     cell: Cell<JournalActor<'a>, Unstated>,
-    this: u32,
+    this: u16,
     /// The number of the next new system message.
     next: u64,
     /// How many envelopes the actor has sent, or fewer past `u64::MAX`.
@@ -45,7 +45,7 @@ impl<'a> Model for ReplayedCell<'a> {
 impl<'a> ReplayedCell<'a> {
     /// This cell of the actor of this number, to which nothing has come yet.
     #[tactic(auto, unfolding(mb_journal::specs::Aside::next_number, crate::specs::Sent::sent))]
-    pub(crate) fn new(cell: Cell<JournalActor<'a>, Unstated>, this: u32) -> Self
+    pub(crate) fn new(cell: Cell<JournalActor<'a>, Unstated>, this: u16) -> Self
         requires unused { cell.journal ≡ [] }
         requires carried_out { cell.acts ≡ [] }
         requires numbered { cell.who.this.0 ≡ this }

@@ -1,5 +1,5 @@
 -- A system message that is set aside: from what it does to the cell's state to what the cell guarantees.
-use Rattle.std.proofs.Common.{◌≡◌, ℕ, ◌≤◌, ℤ, List, [], ◌∷◌, length, true, false, refl, ap, sym, ◌∙◌, subst}
+use Rattle.std.proofs.Common.{◌≡◌, ℕ, ◌≤◌, ℤ, List, [], ◌∷◌, ◌++◌, length, true, false, refl, ap, sym, ◌∙◌, subst}
 use Rattle.std.specs.Prelude.{not, Option, None}
 use Rattle.mb_msg.specs.declared.system.SysMsg.{SysMsg}
 use Rattle.mb_actor.specs.Behaviour.{Moment, Reply}
@@ -25,7 +25,9 @@ use Rattle.mb_supervision.specs.ActorIdentity.{identity_of}
 use Rattle.mb_supervision.specs.Rows.{put_aside}
 use Rattle.mb_cell.specs.CellView.{CellView, MayTake, TakesSystem}
 use Rattle.mb_supervision.specs.declared.identity.ActorIdentity.{ActorIdentity}
+use Rattle.mb_cell.specs.Unsent.{unsent_acts}
 use Rattle.mb_cell.proofs.CellLaws.{Kept, longer, kept-silent, taken-system, length-added}
+use Rattle.mb_cell.proofs.UnsentLaws.{nothing-unsent, other-acts}
 use Rattle.mb_cell.proofs.RowLaws.{agrees-more, blank-before, booked-open, cell_state_of, cell_state-after, call-by, no_call}
 
 -- the entry of a message that is set aside
@@ -49,11 +51,11 @@ lawful-waiting who gives before number m not_ended numbered waits =
     record { not_ended = not_ended; numbered = numbered; by_rule = sym (ap not waits) }
 
 module _ {A : Type 0} (place : ActorIdentity) (old new : JournalView) (number : ℕ) (m : SysMsg) (after : List Message → ℤ)
-    (gives : Moment → Reply → Type 0) (cell_state new_cell_state : CellState) (tray : OutboxView) (actor : Option A) (own_after : A → List Message → ℤ)
+    (gives : Moment → Reply → Type 0) (cell_state new_cell_state : CellState) (tray : OutboxView) (unsent : ℕ) (actor : Option A) (own_after : A → List Message → ℤ)
     (own_gives : A → Moment → Reply → Type 0) (content : A → ℤ) (made : A → List Call) (now : CellView)
     (added : new ≡ longer old (waiting number m)) (within : length new.entries ≤ new.limit)
-    (kept : Kept place old after gives cell_state tray actor own_after own_gives content made)
-    (view_is : (let seen : CellView = record { who = identity_of place old.limit; journal = old.entries; acts = cell_state.acts; is_ready = old.is_ready } in
+    (kept : Kept place old after gives cell_state tray unsent actor own_after own_gives content made)
+    (view_is : (let seen : CellView = record { who = identity_of place old.limit; journal = old.entries; acts = unsent_acts unsent old.entries ++ cell_state.acts; is_ready = old.is_ready } in
     seen ≡ now))
     (asked : MayTake now number m) (waits : sets_aside now.who now.journal m ≡ true)
     (put : new_cell_state ≡ put_aside number m cell_state) where
@@ -63,8 +65,11 @@ module _ {A : Type 0} (place : ActorIdentity) (old new : JournalView) (number : 
   abbrev q : Queries
   q = queries who old.entries
 
-  may_take : MayTake (record { who = identity_of place old.limit; journal = old.entries; acts = cell_state.acts; is_ready = old.is_ready }) number m
+  may_take : MayTake (record { who = identity_of place old.limit; journal = old.entries; acts = unsent_acts unsent old.entries ++ cell_state.acts; is_ready = old.is_ready }) number m
   may_take = subst (λ (s : CellView). MayTake s number m) (sym view_is) asked
+
+  none : unsent ≡ 0
+  none = nothing-unsent unsent old.entries cell_state.acts kept.3 may_take.carried_out
 
   booked : new_cell_state ≡ cell_state_of (passed q (waiting number m)) cell_state.retries [] cell_state.fanout false
   booked =
@@ -89,13 +94,14 @@ module _ {A : Type 0} (place : ActorIdentity) (old new : JournalView) (number : 
   same_messages =
       ap (λ (r : Queries). r.messages) (queries-fold who old.entries (waiting number m) ∙ set_aside-step who q number m)
 
-  pub keeps : Kept place new after gives new_cell_state tray actor own_after own_gives content made
+  pub keeps : Kept place new after gives new_cell_state tray unsent actor own_after own_gives content made
   keeps =
-      kept-silent place old new (waiting number m) after gives cell_state new_cell_state tray tray actor own_after own_gives content made added
-      agrees (calls-nothing who old.entries number m) (λ an_actor. same_messages) kept
+      kept-silent place old new (waiting number m) after gives cell_state new_cell_state tray tray unsent actor own_after own_gives content made added
+      agrees (calls-nothing who old.entries number m) (λ an_actor. same_messages) kept none
 
   pub takes : TakesSystem now
-      (record { who = identity_of place new.limit; journal = new.entries; acts = new_cell_state.acts; is_ready = new.is_ready }) number m
+      (record { who = identity_of place new.limit; journal = new.entries; acts = unsent_acts unsent new.entries ++ new_cell_state.acts; is_ready = new.is_ready }) number m
   takes =
-      taken-system place old new number m SetAside cell_state.acts new_cell_state.acts now added view_is
-      (ap (λ (b : CellState). b.acts) booked ∙ sym (no-acts who old.entries number m))
+      taken-system place old new number m SetAside (unsent_acts unsent old.entries ++ cell_state.acts)
+      (unsent_acts unsent new.entries ++ new_cell_state.acts) now added view_is
+      (other-acts unsent new.entries _ _ none (ap (λ (b : CellState). b.acts) booked ∙ sym (no-acts who old.entries number m)))

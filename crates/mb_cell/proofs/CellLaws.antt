@@ -25,6 +25,8 @@ use Rattle.mb_supervision.specs.CellStateRecord.{CellState}
 use Rattle.mb_supervision.specs.ActorIdentity.{identity_of}
 use Rattle.mb_cell.specs.CellView.{CellView, with_entry, IsOf, TakesEnvelope, TakesSystem}
 use Rattle.mb_supervision.specs.declared.identity.ActorIdentity.{ActorIdentity}
+use Rattle.mb_cell.specs.Unsent.{IsUnsent}
+use Rattle.mb_cell.proofs.UnsentLaws.{is-unsent-none}
 
 -- the journal with an entry more
 abbrev pub longer : JournalView → Entry → JournalView
@@ -88,27 +90,28 @@ count-small who journal gives cell_state tray kept =
 
 -- what a cell is to keep, of its parts
 abbrev pub Kept : {A : Type 0} (place : ActorIdentity) (log : JournalView) (after : List Message → ℤ) (gives : Moment → Reply → Type 0) (cell_state : CellState)
-    (tray : OutboxView) (actor : Option A) (own_after : A → List Message → ℤ) (own_gives : A → Moment → Reply → Type 0) (content : A → ℤ)
+    (tray : OutboxView) (unsent : ℕ) (actor : Option A) (own_after : A → List Message → ℤ) (own_gives : A → Moment → Reply → Type 0) (content : A → ℤ)
     (made : A → List Call) → Type 0
-Kept place log after gives cell_state tray actor own_after own_gives content made =
+Kept place log after gives cell_state tray unsent actor own_after own_gives content made =
     Agrees (identity_of place log.limit) log.entries gives cell_state tray
     × (log.is_ready ≡ true → cell_state.is_ready ≡ true)
     × MatchOption actor (is_guardian (identity_of place log.limit) ≡ true)
     (λ a. FollowsBehaviour (identity_of place log.limit) log.entries after gives (own_after a) (own_gives a) (content a) (made a))
+    × IsUnsent unsent log.entries
 
 not_ready : (old new : JournalView) (e : Entry) (P : Type 0) → new ≡ longer old e → new.is_ready ≡ true → P
 not_ready old new e P added ready = let no : new.is_ready ≡ false = ap (λ (j : JournalView). j.is_ready) added in cc
 
 pub kept-silent : {A : Type 0} (place : ActorIdentity) (old new : JournalView) (e : Entry) (after : List Message → ℤ) (gives : Moment → Reply → Type 0)
-    (cell_state new_cell_state : CellState) (tray new_tray : OutboxView) (actor : Option A) (own_after : A → List Message → ℤ)
+    (cell_state new_cell_state : CellState) (tray new_tray : OutboxView) (unsent : ℕ) (actor : Option A) (own_after : A → List Message → ℤ)
     (own_gives : A → Moment → Reply → Type 0) (content : A → ℤ) (made : A → List Call) → new ≡ longer old e →
     Agrees (identity_of place old.limit) (e ∷ old.entries) gives new_cell_state new_tray →
     call_of (identity_of place old.limit) old.entries e ≡ None →
     (is_guardian (identity_of place old.limit) ≡ false →
     messages (identity_of place old.limit) (e ∷ old.entries) ≡ messages (identity_of place old.limit) old.entries) →
-    Kept place old after gives cell_state tray actor own_after own_gives content made →
-    Kept place new after gives new_cell_state new_tray actor own_after own_gives content made
-kept-silent place old new e after gives cell_state new_cell_state tray new_tray actor own_after own_gives content made added agrees silent same kept = (
+    Kept place old after gives cell_state tray unsent actor own_after own_gives content made → unsent ≡ 0 →
+    Kept place new after gives new_cell_state new_tray unsent actor own_after own_gives content made
+kept-silent place old new e after gives cell_state new_cell_state tray new_tray unsent actor own_after own_gives content made added agrees silent same kept none = (
   at-log (λ limit journal. Agrees (identity_of place limit) journal gives new_cell_state new_tray) old new e added agrees,
   not_ready old new e (new_cell_state.is_ready ≡ true) added,
   match-on actor _ _ _ _ (λ guardian. guardian)
@@ -118,6 +121,7 @@ kept-silent place old new e after gives cell_state new_cell_state tray new_tray 
       (plays-on (identity_of place old.limit) old.entries e after gives (own_after a) (own_gives a) (content a) (made a) silent
       (same plays.no_guardian) plays))
       kept.2,
+  is-unsent-none unsent new.entries none,
 )
 
 -- a system message was taken

@@ -20,6 +20,6 @@ module _ (A K : RattleType) (gA : actor.Ghosts A.Denot) (gK : behaviours.Ghosts 
     place.the_send,
     (
       search (sendable, std_crosses, option.the_send, called) depth 20,
-      (journal.the_send, (cell_state_send, (outbox_send, (search (sendable, phantom.the_send) depth 20, tt)))),
+      (journal.the_send, (cell_state_send, (outbox_send, (search sendable, (search (sendable, phantom.the_send) depth 20, tt))))),
     ),
   ))

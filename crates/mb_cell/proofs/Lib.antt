@@ -29,4 +29,5 @@ pub mod SilentRow
 pub mod StartLemmas
 pub mod SuspendRow
 pub mod UnappliedLaw
+pub mod UnsentLaws
 pub mod WatchRow

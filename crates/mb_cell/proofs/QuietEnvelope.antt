@@ -1,5 +1,5 @@
 -- An envelope without a call of the actor: from what its rule does to the cell's state to what the cell guarantees.
-use Rattle.std.proofs.Common.{◌≡◌, ℕ, ◌≤◌, ℤ, List, [], ◌∷◌, length, false, ap, sym, ◌∙◌}
+use Rattle.std.proofs.Common.{◌≡◌, ℕ, ◌≤◌, ℤ, List, [], ◌∷◌, ◌++◌, length, false, ap, sym, ◌∙◌}
 use Rattle.std.specs.Prelude.{Option, None}
 use Rattle.mb_msg.specs.declared.envelope.Envelope.{Envelope}
 use Rattle.mb_msg.specs.declared.id.ActorId.{ActorId}
@@ -20,7 +20,9 @@ use Rattle.mb_supervision.specs.RetryCounts.{retry_count_of}
 use Rattle.mb_supervision.specs.ActorIdentity.{identity_of}
 use Rattle.mb_cell.specs.CellView.{CellView, IsOf, TakesEnvelope}
 use Rattle.mb_supervision.specs.declared.identity.ActorIdentity.{ActorIdentity}
+use Rattle.mb_cell.specs.Unsent.{unsent_acts}
 use Rattle.mb_cell.proofs.CellLaws.{Kept, longer, kept-silent, taken-envelope, length-added}
+use Rattle.mb_cell.proofs.UnsentLaws.{nothing-unsent, other-acts}
 use Rattle.mb_cell.proofs.RowLaws.{counts_of, IsBlank, cell_state_of, agrees-more}
 
 -- what the rule of such an envelope has to show
@@ -39,15 +41,18 @@ pub record IsQuietEnvelope (who : Identity) (gives : Moment → Reply → Type 0
   pub blank : after.phase ≡ Fresh → IsBlank after
 
 module _ {A : Type 0} (place : ActorIdentity) (old new : JournalView) (e : Entry) (envelope : Envelope) (reading : ℕ) (after : List Message → ℤ)
-    (gives : Moment → Reply → Type 0) (cell_state new_cell_state : CellState) (tray : OutboxView) (actor : Option A) (own_after : A → List Message → ℤ)
+    (gives : Moment → Reply → Type 0) (cell_state new_cell_state : CellState) (tray : OutboxView) (unsent : ℕ) (actor : Option A) (own_after : A → List Message → ℤ)
     (own_gives : A → Moment → Reply → Type 0) (content : A → ℤ) (made : A → List Call) (now : CellView)
     (added : new ≡ longer old e) (within : length new.entries ≤ new.limit)
-    (kept : Kept place old after gives cell_state tray actor own_after own_gives content made)
-    (view_is : (let seen : CellView = record { who = identity_of place old.limit; journal = old.entries; acts = cell_state.acts; is_ready = old.is_ready } in
+    (kept : Kept place old after gives cell_state tray unsent actor own_after own_gives content made)
+    (view_is : (let seen : CellView = record { who = identity_of place old.limit; journal = old.entries; acts = unsent_acts unsent old.entries ++ cell_state.acts; is_ready = old.is_ready } in
     seen ≡ now))
-    (of_it : IsOf envelope reading e) (row : IsQuietEnvelope (identity_of place old.limit) gives old.entries e cell_state new_cell_state) where
+    (carried_out : now.acts ≡ []) (of_it : IsOf envelope reading e) (row : IsQuietEnvelope (identity_of place old.limit) gives old.entries e cell_state new_cell_state) where
   abbrev who : Identity
   who = identity_of place old.limit
+
+  none : unsent ≡ 0
+  none = nothing-unsent unsent old.entries cell_state.acts kept.3 (ap (λ (s : CellView). s.acts) view_is ∙ carried_out)
 
   agrees : Agrees who (e ∷ old.entries) gives new_cell_state tray
   agrees =
@@ -56,13 +61,14 @@ module _ {A : Type 0} (place : ActorIdentity) (old new : JournalView) (e : Entry
       (kept.0.outbox ∙ ap (λ u. record { effects = []; actors = who.actors; unspawned = u }) (sym row.same_unspawned))
       row.blank row.counted
 
-  pub keeps : Kept place new after gives new_cell_state tray actor own_after own_gives content made
+  pub keeps : Kept place new after gives new_cell_state tray unsent actor own_after own_gives content made
   keeps =
-      kept-silent place old new e after gives cell_state new_cell_state tray tray actor own_after own_gives content made added agrees row.calls_nothing
-      (λ an_actor. ap (λ (q : Queries). q.messages) (queries-fold who old.entries e ∙ row.step) ∙ row.same_messages) kept
+      kept-silent place old new e after gives cell_state new_cell_state tray tray unsent actor own_after own_gives content made added agrees row.calls_nothing
+      (λ an_actor. ap (λ (q : Queries). q.messages) (queries-fold who old.entries e ∙ row.step) ∙ row.same_messages) kept none
 
   pub takes : TakesEnvelope now
-      (record { who = identity_of place new.limit; journal = new.entries; acts = new_cell_state.acts; is_ready = new.is_ready }) envelope reading
+      (record { who = identity_of place new.limit; journal = new.entries; acts = unsent_acts unsent new.entries ++ new_cell_state.acts; is_ready = new.is_ready }) envelope reading
   takes =
-      taken-envelope place old new e envelope reading cell_state.acts new_cell_state.acts now of_it added view_is
-      (ap (λ (b : CellState). b.acts) row.booked ∙ sym row.acted)
+      taken-envelope place old new e envelope reading (unsent_acts unsent old.entries ++ cell_state.acts)
+      (unsent_acts unsent new.entries ++ new_cell_state.acts) now of_it added view_is
+      (other-acts unsent new.entries _ _ none (ap (λ (b : CellState). b.acts) row.booked ∙ sym row.acted))

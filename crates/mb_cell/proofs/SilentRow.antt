@@ -1,5 +1,5 @@
 -- A system message without a call of the actor: from what its rule does to the cell's state to what the cell guarantees.
-use Rattle.std.proofs.Common.{◌≡◌, ℕ, ◌≤◌, ℤ, List, [], ◌∷◌, length, false, ap, sym, ◌∙◌, subst}
+use Rattle.std.proofs.Common.{◌≡◌, ℕ, ◌≤◌, ℤ, List, [], ◌∷◌, ◌++◌, length, false, ap, sym, ◌∙◌, subst}
 use Rattle.std.specs.Prelude.{Option, None}
 use Rattle.mb_msg.specs.declared.id.ActorId.{ActorId}
 use Rattle.mb_msg.specs.declared.system.SysMsg.{SysMsg}
@@ -25,7 +25,9 @@ use Rattle.mb_supervision.specs.RetryCounts.{retry_count_of}
 use Rattle.mb_supervision.specs.ActorIdentity.{identity_of}
 use Rattle.mb_cell.specs.CellView.{CellView, MayTake, TakesSystem}
 use Rattle.mb_supervision.specs.declared.identity.ActorIdentity.{ActorIdentity}
+use Rattle.mb_cell.specs.Unsent.{unsent_acts}
 use Rattle.mb_cell.proofs.CellLaws.{Kept, longer, kept-silent, taken-system, length-added}
+use Rattle.mb_cell.proofs.UnsentLaws.{nothing-unsent, other-acts}
 use Rattle.mb_cell.proofs.RowLaws.{counts_of, IsBlank, cell_state_of, agrees-more, call-by, no_call, lawful-silent}
 
 -- the entry of a message that calls nothing
@@ -56,19 +58,22 @@ pub record IsSilentRow (who : Identity) (before : List Entry) (number : ℕ) (m 
   pub blank : after.phase ≡ Fresh → IsBlank after
 
 module _ {A : Type 0} (place : ActorIdentity) (old new : JournalView) (number : ℕ) (m : SysMsg) (after : List Message → ℤ)
-    (gives : Moment → Reply → Type 0) (cell_state new_cell_state : CellState) (tray : OutboxView) (actor : Option A) (own_after : A → List Message → ℤ)
+    (gives : Moment → Reply → Type 0) (cell_state new_cell_state : CellState) (tray : OutboxView) (unsent : ℕ) (actor : Option A) (own_after : A → List Message → ℤ)
     (own_gives : A → Moment → Reply → Type 0) (content : A → ℤ) (made : A → List Call) (now : CellView)
     (added : new ≡ longer old (silent number m)) (within : length new.entries ≤ new.limit)
-    (kept : Kept place old after gives cell_state tray actor own_after own_gives content made)
-    (view_is : (let seen : CellView = record { who = identity_of place old.limit; journal = old.entries; acts = cell_state.acts; is_ready = old.is_ready } in
+    (kept : Kept place old after gives cell_state tray unsent actor own_after own_gives content made)
+    (view_is : (let seen : CellView = record { who = identity_of place old.limit; journal = old.entries; acts = unsent_acts unsent old.entries ++ cell_state.acts; is_ready = old.is_ready } in
     seen ≡ now))
     (asked : MayTake now number m) (applied : sets_aside now.who now.journal m ≡ false)
     (row : IsSilentRow (identity_of place old.limit) old.entries number m cell_state new_cell_state) where
   abbrev who : Identity
   who = identity_of place old.limit
 
-  may_take : MayTake (record { who = identity_of place old.limit; journal = old.entries; acts = cell_state.acts; is_ready = old.is_ready }) number m
+  may_take : MayTake (record { who = identity_of place old.limit; journal = old.entries; acts = unsent_acts unsent old.entries ++ cell_state.acts; is_ready = old.is_ready }) number m
   may_take = subst (λ (s : CellView). MayTake s number m) (sym view_is) asked
+
+  none : unsent ≡ 0
+  none = nothing-unsent unsent old.entries cell_state.acts kept.3 may_take.carried_out
 
   agrees : Agrees who (silent number m ∷ old.entries) gives new_cell_state tray
   agrees =
@@ -83,13 +88,14 @@ module _ {A : Type 0} (place : ActorIdentity) (old new : JournalView) (number : 
   same_messages an_actor =
       ap (λ (q : Queries). q.messages) (queries-fold who old.entries (silent number m) ∙ row.step) ∙ row.same_messages an_actor
 
-  pub keeps : Kept place new after gives new_cell_state tray actor own_after own_gives content made
+  pub keeps : Kept place new after gives new_cell_state tray unsent actor own_after own_gives content made
   keeps =
-      kept-silent place old new (silent number m) after gives cell_state new_cell_state tray tray actor own_after own_gives content made added
-      agrees row.calls_nothing same_messages kept
+      kept-silent place old new (silent number m) after gives cell_state new_cell_state tray tray unsent actor own_after own_gives content made added
+      agrees row.calls_nothing same_messages kept none
 
   pub takes : TakesSystem now
-      (record { who = identity_of place new.limit; journal = new.entries; acts = new_cell_state.acts; is_ready = new.is_ready }) number m
+      (record { who = identity_of place new.limit; journal = new.entries; acts = unsent_acts unsent new.entries ++ new_cell_state.acts; is_ready = new.is_ready }) number m
   takes =
-      taken-system place old new number m (Applied None []) cell_state.acts new_cell_state.acts now added view_is
-      (ap (λ (b : CellState). b.acts) row.booked ∙ sym row.acted)
+      taken-system place old new number m (Applied None []) (unsent_acts unsent old.entries ++ cell_state.acts)
+      (unsent_acts unsent new.entries ++ new_cell_state.acts) now added view_is
+      (other-acts unsent new.entries _ _ none (ap (λ (b : CellState). b.acts) row.booked ∙ sym row.acted))

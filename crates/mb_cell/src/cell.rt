@@ -1,9 +1,11 @@
 //! The cell: what it holds and what it shows.
-ghost use Rattle.std.specs.Prelude.{◌≡◌, ◌≢◌, ◌↔◌, ◌<◌, ◌≤◌, [], ◌++◌, length, map, option_to_list, true, false};
+ghost use Rattle.std.specs.Prelude.{◌≡◌, ◌≢◌, ◌↔◌, ◌<◌, ◌≤◌, [], ◌∷◌, ◌++◌, length, map, option_to_list, true, false};
 ghost use Rattle.std.specs.Prelude.{IsTrue, IsSome, IsOk, IsErrOf, OnOk, OnErr, IfNone, IfSome, MatchOption, not, is_some, filter, if◌then◌else◌};
 ghost use Rattle.std.specs.List.{All};
 ghost use Rattle.mb_msg.specs.Limits.{most_actors};
 ghost use Rattle.mb_actor.specs.Behaviour.{AllowsSame};
+ghost use Rattle.mb_actor.specs.OutboxView.{is_tell};
+ghost use Rattle.mb_journal.specs.Acts.{stop_acts};
 ghost use Rattle.mb_journal.specs.Aside.{aside as aside_of, next_front as front_of};
 ghost use Rattle.mb_journal.specs.Identity.{is_guardian};
 ghost use Rattle.mb_journal.specs.Incarnation.{messages};
@@ -33,9 +35,9 @@ mod suspend;
 mod unwatch;
 mod watch;
 
-use mb_actor::{Actor, Behaviours, Outbox, Phase, RecordedActor};
+use mb_actor::{Actor, Behaviours, Effect, Outbox, Phase, RecordedActor};
 use mb_journal::{Journal, ReadyError};
-use mb_msg::{ActorId, Strategy, SysMsg};
+use mb_msg::{ActorId, Body, Strategy, SysMsg};
 use mb_supervision::{Act, ActorIdentity, CellState};
 use mb_syslist::Node;
 use std::alloc::Global;
@@ -50,6 +52,8 @@ pub struct Cell<A: Actor, K: Behaviours> {
     journal: Journal,
     cell_state: CellState,
     outbox: Outbox,
+    /// How many effects of the newest entry are still to be sent. Where there are some, they are tells.
+    unsent: usize,
     behaviours: PhantomData<K>,
 }
 
@@ -60,6 +64,7 @@ impl<A: Actor, K: Behaviours> Drop for Cell<A, K> {
             place: _,
             actor: _,
             outbox: _,
+            unsent: _,
             journal: _,
             cell_state: _,
             behaviours: _,
@@ -69,7 +74,9 @@ impl<A: Actor, K: Behaviours> Drop for Cell<A, K> {
 
 impl<A: Actor, K: Behaviours> Model for Cell<A, K> {
     ghost use Rattle.std.specs.Prelude.{◌≡◌, true, MatchOption};
+    ghost use Rattle.std.specs.Prelude.{◌++◌};
     ghost use Rattle.mb_cell.specs.CellView.{CellView};
+    ghost use Rattle.mb_cell.specs.Unsent.{IsUnsent, unsent_acts};
 
     ghost Value = { CellView };
 
@@ -80,7 +87,7 @@ impl<A: Actor, K: Behaviours> Model for Cell<A, K> {
     ghost view = { λ c. record {
       who = identity_of c.place c.journal.limit;
       journal = c.journal.entries;
-      acts = c.cell_state.acts;
+      acts = unsent_acts c.unsent c.journal.entries ++ c.cell_state.acts;
       is_ready = c.journal.is_ready;
     } };
 
@@ -89,7 +96,8 @@ impl<A: Actor, K: Behaviours> Model for Cell<A, K> {
         × (c.journal.is_ready ≡ true → c.cell_state.is_ready ≡ true)
         × MatchOption c.actor (is_guardian (identity_of c.place c.journal.limit) ≡ true)
         (λ a. FollowsBehaviour (identity_of c.place c.journal.limit) c.journal.entries (K.after c.place.this.0) (K.gives c.place.this.0)
-        (A.after a.actor) (A.gives a.actor) (A.content a.actor) a.calls) };
+        (A.after a.actor) (A.gives a.actor) (A.content a.actor) a.calls)
+        × IsUnsent c.unsent c.journal.entries };
 }
 
 impl<A: Actor, K: Behaviours> Cell<A, K> {
@@ -144,6 +152,7 @@ impl<A: Actor, K: Behaviours> Cell<A, K> {
                 place,
                 actor: None,
                 outbox,
+                unsent: 0,
                 journal,
                 cell_state,
                 behaviours: PhantomData,
@@ -153,6 +162,7 @@ impl<A: Actor, K: Behaviours> Cell<A, K> {
             place,
             actor: Some(RecordedActor::new(actor)),
             outbox,
+            unsent: 0,
             journal,
             cell_state,
             behaviours: PhantomData,
@@ -187,12 +197,18 @@ impl<A: Actor, K: Behaviours> Cell<A, K> {
     }
 
     /// Takes out the earliest act that is still to be carried out; `None` if there is none. This takes no memory.
+    #[inline(always)]
     pub fn next_act(&mut self) -> Option<Act>
         ensures taken { self.old.acts ≡ map act_of (option_to_list result) ++ self.new.acts }
         ensures none { IfNone result (self.old.acts ≡ []) }
         ensures rest { self.new ≡ record self.old { acts = self.new.acts } }
     {
-        self.cell_state.next_act()
+        if self.unsent == 0 {
+            return self.cell_state.next_act();
+        }
+        let effect = self.journal.newest_effect(self.unsent);
+        self.unsent -= 1;
+        Some(tell_of(effect))
     }
 
     /// What came to the actor, and what became of it.
@@ -248,5 +264,18 @@ impl<A: Actor, K: Behaviours> Cell<A, K> {
             None => None,
             Some(actor) => Some(actor.state()),
         }
+    }
+}
+
+/// The act that a tell asks for.
+#[inline(always)]
+fn tell_of(effect: Effect) -> Act
+    requires { is_tell effect ≡ true }
+    ensures { act_of result ∷ [] ≡ stop_acts (effect ∷ []) }
+{
+    match effect {
+        Effect::Tell { to, kind, value } => Act::Tell(to, Body::User { kind, value }),
+        Effect::Control { to, kind, value } => Act::Tell(to, Body::Control { kind, value }),
+        _ => unreachable!(),
     }
 }

@@ -21,7 +21,7 @@ use std::process::Abort;
 pub(crate) struct CellDriver<A: Actor, K: Behaviours> {
     cell: Cell<A, K>,
     next: u64,
-    this: u32,
+    this: u16,
     is_guardian: bool,
     was_refused: bool,
 }
@@ -47,8 +47,8 @@ impl<A: Actor, K: Behaviours> CellDriver<A, K> {
     #[tactic(auto, unfolding(mb_journal::specs::Aside::next_number))]
     pub(crate) fn of(
         alloc: Global,
-        this: u32,
-        parent: u32,
+        this: u16,
+        parent: u16,
         actor: A,
         prepared: Vec<ActorId>,
         strategy: Strategy,

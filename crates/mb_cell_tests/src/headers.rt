@@ -6,7 +6,7 @@ ghost use Rattle.mb_msg.specs.Limits.{most_actors};
 
 use crate::cell_driver::CellDriver;
 use crate::scripted_actor::{ADD, Asked, Counting, ScriptedActor};
-use crate::words::{asked_of, cause_of, first_word, number};
+use crate::words::{actor, asked_of, cause_of, first_word, number};
 use mb_msg::limits::ACTORS;
 use mb_msg::{ActorId, Cause, Directive, Pattern, Strategy};
 use std::alloc::{AllocError, Global};
@@ -43,7 +43,7 @@ fn part<'a>(head: &'a str, name: &str) -> &'a str {
 }
 
 /// The numbers of the actor and its parent; `None` for the guardian.
-fn place_of<R: Abort>(rt: &R, head: &str) -> Option<(u32, u32)> {
+fn place_of<R: Abort>(rt: &R, head: &str) -> Option<(u16, u16)> {
     if head.starts_with("guardian") {
         return None;
     }
@@ -51,8 +51,8 @@ fn place_of<R: Abort>(rt: &R, head: &str) -> Option<(u32, u32)> {
         .split_once(" of ")
         .expect(rt, "a parent");
     Some((
-        number(this).expect(rt, "an actor"),
-        number(parent).expect(rt, "a parent"),
+        actor(this).expect(rt, "an actor").0,
+        actor(parent).expect(rt, "a parent").0,
     ))
 }
 
@@ -67,7 +67,7 @@ fn children_of(alloc: Global, text: &str) -> Result<Vec<ActorId>, AllocError>
     let mut children = Vec::new(alloc);
     for id in 0..ACTORS {
         if first <= id && id <= last {
-            children.push(ActorId(id))?;
+            children.push(ActorId(id as u16))?;
         }
     }
     Ok(children)

@@ -108,10 +108,10 @@ fn perform(asked: Asked, out: &mut Outbox) -> Answer
     ensures unspawned { out.new.unspawned ≡ out.old.unspawned }
 {
     let (kind, value) = asked;
-    let of = u32::try_from(value).unwrap_or(0);
+    let of = u16::try_from(value).unwrap_or(0);
     let _refused = match kind {
         LEAVE => return Answer::Unhandled,
-        FAIL => return Answer::Failed(of),
+        FAIL => return Answer::Failed(u32::from(of)),
         TELL => out.tell(ActorId(of), ADD, 9),
         WATCH => out.watch(ActorId(of)),
         UNWATCH => out.unwatch(ActorId(of)),

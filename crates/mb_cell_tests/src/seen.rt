@@ -104,7 +104,7 @@ pub(crate) fn is_act(act: Act, text: &str) -> bool {
 /// The message in a text that is for this actor; empty where it is for none or another.
 fn message_to(to: ActorId, text: &str) -> &str {
     match text.split_once(": ") {
-        Some((id, message)) if number(id) == Some(to.0) => message,
+        Some((id, message)) if actor(id) == Some(to) => message,
         _ => "",
     }
 }

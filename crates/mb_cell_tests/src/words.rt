@@ -3,13 +3,13 @@
 use crate::scripted_actor::{ADD, Asked, FAIL, LEAVE, SPAWN, STOP, TELL, UNWATCH, WATCH};
 use mb_msg::{ActorId, Body, Cause, SysMsg};
 
-/// A number of an actor or of an error.
+/// A number.
 pub(crate) fn number(text: &str) -> Option<u32> {
     text.parse::<u32>().ok()
 }
 
 pub(crate) fn actor(text: &str) -> Option<ActorId> {
-    Some(ActorId(number(text)?))
+    Some(ActorId(text.parse::<u16>().ok()?))
 }
 
 /// A word, and what comes after it.

@@ -54,7 +54,7 @@ pub(crate) fn write_rows<W: Write>(
 
 /// The way of the arrow of the row of this number.
 pub(crate) fn way_of(row: &Row<'_>, index: usize, lanes: &Lanes, geometry: &Geometry) -> Way {
-    let to = geometry.x(lanes.position(row.shown.actor.0));
+    let to = geometry.x(lanes.position(u32::from(row.shown.actor.0)));
     let from = match row.source {
         Some(source) => geometry.x(lanes.position(source)),
         None => to.saturating_sub(40),
@@ -82,7 +82,7 @@ fn write_start<W: Write>(w: &mut W, names: &[String], row: &Row<'_>, way: Way) -
     let class = class_of(row.shown.entry.arrival);
     let name = Name {
         names,
-        id: row.shown.actor.0,
+        id: u32::from(row.shown.actor.0),
     };
     write!(w, "<g class=\"row {class}\" data-actor=\"{name}\"")?;
     write_source(w, names, row, way)?;

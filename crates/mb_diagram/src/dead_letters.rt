@@ -38,7 +38,7 @@ pub(crate) fn letter_way(row: &LetterRow, index: usize, lanes: &Lanes, geometry:
     let envelope = row.letter.envelope;
     Way {
         from: geometry.x(lanes.position(envelope.by.0)),
-        to: geometry.x(lanes.position(envelope.to.0)),
+        to: geometry.x(lanes.position(u32::from(envelope.to.0))),
         y: geometry.letter_y(index),
     }
 }
@@ -79,7 +79,7 @@ fn write_start<W: Write>(w: &mut W, names: &[String], row: &LetterRow) -> io::Re
     let envelope = row.letter.envelope;
     let to = Name {
         names,
-        id: envelope.to.0,
+        id: u32::from(envelope.to.0),
     };
     let by = Name {
         names,

@@ -43,7 +43,7 @@ fn write_summary<W: Write>(w: &mut W, name: Name<'_>, actor: &ActorReport) -> io
 
 fn write_entries<W: Write>(w: &mut W, picture: &Picture<'_>, id: u32) -> io::Result<()> {
     for shown in picture.entries {
-        if shown.actor.0 == id {
+        if u32::from(shown.actor.0) == id {
             write_entry(w, picture.names, shown)?;
         }
     }

@@ -73,14 +73,14 @@ fn mark_rows(used: &mut Vec<bool>, rows: &Rows<'_>) {
         mark(used, *id);
     }
     for row in &rows.rows {
-        mark(used, row.shown.actor.0);
+        mark(used, u32::from(row.shown.actor.0));
         if let Some(source) = row.source {
             mark(used, source);
         }
     }
     for row in &rows.letters {
         mark(used, row.letter.envelope.by.0);
-        mark(used, row.letter.envelope.to.0);
+        mark(used, u32::from(row.letter.envelope.to.0));
     }
 }
 
@@ -98,7 +98,7 @@ pub(crate) fn last_row(picture: &Picture<'_>, rows: &Rows<'_>, id: u32) -> Optio
     }
     let mut last = None;
     for (index, row) in rows.rows.iter().enumerate() {
-        if row.shown.actor.0 == id {
+        if u32::from(row.shown.actor.0) == id {
             last = Some(index);
         }
     }

@@ -66,7 +66,7 @@ impl<'a> Rows<'a> {
     /// Adds an entry to the row of those that were created, to the last row, or in a row of its own.
     fn add(&mut self, shown: ShownEntry<'a>, source: Option<u32>) -> Result<(), AllocError> {
         if is_plain_create(&shown, source) {
-            self.created.push(shown.actor.0)?;
+            self.created.push(u32::from(shown.actor.0))?;
             return Ok(());
         }
         if let Some(last) = self.rows.last_mut() {

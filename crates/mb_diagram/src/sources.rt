@@ -49,8 +49,8 @@ impl Sources {
                 Some(stopper) => *stopper,
                 None => None,
             },
-            SysMsg::Watch(id) | SysMsg::Unwatch(id) => Some(id.0),
-            SysMsg::Failed(id, _) | SysMsg::Died(id) => Some(id.0),
+            SysMsg::Watch(id) | SysMsg::Unwatch(id) => Some(u32::from(id.0)),
+            SysMsg::Failed(id, _) | SysMsg::Died(id) => Some(u32::from(id.0)),
         }
     }
 
@@ -64,15 +64,16 @@ impl Sources {
 
     /// Records the actors that this entry may stop.
     pub(crate) fn note(&mut self, shown: &ShownEntry<'_>) {
+        let actor = u32::from(shown.actor.0);
         if may_stop_children(shown.entry.arrival) {
-            self.note_children(shown.actor.0);
+            self.note_children(actor);
         }
         if is_poison(shown.entry.arrival) {
-            self.note_stopper(shown.actor.0 as usize, shown.actor.0);
+            self.note_stopper(actor as usize, actor);
         }
         for effect in shown.entry.effects {
             if let Effect::Stop(id) = *effect {
-                self.note_stopper(id.0 as usize, shown.actor.0);
+                self.note_stopper(id.0 as usize, actor);
             }
         }
     }

@@ -138,7 +138,10 @@ fn write_of<W: fmt::Write>(
     names: &[String],
     id: ActorId,
 ) -> fmt::Result {
-    let name = Name { names, id: id.0 };
+    let name = Name {
+        names,
+        id: u32::from(id.0),
+    };
     write!(f, "{word} {name}")
 }
 

@@ -12,7 +12,7 @@ use mb_testkit::{Adding, TestActor};
 pub enum FinishRefusal {
     MissingEnd(u32),
     MissingSender(u32),
-    NotQuiet(u32),
+    NotQuiet(u16),
     NoMemory,
     Mismatch(Mismatch),
 }

@@ -14,13 +14,13 @@ pub enum SystemStep {
     /// The first sender sends this, in order: the answers.
     Send(&'static [Order]),
     /// It looks at an actor.
-    Look(u32),
+    Look(u16),
     /// It puts a message that adds this value, by the ticket that it had last.
     Put(i64),
     /// The first end runs all claims: what each run did.
     Run,
     /// It registers an actor.
-    Register(u32),
+    Register(u16),
     /// It takes one claim and runs its mailbox: what the run did.
     Turn,
     /// It works until there is no claim.
@@ -30,9 +30,9 @@ pub enum SystemStep {
     /// The system ends: the report's text, or why there is none.
     Finish,
     /// What came to an actor, in order, by the report.
-    Journal(u32),
+    Journal(u16),
     /// How many system messages to an actor are dead, by the report.
-    DeadSystem(u32),
+    DeadSystem(u16),
 }
 
 /// Who acts, and what is done, each step with its answer.

@@ -81,17 +81,17 @@ impl<S: SystemDriver> SystemTest<S> {
         }
     }
 
-    fn journal(&self, id: u32) -> Option<String> {
+    fn journal(&self, id: u16) -> Option<String> {
         journal_text(self.alloc, &self.told_of(id)?.journal).ok()
     }
 
-    fn dead_system(&self, id: u32) -> Option<String> {
+    fn dead_system(&self, id: u16) -> Option<String> {
         let dead = self.told_of(id)?.dead_system;
         format!(in self.alloc; "{dead}").ok()
     }
 
     // What the report tells of an actor.
-    fn told_of(&self, id: u32) -> Option<&ActorReport> {
+    fn told_of(&self, id: u16) -> Option<&ActorReport> {
         self.report.as_ref()?.actors.get(id as usize)
     }
 }

@@ -42,7 +42,7 @@ pub struct Gates<H: MailboxState> {
     ghost slot_count: { table.shared.table_id.slots ≡ 2 * actors },
     ghost keyed: { table.shared.key.actors ≡ actors },
     ghost known: { first ≡ table.shared.key.first },
-    ghost not_empty: { (0 < actors) × (actors ≤ 4294967296) },
+    ghost not_empty: { (0 < actors) × (actors ≤ 65536) },
 }
 
 // Written by hand: with a derived `Drop`, each crate above would have to prove again how every part is dropped.

@@ -32,7 +32,7 @@ impl<H: MailboxState> Gates<H> {
     /// `akka.dispatch.Dispatcher.createMailbox`.)
     pub fn new(alloc: Global, homes: Vec<H>) -> Result<(Gates<H>, Pass<H>), NoGates<H>>
         requires not_empty { 0 < vec_len homes }
-        requires within_limit { vec_len homes ≤ 4294967296 }
+        requires within_limit { vec_len homes ≤ 65536 }
         requires fresh { (first : H) → slice_get homes.items 0 ≡ Some first → (actor : ℕ) (home : H) → slice_get homes.items actor ≡ Some home →
             IsFresh (H.is_of first) H.facts actor home }
         ensures ok { IfOk result (λ made. (actors_of made.0 ≡ vec_len homes) × (pass_id made.1 ≡ gates_id made.0) × (pass_view made.1 ≡ alone)) }

@@ -11,7 +11,7 @@ use std::test::Fail;
 /// A number, a status and how many messages its list gave; its journal stays empty.
 #[derive(Drop)]
 pub struct TestHome {
-    pub actor: u32,
+    pub actor: u16,
     pub status: Status,
     pub given: u64,
 }

@@ -22,6 +22,7 @@ mod systems;
 mod tells;
 
 /// What lies in an actor's slot while nobody holds it: its cell, and what is kept beside it.
+// What most messages use comes first, so that it lies in few cache lines.
 pub struct Home<A: Actor, K: Behaviours> {
     id: ActorId,
     cell: Cell<A, K>,

@@ -1,12 +1,11 @@
 -- Counting envelopes that pass a test.
-use Rattle.std.proofs.Common.{◌≡◌, ◌==◌, ℕ, ◌+◌, Bool, true, false, cond, not, ◌&&◌, List, []}
-use Rattle.std.proofs.Common.{◌∷◌, ◌++◌, map, filter, refl, sym, ap, ◌∙◌, arith, Option, Some, None, count_by}
-use Rattle.std.specs.List.{flat_map}
+use Rattle.std.proofs.Common.{◌≡◌, ◌==◌, ℕ, ◌+◌, Bool, true, false, cond, ◌&&◌, List, []}
+use Rattle.std.proofs.Common.{◌∷◌, filter, refl, sym, ap, ◌∙◌, arith, Option, Some, None, count_by}
 use Rattle.std.proofs.lemmas.List.Sums.{sum_by-cons}
 use Rattle.mb_msg.specs.declared.envelope.Envelope.{Envelope}
 use Rattle.mb_msg.specs.declared.dead_letter.Why.{Why}
 use Rattle.mb_journal.specs.declared.sent_envelope.SentEnvelope.{SentEnvelope}
-use Rattle.mb_journal.specs.Accepted.{accepted, queued, dead_letters, envelopes_of, to_actor, sent_by}
+use Rattle.mb_journal.specs.Accepted.{accepted, queued, dead_letters, envelopes_of}
 use Rattle.mb_journal.specs.Pair.{QueuedMatchFates, AcceptedMatchFates}
 
 count-cond : (p : Envelope → Bool) (b : Bool) (x : Envelope) (l : List Envelope)

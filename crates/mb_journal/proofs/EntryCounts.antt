@@ -1,5 +1,5 @@
 -- The counts of a journal's entries: what an entry more adds to them.
-use Rattle.std.proofs.Common.{◌≡◌, ℕ, ◌+◌, ◌<◌, ◌≤◌, cond, if◌then◌else◌, List, [], ◌∷◌, length, count_by, refl, ap, ◌∙◌, arith}
+use Rattle.std.proofs.Common.{◌≡◌, ◌+◌, ◌≤◌, cond, if◌then◌else◌, List, ◌∷◌, length, arith}
 use Rattle.std.proofs.lemmas.List.Sums.{count_by-le-length, sum_by-cons}
 use Rattle.mb_journal.specs.Entry.{Entry}
 use Rattle.mb_journal.specs.Counts.{AreCountsOf, tells_of_envelope, tells_of_restart}

@@ -1,5 +1,5 @@
 -- All queries of a journal at once: what an entry more makes of them follows from what they were and from the entry alone.
-use Rattle.std.proofs.Common.{◌≡◌, ℕ, ◌+◌, ◌-◌, List, [], ◌∷◌, ◌++◌, Bool, true, false, refl, ap, sym, ◌∙◌}
+use Rattle.std.proofs.Common.{◌≡◌, ℕ, ◌+◌, ◌-◌, List, [], ◌∷◌, ◌++◌, Bool, false, refl, ap, sym, ◌∙◌}
 use Rattle.std.specs.Prelude.{◌==◌, not, ◌&&◌, ◌||◌, if◌then◌else◌, filter}
 use Rattle.mb_msg.specs.declared.id.ActorId.{ActorId}
 use Rattle.mb_msg.specs.declared.supervision.Cause.{Cause}
@@ -13,7 +13,7 @@ use Rattle.mb_journal.specs.ActorList.{without, joined}
 use Rattle.mb_journal.specs.Aside.{ever_aside, without_number, next_number}
 use Rattle.mb_actor.specs.OutboxView.{spawns_of}
 use Rattle.mb_journal.specs.Effects.{applies, lasting_effects}
-use Rattle.mb_journal.specs.Entry.{Entry, Outcome, answered_failed}
+use Rattle.mb_journal.specs.Entry.{Entry, answered_failed}
 use Rattle.mb_journal.specs.Entry.Entry.{Handled, System, Dropped}
 use Rattle.mb_journal.specs.Entry.Outcome.{Applied, SetAside}
 use Rattle.mb_journal.specs.Failure.{failed, fails_by_envelope, is_nobody, is_escalate, is_resume_of_failure, failure_source}
@@ -27,7 +27,7 @@ use Rattle.mb_journal.specs.Life.{after_death, ends_last_child}
 use Rattle.mb_journal.specs.Phase.{phase_is}
 use Rattle.mb_journal.specs.Retries.{requests, is_given, is_restart_directive, through_refusal}
 use Rattle.mb_journal.specs.Supervision.{directive_of}
-use Rattle.mb_journal.specs.Suspension.{Mark, mark_if, marks, marks_of, count, count_after, is_suspend}
+use Rattle.mb_journal.specs.Suspension.{Mark, mark_if, marks, marks_of, count_after, is_suspend}
 use Rattle.mb_journal.specs.Suspension.Mark.{Plus, Minus}
 use Rattle.mb_journal.specs.Watching.{watchers, watching, watching_after, due, due_after, with_dead, after_told}
 use Rattle.mb_journal.proofs.CountLemmas.{running, count_after-running}

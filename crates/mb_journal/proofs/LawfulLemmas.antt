@@ -3,7 +3,6 @@ use Rattle.std.proofs.Common.{◌≤◌, length, arith, ◌≡◌, ℕ, ℤ, ◌
 use Rattle.std.specs.Prelude.{filter, option_to_list, not, ◌&&◌, if◌then◌else◌, Option, Some, None, ◌==◌}
 use Rattle.mb_msg.specs.declared.envelope.Body.TheVariants as body
 use Rattle.mb_msg.specs.declared.envelope.Envelope.{Envelope}
-use Rattle.mb_msg.specs.declared.id.ActorId.{ActorId}
 use Rattle.mb_msg.specs.declared.system.SysMsg.{SysMsg}
 use Rattle.mb_msg.specs.declared.system.SysMsg.TheVariants as system
 use Rattle.mb_actor.specs.Behaviour.{Moment, Reply}

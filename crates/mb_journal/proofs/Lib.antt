@@ -19,6 +19,7 @@ pub mod Kept
 pub mod LawfulLemmas
 pub mod MembersLaw
 pub mod Naming
+mod NewestEffects
 mod PhaseLaw
 pub mod PhaseLemmas
 pub mod QueryLemmas

@@ -1,12 +1,11 @@
 -- Envelopes of one sender that are numbered one after another have different names: sender and number.
-use Rattle.std.proofs.Common.{◌≡◌, ◌==◌, ◌≢◌, ℕ, zero, suc, ◌+◌, ◌<◌, ◌≤◌, Bool, true, false, cond, not, ◌&&◌, ◌||◌, List}
-use Rattle.std.proofs.Common.{[], ◌∷◌, ◌++◌, map, filter, length, get_or, refl, sym, ap, ◌∙◌, subst, arith, Option, Some, None, count_by}
-use Rattle.std.specs.List.{Contains, flat_map}
+use Rattle.std.proofs.Common.{◌≡◌, ◌==◌, ◌≢◌, ℕ, zero, suc, ◌+◌, ◌<◌, Bool, true, false, cond, not, ◌&&◌, ◌||◌, List}
+use Rattle.std.proofs.Common.{[], ◌∷◌, length, get_or, refl, sym, ap, ◌∙◌, subst, arith, Option, Some, None, count_by}
 use Rattle.std.proofs.lemmas.Bool.Decides.{nat_tests}
 use Rattle.mb_msg.specs.declared.envelope.Envelope.{Envelope}
 use Rattle.mb_msg.specs.declared.dead_letter.Why.{Why}
 use Rattle.mb_journal.specs.declared.sent_envelope.SentEnvelope.{SentEnvelope}
-use Rattle.mb_journal.specs.Accepted.{accepted, queued, dead_letters, envelopes_of, to_actor, sent_by, is_same_name, has_name, without_named, NumbersCountUpFrom}
+use Rattle.mb_journal.specs.Accepted.{accepted, queued, dead_letters, envelopes_of, to_actor, is_same_name, has_name, without_named, NumbersCountUpFrom}
 use Rattle.mb_journal.specs.Pair.{QueuedInFateOrder, FatesInSendOrder, AcceptedMatchFates, EachHasOneFate}
 use Rattle.mb_journal.proofs.Counting.{count-cons, count-filter, count-same}
 

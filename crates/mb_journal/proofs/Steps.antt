@@ -1,22 +1,18 @@
 -- What an entry more makes of all queries, by the tests that it passes.
-use Rattle.std.proofs.Common.{◌≡◌, ℕ, ◌+◌, ◌-◌, List, [], ◌∷◌, ◌++◌, Bool, true, false, refl, ap, sym, ◌∙◌}
-use Rattle.std.specs.Prelude.{not, ◌&&◌, ◌||◌, if◌then◌else◌, filter, Option, Some, None}
+use Rattle.std.proofs.Common.{◌≡◌, ℕ, ◌+◌, List, [], ◌++◌, Bool, true, false, refl, ap, ◌∙◌}
+use Rattle.std.specs.Prelude.{not, ◌&&◌, ◌||◌, if◌then◌else◌, filter, None}
 use Rattle.std.proofs.lemmas.List.{append-nil}
 use Rattle.mb_msg.specs.declared.id.ActorId.{ActorId}
-use Rattle.mb_msg.specs.declared.system.SysMsg.{SysMsg}
 use Rattle.mb_msg.specs.declared.system.SysMsg.TheVariants as system
 use Rattle.mb_actor.specs.ActorList.{has}
 use Rattle.mb_actor.specs.OutboxView.{spawns_of}
-use Rattle.mb_actor.specs.declared.answer.Answer.{Answer}
-use Rattle.mb_actor.specs.declared.effect.Effect.{Effect}
 use Rattle.mb_actor.specs.declared.phase.Phase.{Phase}
 use Rattle.mb_actor.specs.declared.phase.Phase.TheVariants.{Fresh, Live, Broken, Ending, Ended}
 use Rattle.mb_journal.specs.Effects.{applies, lasting_effects}
 use Rattle.mb_journal.specs.Entry.{Entry, answered_failed}
-use Rattle.mb_journal.specs.Entry.Entry.{Handled, System, Dropped}
-use Rattle.mb_journal.specs.Entry.Outcome.{Applied, SetAside}
-use Rattle.mb_journal.specs.Failure.{is_nobody, is_resume_of_failure, failure_source, fails_by_envelope}
-use Rattle.mb_journal.specs.declared.failed_by.FailedBy.{FailedBy}
+use Rattle.mb_journal.specs.Entry.Entry.{System}
+use Rattle.mb_journal.specs.Entry.Outcome.{Applied}
+use Rattle.mb_journal.specs.Failure.{is_nobody, is_resume_of_failure, failure_source}
 use Rattle.mb_journal.specs.declared.failed_by.FailedBy.TheVariants.{Nobody, Itself}
 use Rattle.mb_journal.specs.Identity.{Identity, is_guardian}
 use Rattle.mb_journal.specs.Incarnation.{entry_messages}
@@ -26,7 +22,7 @@ use Rattle.mb_journal.specs.Suspension.{mark_if, is_suspend}
 use Rattle.mb_journal.specs.Suspension.Mark.{Plus, Minus}
 use Rattle.mb_journal.specs.Watching.{watching_after, due_after, with_dead, after_told}
 use Rattle.mb_journal.proofs.CountLemmas.{running}
-use Rattle.mb_journal.proofs.Fold.{Queries, next_queries, starts, ends, restarts, lasts, fails, escalates, off_fresh}
+use Rattle.mb_journal.proofs.Fold.{Queries, next_queries, starts, ends, restarts, lasts, fails, off_fresh}
 use Rattle.mb_journal.proofs.Fold.{watchers_on, aside_on, requests_on, next_on}
 use Rattle.mb_journal.proofs.TestLemmas.{and-false, if_same, none_excepted}
 

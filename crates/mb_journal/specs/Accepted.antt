@@ -1,6 +1,6 @@
 -- What a sender was answered for the envelopes that it sent, to all receivers, in the order of their numbers (this
 -- project's own profile: Akka answers a sender nothing).
-use Rattle.std.specs.Prelude.{◌≡◌, ℕ, ◌+◌, ◌==◌, ◌&&◌, ◌||◌, Bool, true, false, not, List, [], ◌∷◌, map, filter, is_none, Option, Some, None}
+use Rattle.std.specs.Prelude.{◌≡◌, ℕ, ◌+◌, ◌==◌, ◌&&◌, ◌||◌, Bool, false, not, List, [], ◌∷◌, map, filter, is_none, Option, Some, None}
 use Rattle.std.specs.List.{flat_map}
 use Rattle.mb_msg.specs.declared.envelope.Envelope.{Envelope}
 use Rattle.mb_msg.specs.declared.dead_letter.Why.{Why}

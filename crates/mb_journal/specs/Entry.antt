@@ -1,6 +1,6 @@
 -- The entries of a journal. In the specification a journal is a list of entries with the NEWEST FIRST: what is behind an
 -- entry in the list came before it. (Akka keeps no journal: this project's own profile.)
-use Rattle.std.specs.Prelude.{ℕ, Bool, true, false, List, [], Option, None}
+use Rattle.std.specs.Prelude.{ℕ, Bool, true, false, List, [], ◌∷◌, Option, None}
 use Rattle.mb_msg.specs.declared.envelope.Envelope.{Envelope}
 use Rattle.mb_msg.specs.declared.system.SysMsg.{SysMsg}
 use Rattle.mb_actor.specs.declared.answer.Answer.{Answer}
@@ -49,3 +49,8 @@ outcome_of (Dropped envelope) = Applied None []
 -- the actor answered that it failed
 abbrev pub answered_failed : Entry → Bool
 answered_failed e = is_failed (outcome_answer (outcome_of e))
+
+-- the effects of the newest entry
+abbrev pub newest_effects : List Entry → List Effect
+newest_effects [] = []
+newest_effects (e ∷ before) = outcome_effects (outcome_of e)

@@ -1,8 +1,9 @@
 //! The journal and its operations.
-ghost use Rattle.std.specs.Prelude.{◌≡◌, ◌↔◌, ◌+◌, ◌<◌, ◌≤◌, [], ◌∷◌, ◌++◌, false, true};
+ghost use Rattle.std.specs.Prelude.{◌≡◌, ◌↔◌, ◌+◌, ◌-◌, ◌<◌, ◌≤◌, [], ◌∷◌, ◌++◌, false, true};
 ghost use Rattle.std.specs.Prelude.{List, length, count_by, map, reverse, slice_get, slice_range, vec_len, vec_capacity, Some, IsTrue, IsErrOf, IsOk, OnOk, OnErr};
 ghost use Rattle.mb_msg.specs.Limits.{most_effects};
 ghost use Rattle.mb_journal.specs.Counts.{tells_of_envelope, tells_of_restart};
+ghost use Rattle.mb_journal.specs.Entry.{newest_effects};
 ghost use Rattle.mb_journal.specs.Entry.Entry.{Handled, System, Dropped};
 ghost use Rattle.mb_journal.specs.Entry.Outcome.{Applied, SetAside};
 ghost use Rattle.mb_journal.specs.Stored as stored;
@@ -27,6 +28,7 @@ const MOST_AT_ONCE: usize = 64;
 /// What came to an actor and what became of that (this project's own profile: Akka keeps no journal).
 ///
 /// `ready` makes room for an entry beforehand, so that adding one takes no memory.
+// What most messages use comes first, so that it lies in few cache lines.
 pub struct Journal {
     rows: Vec<Row>,
     counts: Counts,
@@ -256,6 +258,16 @@ impl Journal {
         let end = self.effects.len();
         self.rows
             .push_reserved(row_of(&mut self.wide, arrival, end));
+    }
+
+    /// The effect at this place of the newest entry's, counted from their end, where the last has place 1.
+    #[inline(always)]
+    pub fn newest_effect(&self, place: usize) -> Effect
+        requires above_0 { 0 < place }
+        requires within { place ≤ length (newest_effects self.now.entries) }
+        ensures { slice_get (newest_effects self.now.entries) (length (newest_effects self.now.entries) - place) ≡ Some result }
+    {
+        self.effects[self.effects.len() - place]
     }
 
     /// The entry at this index, from 0.

@@ -61,10 +61,10 @@ pub(crate) enum Row {
     },
 }
 
-// The sizes that the journal promises: a row of at most 32 bytes, an effect of at most 32.
+// The sizes that the journal promises: a row of at most 32 bytes, an effect of at most 16.
 const _: () = prove!(size_of::<Row>() <= 32);
 
-const _: () = prove!(size_of::<Effect>() <= 32);
+const _: () = prove!(size_of::<Effect>() <= 16);
 
 impl ShortAnswer {
     /// This answer, whose error fits.
@@ -239,7 +239,7 @@ impl Row {
 /// Whether these numbers fit into a row: those of two actors and an error into one byte each, a reading into two, the
 /// number of a message and where its effects end into four. (All are tested together, with no branch for each.)
 #[inline(always)]
-fn fits(by: u32, to: u32, error: u32, reading: u64, number: u64, end: usize) -> bool
+fn fits(by: u32, to: u16, error: u32, reading: u64, number: u64, end: usize) -> bool
     ensures { IsTrue result → (by < 256) × (to < 256) × (error < 256) × (reading < 65536)
         × (number < 4294967296) × (end < 4294967296) }
 {
@@ -268,7 +268,7 @@ fn envelope(by: u8, to: u8, number: u32, body: Body) -> Envelope
 {
     Envelope {
         by: SenderId(u32::from(by)),
-        to: ActorId(u32::from(to)),
+        to: ActorId(u16::from(to)),
         number: u64::from(number),
         body,
     }

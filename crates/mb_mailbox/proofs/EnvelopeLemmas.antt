@@ -1,11 +1,15 @@
 -- Why a run takes no envelope more, and how one that was taken changes it.
-use Rattle.std.proofs.Common.{◌≡◌, ◌⊎◌, inl, inr, ℕ, ◌<◌, Bool, true, false, List, [], length, refl, sym, ap, ◌∙◌, subst}
+use Rattle.std.proofs.Common.{◌≡◌, ◌⊎◌, inl, inr, ℕ, ◌<◌, Bool, true, false, List, [], length, None, refl, sym, ap, ◌∙◌, subst}
 use Rattle.std.specs.Prelude.{not, nat_lt, ◌&&◌, OnOk, Result}
 use Rattle.std.specs.Global.{Box}
 use Rattle.mb_status.specs.Mailbox.{word_of, should_process}
 use Rattle.mb_actor.specs.Behaviour.{Moment, Reply}
 use Rattle.mb_journal.specs.Aside.{next_front}
-use Rattle.mb_journal.specs.Run.{Stopped, IsReason, most_envelopes}
+use Rattle.mb_journal.specs.Entry.{Entry}
+use Rattle.mb_journal.specs.Identity.{Identity}
+use Rattle.mb_journal.specs.Life.{closed}
+use Rattle.mb_journal.specs.Reading.{IsOpen}
+use Rattle.mb_journal.specs.Run.{IsShut, Stopped, IsReason, most_envelopes}
 use Rattle.mb_journal.specs.Run.Stopped.{UsedUp, NotOpen, NoEnvelope, AtClosing, NoRoom}
 use Rattle.mb_cell.specs.CellView.{CellView}
 use Rattle.mb_gate.specs.Untouched.{Origin}
@@ -16,12 +20,28 @@ use Rattle.mb_home.specs.AgreesWithJournal.{AgreesWithJournal}
 use Rattle.mb_home.specs.Steps.{FindsNone}
 use Rattle.mb_mailbox.specs.Emptied.{TakesOn}
 use Rattle.mb_mailbox.specs.RunState.{RunState}
-use Rattle.mb_mailbox.specs.Ran.{LastTakeFoundNone, LastTakeHadRoom, IsDrained, IsLoadedSince, IsStopReason, EndsDrained, HadRoom, HasStopped, TakesNoMore}
+use Rattle.mb_mailbox.specs.Ran.{LastTakeFoundNone, LastTakeHadRoom, IsDrained, EndsDrained, HadRoom, HasStopped}
 use Rattle.mb_mailbox.specs.Running.{IsRunning}
 use Rattle.mb_mailbox.proofs.CleanLemmas.{running-within, ended-closed}
 use Rattle.mb_mailbox.proofs.EmptiedLemmas.{finds-one, finds-then, ok-so, take-none}
+use Rattle.mb_mailbox.proofs.LoadLemmas.{IsLoadedSince}
 use Rattle.mb_mailbox.proofs.ReadingLemmas.{open-reading, shut-reading}
 use Rattle.mb_mailbox.proofs.RunningMoves.{status-at}
+
+-- This was a reason to take no envelope more.
+abbrev pub IsStopReason : Identity → List Entry → Stopped → Type 0
+IsStopReason who journal UsedUp = ⊥
+IsStopReason who journal (NotOpen word) = IsShut who journal word × (next_front who journal ≡ None)
+IsStopReason who journal (NoEnvelope word) = IsOpen who journal word × (next_front who journal ≡ None)
+IsStopReason who journal AtClosing = closed who journal ≡ true
+IsStopReason who journal NoRoom = ⊥
+
+-- The run takes no envelope more for this reason, where its pass of the queue was this one before; and unless it is closed, its last step at the
+-- actor's list was a drain that gave nothing.
+abbrev pub TakesNoMore : TakePassView → RunState → Type 0
+TakesNoMore from hold = (stopped : Stopped) × IsStopReason hold.home.cell.who hold.home.cell.journal stopped
+    × EndsDrained hold.actor hold.log stopped × LastTakeFoundNone from hold.home.take stopped
+    × LastTakeHadRoom hold.home.cell.who hold.home.cell.journal stopped
 
 module _ (gives : ℕ → Moment → Reply → Type 0) (origin : Origin (Box Contents)) (seen : List Observation) (h : RunState)
     (r : IsRunning gives origin [] seen h) where

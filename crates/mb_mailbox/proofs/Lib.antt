@@ -33,3 +33,4 @@ pub mod LaterLemmas
 pub mod TakenLemmas
 pub mod ClaimLemmas
 pub mod InRunLemmas
+pub mod EnvelopeSteps

@@ -1,8 +1,9 @@
 -- How a load of the status word changes a run: the log alone.
-use Rattle.std.proofs.Common.{◌≡◌, inl, inr, ℕ, List, [], ◌∷◌, refl, sym, subst}
+use Rattle.std.proofs.Common.{◌≡◌, ◌⊎◌, inl, inr, ℕ, true, List, [], ◌∷◌, None, refl, sym, subst}
 use Rattle.std.proofs.Common.{append-nil}
 use Rattle.std.specs.Global.{Box}
 use Rattle.mb_actor.specs.Behaviour.{Moment, Reply}
+use Rattle.mb_journal.specs.Aside.{next_front}
 use Rattle.mb_ghost.specs.Summed.{total}
 use Rattle.mb_gate.specs.declared.claim.Claim.{Claim}
 use Rattle.mb_gate.specs.Accessors.{claim_id, claim_view, held_actor, status_of, SameTaken}
@@ -12,7 +13,8 @@ use Rattle.mb_gate.specs.Waiting.{counted_off}
 use Rattle.mb_home.specs.Contents.{Contents}
 use Rattle.mb_mailbox.specs.RunSends.{SendsForEntries}
 use Rattle.mb_mailbox.specs.RunState.{RunState, run_state}
-use Rattle.mb_mailbox.specs.Ran.{EndsBlock, LoadsAfterBlock}
+use Rattle.mb_mailbox.specs.OnlyDrained.{LoadedLast}
+use Rattle.mb_mailbox.specs.Ran.{EndsBlock}
 use Rattle.mb_mailbox.specs.Running.{IsRunning, BacklogAgrees, KeepsJournal}
 use Rattle.mb_mailbox.proofs.BacklogLemmas.{backlog-log}
 use Rattle.mb_mailbox.proofs.CountLemmas.{counted-still}
@@ -20,6 +22,15 @@ use Rattle.mb_mailbox.proofs.EmptiedLemmas.{takes-same}
 use Rattle.mb_mailbox.proofs.RunningSteps.{running-read}
 use Rattle.mb_mailbox.proofs.RunSendsLemmas.{entries-none, sends-none}
 use Rattle.mb_mailbox.proofs.RunStateLemmas.{hold-read}
+
+-- A block is at its end, and since then the claim loaded its actor's status word, which was this.
+pub record IsLoadedSince (word : ℕ) (hold : RunState) : Type 0 where
+  pub last : LoadedLast hold.actor word hold.log
+  pub none : next_front hold.home.cell.who hold.home.cell.journal ≡ None
+
+-- since a block was at its end the claim loaded its actor's status word, which was this; or the mailbox is closed
+abbrev pub LoadsAfterBlock : ℕ → RunState → Type 0
+LoadsAfterBlock word hold = (hold.status.closed ≡ true) ⊎ IsLoadedSince word hold
 
 module _ (c new : Claim (Box Contents)) (ours : (claim_id new ≡ claim_id c) × (held_actor new ≡ held_actor c))
     (same : (status_of new ≡ status_of c) × (new.home ≡ c.home)) (word : ℕ) (known : claim_view new ≡ reading_held (held_actor c) word (claim_view c))

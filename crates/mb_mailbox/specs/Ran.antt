@@ -8,8 +8,7 @@ use Rattle.mb_journal.specs.Entry.{Entry}
 use Rattle.mb_journal.specs.Entry.Entry.{Handled, System, Dropped}
 use Rattle.mb_journal.specs.Identity.{Identity}
 use Rattle.mb_journal.specs.Life.{closed}
-use Rattle.mb_journal.specs.Reading.{IsOpen}
-use Rattle.mb_journal.specs.Run.{IsReason, IsRun, IsShut, AreBlocks, Stopped}
+use Rattle.mb_journal.specs.Run.{IsReason, IsRun, AreBlocks, Stopped}
 use Rattle.mb_journal.specs.Run.Stopped.{UsedUp, NotOpen, NoEnvelope, AtClosing, NoRoom}
 use Rattle.mb_queue.specs.Passes.{TakePassView}
 use Rattle.mb_journal.specs.Fates.{begun}
@@ -58,19 +57,6 @@ pub record IsDrained (hold : RunState) : Type 0 where
   pub last : DrainedLast hold.actor hold.log
   pub none : next_front hold.home.cell.who hold.home.cell.journal ≡ None
 
--- A block is at its end, and since then the claim loaded its actor's status word, which was this.
-pub record IsLoadedSince (word : ℕ) (hold : RunState) : Type 0 where
-  pub last : LoadedLast hold.actor word hold.log
-  pub none : next_front hold.home.cell.who hold.home.cell.journal ≡ None
-
--- This was a reason to take no envelope more.
-abbrev pub IsStopReason : Identity → List Entry → Stopped → Type 0
-IsStopReason who journal UsedUp = ⊥
-IsStopReason who journal (NotOpen word) = IsShut who journal word × (next_front who journal ≡ None)
-IsStopReason who journal (NoEnvelope word) = IsOpen who journal word × (next_front who journal ≡ None)
-IsStopReason who journal AtClosing = closed who journal ≡ true
-IsStopReason who journal NoRoom = ⊥
-
 -- There was room for all that the run took.
 abbrev pub HadRoom : Stopped → Type 0
 HadRoom UsedUp = Unit {0}
@@ -107,17 +93,6 @@ LastTakeHadRoom who journal NoRoom = Unit {0}
 -- a block is at its end, or the mailbox is closed
 abbrev pub EndsBlock : RunState → Type 0
 EndsBlock hold = (hold.status.closed ≡ true) ⊎ IsDrained hold
-
--- since a block was at its end the claim loaded its actor's status word, which was this; or the mailbox is closed
-abbrev pub LoadsAfterBlock : ℕ → RunState → Type 0
-LoadsAfterBlock word hold = (hold.status.closed ≡ true) ⊎ IsLoadedSince word hold
-
--- The run takes no envelope more for this reason, where its pass of the queue was this one before; and unless it is closed, its last step at the
--- actor's list was a drain that gave nothing.
-abbrev pub TakesNoMore : TakePassView → RunState → Type 0
-TakesNoMore from hold = (stopped : Stopped) × IsStopReason hold.home.cell.who hold.home.cell.journal stopped
-    × EndsDrained hold.actor hold.log stopped × LastTakeFoundNone from hold.home.take stopped
-    × LastTakeHadRoom hold.home.cell.who hold.home.cell.journal stopped
 
 -- the run stopped for this reason, with so many envelopes
 abbrev pub HasStopped : TakePassView → RunState → ℕ → ℕ → Type 0

@@ -1,11 +1,9 @@
 //! Handling envelopes, up to the throughput.
-ghost use Rattle.std.specs.Prelude.{◌≡◌, ◌≤◌, ◌+◌, IfOk, MatchBool};
+ghost use Rattle.std.specs.Prelude.{◌≡◌, ◌≤◌, IfOk};
 ghost use Rattle.mb_journal.specs.Run.{most_envelopes};
 ghost use Rattle.mb_mailbox.specs.RunState.{run_state};
 ghost use Rattle.mb_mailbox.specs.InRun.{InRun, Advances, StopsRun};
-ghost use Rattle.mb_status.specs.Mailbox.{word_of};
-ghost use Rattle.mb_gate.specs.Accessors.{status_of};
-ghost use Rattle.mb_mailbox.specs.Ran.{EndsBlock, HasStopped, LoadsAfterBlock, TakesNoMore};
+ghost use Rattle.mb_mailbox.specs.Ran.{EndsBlock, HasStopped};
 
 use crate::acts::carry_out;
 use crate::systems::{apply_all, has_no_system_work};
@@ -15,7 +13,6 @@ use mb_gate::{Claim, Gates, RunQueue};
 use mb_home::BoxedHome;
 use mb_journal::ReadyError;
 use mb_register::Registrar;
-use mb_status::Status;
 use std::sync::Wait;
 
 /// Gives the cell at most as many envelopes as the throughput says (`Mailbox.processMailbox`; 0 counts as 1), each where the
@@ -38,72 +35,23 @@ pub(crate) fn apply_envelopes<A: Actor, K: Behaviours, W: RunQueue<BoxedHome<A, 
     ensures ended { IfOk result (λ _. HasStopped claim.old.home.value.take (run_state claim.new) throughput turn.new.envelopes) }
 {
     for _handled in 0..throughput.max(1) {
-        let took = apply_envelope(rt, gates, registrar, claim, turn)?;
-        if !took {
+        let status = gates.held_status(claim);
+        if !status.should_process() {
             return Ok(());
         }
+        claim.home.ready()?;
+        let Some(envelope) = claim.home.take_next(rt) else {
+            return Ok(());
+        };
+        // Counted before the actor is called, since a locked step waits until all that was written before it is out.
+        gates.note_taken(claim);
+        claim.home.begin(status, envelope);
+        turn.envelopes += 1;
+        carry_out(rt, gates, registrar, claim)?;
         if has_no_system_work(gates, claim) {
             continue;
         }
         apply_all(rt, gates, registrar, claim, turn)?;
     }
     Ok(())
-}
-
-// Loads the status, and gives the cell the next envelope where it is open and not suspended and one is there.
-fn apply_envelope<A: Actor, K: Behaviours, W: RunQueue<BoxedHome<A, K>>, R: Wait>(
-    rt: &R,
-    gates: &Gates<BoxedHome<A, K>>,
-    registrar: &mut Registrar<BoxedHome<A, K>, W>,
-    claim: &mut Claim<BoxedHome<A, K>>,
-    turn: &mut Turn,
-) -> Result<bool, ReadyError>
-    requires in_run { InRun K.gives W.origin gates.now registrar.old claim.old turn.old }
-    requires whole { EndsBlock (run_state claim.old) }
-    ensures in_run { InRun K.gives W.origin gates.now registrar.new claim.new turn.new }
-    ensures advances { Advances W.pushed W.refused result registrar.old registrar.new claim.old claim.new }
-    ensures stops { StopsRun result claim.new }
-    ensures took { IfOk result (λ took. MatchBool took (turn.new.envelopes ≡ turn.old.envelopes + 1)
-        ((turn.new ≡ turn.old) × TakesNoMore claim.old.home.value.take (run_state claim.new))) }
-    ensures within_limit { turn.new.envelopes ≤ turn.old.envelopes + 1 }
-{
-    let status = gates.held_status(claim);
-    apply_next(rt, gates, registrar, claim, turn, status)
-}
-
-// Gives the cell the next envelope, where this status that was just loaded is open and not suspended and one is there, and
-// carries out its acts.
-fn apply_next<A: Actor, K: Behaviours, W: RunQueue<BoxedHome<A, K>>, R: Wait>(
-    rt: &R,
-    gates: &Gates<BoxedHome<A, K>>,
-    registrar: &mut Registrar<BoxedHome<A, K>, W>,
-    claim: &mut Claim<BoxedHome<A, K>>,
-    turn: &mut Turn,
-    status: Status,
-) -> Result<bool, ReadyError>
-    requires in_run { InRun K.gives W.origin gates.now registrar.old claim.old turn.old }
-    requires status { status ≡ status_of claim.old }
-    requires whole { LoadsAfterBlock (word_of (status_of claim.old)) (run_state claim.old) }
-    ensures in_run { InRun K.gives W.origin gates.now registrar.new claim.new turn.new }
-    ensures advances { Advances W.pushed W.refused result registrar.old registrar.new claim.old claim.new }
-    ensures stops { StopsRun result claim.new }
-    ensures took { IfOk result (λ took. MatchBool took (turn.new.envelopes ≡ turn.old.envelopes + 1)
-        ((turn.new ≡ turn.old) × TakesNoMore claim.old.home.value.take (run_state claim.new))) }
-    ensures within_limit { turn.new.envelopes ≤ turn.old.envelopes + 1 }
-{
-    if !status.should_process() {
-        return Ok(false);
-    }
-    claim.home.ready()?;
-    let Some(envelope) = claim.home.take_next(rt) else {
-        return Ok(false);
-    };
-    // Counted before the actor is called, since a locked step waits until all that was written before it is out.
-    gates.note_taken(claim);
-    claim.home.begin(status, envelope);
-    turn.envelopes += 1;
-    match carry_out(rt, gates, registrar, claim) {
-        Ok(()) => Ok(true),
-        Err(fault) => Err(fault),
-    }
 }

@@ -130,7 +130,7 @@ const GREAT: &[Told] = &[
     (
         Received::System {
             number: 4_294_967_295,
-            message: SysMsg::Failed(ActorId(4_294_967_295), Cause::Error(4_294_967_295)),
+            message: SysMsg::Failed(ActorId(65_535), Cause::Error(4_294_967_295)),
             answer: None,
         },
         TOLD,

@@ -43,7 +43,7 @@ fn next_of(chain: &mut Chain) -> Option<(u64, SysMsg)> {
 fn long_list(rt: &impl Abort, alloc: Global) -> SysList {
     let mut list = SysList::new();
     for number in 0..MANY {
-        let node = node_of(rt, alloc, SysMsg::Watch(ActorId((number % 64) as u32)));
+        let node = node_of(rt, alloc, SysMsg::Watch(ActorId((number % 64) as u16)));
         push(rt, &mut list, node, number);
     }
     list
@@ -169,7 +169,7 @@ fn the_earliest_comes_first_and_numbers_go_on(rt: HostRuntime) {
 fn a_long_chain_is_walked(rt: HostRuntime) {
     let mut chain = long_list(&rt, rt.alloc()).drain();
     for number in 0..MANY {
-        let watcher = ActorId((number % 64) as u32);
+        let watcher = ActorId((number % 64) as u16);
         take(&rt, &mut chain, number, SysMsg::Watch(watcher));
     }
     assert!(rt; chain.is_empty());

@@ -8,7 +8,7 @@ use mb_report::{ActorReport, Report, SenderReport, report_text};
 use std::alloc::{AllocError, Global};
 use std::test::Fail;
 
-fn envelope(to: u32, number: u64) -> Envelope {
+fn envelope(to: u16, number: u64) -> Envelope {
     Envelope {
         by: SenderId(64),
         number,
@@ -90,7 +90,7 @@ fn actors(alloc: Global) -> Option<Vec<ActorReport>>
     vec![in alloc; guardian, first, second].ok()
 }
 
-fn dead(to: u32, number: u64, why: Why) -> DeadLetter {
+fn dead(to: u16, number: u64, why: Why) -> DeadLetter {
     DeadLetter {
         envelope: envelope(to, number),
         why,

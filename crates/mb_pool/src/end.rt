@@ -153,6 +153,7 @@ fn push_first<H: MailboxState, R: Wait>(
         × IsRefusedBy (IsUntouched H.is_of H.facts) (endpoint_of (port_view shared_port.old) member.old) refused) }
     ensures same { parts_of (endpoint_of (port_view shared_port.new) member.new) ≡ parts_of (endpoint_of (port_view shared_port.old) member.old) }
 {
+    // Each arm answers by itself: answers that are merged first go through memory.
     match member {
         None => return shared_port.push(rt, claim),
         Some(member) => match member.own_deque.push(claim) {
@@ -196,6 +197,7 @@ fn try_push_first<H: MailboxState>(
         (λ back. (back ≡ claim) × (endpoint_of (port_view shared_port.new) member.new ≡ endpoint_of (port_view shared_port.old) member.old)) }
     ensures same { parts_of (endpoint_of (port_view shared_port.new) member.new) ≡ parts_of (endpoint_of (port_view shared_port.old) member.old) }
 {
+    // Each arm answers by itself: answers that are merged first go through memory.
     match member {
         None => match shared_port.try_push(claim) {
             Ok(()) => return Ok(()),

@@ -63,6 +63,7 @@ impl<H: MailboxState> FeedQueuePort<H> {
             (λ refused. (given_back refused ≡ claim) × (self.new ≡ self.old)
             × IsRefusal (IsUntouched H.is_of H.facts) self.old refused) }
     {
+        // Each arm answers by itself: answers that are merged first go through memory.
         match self.inlet.push(rt, &mut self.pass, claim) {
             Ok(()) => return Ok(()),
             Err(back) => return Err(ClaimRefused::NoMemory(back)),

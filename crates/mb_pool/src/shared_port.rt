@@ -81,6 +81,7 @@ impl<H: MailboxState> SharedPort<H> {
             (port_view self.new).ledger)
             (λ back. (back ≡ claim) × (port_view self.new ≡ port_view self.old)) }
     {
+        // Each arm answers by itself: answers that are merged first go through memory.
         match self {
             SharedPort::Bounded(port) => match port.try_push(claim) {
                 Ok(()) => return Ok(()),

@@ -36,7 +36,7 @@ impl Owed {
         if self.bits == 0 {
             return None;
         }
-        Some(ActorId(self.bits.trailing_zeros()))
+        Some(ActorId(self.bits.trailing_zeros() as u16))
     }
 
     /// Whether this actor is in the set.

@@ -50,7 +50,7 @@ impl<H: MailboxState, W: RunQueue<H>> Registrar<H, W> {
             if number as usize >= gates.actors() {
                 return Ok(());
             }
-            self.retry_one(rt, gates, ActorId(number))?;
+            self.retry_one(rt, gates, ActorId(number as u16))?;
         }
         Ok(())
     }

@@ -14,7 +14,7 @@ use Rattle.mb_schema.specs.Value.{has_type, is_few, is_fresh, is_from_to, is_in_
 use Rattle.mb_schema.specs.declared.finding.Reason.TheVariants.{Missing, WrongType, NotAllowed, OutOfRange, TooMany, UnknownName, RepeatedName}
 use Rattle.mb_schema.specs.declared.form.Form.TheVariants.{Whole}
 use Rattle.mb_schema.specs.declared.form.Only.TheVariants.{Always, Bounded}
-use Rattle.mb_scenario.specs.Fields.{number_of_integer, number_or, small}
+use Rattle.mb_scenario.specs.Fields.{number_of_integer, number_or, short, small}
 
 module _ {A : Type 0} where
   -- where the first of the checks finds nothing, each does
@@ -87,15 +87,18 @@ key-none prefix a ms key none =
 
 -- ---- numbers
 
-pub small-le : (n : ℕ) → small n ≤ n
-small-le n = by_test (nat_lt n (2 ^ 32))
+pub small-is : (n : ℕ) → n < 2 ^ 32 → small n ≡ n
+small-is n lt = let e : nat_lt n (2 ^ 32) ≡ true = grind (arith, nat_tests) in ap (λ b. cond b n 0) e
+
+pub short-le : (n : ℕ) → short n ≤ n
+short-le n = by_test (nat_lt n (2 ^ 16))
   where
     by_test : (b : Bool) → cond b n 0 ≤ n
     by_test true = omega arith
     by_test false = omega arith
 
-pub small-is : (n : ℕ) → n < 2 ^ 32 → small n ≡ n
-small-is n lt = let e : nat_lt n (2 ^ 32) ≡ true = grind (arith, nat_tests) in ap (λ b. cond b n 0) e
+pub short-is : (n : ℕ) → n < 2 ^ 16 → short n ≡ n
+short-is n lt = let e : nat_lt n (2 ^ 16) ≡ true = grind (arith, nat_tests) in ap (λ b. cond b n 0) e
 
 both : (a b : Bool) → (a && b) ≡ true → (a ≡ true) × (b ≡ true)
 both true b is = (refl, is)

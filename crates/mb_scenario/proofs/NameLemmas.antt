@@ -8,8 +8,8 @@ use Rattle.std.specs.Bool.{Decides}
 use Rattle.std.proofs.lemmas.Slice.Eq.{bytes_eq-Decides}
 use Rattle.mb_schema.specs.Context.{ActorEntryData, knows}
 use Rattle.mb_schema.specs.Name.{is_guardian, is_letter, is_name, is_name_byte}
-use Rattle.mb_scenario.specs.Fields.{number_from, small}
-use Rattle.mb_scenario.proofs.Checks.{small-is, small-le}
+use Rattle.mb_scenario.specs.Fields.{number_from, short}
+use Rattle.mb_scenario.proofs.Checks.{short-is, short-le}
 
 -- a number is at most the place of the last actor
 pub number-below : (n : ℕ) (actor_entries : List ActorEntryData) (name : List ℕ) → 0 < n → number_from n actor_entries name < n + length actor_entries
@@ -17,8 +17,8 @@ number-below n [] name some = omega (arith, some)
 number-below n (k ∷ actor_entries) name some = by_test (bytes_eq k.name name) (number-below (n + 1) actor_entries name (omega arith))
   where
     by_test : (b : Bool) → number_from (n + 1) actor_entries name < n + 1 + length actor_entries
-        → cond b (small n) (number_from (n + 1) actor_entries name) < n + length (k ∷ actor_entries)
-    by_test true later = let le = small-le n in omega (arith, le)
+        → cond b (short n) (number_from (n + 1) actor_entries name) < n + length (k ∷ actor_entries)
+    by_test true later = let le = short-le n in omega (arith, le)
     by_test false later = omega (arith, later)
 
 -- that of one of the first actors is one of the first
@@ -28,20 +28,20 @@ number-earlier (suc i) n [] name known = absurd (cc)
 number-earlier (suc i) n (k ∷ actor_entries) name known = by_test (bytes_eq k.name name) refl (λ known. number-earlier i (n + 1) actor_entries name known)
   where
     by_test : (b : Bool) → bytes_eq k.name name ≡ b → (knows (take i actor_entries) name ≡ true → number_from (n + 1) actor_entries name < n + 1 + i)
-        → cond b (small n) (number_from (n + 1) actor_entries name) < n + suc i
-    by_test true is later = let le = small-le n in omega (arith, le)
+        → cond b (short n) (number_from (n + 1) actor_entries name) < n + suc i
+    by_test true is later = let le = short-le n in omega (arith, le)
     by_test false is later = let lt = later (ap (λ b. b || knows (take i actor_entries) name) (sym is) ∙ known) in omega (arith, lt)
 
 -- that of an actor is not the guardian's
-pub number-known : (n : ℕ) (actor_entries : List ActorEntryData) (name : List ℕ) → 0 < n → n + length actor_entries < 2 ^ 32 → knows actor_entries name ≡ true
+pub number-known : (n : ℕ) (actor_entries : List ActorEntryData) (name : List ℕ) → 0 < n → n + length actor_entries < 2 ^ 16 → knows actor_entries name ≡ true
     → 0 < number_from n actor_entries name
 number-known n [] name some few known = absurd (cc)
 number-known n (k ∷ actor_entries) name some few known =
     by_test (bytes_eq k.name name) refl (λ known. number-known (n + 1) actor_entries name (omega arith) (omega (arith, few)) known)
   where
     by_test : (b : Bool) → bytes_eq k.name name ≡ b → (knows actor_entries name ≡ true → 0 < number_from (n + 1) actor_entries name)
-        → 0 < cond b (small n) (number_from (n + 1) actor_entries name)
-    by_test true is later = let same = small-is n (omega (arith, few)) in omega (arith, same, some)
+        → 0 < cond b (short n) (number_from (n + 1) actor_entries name)
+    by_test true is later = let same = short-is n (omega (arith, few)) in omega (arith, same, some)
     by_test false is later = later (ap (λ b. b || knows actor_entries name) (sym is) ∙ known)
 
 -- each has a name
@@ -71,7 +71,7 @@ pub number-guardian : (n : ℕ) (actor_entries : List ActorEntryData) (name : Li
 number-guardian n [] name named is = refl
 number-guardian n (k ∷ actor_entries) name named is =
     let other : bytes_eq k.name name ≡ false = ap (bytes_eq k.name) (same-bytes name (codes "guardian") is) ∙ no-guardian k.name named.0 in
-    ap (λ b. cond b (small n) (number_from (n + 1) actor_entries name)) other ∙ number-guardian (n + 1) actor_entries name named.1 is
+    ap (λ b. cond b (short n) (number_from (n + 1) actor_entries name)) other ∙ number-guardian (n + 1) actor_entries name named.1 is
 
 -- the guardian's and an earlier actor's are below an actor's own
 pub number-of-parent : (i : ℕ) (actor_entries : List ActorEntryData) (name : List ℕ) → Named actor_entries → (is_guardian name || knows (take i actor_entries) name) ≡ true

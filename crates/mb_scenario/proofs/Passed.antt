@@ -162,7 +162,7 @@ or-false : (a b : Bool) → (a || b) ≡ true → a ≡ false → b ≡ true
 or-false true b is not_a = absurd (cc)
 or-false false b is not_a = is
 
-module _ (actor_entries : List ActorEntryData) (few : 1 + length actor_entries < 2 ^ 32) where
+module _ (actor_entries : List ActorEntryData) (few : 1 + length actor_entries < 2 ^ 16) where
   received : (ms : Members) (o : Option Data) (kind : ℕ) (value : ℤ) (what : OrderKind)
       → key_reason (context_of_send actor_entries) ms (required (codes "to") Always Receiver) o ≡ None → what_sent (what_word ms) kind value ≡ what
       → IsReceived (1 + length actor_entries) (id_of actor_entries (text_or (codes "") o)) what

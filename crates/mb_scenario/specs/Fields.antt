@@ -15,6 +15,10 @@ field key d = option_and_then (get_member key) (as_table d)
 abbrev pub small : ℕ → ℕ
 small n = if nat_lt n (2 ^ 32) then n else 0
 
+-- a number of 16 bits
+abbrev pub short : ℕ → ℕ
+short n = if nat_lt n (2 ^ 16) then n else 0
+
 -- the number that an integer is, which a checked document keeps within 32 bits
 abbrev pub number_of_integer : Option ℤ → ℕ
 number_of_integer (Some (pos n)) = small n
@@ -43,7 +47,7 @@ map_items f (item d ds) = f d ∷ map_items f ds
 -- the number of the first actor of a name, where numbers count on from this one; 0, the guardian's, where none has it
 abbrev pub number_from : ℕ → List ActorEntryData → List ℕ → ℕ
 number_from n [] name = 0
-number_from n (k ∷ actor_entries) name = if bytes_eq k.name name then small n else number_from (n + 1) actor_entries name
+number_from n (k ∷ actor_entries) name = if bytes_eq k.name name then short n else number_from (n + 1) actor_entries name
 
 -- the actor of a name; the guardian where no actor has it
 abbrev pub id_of : List ActorEntryData → List ℕ → ActorId

@@ -3,7 +3,7 @@
 ghost use Rattle.std.specs.Prelude.{◌≡◌, ◌+◌, ◌<◌, map, option_map};
 ghost use Rattle.toml.specs.View.{view};
 ghost use Rattle.mb_schema.specs.Context.{actor_entry_data};
-ghost use Rattle.mb_scenario.specs.Fields.{field, small, number_of_integer, number_or, integer_or, truth_or, number_from, id_of};
+ghost use Rattle.mb_scenario.specs.Fields.{field, small, short, number_of_integer, number_or, integer_or, truth_or, number_from, id_of};
 
 use mb_msg::ActorId;
 use mb_schema::{ActorEntry, is_text, value_at};
@@ -28,6 +28,13 @@ pub(crate) fn small(number: usize) -> u32
     } else {
         0
     }
+}
+
+/// The number as one of 16 bits.
+fn short(number: usize) -> u16
+    ensures { result ≡ short number }
+{
+    if number <= 65_535 { number as u16 } else { 0 }
 }
 
 fn number_of_integer(found: Option<i64>) -> u32
@@ -81,7 +88,7 @@ pub(crate) fn id_of(actor_entries: &[ActorEntry<'_>], name: &[u8]) -> ActorId
 {
     for (index, one) in actor_entries.iter().enumerate() {
         if is_text(one.name, name) {
-            return ActorId(small(index + 1));
+            return ActorId(short(index + 1));
         }
     }
     ActorId(0)

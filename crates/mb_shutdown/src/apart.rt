@@ -31,7 +31,7 @@ pub(crate) fn take_apart<A: Actor, K: Behaviours>(
     ensures room { (vec_capacity rows.new ≡ vec_capacity rows.old) × (vec_capacity senders.new ≡ vec_capacity senders.old) }
 {
     for left in all {
-        let id = ActorId(ended.len() as u32);
+        let id = ActorId(ended.len() as u16);
         let HomeParts {
             cell,
             take,

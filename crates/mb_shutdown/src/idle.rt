@@ -17,7 +17,7 @@ pub fn first_busy<H: MailboxState>(gates: &Gates<H>, pass: &mut Pass<H>) -> Opti
         × WasReadBusy id.0 between (pass_view pass.new))) }
 {
     for number in 0..gates.actors() {
-        let id = ActorId(number as u32);
+        let id = ActorId(number as u16);
         if !is_idle(gates, pass, id) {
             return Some(id);
         }

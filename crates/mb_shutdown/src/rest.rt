@@ -35,7 +35,7 @@ pub(crate) fn take_rests<R: Wait>(
         return Err(Mismatch::Waiting(ActorId(0)));
     }
     if let Err(TooMany(place)) = join_and_drain(rt, takes, rows, &mut lefts[1..]) {
-        return Err(Mismatch::Waiting(ActorId(place as u32 + 1)));
+        return Err(Mismatch::Waiting(ActorId(place as u16 + 1)));
     }
     Ok(())
 }

@@ -100,7 +100,7 @@ fn make_lefts<H: MailboxState>(
     let mut counts = Vec::with_capacity(alloc, actors)?;
     let mut lefts = Vec::with_capacity(alloc, actors)?;
     for number in 0..actors {
-        let waiting = gates.waiting(pass, ActorId(number as u32));
+        let waiting = gates.waiting(pass, ActorId(number as u16));
         let room = Vec::with_capacity(alloc, waiting as usize)?;
         counts.push_reserved(waiting);
         lefts.push_reserved(room);

@@ -36,7 +36,7 @@ pub(crate) fn report_on<A: Actor, K: Behaviours>(
             unreachable!()
         };
         if !agrees(&one.cell, &left, waiting[place]) {
-            return Err(Mismatch::Waiting(ActorId(place as u32)));
+            return Err(Mismatch::Waiting(ActorId(place as u16)));
         }
         actors.push_reserved(actor_report(one, left));
     }

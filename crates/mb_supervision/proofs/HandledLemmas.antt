@@ -7,7 +7,7 @@ use Rattle.std.specs.List.{list_all}
 use Rattle.mb_msg.specs.declared.envelope.Body.{Body}
 use Rattle.mb_msg.specs.declared.envelope.Body.TheVariants as body
 use Rattle.mb_msg.specs.declared.id.ActorId.{ActorId}
-use Rattle.mb_actor.specs.OutboxView.{spawns_of}
+use Rattle.mb_actor.specs.OutboxView.{is_tell, spawns_of}
 use Rattle.mb_actor.specs.declared.answer.Answer.{Answer}
 use Rattle.mb_actor.specs.declared.effect.Effect.{Effect}
 use Rattle.mb_actor.specs.declared.effect.Effect.TheVariants as effect
@@ -18,7 +18,6 @@ use Rattle.mb_journal.specs.Identity.{Identity}
 use Rattle.mb_journal.specs.Watching.{watching_after, due_after}
 use Rattle.mb_supervision.specs.CellStateRecord.{CellState}
 use Rattle.mb_supervision.specs.Rows.{with_effects, due_told, failing_if, handled}
-use Rattle.mb_supervision.specs.Tells.{is_tell}
 
 -- ---- tells add their acts, and change nothing else
 

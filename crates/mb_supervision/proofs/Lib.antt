@@ -1,4 +1,3 @@
-pub mod ActLemmas
 pub mod Crossing
 pub mod EffectLemmas
 pub mod HandledLemmas

@@ -5,6 +5,3 @@ pub mod ActorIdentity
 pub mod ActQueueView
 pub mod RetryCounts
 pub mod Rows
-pub mod Tells
-pub mod TaskQueue
-pub mod TaskQueueView

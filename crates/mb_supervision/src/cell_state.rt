@@ -30,6 +30,7 @@ use std::marker::Model;
 
 /// The state of a cell beside its journal: what the journal says, changed in place, and the acts of the last message
 /// (fields of Akka's `ActorCell`, `Children`, `DeathWatch` and `FaultHandling`).
+// What most messages use comes first, so that it lies in few cache lines.
 #[derive(Drop)]
 pub struct CellState {
     ready: bool,
@@ -161,6 +162,7 @@ impl CellState {
     }
 
     /// Takes out the earliest act; `None` if none is left.
+    #[inline(always)]
     pub fn next_act(&mut self) -> Option<Act>
         ensures taken { self.old.acts ≡ map act_of (option_to_list result) ++ self.new.acts }
         ensures none { IfNone result (self.old.acts ≡ []) }

@@ -7,7 +7,7 @@ ghost use Rattle.mb_journal.specs.Watching.{watching_after, due_after};
 
 use crate::act_queue::ActQueue;
 use crate::actor_list::{has, join, leave};
-use crate::task_queue::Task;
+use crate::task::Task;
 use mb_actor::Effect;
 use mb_msg::{ActorId, Body, SysMsg};
 

@@ -8,7 +8,7 @@ ghost use Rattle.mb_supervision.specs.ActorIdentity.{identity_of};
 use crate::act_queue::ActQueue;
 use crate::effects::carry_out_last;
 use crate::identity::ActorIdentity;
-use crate::task_queue::Task;
+use crate::task::Task;
 use mb_actor::Effect;
 use mb_msg::{ActorId, SysMsg};
 

@@ -9,7 +9,7 @@ ghost use Rattle.mb_supervision.specs.ActorIdentity.{identity_of};
 use crate::act_queue::ActQueue;
 use crate::actor_list::has;
 use crate::identity::ActorIdentity;
-use crate::task_queue::Task;
+use crate::task::Task;
 use mb_journal::FailedBy;
 use mb_msg::{ActorId, Cause, SysMsg};
 

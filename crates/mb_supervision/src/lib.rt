@@ -14,7 +14,7 @@ mod end;
 mod fail;
 mod identity;
 mod retries;
-mod task_queue;
+mod task;
 
 pub use act::Act;
 pub use cell_state::CellState;

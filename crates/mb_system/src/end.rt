@@ -98,7 +98,7 @@ impl<A: Actor, K: Behaviours> WorkerEnd<A, K> {
         ensures due { GotOnlyDue hint.None (pass_view self.old.registrar.pass) (pass_view self.new.registrar.pass) }
     {
         for number in 0..system.gates.actors() {
-            self.register(rt, system, ActorId(number as u32), Hint::None);
+            self.register(rt, system, ActorId(number as u16), Hint::None);
         }
     }
 

@@ -7,14 +7,14 @@ use mb_msg::ActorId;
 /// One thing that an actor does, with the number of the actor that it concerns. What the outbox refuses is left out.
 #[derive(Clone, Copy)]
 pub enum Action {
-    Spawn(u32),
-    Watch(u32),
-    Unwatch(u32),
-    Stop(u32),
+    Spawn(u16),
+    Watch(u16),
+    Unwatch(u16),
+    Stop(u16),
     /// It tells that actor a message of this kind, with the value of the message that it handles.
-    Tell(u32, u32),
+    Tell(u16, u32),
     /// It sends that actor such a control message.
-    Control(u32, u32),
+    Control(u16, u32),
     /// It fails with this number, and does no more.
     Fail(u32),
 }

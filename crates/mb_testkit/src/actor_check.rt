@@ -44,7 +44,7 @@ pub fn has_ended(report: &Report, id: ActorId) -> bool {
 /// The children of the guardian.
 fn below_guardian(plan: &Plan) -> Ids {
     let mut below = NOBODY;
-    let mut number: u32 = 0;
+    let mut number: u16 = 0;
     for actor in &plan.actors {
         number = number.wrapping_add(1);
         if actor.parent == ActorId(0) {

@@ -13,7 +13,7 @@ const ENVELOPES: u32 = 1_000;
 pub fn crowd_sends(alloc: Global) -> Result<Vec<Order>, AllocError> {
     let mut sends = Vec::new(alloc);
     for place in 0..ENVELOPES {
-        sends.push(tell!(1 + place % COUNTERS, ADD, 1))?;
+        sends.push(tell!((1 + place % COUNTERS) as u16, ADD, 1))?;
     }
     Ok(sends)
 }

@@ -26,5 +26,5 @@ impl Ids {
 }
 
 fn bit(id: ActorId) -> u64 {
-    1u64.wrapping_shl(id.0)
+    1u64.wrapping_shl(u32::from(id.0))
 }

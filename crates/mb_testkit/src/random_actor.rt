@@ -17,7 +17,7 @@ pub struct RandomActor {
     /// The random numbers by which it chooses.
     pub dice: Random,
     /// How many actors there are.
-    pub actors: u32,
+    pub actors: u16,
     /// The sum that it shows.
     pub sum: i64,
 }
@@ -63,7 +63,7 @@ impl Actor for RandomActor {
 }
 
 /// Starts all children that the actor has.
-fn spawn_all(actors: u32, out: &mut Outbox)
+fn spawn_all(actors: u16, out: &mut Outbox)
     ensures actors { out.new.actors ≡ out.old.actors }
     ensures unspawned { out.new.unspawned ≡ out.old.unspawned }
 {
@@ -73,7 +73,7 @@ fn spawn_all(actors: u32, out: &mut Outbox)
 }
 
 /// Does what a message of this kind makes a random actor do, and answers.
-fn hear(dice: &mut Random, actors: u32, kind: u32, out: &mut Outbox) -> Answer
+fn hear(dice: &mut Random, actors: u16, kind: u32, out: &mut Outbox) -> Answer
     ensures actors { out.new.actors ≡ out.old.actors }
     ensures unspawned { out.new.unspawned ≡ out.old.unspawned }
 {
@@ -87,11 +87,11 @@ fn hear(dice: &mut Random, actors: u32, kind: u32, out: &mut Outbox) -> Answer
 }
 
 /// Asks for one effect; a message that is sent is of this kind.
-fn act(dice: &mut Random, actors: u32, kind: u32, out: &mut Outbox)
+fn act(dice: &mut Random, actors: u16, kind: u32, out: &mut Outbox)
     ensures actors { out.new.actors ≡ out.old.actors }
     ensures unspawned { out.new.unspawned ≡ out.old.unspawned }
 {
-    let who = ActorId(dice.number_between(1, actors));
+    let who = dice.actor_between(1, actors);
     let value = i64::from(dice.number_between(0, 99));
     let _refused = match dice.number_between(1, 20) {
         1 => out.stop(who),
@@ -119,7 +119,7 @@ fn leave_once_in(sides: u32, dice: &mut Random) -> Answer {
 }
 
 /// Random actors to which nothing came yet.
-pub fn random_actors(alloc: Global, seed: u64, actors: u32) -> Result<Vec<RandomActor>, AllocError>
+pub fn random_actors(alloc: Global, seed: u64, actors: u16) -> Result<Vec<RandomActor>, AllocError>
     ensures { IfOk result (λ random_actors. All (λ gambler. gambler.sum ≡ pos 0) random_actors.items) }
 {
     let mut random_actors = Vec::new(alloc);

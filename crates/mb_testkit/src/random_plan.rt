@@ -4,20 +4,20 @@ use crate::random_actor::GREATEST;
 use crate::test_actor::ADD;
 use crate::{control, kill, poison, stop, tell};
 use mb_msg::{
-    ActorId, ActorPlan, Directive, MailboxType, Order, Pattern, Plan, PoolKind, RankRow, Strategy,
+    ActorPlan, Directive, MailboxType, Order, Pattern, Plan, PoolKind, RankRow, Strategy,
 };
 use std::alloc::{AllocError, Global};
 
 /// How many actors the random plan of this seed has.
-pub fn actors_by_chance(seed: u64) -> u32 {
-    Random::new(seed).number_between(1, 6)
+pub fn actors_by_chance(seed: u64) -> u16 {
+    Random::new(seed).actor_between(1, 6).0
 }
 
 /// The random plan of this seed.
 pub fn plan_by_chance(alloc: Global, seed: u64, pool: PoolKind) -> Result<Plan, AllocError> {
     let mut dice = Random::new(seed);
     let mut actors = Vec::new(alloc);
-    for number in 1..=dice.number_between(1, 6) {
+    for number in 1..=dice.actor_between(1, 6).0 {
         actors.push(actor_by_chance(alloc, &mut dice, number)?)?;
     }
     Ok(Plan {
@@ -30,9 +30,9 @@ pub fn plan_by_chance(alloc: Global, seed: u64, pool: PoolKind) -> Result<Plan, 
     })
 }
 
-fn actor_by_chance(alloc: Global, dice: &mut Random, number: u32) -> Result<ActorPlan, AllocError> {
+fn actor_by_chance(alloc: Global, dice: &mut Random, number: u16) -> Result<ActorPlan, AllocError> {
     Ok(ActorPlan {
-        parent: ActorId(dice.number_between(0, number.saturating_sub(1))),
+        parent: dice.actor_between(0, number.saturating_sub(1)),
         mailbox: mailbox(alloc, dice)?,
         strategy: strategy(alloc, dice)?,
     })
@@ -96,7 +96,7 @@ pub fn sends_by_chance(
     alloc: Global,
     seed: u64,
     senders: u32,
-    actors: u32,
+    actors: u16,
 ) -> Result<Vec<Vec<Order>>, AllocError> {
     let mut sends = Vec::new(alloc);
     for sender in 0..senders {
@@ -109,17 +109,17 @@ pub fn sends_by_chance(
     Ok(sends)
 }
 
-fn own_by_chance(alloc: Global, seed: u64, actors: u32) -> Result<Vec<Order>, AllocError> {
+fn own_by_chance(alloc: Global, seed: u64, actors: u16) -> Result<Vec<Order>, AllocError> {
     let mut dice = Random::new(seed);
     let mut sends = Vec::new(alloc);
     for _ in 0..dice.number_between(0, 40) {
-        let to = dice.number_between(1, actors);
+        let to = dice.actor_between(1, actors).0;
         sends.push(order_by_chance(to, &mut dice))?;
     }
     Ok(sends)
 }
 
-fn order_by_chance(to: u32, dice: &mut Random) -> Order {
+fn order_by_chance(to: u16, dice: &mut Random) -> Order {
     let value = i64::from(dice.number_between(0, 99));
     let kind = dice.number_between(ADD, GREATEST);
     match dice.number_between(1, 200) {

@@ -120,8 +120,8 @@ fn outside(alloc: Global, by: u32, own: &[Order]) -> Result<Sent, AllocError> {
 }
 
 /// What an actor sent: its tells, and to itself a Terminated of each watched actor that ended.
-fn by_actor(alloc: Global, by: u32, journal: &Journal) -> Result<Sent, AllocError> {
-    let mut sent = Sent::nothing(alloc, by);
+fn by_actor(alloc: Global, by: u16, journal: &Journal) -> Result<Sent, AllocError> {
+    let mut sent = Sent::nothing(alloc, u32::from(by));
     sent.send_by(ActorId(by), journal)?;
     Ok(sent)
 }

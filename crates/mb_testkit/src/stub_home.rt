@@ -46,7 +46,7 @@ pub fn gates_of(
     alloc: Global,
     count: usize,
 ) -> Result<(Gates<StubHome>, Pass<StubHome>), AllocError>
-    requires { (0 < count) × (count ≤ 4294967296) }
+    requires { (0 < count) × (count ≤ 65536) }
     ensures { IfOk result (λ made. (actors_of made.0 ≡ count) × (pass_id made.1 ≡ gates_id made.0)) }
 {
     let mut stub_homes = Vec::with_capacity(alloc, count)?;

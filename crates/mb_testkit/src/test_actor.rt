@@ -32,7 +32,7 @@ pub enum TestMailbox {
 #[derive(Clone, Copy)]
 pub struct TestActorPlan {
     /// The parent's number.
-    pub parent: u32,
+    pub parent: u16,
     /// The mailbox.
     pub mailbox: TestMailbox,
     /// What it does at a start.

@@ -26,7 +26,7 @@ pub enum EntryKinds {
 #[derive(Clone, Copy)]
 pub struct Filter<'a> {
     /// The numbers of the actors whose entries are shown; those of all where it is empty.
-    pub actors: &'a [u32],
+    pub actors: &'a [u16],
     /// Which kinds.
     pub only: EntryKinds,
     /// How many entries at most; `u64::MAX` for all.
@@ -42,7 +42,7 @@ impl Filter<'_> {
     }
 
     /// Whether the entries of the actor of this number are shown.
-    pub fn has_actor(&self, actor: u32) -> bool
+    pub fn has_actor(&self, actor: u16) -> bool
         ensures { result ≡ shows_actor self.now.actors.now actor }
     {
         self.actors.is_empty() || self.actors.contains(&actor)

@@ -59,7 +59,7 @@ fn write_in_order<W: Write>(
         if place.actor >= trace.report.actors.len() {
             continue;
         }
-        let Some(step) = steps.next_of(ActorId(place.actor as u32))? else {
+        let Some(step) = steps.next_of(ActorId(place.actor as u16))? else {
             continue;
         };
         if left == 0 {
@@ -79,7 +79,7 @@ fn write_in_order<W: Write>(
 fn write_next<W: Write>(
     alloc: Global,
     names: &[String],
-    above: Option<u32>,
+    above: Option<u16>,
     step: &TraceStep<'_>,
     out: &mut W,
 ) -> Result<(), TraceError>
@@ -95,7 +95,7 @@ fn write_next<W: Write>(
 }
 
 /// Whether the name of the actor of this number is the one that stands above.
-fn stands_above(above: Option<u32>, actor: u32) -> bool
+fn stands_above(above: Option<u16>, actor: u16) -> bool
     ensures { result ≡ is_above above actor }
 {
     match above {

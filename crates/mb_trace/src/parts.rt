@@ -57,7 +57,7 @@ pub(crate) fn write_journals<W: Write>(
 {
     let mut steps = TraceSteps::new(alloc, *trace)?;
     let mut left = filter.limit;
-    let mut number: u32 = 0;
+    let mut number: u16 = 0;
     for actor in actors {
         let part = Part {
             title: "actor",

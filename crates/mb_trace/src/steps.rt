@@ -94,7 +94,7 @@ fn children_of_guardian(alloc: Global, actors: &[ActorPlan]) -> Result<Vec<Actor
     let mut children = Vec::new(alloc);
     for (index, actor) in actors.iter().enumerate() {
         if actor.parent.0 == 0 {
-            children.push(ActorId(index as u32 + 1))?;
+            children.push(ActorId(index as u16 + 1))?;
         }
     }
     Ok(children)

@@ -101,7 +101,7 @@ fn write_sender<W: fmt::Write>(
     ensures { WritesOnOk W.write_str_gives f.old result (spec.sender_text (map string_bytes names.now) by.0) f.new }
 {
     if by.0 < ACTORS {
-        return f.write_str(name_of(names, ActorId(by.0)));
+        return f.write_str(name_of(names, ActorId(by.0 as u16)));
     }
     write!(f, "outside {}", by.0 - ACTORS)
 }

@@ -136,7 +136,7 @@ fn write_all_aside<W: Write>(
     requires { length actors.now ≤ 64 }
     ensures { IsWritten (W.contents out.old) (W.contents out.new) result (all_aside_json (map string_bytes names.now) filter.now 0 actors.now) }
 {
-    let mut number: u32 = 0;
+    let mut number: u16 = 0;
     for actor in actors {
         write_aside(alloc, names, filter, ActorId(number), &actor.aside, out)?;
         number += 1;

@@ -76,7 +76,7 @@ fn entries_at(alloc: Global, places: &[Place], actors: usize) -> Result<Vec<Turn
     for place in places {
         if place.actor < actors {
             parts.push(TurnLength {
-                actor: ActorId(place.actor as u32),
+                actor: ActorId(place.actor as u16),
                 entries: 1,
             })?;
         }
@@ -93,7 +93,7 @@ pub(crate) fn journals_of(
     ensures { IfOk result (λ parts. parts.items ≡ journal_lengths 0 actors.now) }
 {
     let mut journals = Vec::new(alloc);
-    let mut number: u32 = 0;
+    let mut number: u16 = 0;
     for actor in actors {
         journals.push(TurnLength {
             actor: ActorId(number),

@@ -83,7 +83,7 @@ fn about_members(
         ≡ member (codes "do") (string what.now) (member (codes "to") (name_data (map string_bytes names.now) id.0) no_members)) }
 {
     let mut members = Map::new(alloc);
-    let name = name_value(alloc, names, id.0)?;
+    let name = name_value(alloc, names, u32::from(id.0))?;
     put(&mut members, alloc, "to", name)?;
     let what = Value::try_from_str(alloc, what)?;
     put(&mut members, alloc, "do", what)?;

@@ -204,7 +204,7 @@ fn put_place(
     let line = Value::try_from_str(alloc, "entry")?;
     put(members, alloc, "line", line)?;
     put(members, alloc, "entry", Value::from(place.index))?;
-    let actor = name_value(alloc, names, place.actor.0)?;
+    let actor = name_value(alloc, names, u32::from(place.actor.0))?;
     put(members, alloc, "actor", actor)
 }
 

@@ -67,7 +67,7 @@ fn about_value(
 ) -> Result<Value, AllocError>
     ensures { IfOk result (λ v. view v ≡ about_data what.now (map string_bytes names.now) id.0) }
 {
-    let actor = name_value(alloc, names, id.0)?;
+    let actor = name_value(alloc, names, u32::from(id.0))?;
     json!(in alloc; {"what": what, "actor": actor})
 }
 
@@ -93,7 +93,7 @@ fn failed_value(
     ensures { IfOk result (λ v. view v ≡ failed_data (map string_bytes names.now) id.0 cause) }
 {
     let mut members = cause_members(alloc, "failed", cause)?;
-    let actor = name_value(alloc, names, id.0)?;
+    let actor = name_value(alloc, names, u32::from(id.0))?;
     put(&mut members, alloc, "actor", actor)?;
     Ok(Value::Object(members))
 }

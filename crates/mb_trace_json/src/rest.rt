@@ -95,7 +95,7 @@ fn line_members(
     put(&mut members, alloc, "message", message)?;
     let line = Value::try_from_str(alloc, line)?;
     put(&mut members, alloc, "line", line)?;
-    let name = name_value(alloc, names, actor.0)?;
+    let name = name_value(alloc, names, u32::from(actor.0))?;
     put(&mut members, alloc, "actor", name)?;
     Ok(members)
 }

@@ -9,7 +9,7 @@ use mb_report::{ActorReport, Report, SenderReport};
 use std::alloc::Global;
 
 /// An envelope of the first sender outside, to this actor.
-pub fn envelope(to: u32, number: u64, body: Body) -> Envelope {
+pub fn envelope(to: u16, number: u64, body: Body) -> Envelope {
     Envelope {
         by: SenderId(64),
         to: ActorId(to),
@@ -18,7 +18,7 @@ pub fn envelope(to: u32, number: u64, body: Body) -> Envelope {
     }
 }
 
-fn user(to: u32, number: u64) -> Envelope {
+fn user(to: u16, number: u64) -> Envelope {
     envelope(to, number, Body::User { kind: 1, value: -5 })
 }
 
@@ -146,7 +146,7 @@ pub fn shown_entries(alloc: Global, report: &Report) -> Option<Vec<ShownEntry<'_
     for (id, actor) in report.actors.iter().enumerate() {
         for index in 0..actor.journal.len() {
             let entry = actor.journal.get(index);
-            let actor = ActorId(id as u32);
+            let actor = ActorId(id as u16);
             shown_entries
                 .push(ShownEntry {
                     actor,

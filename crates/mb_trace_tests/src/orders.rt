@@ -83,7 +83,7 @@ fn child(alloc: Global) -> ActorPlan {
 }
 
 /// An envelope with this number by that sender.
-fn envelope(by: u32, number: u64, to: u32, body: Body) -> Envelope {
+fn envelope(by: u32, number: u64, to: u16, body: Body) -> Envelope {
     Envelope {
         by: SenderId(by),
         to: ActorId(to),
@@ -92,11 +92,11 @@ fn envelope(by: u32, number: u64, to: u32, body: Body) -> Envelope {
     }
 }
 
-pub fn user(by: u32, number: u64, to: u32) -> Envelope {
+pub fn user(by: u32, number: u64, to: u16) -> Envelope {
     envelope(by, number, to, Body::User { kind: 1, value: 1 })
 }
 
-fn tell(to: u32) -> Effect {
+fn tell(to: u16) -> Effect {
     Effect::Tell {
         to: ActorId(to),
         kind: 1,

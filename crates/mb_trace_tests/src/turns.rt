@@ -44,7 +44,7 @@ fn report(alloc: Global) -> Option<Report> {
 }
 
 /// The text of that run by these turns, each with the number of its actor and how many entries it has.
-fn text_of(alloc: Global, turns: &[(u32, u64)]) -> Option<Vec<u8>> {
+fn text_of(alloc: Global, turns: &[(u16, u64)]) -> Option<Vec<u8>> {
     let mut lengths = Vec::new(alloc);
     for (number, entries) in turns {
         lengths

@@ -66,7 +66,7 @@ fn workers_of(
         let Some(end) = ends.pop() else {
             return None;
         };
-        let worker = worker_of(gates, pass, end, ActorId(number));
+        let worker = worker_of(gates, pass, end, ActorId(number as u16));
         let Ok(()) = workers.push(worker) else {
             return None;
         };

@@ -32,6 +32,7 @@ impl<A: Actor, K: Behaviours> Cell<A, K> {
             place: _,
             actor: _,
             outbox: _,
+            unsent: _,
             journal,
             cell_state,
             behaviours: _,

@@ -54,8 +54,8 @@ pub fn are_of<H: MailboxState>(
     gates: &Gates<H>,
     pass: &mut Pass<H>,
     mut claims: Vec<Claim<H>>,
-    first: u32,
-    end: u32,
+    first: u16,
+    end: u16,
 ) -> bool
     requires same_gates { pass_id pass.old ≡ gates_id gates.now }
     requires untouched { All (IsUntouched H.is_of H.facts (Some (origin_of gates.now))) claims.items }

@@ -14,13 +14,13 @@ use std::sync::Wait;
 #[derive(Clone, Copy)]
 pub enum PoolStep {
     /// The claims of the actors from this one up to before that one are pushed to this end.
-    Push(usize, u32, u32),
+    Push(usize, u16, u16),
     /// The same to the feed.
-    Feed(u32, u32),
+    Feed(u16, u16),
     /// A push of the actor's claim to this end finds the pool full.
-    Full(usize, u32),
+    Full(usize, u16),
     /// This end takes the claim of this actor, or finds none.
-    Take(usize, Option<u32>),
+    Take(usize, Option<u16>),
 }
 
 /// Makes a pool for this many actors, with three ends and a feed, and does all these steps.
@@ -28,7 +28,7 @@ pub fn played<R: Abort + Wait>(
     rt: &R,
     alloc: Global,
     kind: PoolKind,
-    actors: u32,
+    actors: u16,
     steps: &[PoolStep],
 ) -> Result<TestPool<StubHome>, AllocError>
     requires { 0 < actors }
@@ -43,10 +43,10 @@ pub fn leaves<R: Abort + Wait>(
     rt: &R,
     alloc: Global,
     kind: PoolKind,
-    actors: u32,
+    actors: u16,
     steps: &[PoolStep],
-    first: u32,
-    end: u32,
+    first: u16,
+    end: u16,
 ) -> Result<(), AllocError>
     requires { 0 < actors }
 {
@@ -75,8 +75,8 @@ fn push_each<H: MailboxState, R: Wait>(
     rt: &R,
     scene: &mut TestPool<H>,
     end: usize,
-    first: u32,
-    last: u32,
+    first: u16,
+    last: u16,
 ) -> bool {
     let mut are_done = true;
     for actor in first..last {
@@ -88,8 +88,8 @@ fn push_each<H: MailboxState, R: Wait>(
 fn feed_each<H: MailboxState, R: Wait>(
     rt: &R,
     scene: &mut TestPool<H>,
-    first: u32,
-    last: u32,
+    first: u16,
+    last: u16,
 ) -> bool {
     let mut are_done = true;
     for actor in first..last {

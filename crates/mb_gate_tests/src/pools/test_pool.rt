@@ -30,7 +30,7 @@ pub struct TestPool<H: MailboxState> {
 
 impl TestPool<StubHome> {
     /// Gates of this many actors that are not started, and a pool of this kind with three ends and a feed.
-    fn new(alloc: Global, actors: u32, kind: PoolKind) -> Result<TestPool<StubHome>, AllocError>
+    fn new(alloc: Global, actors: u16, kind: PoolKind) -> Result<TestPool<StubHome>, AllocError>
         requires { 0 < actors }
         ensures { IfOk result (λ scene. actors_of scene.gates ≡ actors) }
     {
@@ -48,7 +48,7 @@ impl TestPool<StubHome> {
 
 impl<H: MailboxState> TestPool<H> {
     /// Pushes the actor's claim to this end.
-    pub fn push<R: Wait>(&mut self, rt: &R, end: usize, actor: u32) -> PushAnswer {
+    pub fn push<R: Wait>(&mut self, rt: &R, end: usize, actor: u16) -> PushAnswer {
         if end >= self.ends.len() || actor as usize >= self.gates.actors() {
             return PushAnswer::Nowhere;
         }
@@ -59,7 +59,7 @@ impl<H: MailboxState> TestPool<H> {
     }
 
     /// Pushes the actor's claim to the first feed.
-    pub fn feed<R: Wait>(&mut self, rt: &R, actor: u32) -> PushAnswer {
+    pub fn feed<R: Wait>(&mut self, rt: &R, actor: u16) -> PushAnswer {
         if 0 >= self.feeds.len() || actor as usize >= self.gates.actors() {
             return PushAnswer::Nowhere;
         }
@@ -70,7 +70,7 @@ impl<H: MailboxState> TestPool<H> {
     }
 
     /// Takes a claim from this end and releases it: the number of its actor.
-    pub fn take<R: Wait>(&mut self, rt: &R, end: usize) -> Option<u32> {
+    pub fn take<R: Wait>(&mut self, rt: &R, end: usize) -> Option<u16> {
         if end >= self.ends.len() {
             return None;
         }
@@ -86,8 +86,8 @@ impl<H: MailboxState> TestPool<H> {
         self,
         rt: &R,
         alloc: Global,
-        first: u32,
-        end: u32,
+        first: u16,
+        end: u16,
     ) -> Result<bool, AllocError> {
         let TestPool {
             gates,
@@ -102,7 +102,7 @@ impl<H: MailboxState> TestPool<H> {
 }
 
 /// Such a pool; retried once where memory is refused.
-pub fn made(alloc: Global, actors: u32, kind: PoolKind) -> Result<TestPool<StubHome>, AllocError>
+pub fn made(alloc: Global, actors: u16, kind: PoolKind) -> Result<TestPool<StubHome>, AllocError>
     requires { 0 < actors }
     ensures { IfOk result (λ scene. actors_of scene.gates ≡ actors) }
 {

@@ -18,7 +18,7 @@ use std::thread;
 pub const MOVES: u64 = 100_000;
 
 /// More actors than a shared pool has places.
-pub const ACTORS: u32 = 80;
+pub const ACTORS: u16 = 80;
 
 /// Moves claims through this end until enough were taken.
 pub fn work<H: MailboxState, R: Wait>(

@@ -18,6 +18,7 @@ use std::sync::Wait;
 impl<A: Actor, K: Behaviours> Home<A, K> {
     /// Takes out the next act that is to be carried out, the earliest first; `None` if none is left. The envelope of a `Tell`
     /// has to be pushed then, or to become a dead letter. It takes no memory.
+    #[inline(always)]
     pub fn next_act(&mut self) -> Option<Act>
         requires settled { AgreesWithJournal (K.gives self.old.cell.who.this.0) self.old.cell.acts self.old }
         ensures taken { self.old.cell.acts ≡ map act_of (option_to_list result) ++ self.new.cell.acts }
@@ -32,6 +33,7 @@ impl<A: Actor, K: Behaviours> Home<A, K> {
     ///
     /// It answers `Full` or `NoMemory` with the envelope if the queue refused it: `Full` only if the queue has a bound and was
     /// full at some moment. The envelope is then a dead letter for that reason.
+    #[inline(always)]
     pub fn push<R: Wait>(&mut self, rt: &R, to: ActorId, body: Body) -> Result<(), PushError>
         requires settled { AgreesWithJournal (K.gives self.old.cell.who.this.0) (Tell to body ∷ self.old.cell.acts) self.old }
         ensures pushed { MatchResult result (λ _. Pushes self.old self.new to body)
@@ -69,7 +71,7 @@ impl<A: Actor, K: Behaviours> Home<A, K> {
         ensures { result ≡ next_envelope self.now to body }
     {
         Envelope {
-            by: SenderId(self.id.0),
+            by: SenderId(u32::from(self.id.0)),
             to,
             number: self.sent,
             body,

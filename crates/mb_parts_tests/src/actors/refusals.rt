@@ -12,7 +12,7 @@ enum Step {
     /// Each of these effects gets this answer.
     Asked(&'static [Effect], Result<(), OutboxError>),
     /// So does one of each kind that names this actor.
-    AllAsked(u32, Result<(), OutboxError>),
+    AllAsked(u16, Result<(), OutboxError>),
     Cleared,
     Settled,
     /// It holds these effects.
@@ -74,7 +74,7 @@ const ONCE: &[Step] = &[
     Step::AllAsked(0, NO_SUCH_ACTOR),
     Step::AllAsked(4, NO_SUCH_ACTOR),
     Step::AllAsked(64, NO_SUCH_ACTOR),
-    Step::AllAsked(u32::MAX, NO_SUCH_ACTOR),
+    Step::AllAsked(u16::MAX, NO_SUCH_ACTOR),
     Step::Asked(&[Effect::Spawn(ActorId(1))], NO_SUCH_ACTOR),
     Step::Holds(&[]),
     Step::AllAsked(3, Ok(())),

@@ -58,7 +58,7 @@ impl Numbers {
 
     fn event(&mut self, alloc: Global) -> Option<Event> {
         let party = self.below(3) as usize;
-        let actor = ActorId(self.below(3) as u32);
+        let actor = ActorId(self.below(3) as u16);
         let words = STEPS[self.below(24) as usize];
         let step = step_of(alloc, actor, words)?;
         Some(Event { party, actor, step })

@@ -76,7 +76,7 @@ fn what_is_owed_to_whom(rt: HostRuntime) {
 }
 
 /// Whether this party owes this to the actor of this number, if both are there.
-fn is_owed(alloc: Global, party: usize, actor: u32, due: Option<WakeObligation>) -> bool {
+fn is_owed(alloc: Global, party: usize, actor: u16, due: Option<WakeObligation>) -> bool {
     debt_of(alloc, party, ActorId(actor)) == Some(due)
 }
 

@@ -119,7 +119,7 @@ kind = 0
 /// Whether an actor has this parent and this supervision strategy.
 fn is_planned(
     actor: &ActorPlan,
-    parent: u32,
+    parent: u16,
     retries: i64,
     all_for_one: bool,
     rows: &[(Pattern, Directive)],

@@ -9,7 +9,7 @@ use crate::cell_state::CellState;
 use crate::cell_state::aside::forget;
 use crate::end::end;
 use crate::identity::ActorIdentity;
-use crate::task_queue::Task;
+use crate::task::Task;
 use mb_actor::{Effect, Phase};
 use mb_msg::{ActorId, Body};
 

@@ -14,7 +14,7 @@ use crate::cell_state::aside::forget;
 use crate::fail::fail;
 use crate::identity::ActorIdentity;
 use crate::retries::ask;
-use crate::task_queue::Task;
+use crate::task::Task;
 use mb_journal::FailedBy;
 use mb_msg::{ActorId, Cause, Directive, SysMsg, by_default};
 

@@ -1,7 +1,11 @@
 //! The rules of envelopes (`ActorCell.invoke`, `autoReceiveMessage`).
-ghost use Rattle.std.specs.Prelude.{◌≡◌, ◌≤◌, ◌<◌, ◌^◌, List, [], false, IsTrue, Some, None, length, vec_len, vec_capacity};
+ghost use Rattle.std.specs.Prelude.{◌≡◌, ◌≤◌, ◌<◌, ◌^◌, List, [], true, false, IsTrue, Some, None, length, vec_len, vec_capacity};
+ghost use Rattle.std.specs.List.{list_all};
 ghost use Rattle.mb_msg.specs.declared.id.ActorId.{ActorId};
 ghost use Rattle.mb_msg.specs.Limits.{most_effects};
+ghost use Rattle.mb_actor.specs.OutboxView.{is_tell};
+ghost use Rattle.mb_actor.specs.declared.effect.Effect.{Effect};
+ghost use Rattle.mb_journal.specs.Acts.{stop_acts};
 ghost use Rattle.mb_journal.specs.Failure.{failure_of as cause_of};
 ghost use Rattle.mb_journal.specs.Identity.{Identity};
 ghost use Rattle.mb_supervision.specs.ActorIdentity.{identity_of};
@@ -12,7 +16,7 @@ use crate::cell_state::CellState;
 use crate::effects::carry_out;
 use crate::fail::fail;
 use crate::identity::ActorIdentity;
-use crate::task_queue::Task;
+use crate::task::Task;
 use mb_actor::{Answer, Effect};
 use mb_journal::FailedBy;
 use mb_msg::{ActorId, Body, Cause, SysMsg};
@@ -33,27 +37,23 @@ impl CellState {
         requires within_limit { length effects.now ≤ most_effects }
         ensures { self.new ≡ handled (identity_of place.now 0) body answer effects.now self.old }
     {
-        if self.tell_all(body, answer, effects) {
-            return;
-        }
         forget_told_end(body, &mut self.due);
         self.handle_all(place, failure_of(body, answer), effects);
     }
 
-    /// The same, where nothing else changes and each effect is a tell: most messages are such. Else it answers `false`, and
-    /// nothing has changed. The room serves the next message.
+    /// An envelope with this body was handled with this answer, and each effect is a tell, of a control message too. Where nothing
+    /// else changes, which is mostly so, it answers `true`: the tells are left to the caller, and the room serves the next message.
+    /// Else nothing has changed.
     #[inline(always)]
-    fn tell_all(&mut self, body: Body, answer: Option<Answer>, effects: &[Effect]) -> bool
+    pub fn leaves_tells(&mut self, body: Body, answer: Option<Answer>) -> bool
         requires ready { IsTrue self.old.is_ready }
         requires carried_out { self.old.acts ≡ [] }
-        requires within_limit { length effects.now ≤ most_effects }
-        ensures told { IsTrue result → (who : Identity) → self.new ≡ handled who body answer effects.now self.old }
-        ensures not_told { result ≡ false → self.new ≡ self.old }
+        ensures left { IsTrue result → (who : Identity) → (effects : List Effect) → list_all is_tell effects ≡ true
+            → record self.new { acts = stop_acts effects } ≡ handled who body answer effects self.old }
+        ensures carried_out { self.new.acts ≡ [] }
+        ensures not_left { result ≡ false → self.new ≡ self.old }
     {
         if !changes_by_effects_alone(body, answer) {
-            return false;
-        }
-        if !self.acts.tell_all(effects) {
             return false;
         }
         self.ready = false;

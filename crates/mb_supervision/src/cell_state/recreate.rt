@@ -9,7 +9,7 @@ use crate::cell_state::aside::forget;
 use crate::effects::carry_out;
 use crate::fail::fail;
 use crate::identity::ActorIdentity;
-use crate::task_queue::Task;
+use crate::task::Task;
 use mb_actor::{Answer, Effect, Phase};
 use mb_journal::FailedBy;
 use mb_msg::{Cause, SysMsg};

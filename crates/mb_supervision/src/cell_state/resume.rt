@@ -8,7 +8,7 @@ ghost use Rattle.mb_supervision.specs.Rows.{resumed};
 use crate::act_queue::ActQueue;
 use crate::cell_state::CellState;
 use crate::cell_state::aside::forget;
-use crate::task_queue::Task;
+use crate::task::Task;
 use mb_journal::FailedBy;
 use mb_msg::{ActorId, SysMsg};
 

@@ -4,7 +4,7 @@ ghost use Rattle.mb_supervision.specs.Rows.{suspended};
 
 use crate::cell_state::CellState;
 use crate::cell_state::aside::forget;
-use crate::task_queue::Task;
+use crate::task::Task;
 use mb_msg::SysMsg;
 
 impl CellState {

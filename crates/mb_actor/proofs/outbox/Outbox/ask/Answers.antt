@@ -1,4 +1,4 @@
-use Rattle.std.proofs.Common.{sym, ◌∙◌, ap, subst, ◌||◌, [], ◌∷◌, ◌++◌, arith}
+use Rattle.std.proofs.Common.{sym, ◌∙◌, ap, subst, ◌&&◌, ◌||◌, [], ◌∷◌, ◌++◌, arith}
 use Rattle.mb_actor.specs.ActorSet.{contains}
 use Rattle.mb_actor.specs.Held.{CanHold}
 use Rattle.mb_actor.specs.OutboxView.{OutboxView}
@@ -24,9 +24,11 @@ invariant_of-self c =
           (ap (λ o. o.actors) w.self-inside-is) (ap (λ o. o.unspawned) w.self-inside-is) (ap (λ o. o.prepared) w.self-inside-is)
           (λ x. ap (λ o. contains o.asked x) w.self-inside-is ∙ w.insert.ensures x
           ∙ ap (λ b. b || contains c.self.inside.asked x) (asks_spawn c.args.effect w.in-Spawn.child x w.in-Spawn.is))
+          (ap (λ o. o.only_tells) w.self-inside-is ∙ ap (λ b. c.self.inside.only_tells && b) c.is_tell.ensures)
       | in_default-effect w ↦
           kept _ (c.push.ensures.items ∙ (λ i. (w.self-inside-is i).effects.items ++ w.effect-is i ∷ []))
           (ap (λ o. o.actors) w.self-inside-is) (ap (λ o. o.unspawned) w.self-inside-is) (ap (λ o. o.prepared) w.self-inside-is)
           (λ x. ap (λ o. contains o.asked x) w.self-inside-is
           ∙ ap (λ b. b || contains c.self.inside.asked x) (asks_none c.args.effect w.in_default-effect.not-Spawn x))
+          (ap (λ o. o.only_tells) w.self-inside-is ∙ ap (λ b. c.self.inside.only_tells && b) c.is_tell.ensures)
     ]

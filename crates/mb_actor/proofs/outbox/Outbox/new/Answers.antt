@@ -1,7 +1,8 @@
 use Rattle.std.proofs.Common.{sym, ◌∙◌, ap, refl, filter}
+use Rattle.std.specs.List.{list_all}
 use Rattle.mb_actor.specs.ActorList.{has}
 use Rattle.mb_actor.specs.ActorSet.{contains}
-use Rattle.mb_actor.specs.OutboxView.{spawns_of}
+use Rattle.mb_actor.specs.OutboxView.{is_tell, spawns_of}
 use Rattle.mb_actor.proofs.HeldLemmas.{can_hold-none}
 use Rattle.mb_actor.proofs.OutboxLemmas.{filter_own, all_prepared, one_more, same_tray}
 use Rattle.mb_actor.proofs.outbox.Outbox.new.Goals as goal
@@ -21,6 +22,7 @@ invariant_of-result c =
     record {
       prepared = λ x here. sym (all x) ∙ here;
       asked = λ x. c.new-2.ensures x ∙ ap (λ l. has (spawns_of l) x) (sym c.new.ensures);
+      telling = ap (list_all is_tell) (sym c.new.ensures);
       held = can_hold-none _ c.new.ensures;
     }
 

@@ -10,6 +10,7 @@ pub invariant_of-self : goal.invariant_of-self
 invariant_of-self c = record {
   prepared = λ x here. c.self-2.invariant.prepared x (both_true _ _ (sym (c.remove_all.ensures x) ∙ here));
   asked = c.self-2.invariant.asked;
+  telling = c.self-2.invariant.telling;
   held = can_hold-none _ (ap (λ (t : OutboxView). t.effects) (c.self-2.view_is ∙ c.clear.ensures));
 }
 

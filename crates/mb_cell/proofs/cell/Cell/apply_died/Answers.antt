@@ -1,4 +1,4 @@
-use Rattle.std.proofs.Common.{◌≡◌, false, sym, subst}
+use Rattle.std.proofs.Common.{◌≡◌, false, sym, subst, ap, ◌∙◌}
 use Rattle.std.specs.Prelude.{◌&&◌}
 use Rattle.mb_msg.specs.declared.system.SysMsg.TheVariants as system
 use Rattle.mb_actor.specs.declared.phase.Phase.TheVariants.{Fresh, Ending}
@@ -9,8 +9,12 @@ use Rattle.mb_cell.specs.CellView.{CellView}
 use Rattle.mb_cell.proofs.DiedRow.{died-row, died-applied}
 use Rattle.mb_cell.proofs.SilentRow as silent
 use Rattle.mb_cell.proofs.SilentRow.{IsSilentRow}
+use Rattle.mb_cell.proofs.UnsentLaws.{none-left}
 use Rattle.mb_cell.proofs.cell.Cell.apply_died.Given as given
 use Rattle.mb_cell.proofs.cell.Cell.apply_died.Goals as goal
+
+pub died-requires-clause-carried_out : goal.died-requires-clause-carried_out
+died-requires-clause-carried_out g c = none-left _ _ (ap (λ (s : CellView). s.acts) c.self.view_is ∙ c.requires.may_take.carried_out)
 
 row : (g : given.Over) (c : goal.After-push_system g) →
     IsSilentRow (identity_of c.self.inside.place c.self.inside.journal.limit) c.self.inside.journal.entries c.args.number
@@ -28,7 +32,7 @@ pub invariant_of-self : goal.invariant_of-self
 invariant_of-self g c =
     silent.keeps c.self.inside.place c.self.inside.journal c.push_system.new.self c.args.number (system.Died c.args.id)
     (g.K.Behaviours.after c.self.inside.place.this.0) (g.K.Behaviours.gives c.self.inside.place.this.0) c.self.inside.cell_state
-    c.died.new.self c.self.inside.outbox c.self.inside.actor (λ a. g.A.Actor.after a.actor) (λ a. g.A.Actor.gives a.actor)
+    c.died.new.self c.self.inside.outbox c.self.inside.unsent c.self.inside.actor (λ a. g.A.Actor.after a.actor) (λ a. g.A.Actor.gives a.actor)
     (λ a. g.A.Actor.content a.actor) (λ a. a.calls) c.args.self.now c.push_system.ensures.added c.push_system.ensures.within
     c.self.invariant c.self.view_is c.requires.may_take (died-applied _ _ c.args.id) (row g c)
 
@@ -36,7 +40,7 @@ pub returns-clause-taken : goal.returns-clause-taken
 returns-clause-taken g c =
     silent.takes c.self.inside.place c.self.inside.journal c.push_system.new.self c.args.number (system.Died c.args.id)
     (g.K.Behaviours.after c.self.inside.place.this.0) (g.K.Behaviours.gives c.self.inside.place.this.0) c.self.inside.cell_state
-    c.died.new.self c.self.inside.outbox c.self.inside.actor (λ a. g.A.Actor.after a.actor) (λ a. g.A.Actor.gives a.actor)
+    c.died.new.self c.self.inside.outbox c.self.inside.unsent c.self.inside.actor (λ a. g.A.Actor.after a.actor) (λ a. g.A.Actor.gives a.actor)
     (λ a. g.A.Actor.content a.actor) (λ a. a.calls) c.args.self.now c.push_system.ensures.added c.push_system.ensures.within
     c.self.invariant c.self.view_is c.requires.may_take (died-applied _ _ c.args.id) (row g c)
 

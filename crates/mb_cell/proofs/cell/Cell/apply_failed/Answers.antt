@@ -1,4 +1,4 @@
-use Rattle.std.proofs.Common.{◌≡◌, ℕ, [], true, false, ap, sym, subst}
+use Rattle.std.proofs.Common.{◌≡◌, ℕ, [], true, false, ap, sym, subst, ◌∙◌}
 use Rattle.mb_msg.specs.declared.id.ActorId.{ActorId}
 use Rattle.mb_msg.specs.declared.system.SysMsg.TheVariants as system
 use Rattle.mb_actor.specs.ActorList.{has}
@@ -12,8 +12,12 @@ use Rattle.mb_cell.proofs.FailedRow.{failed-row}
 use Rattle.mb_cell.proofs.RetryLaws.{retries-small}
 use Rattle.mb_cell.proofs.SilentRow as silent
 use Rattle.mb_cell.proofs.SilentRow.{IsSilentRow}
+use Rattle.mb_cell.proofs.UnsentLaws.{none-left}
 use Rattle.mb_cell.proofs.cell.Cell.apply_failed.Given as given
 use Rattle.mb_cell.proofs.cell.Cell.apply_failed.Goals as goal
+
+pub supervise-requires-clause-carried_out : goal.supervise-requires-clause-carried_out
+supervise-requires-clause-carried_out g c = none-left _ _ (ap (λ (s : CellView). s.acts) c.self.view_is ∙ c.requires.may_take.carried_out)
 
 pub supervise-requires-clause-below_bound : goal.supervise-requires-clause-below_bound
 supervise-requires-clause-below_bound g c = count-small _ _ _ _ _ c.self.invariant.0
@@ -27,7 +31,7 @@ row : (g : given.Over) (c : goal.After-push_system g) →
 row g c =
     failed-row _ _ _ _ _ c.self.invariant.0 c.args.number
     (subst (λ (s : CellView). closed s.who s.journal ≡ false) (sym c.self.view_is) c.requires.may_take.not_ended)
-    (subst (λ (s : CellView). s.acts ≡ []) (sym c.self.view_is) c.requires.may_take.carried_out)
+    (none-left _ _ (subst (λ (s : CellView). s.acts ≡ []) (sym c.self.view_is) c.requires.may_take.carried_out))
     (subst (λ (s : CellView). phase_is (phase s.who s.journal) Fresh ≡ false) (sym c.self.view_is) c.requires.not_fresh)
     c.args.child c.args.cause
     (subst (λ (s : CellView). has (children s.who s.journal) c.args.child ≡ true) (sym c.self.view_is) c.requires.of_child)
@@ -38,7 +42,7 @@ pub invariant_of-self : goal.invariant_of-self
 invariant_of-self g c =
     silent.keeps c.self.inside.place c.self.inside.journal c.push_system.new.self c.args.number (system.Failed c.args.child c.args.cause)
     (g.K.Behaviours.after c.self.inside.place.this.0) (g.K.Behaviours.gives c.self.inside.place.this.0) c.self.inside.cell_state
-    c.supervise.new.self c.self.inside.outbox c.self.inside.actor (λ a. g.A.Actor.after a.actor) (λ a. g.A.Actor.gives a.actor)
+    c.supervise.new.self c.self.inside.outbox c.self.inside.unsent c.self.inside.actor (λ a. g.A.Actor.after a.actor) (λ a. g.A.Actor.gives a.actor)
     (λ a. g.A.Actor.content a.actor) (λ a. a.calls) c.args.self.now c.push_system.ensures.added c.push_system.ensures.within
     c.self.invariant c.self.view_is c.requires.may_take c.requires.applied (row g c)
 
@@ -46,7 +50,7 @@ pub returns-clause-taken : goal.returns-clause-taken
 returns-clause-taken g c =
     silent.takes c.self.inside.place c.self.inside.journal c.push_system.new.self c.args.number (system.Failed c.args.child c.args.cause)
     (g.K.Behaviours.after c.self.inside.place.this.0) (g.K.Behaviours.gives c.self.inside.place.this.0) c.self.inside.cell_state
-    c.supervise.new.self c.self.inside.outbox c.self.inside.actor (λ a. g.A.Actor.after a.actor) (λ a. g.A.Actor.gives a.actor)
+    c.supervise.new.self c.self.inside.outbox c.self.inside.unsent c.self.inside.actor (λ a. g.A.Actor.after a.actor) (λ a. g.A.Actor.gives a.actor)
     (λ a. g.A.Actor.content a.actor) (λ a. a.calls) c.args.self.now c.push_system.ensures.added c.push_system.ensures.within
     c.self.invariant c.self.view_is c.requires.may_take c.requires.applied (row g c)
 

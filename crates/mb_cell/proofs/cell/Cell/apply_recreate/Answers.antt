@@ -1,4 +1,4 @@
-use Rattle.std.proofs.Common.{◌≡◌, false, refl, ap, sym, ◌∙◌, subst}
+use Rattle.std.proofs.Common.{◌++◌, ◌≡◌, false, refl, ap, sym, ◌∙◌, subst}
 use Rattle.std.specs.Prelude.{Some}
 use Rattle.mb_msg.specs.declared.system.SysMsg.TheVariants as system
 use Rattle.mb_actor.specs.declared.call.Call.TheVariants.{Restart}
@@ -20,8 +20,13 @@ use Rattle.mb_cell.proofs.CallingRow as calling
 use Rattle.mb_cell.proofs.CallingRow.{IsCallingRow, IsCalled}
 use Rattle.mb_cell.proofs.CellLaws as cell
 use Rattle.mb_cell.proofs.RecreateRow.{recreate_after, recreate-row}
+use Rattle.mb_cell.specs.Unsent.{unsent_acts}
+use Rattle.mb_cell.proofs.UnsentLaws.{is-unsent-none, none-left, nothing-unsent, other-acts, with-unsent}
 use Rattle.mb_cell.proofs.cell.Cell.apply_recreate.Given as given
 use Rattle.mb_cell.proofs.cell.Cell.apply_recreate.Goals as goal
+
+pub recreate-requires-clause-carried_out : goal.recreate-requires-clause-carried_out
+recreate-requires-clause-carried_out g c = none-left _ _ (ap (λ (s : CellView). s.acts) c.self.view_is ∙ c.requires.may_take.carried_out)
 
 pub recreate-requires-clause-below_bound : goal.recreate-requires-clause-below_bound
 recreate-requires-clause-below_bound g c = cell.count-small _ _ _ _ _ c.self.invariant.0
@@ -31,6 +36,11 @@ who g c = identity_of c.self.inside.place c.self.inside.journal.limit
 
 abbrev entry : (g : given.Over) (c : goal.After-settle g) → Entry
 entry g c = System c.args.number (system.Recreate c.args.cause) (Applied (Some c.restart-answer.result) c.effects-effects.result.now)
+
+none_unsent : (g : given.Over) (c : goal.After-settle g) → c.self.inside.unsent ≡ 0
+none_unsent g c =
+    nothing-unsent c.self.inside.unsent c.self.inside.journal.entries c.self.inside.cell_state.acts c.self.invariant.3
+    (ap (λ (s : CellView). s.acts) c.self.view_is ∙ c.requires.may_take.carried_out)
 
 plays : (g : given.Over) (c : goal.After-settle g) →
     FollowsBehaviour (who g c) c.self.inside.journal.entries (g.K.Behaviours.after c.self.inside.place.this.0)
@@ -59,7 +69,7 @@ row : (g : given.Over) (c : goal.After-settle g) →
 row g c =
     recreate-row _ _ _ _ _ c.self.invariant.0 c.args.number
     (subst (λ (s : CellView). closed s.who s.journal ≡ false) (sym c.self.view_is) c.requires.may_take.not_ended)
-    (ap (λ (s : CellView). s.acts) c.self.view_is ∙ c.requires.may_take.carried_out)
+    (none-left _ _ (ap (λ (s : CellView). s.acts) c.self.view_is ∙ c.requires.may_take.carried_out))
     (plays g c).no_guardian c.restart-answer.result c.effects-effects.result.now c.args.cause
     (subst (λ (s : CellView). phase_is (phase s.who s.journal) Fresh ≡ false) (sym c.self.view_is) c.requires.not_fresh)
     (subst (λ (s : CellView). phase_is (phase s.who s.journal) Ending ≡ false) (sym c.self.view_is) c.requires.not_ending)
@@ -69,17 +79,20 @@ row g c =
 
 pub invariant_of-self : goal.invariant_of-self
 invariant_of-self g c =
+    with-unsent (
     calling.calling-settled c.self.inside.place c.self.inside.journal c.push_system.new.self (entry g c) _ _ c.self.inside.cell_state
     c.recreate.new.self c.self.inside.outbox c.restart-answer.new.out _ _ _ _ _ _ _ _ _ _ c.push_system.ensures.added
     c.push_system.ensures.within c.self.invariant.0 (plays g c) (came g c) _ (row g c) c.settle.new.self
     (g.A.Actor.content c.restart-answer.new.self.actor) c.settle.ensures refl c.restart-answer.ensures.begins
+    ) (is-unsent-none c.self.inside.unsent _ (none_unsent g c))
 
 pub returns-clause-taken : goal.returns-clause-taken
 returns-clause-taken g c =
     cell.taken-system c.self.inside.place c.self.inside.journal c.push_system.new.self c.args.number (system.Recreate c.args.cause)
-    (Applied (Some c.restart-answer.result) c.effects-effects.result.now) c.self.inside.cell_state.acts c.recreate.new.self.acts c.args.self.now
+    (Applied (Some c.restart-answer.result) c.effects-effects.result.now) (unsent_acts c.self.inside.unsent c.self.inside.journal.entries ++ c.self.inside.cell_state.acts)
+    (unsent_acts c.self.inside.unsent c.push_system.new.self.entries ++ c.recreate.new.self.acts) c.args.self.now
     c.push_system.ensures.added c.self.view_is
-    (ap (λ (b : CellState). b.acts) (row g c).booked ∙ sym (row g c).acted)
+    (other-acts c.self.inside.unsent c.push_system.new.self.entries _ _ (none_unsent g c) (ap (λ (b : CellState). b.acts) (row g c).booked ∙ sym (row g c).acted))
 
 pub returns-clause-lawful : goal.returns-clause-lawful
 returns-clause-lawful g c = (invariant_of-self g c).0.lawful

@@ -4,6 +4,7 @@ use Rattle.mb_actor.specs.Behaviour.{AllowsSame}
 use Rattle.mb_actor.specs.RecordedActor.{RecordedActor}
 use Rattle.mb_supervision.specs.CellStateRecord.{CellState}
 use Rattle.mb_cell.proofs.NewLaw.{first_cell_state, agrees-new, plays-new}
+use Rattle.mb_cell.proofs.UnsentLaws.{is-unsent-none}
 use Rattle.mb_cell.proofs.cell.Cell.new.Given as given
 use Rattle.mb_cell.proofs.cell.Cell.new.Goals as goal
 
@@ -31,6 +32,7 @@ invariant_of-result g c = (
       (omega arith) c.requires.within_limit,
   (λ ready. let no : c.new-journal.result.is_ready ≡ false = ap (λ j. j.is_ready) c.new-journal.ensures in cc),
   no_parent c.args.actor c.args.parent c.in_default.not-Some c.requires.guardian,
+  is-unsent-none 0 _ refl,
 )
 
 pub returns-in_default-clause-lawful : goal.returns-in_default-clause-lawful
@@ -59,6 +61,7 @@ invariant_of-result-2 g c = (
       (subst (λ a. g.A.Actor.content a ≡ g.A.Actor.after a []) (sym (handed g c))
       (of_it c.args.actor c.in-Some.actor (λ a. g.A.Actor.content a ≡ g.A.Actor.after a []) c.in-Some.is c.requires.unused))
       (ap (λ (a : RecordedActor (g.row.A.Denot)). a.calls) c.new.ensures),
+  is-unsent-none 0 _ refl,
 )
 
 pub returns-clause-lawful : goal.returns-clause-lawful

@@ -8,7 +8,7 @@ use Rattle.mb_gate.proofs.gates.Gates.new.Goals as goal
 some_same : {A : Type 0} (a b : A) → Some a ≡ Some b → a ≡ b
 some_same a b e = cc
 
-twice-fits : (n m : ℕ) → n ≡ m → m ≤ 4294967296 → Fits w64 (2 * n)
+twice-fits : (n m : ℕ) → n ≡ m → m ≤ 65536 → Fits w64 (2 * n)
 twice-fits n m same few = omega arith
 
 twice-within : (n m capacity : ℕ) → n ≡ m → 2 * n ≤ capacity → 2 * m ≤ capacity

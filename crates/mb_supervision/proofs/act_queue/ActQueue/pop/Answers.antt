@@ -1,5 +1,5 @@
 use Rattle.std.proofs.Common.{rules}
-use Rattle.mb_supervision.proofs.task_queue.TaskQueue.pop.Goals as goal
+use Rattle.mb_supervision.proofs.act_queue.ActQueue.pop.Goals as goal
 
 pub invariant_of-self-in-Sys : goal.invariant_of-self-in-Sys
 invariant_of-self-in-Sys c = search rules
