@@ -1,5 +1,5 @@
 -- What the start and a message make of the cell of an actor that never fails.
-use Rattle.std.proofs.Common.{◌≡◌, ℕ, ◌-◌, ◌+◌, ℤ, true, false, List, [], ◌∷◌, ◌++◌, length, refl, sym, ap, subst, ◌∙◌, arith}
+use Rattle.std.proofs.Common.{◌≡◌, ℕ, ◌-◌, ◌+◌, ℤ, Bool, true, false, List, [], ◌∷◌, ◌++◌, length, refl, sym, ap, subst, ◌∙◌, arith}
 use Rattle.std.specs.Prelude.{is_some, Option, Some, None}
 use Rattle.std.proofs.lemmas.Bool.{false≢true}
 use Rattle.mb_msg.specs.declared.envelope.Body.{Body}
@@ -139,10 +139,10 @@ pub record Handles (old : CellView) (body : Body) (new : CellView) : Type 0 wher
 not_dropped : (who : Identity) (before : List Entry) (b : Body) (kind : ℕ) (value : ℤ) → b ≡ User kind value → IsUnexpected who before b → ⊥
 not_dropped who before b kind value is unexpected = subst (λ (x : Body). IsUnexpected who before x) is unexpected
 
-handled_by : (gives : Moment → Reply → Type 0) (cell : CellView) (envelope : Envelope) (reading : ℕ) (entry : Entry) (kind : ℕ) (value : ℤ) →
+handled_by : (gives : Moment → Reply → Type 0) (cell : CellView) (envelope : Envelope) (reading : ℕ) (entry : Entry) (ready : Bool) (kind : ℕ) (value : ℤ) →
     IsSteady gives → IsIdle cell → envelope.body ≡ User kind value → IsOf envelope reading entry → IsLawfulEntry cell.who gives cell.journal entry →
-    Handles cell envelope.body (with_entry (readied cell) entry)
-handled_by gives cell envelope reading (Handled e r (Applied a effects)) kind value steady idle is of_it may_come =
+    Handles cell envelope.body (record (with_entry (readied cell) entry) { is_ready = ready })
+handled_by gives cell envelope reading (Handled e r (Applied a effects)) ready kind value steady idle is of_it may_come =
     let who = cell.who in
     let before = cell.journal in
     let body_is : e.body ≡ User kind value = ap (λ (x : Envelope). x.body) of_it.0 ∙ is in
@@ -162,9 +162,9 @@ handled_by gives cell envelope reading (Handled e r (Applied a effects)) kind va
       one_more = omega arith;
       messages_added = messages-handled who before e r a effects ∙ ap (λ (x : Envelope). messages who before ++ body_messages x.body) of_it.0;
     }
-handled_by gives cell envelope reading (Handled e r SetAside) kind value steady idle is of_it may_come = absurd may_come
-handled_by gives cell envelope reading (System number m outcome) kind value steady idle is of_it may_come = absurd of_it
-handled_by gives cell envelope reading (Dropped e) kind value steady idle is of_it may_come =
+handled_by gives cell envelope reading (Handled e r SetAside) ready kind value steady idle is of_it may_come = absurd may_come
+handled_by gives cell envelope reading (System number m outcome) ready kind value steady idle is of_it may_come = absurd of_it
+handled_by gives cell envelope reading (Dropped e) ready kind value steady idle is of_it may_come =
     absurd (not_dropped cell.who cell.journal e.body kind value (ap (λ (x : Envelope). x.body) of_it ∙ is) may_come.unexpected)
 
 pub handles : (gives : ℕ → Moment → Reply → Type 0) (cell ready new : CellView) (envelope : Envelope) (reading : ℕ) (kind : ℕ) (value : ℤ) →
@@ -172,9 +172,10 @@ pub handles : (gives : ℕ → Moment → Reply → Type 0) (cell ready new : Ce
     TakesEnvelope ready new envelope reading → IsLawful new.who (gives new.who.this.0) new.journal → Handles cell envelope.body new
 handles gives cell ready new envelope reading kind value steady idle is_ready user took lawful =
     let who = cell.who in
-    let is : new ≡ with_entry (readied cell) took.entry = took.adds ∙ ap (λ (s : CellView). with_entry s took.entry) is_ready in
+    let is : new ≡ record (with_entry (readied cell) took.entry) { is_ready = new.is_ready } =
+    took.adds ∙ ap (λ (s : CellView). record (with_entry s took.entry) { is_ready = new.is_ready }) is_ready in
     let there : IsLawful who (gives who.this.0) (took.entry ∷ cell.journal) =
     subst (λ (s : CellView). IsLawful s.who (gives s.who.this.0) s.journal) is lawful in
     subst (λ (s : CellView). Handles cell envelope.body s) (sym is)
-    (handled_by (gives who.this.0) cell envelope reading took.entry kind value steady idle user took.of_it
+    (handled_by (gives who.this.0) cell envelope reading took.entry new.is_ready kind value steady idle user took.of_it
     (last_entry who (gives who.this.0) cell.journal took.entry there))

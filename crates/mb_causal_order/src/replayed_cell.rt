@@ -193,6 +193,7 @@ impl<'a> ReplayedCell<'a> {
             return false;
         };
         self.cell.apply_envelope(status, envelope);
+        self.cell.forget_room();
         true
     }
 }

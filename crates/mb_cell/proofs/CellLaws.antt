@@ -163,9 +163,23 @@ pub guardian-now : {A : Type 0} (o : Option A) (P : Type 0) (Q : A → Type 0) �
 guardian-now None P Q other m = m
 guardian-now (Some a) P Q other m = absurd (other a refl)
 
+-- the journal has an entry more, and may have room for another
+abbrev pub IsLonger : (old new : JournalView) (e : Entry) → Type 0
+IsLonger old new e = new ≡ record (longer old e) { is_ready = new.is_ready }
+
+pub is-longer : (old new : JournalView) (e : Entry) → new ≡ longer old e → IsLonger old new e
+is-longer old new e added = λ i. record (added i) { is_ready = new.is_ready }
+
+-- an entry was added, and the room for another is not counted on
+pub longer-forgotten : (old mid new : JournalView) (e : Entry) → IsLonger old mid e → new ≡ record mid { is_ready = false } → new ≡ longer old e
+longer-forgotten old mid new e added forgot = forgot ∙ ap (λ (j : JournalView). record j { is_ready = false }) added
+
+pub within-forgotten : (mid new : JournalView) → length mid.entries ≤ mid.limit → new ≡ record mid { is_ready = false } → length new.entries ≤ new.limit
+within-forgotten mid new within forgot = subst (λ (j : JournalView). length j.entries ≤ j.limit) (sym forgot) within
+
 -- an envelope was taken
 pub taken-envelope : (place : ActorIdentity) (old new : JournalView) (e : Entry) (envelope : Envelope) (reading : ℕ) (old_acts new_acts : List Act) (now : CellView) →
-    IsOf envelope reading e → new ≡ longer old e →
+    IsOf envelope reading e → IsLonger old new e →
     (let seen : CellView = record { who = identity_of place old.limit; journal = old.entries; acts = old_acts; is_ready = old.is_ready } in seen ≡ now) →
     new_acts ≡ acts (identity_of place old.limit) old.entries e →
     TakesEnvelope now
@@ -173,7 +187,13 @@ pub taken-envelope : (place : ActorIdentity) (old new : JournalView) (e : Entry)
 taken-envelope place old new e envelope reading old_acts new_acts now of_it added view_is acts_are = record {
   entry = e;
   of_it = of_it;
-  adds = seen-added place old new e old_acts new_acts now added view_is acts_are;
+  adds = (λ i. record {
+    who = identity_of place (added i).limit;
+    journal = (added i).entries;
+    acts = acts_are i;
+    is_ready = new.is_ready;
+  })
+      ∙ ap (λ (s : CellView). record (with_entry s e) { is_ready = new.is_ready }) view_is;
 }
 
 -- the lists are short enough to make room for

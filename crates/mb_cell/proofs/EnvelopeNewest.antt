@@ -92,19 +92,19 @@ kill-by_newest old gives envelope reading (Dropped env) of_it lawful is =
 
 -- ---- any envelope
 
-by_body : (old : CellView) (gives : Moment → Reply → Type 0) (envelope : Envelope) (reading : ℕ) (e : Entry) → IsOf envelope reading e →
-    IsLawful old.who gives (e ∷ old.journal) → (b : Body) → envelope.body ≡ b → EnvelopeByNewest old (with_entry old e) b
-by_body old gives envelope reading e of_it lawful (body.User kind value) is = tt
-by_body old gives envelope reading e of_it lawful (body.Control kind value) is = tt
-by_body old gives envelope reading e of_it lawful body.PoisonPill is = tt
-by_body old gives envelope reading e of_it lawful body.Kill is = kill-by_newest old gives envelope reading e of_it lawful is
-by_body old gives envelope reading e of_it lawful (body.Terminated x) is =
+by_body : (old : CellView) (gives : Moment → Reply → Type 0) (envelope : Envelope) (reading : ℕ) (e : Entry) (ready : Bool) → IsOf envelope reading e →
+    IsLawful old.who gives (e ∷ old.journal) → (b : Body) → envelope.body ≡ b → EnvelopeByNewest old (record (with_entry old e) { is_ready = ready }) b
+by_body old gives envelope reading e ready of_it lawful (body.User kind value) is = tt
+by_body old gives envelope reading e ready of_it lawful (body.Control kind value) is = tt
+by_body old gives envelope reading e ready of_it lawful body.PoisonPill is = tt
+by_body old gives envelope reading e ready of_it lawful body.Kill is = kill-by_newest old gives envelope reading e of_it lawful is
+by_body old gives envelope reading e ready of_it lawful (body.Terminated x) is =
     terminated-by_newest old gives envelope reading e x of_it lawful is
 
 pub envelope-by_newest : (gives : ℕ → Moment → Reply → Type 0) (old new : CellView) (envelope : Envelope) (reading : ℕ) →
     TakesEnvelope old new envelope reading → IsLawful new.who (gives new.who.this.0) new.journal → EnvelopeByNewest old new envelope.body
 envelope-by_newest gives old new envelope reading took lawful =
     subst (λ (s : CellView). EnvelopeByNewest old s envelope.body) (sym took.adds)
-    (by_body old (gives old.who.this.0) envelope reading took.entry took.of_it
+    (by_body old (gives old.who.this.0) envelope reading took.entry new.is_ready took.of_it
     (subst (λ (s : CellView). IsLawful s.who (gives s.who.this.0) s.journal) took.adds lawful)
     envelope.body refl)

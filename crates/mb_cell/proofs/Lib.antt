@@ -23,6 +23,7 @@ pub mod ReceiverLemmas
 pub mod RecreateRow
 pub mod ResumeRow
 pub mod RetryLaws
+pub mod RoomLaws
 pub mod RowLaws
 pub mod RunLaws
 pub mod SilentRow

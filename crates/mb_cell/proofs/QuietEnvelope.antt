@@ -21,7 +21,7 @@ use Rattle.mb_supervision.specs.ActorIdentity.{identity_of}
 use Rattle.mb_cell.specs.CellView.{CellView, IsOf, TakesEnvelope}
 use Rattle.mb_supervision.specs.declared.identity.ActorIdentity.{ActorIdentity}
 use Rattle.mb_cell.specs.Unsent.{unsent_acts}
-use Rattle.mb_cell.proofs.CellLaws.{Kept, longer, kept-silent, taken-envelope, length-added}
+use Rattle.mb_cell.proofs.CellLaws.{Kept, longer, is-longer, kept-silent, taken-envelope, length-added}
 use Rattle.mb_cell.proofs.UnsentLaws.{nothing-unsent, other-acts}
 use Rattle.mb_cell.proofs.RowLaws.{counts_of, IsBlank, cell_state_of, agrees-more}
 
@@ -70,5 +70,5 @@ module _ {A : Type 0} (place : ActorIdentity) (old new : JournalView) (e : Entry
       (record { who = identity_of place new.limit; journal = new.entries; acts = unsent_acts unsent new.entries ++ new_cell_state.acts; is_ready = new.is_ready }) envelope reading
   takes =
       taken-envelope place old new e envelope reading (unsent_acts unsent old.entries ++ cell_state.acts)
-      (unsent_acts unsent new.entries ++ new_cell_state.acts) now of_it added view_is
+      (unsent_acts unsent new.entries ++ new_cell_state.acts) now of_it (is-longer old new e added) view_is
       (other-acts unsent new.entries _ _ none (ap (λ (b : CellState). b.acts) row.booked ∙ sym row.acted))

@@ -73,12 +73,12 @@ is-unsent-none n journal none = record { within = omega (arith, none); tells = �
 pub with-unsent : {P Q R S : Type 0} → P × Q × R → S → P × Q × R × S
 with-unsent (p, q, r) s = (p, q, r, s)
 
--- what holds of a cell's state holds of it with other acts
-pub agrees-acts : (who : Identity) (journal : List Entry) (gives : Moment → Reply → Type 0) (cell_state : CellState) (acts : List Act) (tray : OutboxView) →
-    Agrees who journal gives (record cell_state { acts = acts }) tray → Agrees who journal gives cell_state tray
-agrees-acts who journal gives cell_state acts tray kept = record {
+-- what holds of a cell's state holds of it with other acts and other room
+pub agrees-acts : (who : Identity) (journal : List Entry) (gives : Moment → Reply → Type 0) (cell_state : CellState) (acts : List Act) (ready : Bool)
+    (tray : OutboxView) → Agrees who journal gives (record cell_state { acts = acts; is_ready = ready }) tray → Agrees who journal gives cell_state tray
+agrees-acts who journal gives cell_state acts ready tray kept = record {
   lawful = kept.lawful;
-  booked = ap (λ (b : CellState). record b { acts = cell_state.acts }) kept.booked;
+  booked = ap (λ (b : CellState). record b { acts = cell_state.acts; is_ready = cell_state.is_ready }) kept.booked;
   outbox = kept.outbox;
   fresh = kept.fresh;
   small_limit = kept.small_limit;

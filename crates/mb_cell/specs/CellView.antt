@@ -41,8 +41,8 @@ IsOf envelope reading (Handled e r outcome) = (e ≡ envelope) × (r ≡ reading
 IsOf envelope reading (System number m outcome) = ⊥
 IsOf envelope reading (Dropped e) = e ≡ envelope
 
--- an envelope was taken: its entry was added, and its acts are to be carried out
+-- an envelope was taken: its entry was added, and its acts are to be carried out; room for one more message may be left
 pub record TakesEnvelope (old new : CellView) (envelope : Envelope) (reading : ℕ) : Type 0 where
   pub entry : Entry
   pub of_it : IsOf envelope reading entry
-  pub adds : new ≡ with_entry old entry
+  pub adds : new ≡ record (with_entry old entry) { is_ready = new.is_ready }

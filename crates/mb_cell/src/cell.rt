@@ -169,7 +169,17 @@ impl<A: Actor, K: Behaviours> Cell<A, K> {
         }
     }
 
-    /// Makes room for one message: for its entry, its effects, its acts and what it adds to the cell's lists.
+    /// Whether there is room for one message. It is one comparison, and takes no memory.
+    #[inline(always)]
+    pub fn is_ready(&self) -> bool
+        ensures value { result ≡ self.now.is_ready }
+        ensures not_full { IsTrue result → length self.now.journal < self.now.who.limit }
+    {
+        self.journal.is_ready()
+    }
+
+    /// Makes room for one message, unless there is room already: for its entry, its effects, its acts and what it adds to the cell's
+    /// lists.
     ///
     /// It answers `JournalFull` if the journal has as many entries as it may have, and else `NoMemory` if memory was
     /// refused. Nothing has changed then.
@@ -180,6 +190,20 @@ impl<A: Actor, K: Behaviours> Cell<A, K> {
         ensures err { OnErr result (self.new ≡ self.old) }
         ensures again { IsTrue self.old.is_ready → IsOk result }
     {
+        if self.is_ready() {
+            return Ok(());
+        }
+        self.prepare()
+    }
+
+    /// Makes room for some messages. It answers as `ready` does.
+    #[cold]
+    #[inline(never)]
+    fn prepare(&mut self) -> Result<(), ReadyError>
+        ensures full { IsErrOf result ReadyError.JournalFull ↔ (self.old.who.limit ≤ length self.old.journal) }
+        ensures ok { OnOk result (self.new ≡ record self.old { is_ready = true }) }
+        ensures err { OnErr result (self.new ≡ self.old) }
+    {
         if self.cell_state.make_room().is_err() {
             if self.journal.is_full() {
                 return Err(ReadyError::JournalFull);
@@ -187,6 +211,14 @@ impl<A: Actor, K: Behaviours> Cell<A, K> {
             return Err(ReadyError::NoMemory);
         }
         self.journal.ready()
+    }
+
+    /// Counts on no room any more: `ready` looks how much there is before the next message. It is for a caller that keeps room of its
+    /// own beside that of the cell, and used some of it.
+    pub fn forget_room(&mut self)
+        ensures { self.new ≡ record self.old { is_ready = false } }
+    {
+        self.journal.forget_room();
     }
 
     /// Keeps the node of a message that was taken, for an act that comes later. This takes no memory.

@@ -177,6 +177,7 @@ count-one n sent is = ap (λ k. (k + 1) % 2 ^ 64) is ∙ mod-add-mod n (2 ^ 64) 
 pub settled-dead : (h : Contents) (gives : Moment → Reply → Type 0) (to : ActorId) (body : Body) (left : List Act) (why : Why) (room : ℕ) →
     AgreesWithJournal gives (Tell to body ∷ left) h → h.room ≡ room + 1 → IsReason h.directory why to.0 →
     AgreesWithJournal gives left (record h {
+      cell = record h.cell { is_ready = false };
       dead = h.dead ++ record { envelope = next_envelope h to body; why = why } ∷ [];
       sent = (h.sent + 1) % 2 ^ 64;
       room = room;
@@ -449,3 +450,34 @@ settled-dropped h gives pending number m left s ended is =
       aside = s.counted.aside;
       none = λ not_ended. absurd (cc (ended, not_ended));
     })
+
+-- ---- more room changes nothing else of the home
+
+pub settled-ready : (h : Contents) (gives : Moment → Reply → Type 0) (pending : List Act) (ready : Bool) (room : ℕ) → AgreesWithJournal gives pending h →
+    h.room ≤ room → AgreesWithJournal gives pending (record h { cell = record h.cell { is_ready = ready }; room = room })
+settled-ready h gives pending ready room s more = record {
+  is_own = record {
+    enrolled = s.is_own.enrolled;
+    all_there = s.is_own.all_there;
+    within_limit = s.is_own.within_limit;
+    not_zero = s.is_own.not_zero;
+    queues = s.is_own.queues;
+    by = s.is_own.by;
+    receivers = s.is_own.receivers;
+    receiver = s.is_own.receiver;
+    nobody = s.is_own.nobody;
+  };
+  lawful = s.lawful;
+  taken = s.taken;
+  open_keeps = s.open_keeps;
+  fit = record { present = s.fit.present; room = omega (arith, s.fit.room, more) };
+  posted = record {
+    postings = s.posted.postings;
+    told = s.posted.told;
+    sent = s.posted.sent;
+    pushed = s.posted.pushed;
+    dead = s.posted.dead;
+  };
+  counted = record { rest = s.counted.rest; aside = s.counted.aside; none = s.counted.none };
+  reasons = s.reasons;
+}

@@ -46,6 +46,7 @@ use Rattle.mb_ghost.specs.Seen.{Each}
 use Rattle.mb_ghost.proofs.SeenLemmas.{each_append}
 use Rattle.mb_gate.specs.NamedActors.{NamesBelow, EachNamesBelow}
 use Rattle.mb_cell.specs.CellView.{CellView, IsOf, with_entry}
+use Rattle.mb_cell.proofs.RoomLaws.{any-room}
 use Rattle.mb_home.specs.Contents.{Contents}
 use Rattle.mb_home.specs.NamedActors.{JournalNamesBelow, NamesActors, SendsBelow}
 use Rattle.mb_home.specs.AgreesWithJournal.{AgreesWithJournal}
@@ -508,7 +509,7 @@ unfolding AreLawful
 split-lawful who gives before e lawful = lawful
 
 module _ (gives : Moment → Reply → Type 0) (h new : Contents) (n : NamesActors h) (s : AgreesWithJournal gives new.cell.acts new) where
-  named-entry : (e : Entry) → new.cell ≡ with_entry h.cell e → JournalNamesBelow h.cell.who.actors (e ∷ h.cell.journal) →
+  named-entry : (e : Entry) → new.cell ≡ record (with_entry h.cell e) { is_ready = new.cell.is_ready } → JournalNamesBelow h.cell.who.actors (e ∷ h.cell.journal) →
       EachNamesBelow h.cell.who.actors new.rest → NamesActors new × SendsBelow new.cell.who.actors new.cell.acts
   named-entry e adds names rest =
       let who : new.cell.who ≡ h.cell.who = ap (λ (c : CellView). c.who) adds in
@@ -533,7 +534,8 @@ module _ (gives : Moment → Reply → Type 0) (h new : Contents) (n : NamesActo
   pub named-applied : AppliesNext h new → NamesActors new × SendsBelow new.cell.who.actors new.cell.acts
   named-applied a =
       let due = named-due h.cell.who.actors h.cell.who h.cell.journal h.rest new.rest a.number a.message n.journal n.rest a.due in
-      named-entry (System a.number a.message a.taken.outcome) a.taken.adds (due.0, n.journal) due.1
+      let e : Entry = System a.number a.message a.taken.outcome in
+      named-entry e (any-room new.cell (with_entry h.cell e) a.taken.adds) (due.0, n.journal) due.1
 
   names-begun : (e : Entry) (envelope : Envelope) (reading : ℕ) → IsOf envelope reading e →
       JournalNamesBelow h.cell.who.actors (e ∷ h.cell.journal)

@@ -12,6 +12,7 @@ use Rattle.mb_syslist.specs.MessageList.{numbered}
 use Rattle.mb_actor.specs.Behaviour.{Moment, Reply}
 use Rattle.mb_actor.specs.declared.phase.Phase.{Phase}
 use Rattle.mb_actor.specs.declared.phase.Phase.TheVariants.{Fresh, Live, Broken, Ending, Ended}
+use Rattle.mb_journal.specs.Acts.{acts}
 use Rattle.mb_journal.specs.Aside.{aside, ever_aside, first_of_list, next_front, next_number}
 use Rattle.mb_journal.specs.Reading.{IsOpen}
 use Rattle.mb_journal.specs.Suspension.{count}
@@ -32,7 +33,7 @@ use Rattle.mb_home.specs.Directory.{DirectoryEntry}
 use Rattle.mb_home.specs.AgreesWithJournal.{IsOwn, IsReason, AgreesWithJournal, messages_of, aside_at_end}
 use Rattle.mb_home.specs.Steps.{most_tells, at_first, AppliesNext, IsDue}
 use Rattle.mb_home.proofs.CountLemmas.{aside-below, few-numbers, front-of, next-new, next-again, rest-first}
-use Rattle.mb_home.proofs.AgreesLemmas.{SameQueue, settled-more}
+use Rattle.mb_home.proofs.AgreesLemmas.{SameQueue, settled-more, settled-ready, with_more}
 
 -- ---- the next number
 
@@ -148,6 +149,7 @@ settled-begun h gives new take envelope reading s not_ended room took lawful sam
     let lawful' : IsLawful h.cell.who gives (e ∷ h.cell.journal) = subst (λ (c : CellView). IsLawful c.who gives c.journal) took.adds lawful in
     let still : closed h.cell.who (e ∷ h.cell.journal) ≡ false = closed-same h.cell.who e h.cell.journal envelope reading took.of_it ∙ not_ended in
     subst (λ (c : CellView). AgreesWithJournal gives c.acts (record h { cell = c; take = take })) (sym took.adds)
+    (settled-ready (with_more h e take h.rest h.aside_dead) gives (acts h.cell.who h.cell.journal e) new.is_ready h.room
     (settled-more h gives e take h.rest h.aside_dead s not_ended lawful' room same
     (taken
     ∙ ap (λ l. l ++ envelope ∷ [])
@@ -158,7 +160,7 @@ settled-begun h gives new take envelope reading s not_ended room took lawful sam
           (number-same h.cell.journal e envelope reading took.of_it));
       aside = s.counted.aside ∙ open-aside h.cell.who h.cell.journal not_ended ∙ sym (open-aside h.cell.who (e ∷ h.cell.journal) still);
       none = λ _. s.counted.none not_ended;
-    }))
+    })) (omega arith))
 
 -- ---- the beginning
 

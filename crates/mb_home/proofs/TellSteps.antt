@@ -1,5 +1,5 @@
 -- A home that agrees with its journal still does after a tell and after an envelope, in the forms of the calls.
-use Rattle.std.proofs.Common.{◌≡◌, ℕ, zero, suc, ◌+◌, ◌-◌, ◌%◌, ◌^◌, ◌<◌, ◌≤◌, List, [], ◌∷◌, ◌++◌, length, refl, sym, ap, ◌∙◌, subst, arith}
+use Rattle.std.proofs.Common.{◌≡◌, ℕ, zero, suc, ◌+◌, ◌-◌, ◌%◌, ◌^◌, ◌<◌, ◌≤◌, false, List, [], ◌∷◌, ◌++◌, length, refl, sym, ap, ◌∙◌, subst, arith}
 use Rattle.std.specs.Prelude.{Contains, IsTrue, slice_get, slice_set, Some}
 use Rattle.std.proofs.lemmas.List.Elements.{All-head}
 use Rattle.std.proofs.lemmas.Option.{slice_get_read, slice_get_within, get_or_from_slice_get}
@@ -137,10 +137,11 @@ pub settled-dead_letter : (h mid new : Contents) (gives : ℕ → Moment → Rep
     (why : Why) →
     AgreesWithJournal (gives h.cell.who.this.0) (Tell to told ∷ h.cell.acts) h → mid ≡ h → RefusesPush h (to.0 - 1) refused → e ≡ next_envelope h to told →
     why ≡ reason_of refused →
-    new ≡ record mid { dead = mid.dead ++ record { envelope = e; why = why } ∷ []; sent = (mid.sent + 1) % 2 ^ 64; room = new.room } →
+    new ≡ record mid { cell = record mid.cell { is_ready = false }; dead = mid.dead ++ record { envelope = e; why = why } ∷ []; sent = (mid.sent + 1) % 2 ^ 64; room = new.room } →
     mid.room ≡ new.room + 1 → AgreesWithJournal (gives new.cell.who.this.0) new.cell.acts new
 settled-dead_letter h mid new gives to told refused e why s same r e_is why_is is_dead_letter room =
     let at_h : new ≡ record h {
+      cell = record h.cell { is_ready = false };
       dead = h.dead ++ record { envelope = next_envelope h to told; why = reason_of refused } ∷ [];
       sent =
           (h.sent + 1) % 2 ^ 64;
@@ -148,18 +149,21 @@ settled-dead_letter h mid new gives to told refused e why s same r e_is why_is i
     } =
     is_dead_letter
     ∙ ap (λ (x : Contents). record x {
+      cell = record x.cell { is_ready = false };
       dead = x.dead ++ record { envelope = e; why = why } ∷ [];
       sent =
           (x.sent + 1) % 2 ^ 64;
       room = new.room;
     }) same
     ∙ ap (λ (x : Envelope). record h {
+      cell = record h.cell { is_ready = false };
       dead = h.dead ++ record { envelope = x; why = why } ∷ [];
       sent =
           (h.sent + 1) % 2 ^ 64;
       room = new.room;
     }) e_is
     ∙ ap (λ (x : Why). record h {
+      cell = record h.cell { is_ready = false };
       dead = h.dead ++ record { envelope = next_envelope h to told; why = x } ∷ [];
       sent =
           (h.sent + 1) % 2 ^ 64;

@@ -1,5 +1,5 @@
 -- What each step of a run does to the actor's home.
-use Rattle.std.specs.Prelude.{◌≡◌, ◌≢◌, ℕ, ◌+◌, ◌%◌, ◌^◌, ◌⊎◌, List, [], ◌∷◌, ◌++◌, slice_get, slice_set, Option, Some}
+use Rattle.std.specs.Prelude.{◌≡◌, ◌≢◌, ℕ, ◌+◌, ◌%◌, ◌^◌, ◌⊎◌, false, List, [], ◌∷◌, ◌++◌, slice_get, slice_set, Option, Some}
 use Rattle.std.specs.Prelude.{None, IsSome}
 use Rattle.mb_msg.specs.declared.dead_letter.Why.{Why}
 use Rattle.mb_msg.specs.declared.dead_letter.Why.TheVariants as why
@@ -21,10 +21,10 @@ use Rattle.mb_home.specs.Directory.{DirectoryEntry}
 abbrev pub most_tells : ℕ
 most_tells = 17
 
--- A new home of this cell, with these passes and this directory.
+-- A new home of this cell, with these passes and this directory. Room for its first message is still to be made.
 abbrev pub at_first : CellView → TakePassView → List SendPassView → ℕ → List DirectoryEntry → Contents
 at_first cell take sends room directory = record {
-  cell = cell;
+  cell = record cell { is_ready = false };
   take = take;
   sends = sends;
   rest = [];
@@ -78,9 +78,10 @@ pub record Pushes (old new : Contents) (to : ActorId) (body : Body) : Type 0 whe
     sent = (old.sent + 1) % 2 ^ 64;
   }
 
--- The envelope became a dead letter for this reason.
+-- The envelope became a dead letter for this reason. Room for the next message is to be made again.
 pub record RecordsDeadLetter (old new : Contents) (to : ActorId) (body : Body) (reason : Why) : Type 0 where
   pub same : new ≡ record old {
+    cell = record old.cell { is_ready = false };
     dead = old.dead ++ record { envelope = next_envelope old to body; why = reason } ∷ [];
     sent = (old.sent + 1) % 2 ^ 64;
     room = new.room;

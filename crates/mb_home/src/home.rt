@@ -57,8 +57,9 @@ impl<A: Actor, K: Behaviours> Drop for Home<A, K> {
 }
 
 impl<A: Actor, K: Behaviours> Model for Home<A, K> {
-    ghost use Rattle.std.specs.Prelude.{◌≡◌, ◌-◌, ◌^◌, ◌<◌, map, vec_len, vec_capacity};
+    ghost use Rattle.std.specs.Prelude.{◌≡◌, ◌-◌, ◌^◌, ◌<◌, ◌≤◌, map, true, vec_len, vec_capacity};
     ghost use Rattle.mb_home.specs.Contents.{Contents};
+    ghost use Rattle.mb_home.specs.Steps.{most_tells};
 
     ghost Value = { Contents };
 
@@ -76,7 +77,8 @@ impl<A: Actor, K: Behaviours> Model for Home<A, K> {
       directory = map (λ n. record { who = n.cell.value.who; queue = n.take.value.queue; discipline = n.take.value.discipline }) h.directory.value.items;
     } };
 
-    ghost invariant = { λ h. (h.id ≡ h.cell.who.this) × (h.cell.who.limit < 2 ^ 32) };
+    ghost invariant = { λ h. (h.id ≡ h.cell.who.this) × (h.cell.who.limit < 2 ^ 32)
+        × (h.cell.is_ready ≡ true → most_tells ≤ vec_capacity h.dead - vec_len h.dead) };
 }
 
 /// What a home leaves at the end of its system.
@@ -139,6 +141,8 @@ impl<A: Actor, K: Behaviours> Home<A, K> {
         ensures { result ≡ at_first cell take sends.items result.room
             (map (λ n. record { who = n.cell.value.who; queue = n.take.value.queue; discipline = n.take.value.discipline }) directory.now.items) }
     {
+        let mut cell = cell;
+        cell.forget_room();
         Home {
             id,
             cell,

@@ -1,8 +1,9 @@
 -- The rows of a journal and its entries: what a row more adds, and what each row keeps.
 use Rattle.std.proofs.Common.{◌≡◌, ℕ, ◌+◌, ◌-◌, ◌<◌, ◌≤◌, List, [], ◌∷◌, ◌++◌, length, take, drop, get_or, reverse, refl, ap, sym, ◌∙◌}
 use Rattle.std.proofs.Common.{arith, zero, suc, length-append, length-drop}
-use Rattle.std.specs.Prelude.{slice_range, slice_get, Some}
+use Rattle.std.specs.Prelude.{nat_lt, slice_range, slice_get, true, false, Some}
 use Rattle.std.proofs.lemmas.List.{length-reverse, reverse-append, take-append-le, drop-append-le}
+use Rattle.std.proofs.lemmas.Bool.Decides.{nat_tests}
 use Rattle.std.proofs.Math.Seq.{drop-append_seam, take-length}
 use Rattle.mb_actor.specs.declared.effect.Effect.{Effect}
 use Rattle.mb_journal.specs.Stored.{listed, StandInOrder, start_of}
@@ -124,3 +125,13 @@ entry-of-row rows effects i from row lt read at =
     listed-get 0 rows effects i row lt
     ∙ (ap (λ (n : ℕ). Some (entry_with (get_or rows i row).arrival (slice_range effects n (get_or rows i row).end))) (sym at)
     ∙ ap (λ (r : WholeRow). Some (entry_with r.arrival (slice_range effects from r.end))) (sym read))
+
+-- the test of numbers by which a journal is ready
+pub is-below : (n m : ℕ) → nat_lt n m ≡ true → n < m
+is-below n m less = grind (arith, nat_tests)
+
+pub below : (n m : ℕ) → n < m → nat_lt n m ≡ true
+below n m less = grind (arith, nat_tests)
+
+pub none-below : (n : ℕ) → nat_lt n 0 ≡ false
+none-below n = grind (arith, nat_tests)

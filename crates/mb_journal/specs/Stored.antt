@@ -1,5 +1,5 @@
 -- How the rows of a journal keep its entries: one after another, and all their effects in one list beside them.
-use Rattle.std.specs.Prelude.{◌≡◌, ℕ, zero, suc, ◌+◌, ◌-◌, ◌*◌, ◌<◌, ◌≤◌, true, List, [], ◌∷◌, All, length, map, reverse, slice_range, vec_len, vec_capacity}
+use Rattle.std.specs.Prelude.{◌≡◌, ℕ, zero, suc, ◌+◌, ◌-◌, ◌*◌, ◌≤◌, List, [], ◌∷◌, All, length, map, reverse, slice_range, vec_len, vec_capacity}
 use Rattle.mb_msg.specs.Limits.{most_effects}
 use Rattle.mb_actor.specs.declared.effect.Effect.{Effect}
 use Rattle.mb_journal.specs.Entry.{Entry}
@@ -30,12 +30,11 @@ rows_of j = map (whole j.wide.items) j.rows.items
 
 -- what holds of the rows and effects of a journal at rest: the effects of the rows are those of the list, what they say is there, and there are
 -- no more rows than there may be; up to the number of entries that are prepared, which is within the limit, there is room for a row, wide or not,
--- and all the effects of a call; where a journal is ready, one more is prepared; and the counts are those of the entries
+-- and all the effects of a call; and the counts are those of the entries
 pub record IsStored (j : Inside) : Type 0 where
   pub in_order : StandInOrder 0 (rows_of j) (length j.effects.items)
   pub there : All (λ row. needs row ≤ length j.wide.items) j.rows.items
   pub within : vec_len j.rows ≤ j.limit
-  pub one_more : j.ready ≡ true → vec_len j.rows < j.prepared
   pub prepared_within : j.prepared ≤ j.limit
   pub row_room : j.prepared ≤ vec_capacity j.rows
   pub wide_room : vec_len j.wide + (j.prepared - vec_len j.rows) ≤ vec_capacity j.wide

@@ -27,7 +27,8 @@ const MOST_AT_ONCE: usize = 64;
 
 /// What came to an actor and what became of that (this project's own profile: Akka keeps no journal).
 ///
-/// `ready` makes room for an entry beforehand, so that adding one takes no memory.
+/// `ready` makes room for an entry beforehand, so that adding one takes no memory. After an envelope that was handled, room for the next
+/// entry may be left. After any other entry none is counted on, since its actor's cell has to make room of its own then, too.
 // What most messages use comes first, so that it lies in few cache lines.
 pub struct Journal {
     rows: Vec<Row>,
@@ -35,7 +36,6 @@ pub struct Journal {
     /// Up to this many entries there is room, each with as many effects as a call may ask for.
     prepared: usize,
     limit: u32,
-    ready: bool,
     effects: Vec<Effect>,
     /// The entries that do not fit into a row.
     wide: Vec<Received>,
@@ -49,7 +49,6 @@ impl Drop for Journal {
             wide: _,
             effects: _,
             limit: _,
-            ready: _,
             prepared: _,
             counts: _,
         } = self;
@@ -57,14 +56,18 @@ impl Drop for Journal {
 }
 
 impl Model for Journal {
-    ghost use Rattle.std.specs.Prelude.{reverse};
+    ghost use Rattle.std.specs.Prelude.{nat_lt, reverse, vec_len};
     ghost use Rattle.mb_journal.specs.JournalView.{JournalView};
 
     ghost Value = { JournalView };
 
     ghost use Rattle.mb_journal.specs.Stored.{listed, rows_of, IsStored};
 
-    ghost view = { λ j. record { entries = reverse (listed 0 (rows_of j) j.effects.items); limit = j.limit; is_ready = j.ready } };
+    ghost view = { λ j. record {
+      entries = reverse (listed 0 (rows_of j) j.effects.items);
+      limit = j.limit;
+      is_ready = nat_lt (vec_len j.rows) j.prepared;
+    } };
 
     ghost invariant = { IsStored };
 }
@@ -79,7 +82,6 @@ impl Journal {
             wide: Vec::new(alloc),
             effects: Vec::new(alloc),
             limit,
-            ready: false,
             prepared: 0,
             counts: Counts::none(),
         }
@@ -122,6 +124,15 @@ impl Journal {
         self.len() >= self.limit as usize
     }
 
+    /// Whether there is room for another entry and its effects. This takes no memory.
+    #[inline(always)]
+    pub fn is_ready(&self) -> bool
+        ensures value { result ≡ self.now.is_ready }
+        ensures not_full { IsTrue result → length self.now.entries < self.now.limit }
+    {
+        self.rows.len() < self.prepared
+    }
+
     /// Makes room for another entry and its effects, unless there is room already.
     ///
     /// It answers `JournalFull` if the journal has as many entries as it may have, and else `NoMemory` if the memory for
@@ -135,8 +146,14 @@ impl Journal {
         if self.rows.len() >= self.prepared {
             return self.prepare();
         }
-        self.ready = true;
         Ok(())
+    }
+
+    /// Counts on no room any more: `ready` looks how much there is before another entry is added.
+    pub fn forget_room(&mut self)
+        ensures { self.new ≡ record self.old { is_ready = false } }
+    {
+        self.prepared = 0;
     }
 
     /// Makes room for some more entries: the more of them, the more entries there are, so that this is seldom done.
@@ -167,12 +184,11 @@ impl Journal {
         let places = room_of(&self.rows).min(room_of(&self.wide));
         let with_effects = places.min(room_of(&self.effects) / EFFECTS);
         self.prepared = with_effects.min(self.limit as usize - len) + len;
-        self.ready = true;
         Ok(())
     }
 
     /// Adds an envelope that was handled, with the status word that was read before it, what the actor answered, if it
-    /// was called, and the effects that it asked for.
+    /// was called, and the effects that it asked for. There may be room for more.
     #[inline(always)]
     pub fn push_handled(
         &mut self,
@@ -185,7 +201,7 @@ impl Journal {
         requires within_limit { length effects.now ≤ most_effects }
         ensures added { self.new ≡ record self.old {
           entries = Handled envelope reading (Applied answer effects.now) ∷ self.old.entries;
-          is_ready = false;
+          is_ready = self.new.is_ready;
         } }
         ensures within { length self.new.entries ≤ self.new.limit }
     {
@@ -224,6 +240,7 @@ impl Journal {
             },
             effects,
         );
+        self.forget_room();
     }
 
     /// Adds a system message that was set aside, with its number.
@@ -233,6 +250,7 @@ impl Journal {
         ensures within { length self.new.entries ≤ self.new.limit }
     {
         self.push(Received::SetAside { number, message }, &[]);
+        self.forget_room();
     }
 
     /// Adds an envelope that was dropped.
@@ -242,6 +260,7 @@ impl Journal {
         ensures within { length self.new.entries ≤ self.new.limit }
     {
         self.push(Received::Dropped { envelope }, &[]);
+        self.forget_room();
     }
 
     /// Adds an entry and its effects. There is room for them.
@@ -249,10 +268,9 @@ impl Journal {
     fn push(&mut self, arrival: Received, effects: &[Effect])
         requires ready { IsTrue self.old.is_ready }
         requires within_limit { length effects.now ≤ most_effects }
-        ensures added { self.new ≡ record self.old { entries = entry_with arrival effects.now ∷ self.old.entries; is_ready = false } }
+        ensures added { self.new ≡ record self.old { entries = entry_with arrival effects.now ∷ self.old.entries; is_ready = self.new.is_ready } }
         ensures within { length self.new.entries ≤ self.new.limit }
     {
-        self.ready = false;
         self.counts.add(&arrival);
         add_all(&mut self.effects, effects);
         let end = self.effects.len();

@@ -34,3 +34,4 @@ pub mod TakenLemmas
 pub mod ClaimLemmas
 pub mod InRunLemmas
 pub mod EnvelopeSteps
+pub mod EnvelopeRun

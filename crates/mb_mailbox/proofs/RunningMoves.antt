@@ -14,6 +14,7 @@ use Rattle.mb_ghost.specs.Seen.{Each}
 use Rattle.mb_gate.specs.Rule.{IsAmong}
 use Rattle.mb_gate.specs.View.{Observation}
 use Rattle.mb_cell.specs.CellView.{CellView, with_entry}
+use Rattle.mb_cell.proofs.RoomLaws.{any-room}
 use Rattle.mb_home.specs.AtHome.{closed_receivers, given_of, mailbox_at, system_entries}
 use Rattle.mb_home.specs.Carried.{Leads, LeadsOn}
 use Rattle.mb_home.specs.Contents.{Contents}
@@ -44,7 +45,7 @@ journal-open h leads not_closed = sym (ap (λ (m : Mailbox). m.closed) (status-a
 module _ (gives : ℕ → Moment → Reply → Type 0) (origin : Origin (Box Contents)) (seen : List Observation) (h : RunState) (new : Contents)
     (r : IsRunning gives origin [] seen h) where
   -- an entry was added, whose acts are to be carried out
-  running-entry : (e : Entry) → new.cell ≡ with_entry h.home.cell e → LeadsOn h.home new → AgreesWithJournal (gives h.actor) new.cell.acts new →
+  running-entry : (e : Entry) → new.cell ≡ record (with_entry h.home.cell e) { is_ready = new.cell.is_ready } → LeadsOn h.home new → AgreesWithJournal (gives h.actor) new.cell.acts new →
       new.directory ≡ h.home.directory → new.dead ≡ h.home.dead → WereDrained h (system_entries (e ∷ h.home.cell.journal)) → WereDrained h new.rest →
       NamesActors new × SendsBelow new.cell.who.actors new.cell.acts →
       IsRunning gives origin new.cell.acts seen (record h { home = new })
@@ -78,7 +79,8 @@ module _ (gives : ℕ → Moment → Reply → Type 0) (origin : Origin (Box Con
       IsRunning gives origin new.cell.acts seen (record h { home = new })
   running-applied a leads settled =
       let due = due-entered (λ m. IsAmong m h.drained) h.home.cell.who h.home.cell.journal h.home.rest new.rest a.number a.message r.entered r.left a.due in
-      running-entry (System a.number a.message a.taken.outcome) a.taken.adds leads settled (ap (λ (x : Contents). x.directory) a.same)
+      let e : Entry = System a.number a.message a.taken.outcome in
+      running-entry e (any-room new.cell (with_entry h.home.cell e) a.taken.adds) leads settled (ap (λ (x : Contents). x.directory) a.same)
       (ap (λ (x : Contents). x.dead) a.same) (due.0, r.entered) (tail-drained h a.number a.message new.rest due) (named-applied (gives h.actor) h.home new r.named settled a)
 
   pub running-begun : (reading : ℕ) → Begins h.home new reading → LeadsOn h.home new → AgreesWithJournal (gives h.actor) new.cell.acts new →

@@ -16,6 +16,7 @@ use Rattle.mb_actor.specs.Behaviour.{Moment, Reply}
 use Rattle.mb_ghost.specs.Seen.{Each}
 use Rattle.mb_gate.specs.Untouched.{Origin}
 use Rattle.mb_cell.specs.CellView.{CellView, IsOf, with_entry}
+use Rattle.mb_cell.proofs.RoomLaws.{any-room}
 use Rattle.mb_gate.specs.declared.claim.Claim.{Claim}
 use Rattle.mb_gate.specs.Accessors.{held_actor, status_of, IsRecorded}
 use Rattle.mb_gate.specs.SentSystem.{Listed, Dropped, Answered, Parting, IsRightPart, answered_to, messages_of, notice, sent_by_part}
@@ -137,7 +138,7 @@ came-none who before envelope reading (System number m outcome) of_it = absurd o
 came-none who before envelope reading (DroppedEnvelope x) of_it = refl
 
 module _ (a mid last : RunState) (actor : mid.actor ≡ a.actor) (open_yet : a.status.closed ≡ false) (recorded : mid.recorded ≡ a.recorded)
-    (e : Entry) (adds : mid.home.cell ≡ with_entry a.home.cell e) (carried : SendsDue (messages_of mid.home.cell.acts) [] mid last)
+    (e : Entry) (adds : mid.home.cell ≡ record (with_entry a.home.cell e) { is_ready = mid.home.cell.is_ready }) (carried : SendsDue (messages_of mid.home.cell.acts) [] mid last)
     (journal : last.home.cell.journal ≡ mid.home.cell.journal) where
   -- the list gave this, and this came to the cell
   entries-one : (steps : List Observation) → mid.log ≡ steps ++ a.log →
@@ -170,7 +171,8 @@ module _ (a mid last : RunState) (actor : mid.actor ≡ a.actor) (open_yet : a.s
 pub entries-applied : (a mid last : RunState) → mid.actor ≡ a.actor → a.status.closed ≡ false → mid.recorded ≡ a.recorded → AppliesNext a.home mid.home →
     SendsDue (messages_of mid.home.cell.acts) [] mid last → last.home.cell.journal ≡ mid.home.cell.journal → mid.log ≡ a.log → SendsForEntries a last
 entries-applied a mid last actor open_yet recorded n carried journal log =
-    entries-one a mid last actor open_yet recorded (System n.number n.message n.taken.outcome) n.taken.adds carried journal [] log
+    let e : Entry = System n.number n.message n.taken.outcome in
+    entries-one a mid last actor open_yet recorded e (any-room mid.home.cell (with_entry a.home.cell e) n.taken.adds) carried journal [] log
     (came-due (next_front a.home.cell.who a.home.cell.journal) a.home.rest n.number n.message mid.home.rest n.due)
 
 -- ---- the whole run

@@ -1,5 +1,5 @@
 -- What a tell makes of a run.
-use Rattle.std.proofs.Common.{◌≡◌, ℕ, ◌<◌, ◌*◌, ◌+◌, true, List, [], ◌∷◌, length, inl, inr, refl, sym, ap, ◌∙◌, subst, arith}
+use Rattle.std.proofs.Common.{◌≡◌, ℕ, ◌<◌, ◌*◌, ◌+◌, Bool, true, false, List, [], ◌∷◌, length, inl, inr, refl, sym, ap, ◌∙◌, subst, arith}
 use Rattle.std.specs.Prelude.{if◌then◌else◌}
 use Rattle.std.specs.Global.{Box}
 use Rattle.mb_status.specs.Mailbox.{Mailbox, word_of, mailbox_of}
@@ -17,6 +17,7 @@ use Rattle.mb_journal.specs.Acts.Act.{Tell}
 use Rattle.mb_queue.specs.declared.refused.PushError.{PushError}
 use Rattle.mb_queue.specs.declared.refused.PushError.TheVariants.{Full, NoMemory}
 use Rattle.mb_cell.specs.CellView.{CellView}
+use Rattle.mb_cell.proofs.RoomLaws.{any-room}
 use Rattle.mb_ghost.specs.Seen.{Each}
 use Rattle.mb_gate.specs.Untouched.{Origin}
 use Rattle.mb_gate.specs.View.{View, Observation, Read, obligation_to, seeing, reading}
@@ -52,6 +53,14 @@ running-own gives origin pending seen h r = subst (λ n. AgreesWithJournal (give
 pub settled-here : (gives : ℕ → Moment → Reply → Type 0) (actor : ℕ) (old new : Contents) → old.cell.who.this.0 ≡ actor → new.cell ≡ old.cell →
     AgreesWithJournal (gives new.cell.who.this.0) new.cell.acts new → AgreesWithJournal (gives actor) old.cell.acts new
 settled-here gives actor old new number cell s =
+    let here : new.cell.who.this.0 ≡ actor = ap (λ (c : CellView). c.who.this.0) cell ∙ number in
+    subst (λ (x : ℕ × List Act). AgreesWithJournal (gives x.0) x.1 new) (λ i. (here i, (cell i).acts)) s
+
+-- also where what it tells left no room for the next message
+settled-told : (gives : ℕ → Moment → Reply → Type 0) (actor : ℕ) (old new : Contents) → old.cell.who.this.0 ≡ actor →
+    new.cell ≡ record old.cell { is_ready = new.cell.is_ready } → AgreesWithJournal (gives new.cell.who.this.0) new.cell.acts new →
+    AgreesWithJournal (gives actor) old.cell.acts new
+settled-told gives actor old new number cell s =
     let here : new.cell.who.this.0 ≡ actor = ap (λ (c : CellView). c.who.this.0) cell ∙ number in
     subst (λ (x : ℕ × List Act). AgreesWithJournal (gives x.0) x.1 new) (λ i. (here i, (cell i).acts)) s
 
@@ -94,20 +103,38 @@ module _ (h : RunState) (new : Contents) (cell : new.cell ≡ h.home.cell) where
   backlog-cell rest dropped s =
       backlog-home h s new (ap (λ (c : CellView). c.who) cell) (ap (λ (c : CellView). c.journal) cell) rest dropped
 
--- a home of which what it tells changed its own passes, how many it sent, its dead letters and the room for them
+-- a home of which what it tells changed its own passes, how many it sent, its dead letters, the room for them and that for the next message
 module _ (h : RunState) (new : Contents)
-    (same : new ≡ record h.home { sends = new.sends; sent = new.sent; dead = new.dead; room = new.room }) where
-  pub cell-told : new.cell ≡ h.home.cell
+    (same : new ≡ record h.home {
+      cell = record h.home.cell { is_ready = new.cell.is_ready };
+      sends = new.sends;
+      sent = new.sent;
+      dead = new.dead;
+      room = new.room;
+    }) where
+  pub cell-told : new.cell ≡ record h.home.cell { is_ready = new.cell.is_ready }
   cell-told = ap (λ (x : Contents). x.cell) same
 
   pub take-told : new.take ≡ h.home.take
   take-told = ap (λ (x : Contents). x.take) same
 
   pub keeps-told : KeepsJournal h (record h { home = new })
-  keeps-told = keeps-home h new cell-told take-told
+  keeps-told = record {
+    same = record {
+      actor = refl;
+      who = ap (λ (x : Contents). x.cell.who) same;
+      before = refl;
+      takes = takes-same _ _ take-told;
+      counted = ap (λ (x : Contents). length x.take.taken + counted_by h) same;
+    };
+    journal = ap (λ (x : Contents). x.cell.journal) same;
+    loaded = refl;
+  }
 
   pub backlog-told : BacklogAgrees h → BacklogAgrees (record h { home = new })
-  backlog-told = backlog-cell h new cell-told (ap (λ (x : Contents). x.rest) same) (ap (λ (x : Contents). x.dropped) same)
+  backlog-told s =
+      backlog-home h s new (ap (λ (x : Contents). x.cell.who) same) (ap (λ (x : Contents). x.cell.journal) same)
+      (ap (λ (x : Contents). x.rest) same) (ap (λ (x : Contents). x.dropped) same)
 
 -- the next act was taken out to be carried out
 module _ (h : RunState) (new : Contents) (same : new ≡ record h.home { cell = record h.home.cell { acts = new.cell.acts } }) where
@@ -150,24 +177,24 @@ module _ (gives : ℕ → Moment → Reply → Type 0) (origin : Origin (Box Con
 
   module _ (new : Contents) (settled : AgreesWithJournal (gives new.cell.who.this.0) new.cell.acts new) where
     -- the acts that are left, with what is dead known
-    running-left : new.cell ≡ h.home.cell → new.directory ≡ h.home.directory → new.rest ≡ h.home.rest → Each (IsKnownClosedTo seen h) (closed_receivers new.dead) →
+    running-left : new.cell ≡ record h.home.cell { is_ready = new.cell.is_ready } → new.directory ≡ h.home.directory → new.rest ≡ h.home.rest → Each (IsKnownClosedTo seen h) (closed_receivers new.dead) →
         IsRunning gives origin new.cell.acts seen (record h { home = new })
     running-left cell directory rest shut =
         subst (λ (c : CellView). IsRunning gives origin c.acts seen (record h { home = new })) (sym cell)
         (running-told gives origin seen h h.home.cell.acts to body new r (ap (λ (c : CellView). c.who) cell) (ap (λ (c : CellView). c.journal) cell) directory rest
-        (settled-here gives h.actor h.home new r.number cell settled) shut)
+        (settled-told gives h.actor h.home new r.number cell settled) shut)
 
     -- it was pushed
     pub running-pushed : Pushes h.home new to body → IsRunning gives origin new.cell.acts seen (record h { home = new })
     running-pushed p =
-        running-left (ap (λ (x : Contents). x.cell) p.same) (ap (λ (x : Contents). x.directory) p.same) (ap (λ (x : Contents). x.rest) p.same)
+        running-left (any-room new.cell h.home.cell (ap (λ (x : Contents). x.cell) p.same)) (ap (λ (x : Contents). x.directory) p.same) (ap (λ (x : Contents). x.rest) p.same)
         (subst (λ d. Each (IsKnownClosedTo seen h) (closed_receivers d)) (sym (ap (λ (x : Contents). x.dead) p.same)) r.known_closed)
 
     -- it is a dead letter
     pub running-is_dead_letter : (why : Why) → RecordsDeadLetter h.home new to body why → Each (IsKnownClosedTo seen h) (receiver_if_closed why to.0) →
         IsRunning gives origin new.cell.acts seen (record h { home = new })
     running-is_dead_letter why b known =
-        running-left (ap (λ (x : Contents). x.cell) b.same) (ap (λ (x : Contents). x.directory) b.same) (ap (λ (x : Contents). x.rest) b.same)
+        running-left (any-room new.cell (record h.home.cell { is_ready = false }) (ap (λ (x : Contents). x.cell) b.same)) (ap (λ (x : Contents). x.directory) b.same) (ap (λ (x : Contents). x.rest) b.same)
         (subst (λ d. Each (IsKnownClosedTo seen h) (closed_receivers d)) (sym (ap (λ (x : Contents). x.dead) b.same))
         (shut-is_dead_letter seen h h.home.dead (record { envelope = next_envelope h.home to body; why = why }) r.known_closed known))
 
@@ -217,9 +244,22 @@ module _ (to : ActorId) (body : Body) where
   sent-told hint.None a b home left t = inr (inr t)
   sent-told hint.System a b home left t = absurd t
 
--- all of the home but its own passes, how many it sent, its dead letters and the room for them is as it was
-pub leaves-rest : (old new : Contents) (sends : List SendPassView) (sent : ℕ) (dead : List DeadLetter) (room : ℕ) →
-    new ≡ record old { sends = sends; sent = sent; dead = dead; room = room } →
-    new ≡ record old { sends = new.sends; sent = new.sent; dead = new.dead; room = new.room }
-leaves-rest old new sends sent dead room is =
-    is ∙ sym (ap (λ (x : Contents). record old { sends = x.sends; sent = x.sent; dead = x.dead; room = x.room }) is)
+-- all of the home but its own passes, how many it sent, its dead letters, the room for them and that for the next message is as it was
+pub leaves-rest : (old new : Contents) (ready : Bool) (sends : List SendPassView) (sent : ℕ) (dead : List DeadLetter) (room : ℕ) →
+    new ≡ record old { cell = record old.cell { is_ready = ready }; sends = sends; sent = sent; dead = dead; room = room } →
+    new ≡ record old {
+      cell = record old.cell { is_ready = new.cell.is_ready };
+      sends = new.sends;
+      sent = new.sent;
+      dead = new.dead;
+      room = new.room;
+    }
+leaves-rest old new ready sends sent dead room is =
+    is
+    ∙ sym (ap (λ (x : Contents). record old {
+      cell = record old.cell { is_ready = x.cell.is_ready };
+      sends = x.sends;
+      sent = x.sent;
+      dead = x.dead;
+      room = x.room;
+    }) is)

@@ -40,7 +40,7 @@ pub(crate) fn tell<A: Actor, K: Behaviours, W: RunQueue<BoxedHome<A, K>>, R: Wai
     ensures same_gates { IsRunRegistrarOf W.origin gates.now registrar.new }
     ensures running { IsRunning K.gives (origin_of gates.now) (claim.new.home.value.cell.acts) (pass_view registrar.new.pass).log (run_state claim.new) }
     ensures backlog { BacklogAgrees (run_state claim.new) }
-    ensures left { claim.new.home.value.cell ≡ claim.old.home.value.cell }
+    ensures left { claim.new.home.value.cell ≡ record claim.old.home.value.cell { is_ready = claim.new.home.value.cell.is_ready } }
     ensures same { KeepsJournal (run_state claim.old) (run_state claim.new) }
     ensures cleared { IsCleared (run_state claim.old) (run_state claim.new) }
     ensures caller_advances { CallerAdvances (caller_of W.pushed W.refused registrar.old) (caller_of W.pushed W.refused registrar.new) }
@@ -76,6 +76,7 @@ fn send<A: Actor, K: Behaviours, R: Wait>(
     ensures same_gates { pass_id pass.new ≡ pass_id pass.old }
     ensures settled { AgreesWithJournal (K.gives home.new.value.cell.who.this.0) home.new.value.cell.acts home.new.value }
     ensures same { home.new.value ≡ record home.old.value {
+      cell = record home.old.value.cell { is_ready = home.new.value.cell.is_ready };
       sends = home.new.value.sends;
       sent = home.new.value.sent;
       dead = home.new.value.dead;

@@ -24,23 +24,23 @@ act_queue_send = view_send _ _ _ _ _ (declared_send queue_inside.the_type (
 
 pub cell_state_send : IsSend cell_state.the_row
 cell_state_send = view_send _ _ _ _ _ (declared_send cell_state_inside.the_type (
-  search sendable,
+  search (sendable, phase.the_send) depth 20,
   (
     search sendable,
     (
-      search (sendable, phase.the_send) depth 20,
+      search sendable,
       (
-        search sendable,
+        search (sendable, failed_by.the_send) depth 20,
         (
           search sendable,
           (
-            search (sendable, failed_by.the_send) depth 20,
+            search sendable,
             (
-              search sendable,
+              act_queue_send,
               (
-                act_queue_send,
+                search (sendable, std_crosses, message.the_send) depth 20,
                 (
-                  search (sendable, std_crosses, message.the_send) depth 20,
+                  search (sendable, std_crosses, actor_id.the_send) depth 20,
                   (
                     search (sendable, std_crosses, actor_id.the_send) depth 20,
                     (
@@ -49,10 +49,7 @@ cell_state_send = view_send _ _ _ _ _ (declared_send cell_state_inside.the_type 
                         search (sendable, std_crosses, actor_id.the_send) depth 20,
                         (
                           search (sendable, std_crosses, actor_id.the_send) depth 20,
-                          (
-                            search (sendable, std_crosses, actor_id.the_send) depth 20,
-                            tt,
-                          ),
+                          tt,
                         ),
                       ),
                     ),

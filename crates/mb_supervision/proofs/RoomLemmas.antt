@@ -1,12 +1,11 @@
 -- Room for what a message may add, and what is left of it.
-use Rattle.std.proofs.Common.{◌≡◌, ℕ, ◌+◌, ◌-◌, ◌*◌, ◌≤◌, true, false, arith}
+use Rattle.std.proofs.Common.{◌≡◌, ℕ, ◌+◌, ◌-◌, ◌*◌, ◌≤◌, false, arith}
 use Rattle.mb_supervision.specs.CellState.{IsCellState}
 use Rattle.mb_supervision.specs.declared.cell_state.CellState.TheInside.{Inside}
 
--- after a message there is no room, and none was left over
-pub used-up : (old new : Inside) → IsCellState old → old.ready ≡ true → new.ready ≡ false → new.unused ≡ old.unused → IsCellState new
-used-up old new kept ready none same =
-    let over = kept.taken_up ready in record { room = λ e. cc; left = λ e. cc; taken_up = λ e. cc }
+-- after a message there is no room
+pub used-up : (new : Inside) → new.ready ≡ false → IsCellState new
+used-up new none = record { room = λ e. cc }
 
 -- an act for each of those that a decision is for
 pub each-fits : (meant children watchers watching fanout room : ℕ) → meant ≤ children + 1 →

@@ -1,5 +1,5 @@
 -- How the state of a cell is kept, with room for what one message may add.
-use Rattle.std.specs.Prelude.{◌≡◌, ℕ, ◌+◌, ◌*◌, ◌≤◌, true, false, vec_len, vec_capacity}
+use Rattle.std.specs.Prelude.{◌≡◌, ℕ, ◌+◌, ◌*◌, ◌≤◌, true, vec_len, vec_capacity}
 use Rattle.mb_supervision.specs.CellStateRecord.{CellState}
 use Rattle.mb_supervision.specs.declared.cell_state.CellState.TheInside.{Inside}
 
@@ -36,8 +36,6 @@ pub record HasRoom (b : Inside) : Type 0 where
   pub retries : vec_len b.retries + (vec_len b.children + 1) ≤ vec_capacity b.retries
   pub acts : most_acts (vec_len b.children) (vec_len b.watchers) (vec_len b.watching) b.fanout ≤ b.acts.room
 
--- a state that is ready has room, and so has one whose last message left enough of it
+-- a state that is ready has room
 pub record IsCellState (b : Inside) : Type 0 where
   pub room : b.ready ≡ true → HasRoom b
-  pub left : b.unused ≡ true → HasRoom b
-  pub taken_up : b.ready ≡ true → b.unused ≡ false

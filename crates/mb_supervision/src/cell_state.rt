@@ -33,14 +33,13 @@ use std::marker::Model;
 // What most messages use comes first, so that it lies in few cache lines.
 #[derive(Drop)]
 pub struct CellState {
-    ready: bool,
-    /// Whether the room for a message is still there, since the last message used none of it.
-    unused: bool,
     phase: Phase,
     was_live: bool,
     count: u64,
     failed: FailedBy,
     fanout: usize,
+    /// Whether there is room for a message.
+    ready: bool,
     acts: ActQueue,
     aside: Vec<(u64, SysMsg)>,
     due: Vec<ActorId>,
@@ -96,7 +95,6 @@ impl CellState {
             acts: ActQueue::new(alloc),
             fanout,
             ready: false,
-            unused: false,
         }
     }
 
@@ -104,7 +102,6 @@ impl CellState {
     /// in its lists, and as many acts as one message can have.
     ///
     /// It answers `AllocError` if memory was refused. Nothing has changed then.
-    #[inline]
     pub fn make_room(&mut self) -> Result<(), AllocError>
         requires few_children { length self.old.children < 2 ^ 44 }
         requires few_watchers { length self.old.watchers < 2 ^ 44 }
@@ -117,26 +114,6 @@ impl CellState {
         if self.ready {
             return Ok(());
         }
-        if self.unused {
-            self.unused = false;
-            self.ready = true;
-            return Ok(());
-        }
-        self.reserve()
-    }
-
-    /// Makes room in each list and for the acts.
-    #[inline(never)]
-    fn reserve(&mut self) -> Result<(), AllocError>
-        requires few_children { length self.old.children < 2 ^ 44 }
-        requires few_watchers { length self.old.watchers < 2 ^ 44 }
-        requires few_watched { length self.old.watching < 2 ^ 44 }
-        requires small_fanout { self.old.fanout < 2 ^ 44 }
-        requires not_ready { self.old.is_ready ≡ false }
-        ensures ok { OnOk result (self.new ≡ record self.old { is_ready = true }) }
-        ensures err { OnErr result (self.new ≡ self.old) }
-    {
-        self.unused = false;
         self.children.reserve(EFFECTS + self.fanout)?;
         self.watchers.reserve(1)?;
         self.watching.reserve(EFFECTS)?;

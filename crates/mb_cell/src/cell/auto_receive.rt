@@ -22,6 +22,7 @@ impl<A: Actor, K: Behaviours> Cell<A, K> {
             .handle(&self.place, envelope.body, None, &[]);
         self.journal
             .push_handled(envelope, reading.word(), None, &[]);
+        self.journal.forget_room();
     }
 
     /// `PoisonPill`: the actor is told to end.
@@ -34,6 +35,7 @@ impl<A: Actor, K: Behaviours> Cell<A, K> {
         self.cell_state.poison(&self.place);
         self.journal
             .push_handled(envelope, reading.word(), None, &[]);
+        self.journal.forget_room();
     }
 
     /// A Terminated that the actor is not to be told: the envelope is dropped.

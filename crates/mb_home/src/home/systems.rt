@@ -40,7 +40,7 @@ impl<A: Actor, K: Behaviours> Home<A, K> {
         self.cell.next_front().is_some()
     }
 
-    /// Makes room for one message, and then for the dead letters that it can make.
+    /// Makes room for one message and for the dead letters that it can make, unless there is room already.
     ///
     /// It answers `JournalFull` if the journal has as many entries as it may have, and else `NoMemory` if memory was refused.
     /// Nothing but room has changed then.
@@ -56,7 +56,7 @@ impl<A: Actor, K: Behaviours> Home<A, K> {
         self.make_room()
     }
 
-    /// Makes room, without the contract on the whole home.
+    /// Makes room, without the contract on the whole home. Where there is room already, which is mostly so, it is one comparison.
     #[inline(always)]
     fn make_room(&mut self) -> Result<(), ReadyError>
         ensures full { IsErrOf result ReadyError.JournalFull ↔ (self.old.cell.who.limit ≤ length self.old.cell.journal) }
@@ -64,11 +64,28 @@ impl<A: Actor, K: Behaviours> Home<A, K> {
         ensures same { self.new ≡ record self.old { cell = record self.old.cell { is_ready = self.new.cell.is_ready }; room = self.new.room } }
         ensures room { self.old.room ≤ self.new.room }
     {
-        self.cell.ready()?;
+        if self.cell.is_ready() {
+            return Ok(());
+        }
+        self.prepare()
+    }
+
+    /// Makes room for the dead letters that one message can make, and then for the message. It answers as `ready` does.
+    #[cold]
+    #[inline(never)]
+    fn prepare(&mut self) -> Result<(), ReadyError>
+        ensures full { IsErrOf result ReadyError.JournalFull ↔ (self.old.cell.who.limit ≤ length self.old.cell.journal) }
+        ensures ok { OnOk result (IsTrue self.new.cell.is_ready × (most_tells ≤ self.new.room)) }
+        ensures same { self.new ≡ record self.old { cell = record self.old.cell { is_ready = self.new.cell.is_ready }; room = self.new.room } }
+        ensures room { self.old.room ≤ self.new.room }
+    {
         if self.dead.reserve(TELLS).is_err() {
+            if self.cell.journal().is_full() {
+                return Err(ReadyError::JournalFull);
+            }
             return Err(ReadyError::NoMemory);
         }
-        Ok(())
+        self.cell.ready()
     }
 
     /// Keeps what was drained, whose numbers go on from those that the list gave before. Nothing else may be left of a drain.

@@ -1,6 +1,6 @@
 //! The acts of a message, and the envelopes that an actor tells.
 
-ghost use Rattle.std.specs.Prelude.{◌≡◌, ◌+◌, ◌-◌, ◌%◌, ◌^◌, ◌<◌, [], ◌∷◌, ◌++◌, map, option_to_list, IfErr, IfNone, MatchResult};
+ghost use Rattle.std.specs.Prelude.{◌≡◌, ◌+◌, ◌-◌, ◌%◌, ◌^◌, ◌<◌, [], ◌∷◌, ◌++◌, false, map, option_to_list, IfErr, IfNone, MatchResult};
 ghost use Rattle.mb_msg.specs.declared.dead_letter.Why.TheVariants.{Closed};
 ghost use Rattle.mb_journal.specs.Acts.Act.{Tell};
 ghost use Rattle.mb_supervision.specs.ActQueue.{act_of};
@@ -78,16 +78,18 @@ impl<A: Actor, K: Behaviours> Home<A, K> {
         }
     }
 
-    /// Makes the next envelope a dead letter.
+    /// Makes the next envelope a dead letter. Room for others is made before the next message.
     fn record_dead_letter(&mut self, envelope: Envelope, why: Why)
         requires { 0 < self.old.room }
         ensures same { self.new ≡ record self.old {
+          cell = record self.old.cell { is_ready = false };
           dead = self.old.dead ++ record { envelope = envelope; why = why } ∷ [];
           sent = (self.old.sent + 1) % 2 ^ 64;
           room = self.new.room;
         } }
         ensures room { self.old.room ≡ self.new.room + 1 }
     {
+        self.cell.forget_room();
         self.dead.push_reserved(DeadLetter { envelope, why });
         self.sent = self.sent.wrapping_add(1);
     }

@@ -9,6 +9,7 @@ ghost use Rattle.mb_journal.specs.Acts.{stop_acts};
 ghost use Rattle.mb_journal.specs.Failure.{failure_of as cause_of};
 ghost use Rattle.mb_journal.specs.Identity.{Identity};
 ghost use Rattle.mb_supervision.specs.ActorIdentity.{identity_of};
+ghost use Rattle.mb_supervision.specs.CellStateRecord.{CellState as Shown};
 ghost use Rattle.mb_supervision.specs.Rows.{due_told, handled, failing_if, with_effects, poisoned, discard};
 
 use crate::actor_list::leave;
@@ -41,24 +42,14 @@ impl CellState {
         self.handle_all(place, failure_of(body, answer), effects);
     }
 
-    /// An envelope with this body was handled with this answer, and each effect is a tell, of a control message too. Where nothing
-    /// else changes, which is mostly so, it answers `true`: the tells are left to the caller, and the room serves the next message.
-    /// Else nothing has changed.
+    /// Whether the state stays as it is with an envelope of this body that is handled with this answer, where each of its effects is a
+    /// tell, of a control message too. Such tells are left to the caller then, and the room serves the next message. This is mostly so.
     #[inline(always)]
-    pub fn leaves_tells(&mut self, body: Body, answer: Option<Answer>) -> bool
-        requires ready { IsTrue self.old.is_ready }
-        requires carried_out { self.old.acts ≡ [] }
-        ensures left { IsTrue result → (who : Identity) → (effects : List Effect) → list_all is_tell effects ≡ true
-            → record self.new { acts = stop_acts effects } ≡ handled who body answer effects self.old }
-        ensures carried_out { self.new.acts ≡ [] }
-        ensures not_left { result ≡ false → self.new ≡ self.old }
+    pub fn is_unchanged_by(body: Body, answer: Option<Answer>) -> bool
+        ensures { IsTrue result → (who : Identity) → (effects : List Effect) → (state : Shown) → list_all is_tell effects ≡ true
+            → record state { acts = stop_acts effects; is_ready = false } ≡ handled who body answer effects state }
     {
-        if !changes_by_effects_alone(body, answer) {
-            return false;
-        }
-        self.ready = false;
-        self.unused = true;
-        true
+        changes_by_effects_alone(body, answer)
     }
 
     /// An envelope was handled with these effects, and the actor fails, if there is a cause. Some of the room may be used.

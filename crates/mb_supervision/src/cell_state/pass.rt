@@ -12,6 +12,5 @@ impl CellState {
     {
         forget(&mut self.aside, number);
         self.ready = false;
-        self.unused = false;
     }
 }

@@ -26,7 +26,6 @@ impl CellState {
     {
         forget(&mut self.aside, number);
         self.ready = false;
-        self.unused = false;
         leave(&mut self.watchers, watcher);
     }
 }

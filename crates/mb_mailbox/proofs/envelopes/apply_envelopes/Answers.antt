@@ -1,78 +1,150 @@
-use Rattle.std.proofs.Common.{◌≡◌, ◌<◌, ◌≤◌, ◌+◌, inl, inr, refl, sym, ap, ◌∙◌, subst, arith}
-use Rattle.std.specs.Prelude.{◌↔◌, ℕ, List, [], length, Option, Err, IsErrOf, IsTrue}
+use Rattle.std.proofs.Common.{◌≡◌, ◌<◌, ◌≤◌, ◌+◌, inr, true, sym, ap, ◌∙◌, subst, arith}
+use Rattle.std.specs.Prelude.{[], Ok, IsTrue}
 use Rattle.std.specs.Global.{Box}
-use Rattle.mb_actor.specs.Behaviour.{Moment, Reply}
-use Rattle.mb_cell.specs.CellView.{CellView}
-use Rattle.mb_gate.specs.declared.claim.Claim.{Claim}
-use Rattle.mb_gate.specs.declared.gates.Gates.{Gates}
-use Rattle.mb_gate.specs.View.{Observation}
 use Rattle.mb_home.specs.Contents.{Contents}
 use Rattle.mb_home.specs.Steps.{most_tells}
-use Rattle.mb_register.specs.declared.registrar.Registrar.{Registrar}
 use Rattle.mb_journal.specs.Run.{most_envelopes}
-use Rattle.mb_journal.specs.declared.error.ReadyError.{ReadyError}
-use Rattle.mb_journal.specs.declared.error.ReadyError.TheVariants.{JournalFull}
-use Rattle.mb_status.specs.Mailbox.{Mailbox, should_process}
-use Rattle.mb_gate.specs.Accessors.{pass_view}
-use Rattle.mb_gate.specs.Untouched.{Origin, origin_of}
-use Rattle.mb_mailbox.specs.declared.turn.Turn.{Turn}
-use Rattle.mb_mailbox.specs.RunRegistrar.{IsRunRegistrarOf}
+use Rattle.mb_status.specs.Mailbox.{Mailbox, should_process, word_of}
+use Rattle.mb_gate.specs.Accessors.{pass_view, status_of}
+use Rattle.mb_gate.specs.Untouched.{origin_of}
+use Rattle.mb_mailbox.specs.Emptied.{IsCleared}
 use Rattle.mb_mailbox.specs.RunState.{RunState, run_state}
-use Rattle.mb_mailbox.specs.InRun.{InRun}
-use Rattle.mb_mailbox.specs.Ran.{CountsRun}
-use Rattle.mb_mailbox.specs.Running.{IsRunning, BacklogAgrees, KeepsJournal}
-use Rattle.mb_mailbox.proofs.AppliedLemmas.{same-keeps, passed-fault, not-full, room-short, room-ready, full-ready, envelopes-fit}
-use Rattle.mb_mailbox.proofs.BacklogLemmas.{keeps-same, same-run-then}
-use Rattle.mb_register.proofs.CallerLemmas.{further-none, further-then}
+use Rattle.mb_mailbox.specs.InRun.{InRun, Advances}
+use Rattle.mb_mailbox.proofs.AppliedLemmas.{envelopes-fit}
 use Rattle.mb_mailbox.proofs.CleanLemmas.{hold-one}
-use Rattle.mb_mailbox.proofs.EmptiedLemmas.{cleared-open, cleared-same, cleared-then, err-at, takes-then}
+use Rattle.mb_mailbox.proofs.EmptiedLemmas.{cleared-open, cleared-same, takes-then}
 use Rattle.mb_mailbox.proofs.EnvelopeLemmas.{why-not-open, reason-why, reason-used}
-use Rattle.mb_mailbox.proofs.EnvelopeSteps.{keeps-loaded, whole-loaded, keeps-room, room-at, drained-room, room-left}
+use Rattle.mb_mailbox.proofs.EnvelopeRun.{GoesOn, kept-run, carried-run, quiet-run, goes-well, goes-then, goes-kept, goes-looking, goes-nowhere, advances-carried}
+use Rattle.mb_mailbox.proofs.EnvelopeSteps.{KeepsRun, BeginsOne, keeps-loaded, whole-loaded, keeps-room, drained-room, room-left}
 use Rattle.mb_mailbox.proofs.EnvelopeSteps.{settled-here, settled-at, keeps-found, why-found, open-yet, out-at, taken-at, open-taken, begins-after}
-use Rattle.mb_mailbox.proofs.InRunLemmas.{advances-passed, ok-passed, stops-none, stops-passed}
-use Rattle.mb_mailbox.proofs.RecordedLemmas.{alike-still, alike-then}
-use Rattle.mb_mailbox.proofs.RunCountLemmas.{run_counts-keeps}
-use Rattle.mb_mailbox.proofs.RunSendsLemmas.{entries-none, entries-same, entries-then}
+use Rattle.mb_mailbox.proofs.InRunLemmas.{advances-failed, stops-carried, stops-none, stops-passed, stops-ready}
+use Rattle.mb_mailbox.proofs.LoadLemmas.{LoadsAfterBlock}
+use Rattle.mb_mailbox.proofs.envelopes.apply_envelopes.Given as given
 use Rattle.mb_mailbox.proofs.envelopes.apply_envelopes.Goals as goal
+use Rattle.mb_mailbox.proofs.envelopes.apply_envelopes.Goals.{After-held_status-status, After-ready, In_default, After-deref_mut-in-loop-handled-2}
+use Rattle.mb_mailbox.proofs.envelopes.apply_envelopes.Goals.{After-begin, After-carry_out, After-has_no_system_work}
 
--- a run that looked for system work and found none is a run still
-quiet-run : {W : Type 0} {gives : ℕ → Moment → Reply → Type 0} {origin : W → Option (Origin (Box Contents))} {gates : Gates (Box Contents)}
-    {registrar : Registrar (Box Contents) W} {old new : Claim (Box Contents)} {turn : Turn} → InRun gives origin gates registrar old turn →
-    ((seen : List Observation) → IsRunning gives (origin_of gates) [] seen (run_state old) → IsRunning gives (origin_of gates) [] seen (run_state new)) →
-    BacklogAgrees (run_state new) → new.home.value.cell ≡ old.home.value.cell → KeepsJournal (run_state old) (run_state new) →
-    InRun gives origin gates registrar new turn
-quiet-run {registrar = registrar} {old = old} {new = new} {turn = turn} before running backlog left same = record {
-  same_gates = before.same_gates;
-  running = running (pass_view registrar.pass).log before.running;
-  backlog = backlog;
-  carried_out = ap (λ (x : CellView). x.acts) left ∙ before.carried_out;
-  run_counts = run_counts-keeps (run_state old) (run_state new) turn same before.run_counts;
-}
+-- ---- what holds after each step, once for all that follows it
 
--- and so is one that carried out its acts
-carried-run : {W : Type 0} (gives : ℕ → Moment → Reply → Type 0) (origin : W → Option (Origin (Box Contents))) (gates : Gates (Box Contents))
-    (registrar : Registrar (Box Contents) W) (old : RunState) (new : Claim (Box Contents)) (turn : Turn) → IsRunRegistrarOf origin gates registrar →
-    IsRunning gives (origin_of gates) [] (pass_view registrar.pass).log (run_state new) → BacklogAgrees (run_state new) →
-    new.home.value.cell.acts ≡ [] → KeepsJournal old (run_state new) → CountsRun old turn → InRun gives origin gates registrar new turn
-carried-run gives origin gates registrar old new turn same_gates running backlog none keeps counts = record {
-  same_gates = same_gates;
-  running = running;
-  backlog = backlog;
-  carried_out = none;
-  run_counts = run_counts-keeps old (run_state new) turn keeps counts;
-}
+-- the status was loaded
+load : (g : given.Over) (c : After-held_status-status g) →
+    KeepsRun g.K.Behaviours.gives (origin_of c.args.gates.now) (pass_view c.loop-handled.registrar.pass).log c.loop-handled.turn
+    (run_state c.loop-handled.claim) (run_state c.held_status-status.new.claim)
+load g c =
+    let did = c.held_status-status.ensures in
+    keeps-loaded c.loop-handled.claim c.held_status-status.new.claim did.same_gates did.same c.held_status-status.result did.known did.taken
+    c.loop-handled.invariant.0
+
+-- it is the status that the claim says
+reading : (g : given.Over) (c : After-held_status-status g) → c.held_status-status.result ≡ status_of c.held_status-status.new.claim
+reading g c = c.held_status-status.ensures.status ∙ sym c.held_status-status.ensures.same.0
+
+-- no system message was left to be drained before
+whole : (g : given.Over) (c : After-held_status-status g) →
+    LoadsAfterBlock (word_of (status_of c.held_status-status.new.claim)) (run_state c.held_status-status.new.claim)
+whole g c =
+    let did = c.held_status-status.ensures in
+    whole-loaded c.loop-handled.claim c.held_status-status.new.claim did.same_gates did.same c.held_status-status.result did.known did.taken
+    (reading g c) c.loop-handled.invariant.2
+
+-- where room was asked for, the status had been loaded
+abbrev loaded : (g : given.Over) → After-ready g → After-held_status-status g
+loaded g c = c.before.before.before.before.before
+
+-- and is open and not suspended
+processes : (g : given.Over) (c : After-ready g) → should_process (status_of c.held_status-status.new.claim) ≡ true
+processes g c = sym (c.should_process.ensures ∙ ap should_process (reading g (loaded g c))) ∙ c.if-not-should_process.false
+
+-- room was made, or not
+room : (g : given.Over) (c : After-ready g) →
+    KeepsRun g.K.Behaviours.gives (origin_of c.args.gates.now) (pass_view c.loop-handled.registrar.pass).log c.loop-handled.turn
+    (run_state c.loop-handled.claim) (record (run_state c.held_status-status.new.claim) { home = c.ready.new.self })
+room g c = keeps-room (load g (loaded g c)) _ c.ready.new.self c.deref_mut.ensures.value c.ready.ensures.same c.ready.ensures.settled
+
+-- whatever lies at home then, the mailbox was not closed
+opens : (g : given.Over) (c : After-ready g) (new : Contents) →
+    IsCleared (run_state c.loop-handled.claim) (record (run_state c.held_status-status.new.claim) { home = new })
+opens g c new =
+    cleared-open (run_state c.loop-handled.claim) (record (run_state c.held_status-status.new.claim) { home = new })
+    (open-yet (load g (loaded g c)) (processes g c))
+
+-- no envelope was there
+found : (g : given.Over) (c : In_default g) →
+    KeepsRun g.K.Behaviours.gives (origin_of c.args.gates.now) (pass_view c.loop-handled.registrar.pass).log c.loop-handled.turn
+    (run_state c.loop-handled.claim) (record (run_state c.held_status-status.new.claim) { home = c.take_next.new.self })
+found g c =
+    keeps-found (room g (goal.at.returns-in_default-clause-in_run g c).After-ready) _ c.take_next.new.self c.deref_mut-in-loop-handled.ensures.value
+    c.in_default.ensures.none c.in_default.ensures.settled
+
+-- one was, and lies where it is begun
+there : (g : given.Over) (c : After-deref_mut-in-loop-handled-2 g) → c.deref_mut-in-loop-handled-2.result.now ≡ c.take_next.new.self
+there g c = c.deref_mut-in-loop-handled-2.ensures.value ∙ ap (λ (x : Box Contents). x.value) c.note_taken.ensures.same.1
+
+taken : (g : given.Over) (c : After-deref_mut-in-loop-handled-2 g) →
+    c.deref_mut-in-loop-handled-2.result.now ≡ record c.ready.new.self { take = c.take_next.new.self.take }
+taken g c =
+    taken-at _ c.ready.new.self _ c.take_next.new.self c.in-Some.envelope c.deref_mut-in-loop-handled.ensures.value c.in-Some.ensures.took (there g c)
+
+-- it was begun
+begun : (g : given.Over) (c : After-begin g) →
+    BeginsOne g.K.Behaviours.gives (origin_of c.args.gates.now) (pass_view c.loop-handled.registrar.pass).log c.loop-handled.turn
+    (run_state c.loop-handled.claim) (record (run_state c.note_taken.new.claim) { home = c.begin.new.self })
+begun g c =
+    let inv = c.loop-handled.invariant in
+    let did = c.held_status-status.ensures in
+    let note = c.note_taken.ensures in
+    begins-after c.loop-handled.claim c.held_status-status.new.claim inv.0 inv.2 did.same_gates did.same c.held_status-status.result did.status
+    did.known did.taken (sym c.should_process.ensures ∙ c.if-not-should_process.false) _ c.ready.new.self c.deref_mut.ensures.value c.ready.ensures.same
+    c.ready.ensures.settled _ c.take_next.new.self c.in-Some.envelope c.deref_mut-in-loop-handled.ensures.value c.in-Some.ensures.took c.note_taken.new.claim
+    (hold-one _ c.note_taken.new.claim (note.same_gates, note.actor) note.same.1 note.same.0 note.known note.taken) _ c.begin.new.self (there g c.before)
+    c.begin.ensures.begun c.begin.ensures.leads c.begin.ensures.settled
+
+-- where its acts were carried out, it had been begun
+abbrev begin_of : (g : given.Over) → After-carry_out g → After-begin g
+begin_of g c = c.before.before.before.before.before.before
+
+-- the run is between two messages again
+carried-in_run : (g : given.Over) (c : After-carry_out g) →
+    InRun g.K.Behaviours.gives g.W.RunQueue.origin c.args.gates.now c.carry_out.new.registrar c.carry_out.new.claim
+    (record c.loop-handled.turn { envelopes = c.loop-handled.turn.envelopes + 1 })
+carried-in_run g c =
+    let did = c.carry_out.ensures in
+    carried-run c.carry_out.new.registrar c.carry_out.new.claim (begun g (begin_of g c)) did.same_gates did.running did.backlog did.carried_out did.same
+
+-- and went on, where no act was refused
+carried : (g : given.Over) (c : After-carry_out g) →
+    Advances g.W.RunQueue.pushed g.W.RunQueue.refused c.carry_out.result c.args.registrar.now c.carry_out.new.registrar c.args.claim.now
+    c.carry_out.new.claim
+carried g c =
+    let did = c.carry_out.ensures in
+    goes-then c.carry_out.result c.loop-handled.invariant.3
+    (advances-carried c.carry_out.result c.loop-handled.registrar c.carry_out.new.registrar c.loop-handled.claim c.carry_out.new.claim
+    (begun g (begin_of g c)) (c.note_taken.ensures.taken.recorded ∙ c.held_status-status.ensures.taken.recorded) did.same did.cleared did.caller_advances
+    did.sends did.due)
+
+-- where it looked for system work, the acts had been carried out
+abbrev carry_of : (g : given.Over) → After-has_no_system_work g → After-carry_out g
+carry_of g c = c.before.before.before.before
+
+-- it is between two messages still
+looked-in_run : (g : given.Over) (c : After-has_no_system_work g) →
+    InRun g.K.Behaviours.gives g.W.RunQueue.origin c.args.gates.now c.carry_out.new.registrar c.has_no_system_work.new.claim
+    (record c.loop-handled.turn { envelopes = c.loop-handled.turn.envelopes + 1 })
+looked-in_run g c =
+    let quiet = c.has_no_system_work.ensures in quiet-run (carried-in_run g (carry_of g c)) quiet.running quiet.backlog quiet.left quiet.same
+
+-- and went on
+looked : (g : given.Over) (c : After-has_no_system_work g) →
+    GoesOn g.W.RunQueue.pushed g.W.RunQueue.refused c.args.registrar.now c.carry_out.new.registrar c.args.claim.now c.has_no_system_work.new.claim
+looked g c =
+    let quiet = c.has_no_system_work.ensures in
+    goes-then (Ok tt) (goes-well c.carry_out.result c.in_ok-carry_out.was (carried g (carry_of g c)))
+    (goes-looking c.carry_out.new.registrar c.carry_out.new.claim c.has_no_system_work.new.claim quiet.recorded quiet.cleared quiet.same quiet.due)
+
+-- ---- before the first envelope
 
 pub loop-handled-init : goal.loop-handled-init
-loop-handled-init g c = (
-  c.requires.in_run,
-  (keeps-same _).same,
-  c.requires.none_taken,
-  c.requires.whole,
-  further-none _,
-  cleared-same (run_state c.args.claim.now) (run_state c.args.claim.now) refl refl,
-  alike-still _ _ _ _ refl refl,
-  entries-same (run_state c.args.claim.now),
-)
+loop-handled-init g c = (c.requires.in_run, c.requires.none_taken, c.requires.whole, goes-nowhere c.args.registrar.now c.args.claim.now)
 
 -- ---- the status was loaded
 
@@ -86,199 +158,90 @@ held_status-status-requires-clause-present g c = c.loop-handled.invariant.0.runn
 
 pub returns-then-not-should_process-clause-in_run : goal.returns-then-not-should_process-clause-in_run
 returns-then-not-should_process-clause-in_run g c =
-    let inv = c.loop-handled.invariant in
-    let did = c.held_status-status.ensures in
-    let load = keeps-loaded c.loop-handled.claim c.held_status-status.new.claim did.same_gates did.same c.held_status-status.result did.known did.taken
-    inv.0 in
-    record {
-      same_gates = inv.0.same_gates;
-      running = load.running;
-      backlog = load.backlog;
-      carried_out = load.carried_out;
-      run_counts = load.run_counts;
-    }
+    kept-run c.loop-handled.invariant.0.same_gates (load g (goal.at.returns-then-not-should_process-clause-in_run g c).After-held_status-status)
 
 pub returns-then-not-should_process-clause-advances : goal.returns-then-not-should_process-clause-advances
 returns-then-not-should_process-clause-advances g c =
-    let inv = c.loop-handled.invariant in
+    let at = (goal.at.returns-then-not-should_process-clause-advances g c).After-held_status-status in
     let did = c.held_status-status.ensures in
-    let load = keeps-loaded c.loop-handled.claim c.held_status-status.new.claim did.same_gates did.same c.held_status-status.result did.known did.taken
-    inv.0 in
-    let start = run_state c.args.claim.now in
-    let before = run_state c.loop-handled.claim in
-    let loaded = run_state c.held_status-status.new.claim in
-    record {
-      same = same-run-then _ _ _ inv.1 load.keeps.same;
-      cleared =
-          cleared-then start before loaded inv.1.takes inv.5
-          (cleared-same before loaded (ap (λ (m : Mailbox). m.closed) did.same.0) (ap (λ (b : Box Contents). b.value.take) did.same.1));
-      caller_advances = inv.4;
-      sends = alike-then _ _ _ _ _ _ inv.6 (alike-still _ _ _ _ did.taken.recorded refl);
-      entries = entries-then start before loaded inv.1.actor inv.1.who inv.7 load.entries;
-    }
+    let new = c.held_status-status.new.claim in
+    let same = cleared-same (run_state c.loop-handled.claim) (run_state new) (ap (λ (m : Mailbox). m.closed) did.same.0)
+    (ap (λ (b : Box Contents). b.value.take) did.same.1) in
+    goes-then (Ok tt) c.loop-handled.invariant.3 (goes-kept c.loop-handled.registrar c.loop-handled.claim new did.taken.recorded same (load g at))
 
 pub returns-then-not-should_process-clause-stops : goal.returns-then-not-should_process-clause-stops
 returns-then-not-should_process-clause-stops g c = stops-none tt c.held_status-status.new.claim
 
 pub returns-then-not-should_process-clause-within_limit : goal.returns-then-not-should_process-clause-within_limit
-returns-then-not-should_process-clause-within_limit g c = omega (arith, c.loop-handled.invariant.2, c.loop-handled-test.true)
+returns-then-not-should_process-clause-within_limit g c = omega (arith, c.loop-handled.invariant.1, c.loop-handled-test.true)
 
 pub returns-then-not-should_process-clause-ended : goal.returns-then-not-should_process-clause-ended
 returns-then-not-should_process-clause-ended g c =
-    let inv = c.loop-handled.invariant in
-    let did = c.held_status-status.ensures in
-    let load = keeps-loaded c.loop-handled.claim c.held_status-status.new.claim did.same_gates did.same c.held_status-status.result did.known did.taken
-    inv.0 in
-    let read = did.status ∙ sym did.same.0 in
-    let whole = whole-loaded c.loop-handled.claim c.held_status-status.new.claim did.same_gates did.same c.held_status-status.result did.known did.taken
-    read inv.3 in
-    let less : c.loop-handled.turn.envelopes < most_envelopes c.args.throughput = omega (arith, c.loop-handled.invariant.2, c.loop-handled-test.true) in
-    let shut = sym (c.should_process.ensures ∙ ap should_process read) ∙ c.if-not-should_process.true in
-    reason-why c.args.claim.now.home.value.take c.held_status-status.new.claim.home.value.take (run_state c.held_status-status.new.claim) c.args.throughput
-    c.loop-handled.turn.envelopes less
-    (takes-then _ _ _ inv.1.takes load.keeps.same.takes) (why-not-open _ _ _ (run_state c.held_status-status.new.claim) load.running whole shut)
+    let at = (goal.at.returns-then-not-should_process-clause-ended g c).After-held_status-status in
+    let new = run_state c.held_status-status.new.claim in
+    let less : c.loop-handled.turn.envelopes < most_envelopes c.args.throughput = omega (arith, c.loop-handled.invariant.1, c.loop-handled-test.true) in
+    let shut = sym (c.should_process.ensures ∙ ap should_process (reading g at)) ∙ c.if-not-should_process.true in
+    reason-why c.args.claim.now.home.value.take new.home.take new c.args.throughput c.loop-handled.turn.envelopes less
+    (takes-then _ _ _ c.loop-handled.invariant.3.same.takes (load g at).keeps.same.takes) (why-not-open _ _ _ new (load g at).running (whole g at) shut)
 
 -- ---- there was no room
 
 pub returns-in_err-ready-clause-in_run : goal.returns-in_err-ready-clause-in_run
 returns-in_err-ready-clause-in_run g c =
-    let inv = c.loop-handled.invariant in
-    let did = c.held_status-status.ensures in
-    let load = keeps-loaded c.loop-handled.claim c.held_status-status.new.claim did.same_gates did.same c.held_status-status.result did.known did.taken
-    inv.0 in
-    let mid : Contents = c.ready.new.self in
-    let room = keeps-room load _ mid c.deref_mut.ensures.value c.ready.ensures.same c.ready.ensures.settled in
-    record {
-      same_gates = inv.0.same_gates;
-      running = room.running;
-      backlog = room.backlog;
-      carried_out = room.carried_out;
-      run_counts = room.run_counts;
-    }
+    kept-run c.loop-handled.invariant.0.same_gates (room g (goal.at.returns-in_err-ready-clause-in_run g c).After-ready)
 
 pub returns-in_err-ready-clause-advances : goal.returns-in_err-ready-clause-advances
 returns-in_err-ready-clause-advances g c =
-    let inv = c.loop-handled.invariant in
-    let did = c.held_status-status.ensures in
-    let load = keeps-loaded c.loop-handled.claim c.held_status-status.new.claim did.same_gates did.same c.held_status-status.result did.known did.taken
-    inv.0 in
-    let mid : Contents = c.ready.new.self in
-    let room = keeps-room load _ mid c.deref_mut.ensures.value c.ready.ensures.same c.ready.ensures.settled in
-    let start = run_state c.args.claim.now in
-    let before = run_state c.loop-handled.claim in
-    let there : RunState = record (run_state c.held_status-status.new.claim) { home = mid } in
-    record {
-      same = same-run-then _ _ _ inv.1 room.keeps.same;
-      cleared = ok-passed _ c.from_residual.result c.in_err-ready.field-0.0 c.from_residual.ensures.1;
-      caller_advances = inv.4;
-      sends = alike-then _ _ _ _ _ _ inv.6 (alike-still _ _ _ _ did.taken.recorded refl);
-      entries = entries-then start before there inv.1.actor inv.1.who inv.7 room.entries;
-    }
+    let at = (goal.at.returns-in_err-ready-clause-advances g c).After-ready in
+    advances-failed c.from_residual.result c.in_err-ready.field-0.0 c.from_residual.ensures.1 (goes-then (Ok tt) c.loop-handled.invariant.3
+    (goes-kept c.loop-handled.registrar c.loop-handled.claim _ c.held_status-status.ensures.taken.recorded (opens g at c.ready.new.self) (room g at)))
 
 pub returns-in_err-ready-clause-stops : goal.returns-in_err-ready-clause-stops
 returns-in_err-ready-clause-stops g c =
-    let loaded = run_state c.held_status-status.new.claim in
-    let mid : Contents = c.ready.new.self in
-    let same = room-at _ loaded.home mid c.deref_mut.ensures.value c.ready.ensures.same in
-    let full = subst (λ (x : Contents). IsErrOf c.ready.result JournalFull ↔ (x.cell.who.limit ≤ length x.cell.journal)) c.deref_mut.ensures.value
-    c.ready.ensures.full in
-    let fault : ReadyError = c.in_err-ready.field-0.0 in
-    record {
-      full = λ is. full-ready loaded mid _ _ same
-          (full.0 (c.in_err-ready.was ∙ ap (λ (f : ReadyError). Err f) (passed-fault c.from_residual.result fault c.from_residual.ensures.1 is)));
-      out_of_memory = λ is. inl (room-ready loaded mid _ _ same (room-short c.ready.result _ _ full
-          (c.in_err-ready.was ∙ ap (λ (f : ReadyError). Err f) (passed-fault c.from_residual.result fault c.from_residual.ensures.1 is))));
-    }
+    stops-passed c.ready.result c.from_residual.result c.in_err-ready.field-0.0 _ c.in_err-ready.was c.from_residual.ensures.1
+    (stops-ready c.ready.result c.deref_mut.result.now _ c.ready.ensures.same c.ready.ensures.full)
 
 pub returns-in_err-ready-clause-within_limit : goal.returns-in_err-ready-clause-within_limit
-returns-in_err-ready-clause-within_limit g c = omega (arith, c.loop-handled.invariant.2, c.loop-handled-test.true)
+returns-in_err-ready-clause-within_limit g c = omega (arith, c.loop-handled.invariant.1, c.loop-handled-test.true)
 
 -- ---- there was
 
 pub take_next-requires : goal.take_next-requires
-take_next-requires g c =
-    let inv = c.loop-handled.invariant in
-    let did = c.held_status-status.ensures in
-    let load = keeps-loaded c.loop-handled.claim c.held_status-status.new.claim did.same_gates did.same c.held_status-status.result did.known did.taken
-    inv.0 in
-    let mid : Contents = c.ready.new.self in
-    let room = keeps-room load _ mid c.deref_mut.ensures.value c.ready.ensures.same c.ready.ensures.settled in
-    record { settled = settled-at room _ c.deref_mut-in-loop-handled.ensures.value }
+take_next-requires g c = record {
+  settled = settled-at (room g (goal.at.take_next-requires g c).After-ready) _ c.deref_mut-in-loop-handled.ensures.value;
+}
 
 -- ---- none was there
 
 pub returns-in_default-clause-in_run : goal.returns-in_default-clause-in_run
-returns-in_default-clause-in_run g c =
-    let inv = c.loop-handled.invariant in
-    let did = c.held_status-status.ensures in
-    let load = keeps-loaded c.loop-handled.claim c.held_status-status.new.claim did.same_gates did.same c.held_status-status.result did.known did.taken
-    inv.0 in
-    let mid : Contents = c.ready.new.self in
-    let room = keeps-room load _ mid c.deref_mut.ensures.value c.ready.ensures.same c.ready.ensures.settled in
-    let new : Contents = c.take_next.new.self in
-    let last : RunState = record (run_state c.held_status-status.new.claim) { home = new } in
-    let found = keeps-found room _ new c.deref_mut-in-loop-handled.ensures.value c.in_default.ensures.none
-    c.in_default.ensures.settled in
-    record {
-      same_gates = inv.0.same_gates;
-      running = found.running;
-      backlog = found.backlog;
-      carried_out = found.carried_out;
-      run_counts = found.run_counts;
-    }
+returns-in_default-clause-in_run g c = kept-run c.loop-handled.invariant.0.same_gates (found g c)
 
 pub returns-in_default-clause-advances : goal.returns-in_default-clause-advances
 returns-in_default-clause-advances g c =
-    let inv = c.loop-handled.invariant in
-    let did = c.held_status-status.ensures in
-    let load = keeps-loaded c.loop-handled.claim c.held_status-status.new.claim did.same_gates did.same c.held_status-status.result did.known did.taken
-    inv.0 in
-    let read = did.status ∙ sym did.same.0 in
-    let t = sym (c.should_process.ensures ∙ ap should_process read) ∙ c.if-not-should_process.false in
-    let mid : Contents = c.ready.new.self in
-    let room = keeps-room load _ mid c.deref_mut.ensures.value c.ready.ensures.same c.ready.ensures.settled in
-    let new : Contents = c.take_next.new.self in
-    let last : RunState = record (run_state c.held_status-status.new.claim) { home = new } in
-    let found = keeps-found room _ new c.deref_mut-in-loop-handled.ensures.value c.in_default.ensures.none
-    c.in_default.ensures.settled in
-    let start = run_state c.args.claim.now in
-    let before = run_state c.loop-handled.claim in
-    record {
-      same = same-run-then _ _ _ inv.1 found.keeps.same;
-      cleared =
-          cleared-then start before last inv.1.takes inv.5 (cleared-open before last (open-yet room t));
-      caller_advances = inv.4;
-      sends = alike-then _ _ _ _ _ _ inv.6 (alike-still _ _ _ _ did.taken.recorded refl);
-      entries = entries-then start before last inv.1.actor inv.1.who inv.7 found.entries;
-    }
+    let open_yet = opens g (goal.at.returns-in_default-clause-advances g c).After-ready c.take_next.new.self in
+    goes-then (Ok tt) c.loop-handled.invariant.3
+    (goes-kept c.loop-handled.registrar c.loop-handled.claim _ c.held_status-status.ensures.taken.recorded open_yet (found g c))
 
 pub returns-in_default-clause-stops : goal.returns-in_default-clause-stops
 returns-in_default-clause-stops g c = stops-none tt _
 
 pub returns-in_default-clause-within_limit : goal.returns-in_default-clause-within_limit
-returns-in_default-clause-within_limit g c = omega (arith, c.loop-handled.invariant.2, c.loop-handled-test.true)
+returns-in_default-clause-within_limit g c = omega (arith, c.loop-handled.invariant.1, c.loop-handled-test.true)
 
 pub returns-in_default-clause-ended : goal.returns-in_default-clause-ended
 returns-in_default-clause-ended g c =
-    let inv = c.loop-handled.invariant in
-    let did = c.held_status-status.ensures in
-    let load = keeps-loaded c.loop-handled.claim c.held_status-status.new.claim did.same_gates did.same c.held_status-status.result did.known did.taken
-    inv.0 in
-    let read = did.status ∙ sym did.same.0 in
-    let t = sym (c.should_process.ensures ∙ ap should_process read) ∙ c.if-not-should_process.false in
-    let whole = whole-loaded c.loop-handled.claim c.held_status-status.new.claim did.same_gates did.same c.held_status-status.result did.known did.taken
-    read inv.3 in
-    let mid : Contents = c.ready.new.self in
-    let room = keeps-room load _ mid c.deref_mut.ensures.value c.ready.ensures.same c.ready.ensures.settled in
-    let drained = drained-room load _ mid c.deref_mut.ensures.value c.ready.ensures.same whole t in
-    let new : Contents = c.take_next.new.self in
-    let last : RunState = record (run_state c.held_status-status.new.claim) { home = new } in
-    let less : c.loop-handled.turn.envelopes < most_envelopes c.args.throughput = omega (arith, c.loop-handled.invariant.2, c.loop-handled-test.true) in
-    let left = room-left load _ mid c.deref_mut.ensures.value c.ready.ensures.same c.ready.result _
-    c.in_ok-ready.was c.ready.ensures.full in
+    let at = (goal.at.returns-in_default-clause-ended g c).After-ready in
+    let held = load g (loaded g at) in
+    let ready = room g at in
+    let mid = c.ready.new.self in
+    let made = c.ready.ensures.same in
+    let drained = drained-room held _ mid c.deref_mut.ensures.value made (whole g (loaded g at)) (processes g at) in
+    let left = room-left held _ mid c.deref_mut.ensures.value made c.ready.result _ c.in_ok-ready.was c.ready.ensures.full in
+    let last : RunState = record (run_state c.held_status-status.new.claim) { home = c.take_next.new.self } in
+    let less : c.loop-handled.turn.envelopes < most_envelopes c.args.throughput = omega (arith, c.loop-handled.invariant.1, c.loop-handled-test.true) in
     reason-why c.args.claim.now.home.value.take mid.take last c.args.throughput c.loop-handled.turn.envelopes less
-    (takes-then _ _ _ inv.1.takes room.keeps.same.takes)
-    (why-found room _ new c.deref_mut-in-loop-handled.ensures.value c.in_default.ensures.none drained t left)
+    (takes-then _ _ _ c.loop-handled.invariant.3.same.takes ready.keeps.same.takes)
+    (why-found ready _ c.take_next.new.self c.deref_mut-in-loop-handled.ensures.value c.in_default.ensures.none drained (processes g at) left)
 
 -- ---- one was
 
@@ -291,151 +254,58 @@ pub note_taken-requires-clause-same_gates : goal.note_taken-requires-clause-same
 note_taken-requires-clause-same_gates g c = c.held_status-status.ensures.same_gates.0 ∙ c.loop-handled.invariant.0.running.same_gates
 
 pub note_taken-requires-clause-present : goal.note_taken-requires-clause-present
-note_taken-requires-clause-present g c =
-    let inv = c.loop-handled.invariant in
-    let did = c.held_status-status.ensures in
-    let load = keeps-loaded c.loop-handled.claim c.held_status-status.new.claim did.same_gates did.same c.held_status-status.result did.known did.taken
-    inv.0 in
-    load.running.present
+note_taken-requires-clause-present g c = (load g (goal.at.note_taken-requires-clause-present g c).After-held_status-status).running.present
 
 pub begin-requires-clause-took : goal.begin-requires-clause-took
-begin-requires-clause-took g c =
-    let inv = c.loop-handled.invariant in
-    let did = c.held_status-status.ensures in
-    let load = keeps-loaded c.loop-handled.claim c.held_status-status.new.claim did.same_gates did.same c.held_status-status.result did.known did.taken
-    inv.0 in
-    let mid : Contents = c.ready.new.self in
-    let room = keeps-room load _ mid c.deref_mut.ensures.value c.ready.ensures.same c.ready.ensures.settled in (
-      mid,
-      out-at _ c.ready.new.self _ c.take_next.new.self c.in-Some.envelope c.deref_mut-in-loop-handled.ensures.value
-          c.in-Some.ensures.took (c.deref_mut-in-loop-handled-2.ensures.value ∙ ap (λ (x : Box Contents). x.value) c.note_taken.ensures.same.1),
-      settled-here room,
-    )
+begin-requires-clause-took g c = (
+  c.ready.new.self,
+  out-at _ c.ready.new.self _ c.take_next.new.self c.in-Some.envelope c.deref_mut-in-loop-handled.ensures.value c.in-Some.ensures.took (there g c),
+  settled-here (room g (goal.at.begin-requires-clause-took g c).After-ready),
+)
 
 pub begin-requires-clause-ready : goal.begin-requires-clause-ready
-begin-requires-clause-ready g c =
-    let taken = taken-at _ c.ready.new.self _ c.take_next.new.self c.in-Some.envelope c.deref_mut-in-loop-handled.ensures.value
-    c.in-Some.ensures.took (c.deref_mut-in-loop-handled-2.ensures.value ∙ ap (λ (x : Box Contents). x.value) c.note_taken.ensures.same.1) in
-    subst (λ (x : Contents). IsTrue x.cell.is_ready) (sym taken) c.in_ok-ready.ensures.ok.0
+begin-requires-clause-ready g c = subst (λ (x : Contents). IsTrue x.cell.is_ready) (sym (taken g c)) c.in_ok-ready.ensures.ok.0
 
 pub begin-requires-clause-room : goal.begin-requires-clause-room
-begin-requires-clause-room g c =
-    let taken = taken-at _ c.ready.new.self _ c.take_next.new.self c.in-Some.envelope c.deref_mut-in-loop-handled.ensures.value
-    c.in-Some.ensures.took (c.deref_mut-in-loop-handled-2.ensures.value ∙ ap (λ (x : Box Contents). x.value) c.note_taken.ensures.same.1) in
-    subst (λ (x : Contents). most_tells ≤ x.room) (sym taken) c.in_ok-ready.ensures.ok.1
+begin-requires-clause-room g c = subst (λ (x : Contents). most_tells ≤ x.room) (sym (taken g c)) c.in_ok-ready.ensures.ok.1
 
 pub begin-requires-clause-carried_out : goal.begin-requires-clause-carried_out
 begin-requires-clause-carried_out g c =
-    let inv = c.loop-handled.invariant in
-    let did = c.held_status-status.ensures in
-    let load = keeps-loaded c.loop-handled.claim c.held_status-status.new.claim did.same_gates did.same c.held_status-status.result did.known did.taken
-    inv.0 in
-    let mid : Contents = c.ready.new.self in
-    let room = keeps-room load _ mid c.deref_mut.ensures.value c.ready.ensures.same c.ready.ensures.settled in
-    let taken = taken-at _ c.ready.new.self _ c.take_next.new.self c.in-Some.envelope c.deref_mut-in-loop-handled.ensures.value
-    c.in-Some.ensures.took (c.deref_mut-in-loop-handled-2.ensures.value ∙ ap (λ (x : Box Contents). x.value) c.note_taken.ensures.same.1) in
-    subst (λ (x : Contents). x.cell.acts ≡ []) (sym taken) room.carried_out
+    subst (λ (x : Contents). x.cell.acts ≡ []) (sym (taken g c)) (room g (goal.at.begin-requires-clause-carried_out g c).After-ready).carried_out
 
 pub begin-requires-clause-open : goal.begin-requires-clause-open
 begin-requires-clause-open g c =
-    let inv = c.loop-handled.invariant in
-    let did = c.held_status-status.ensures in
-    let load = keeps-loaded c.loop-handled.claim c.held_status-status.new.claim did.same_gates did.same c.held_status-status.result did.known did.taken
-    inv.0 in
-    let read = did.status ∙ sym did.same.0 in
-    let t = sym (c.should_process.ensures ∙ ap should_process read) ∙ c.if-not-should_process.false in
-    let mid : Contents = c.ready.new.self in
-    let room = keeps-room load _ mid c.deref_mut.ensures.value c.ready.ensures.same c.ready.ensures.settled in
-    open-taken room c.held_status-status.result read t _ _ c.take_next.new.self c.in-Some.envelope c.deref_mut-in-loop-handled.ensures.value
-    c.in-Some.ensures.took (c.deref_mut-in-loop-handled-2.ensures.value ∙ ap (λ (x : Box Contents). x.value) c.note_taken.ensures.same.1)
+    let at = (goal.at.begin-requires-clause-open g c).After-ready in
+    open-taken (room g at) c.held_status-status.result (reading g (loaded g at)) (processes g at) _ _ c.take_next.new.self c.in-Some.envelope
+    c.deref_mut-in-loop-handled.ensures.value c.in-Some.ensures.took (there g c)
 
 pub carry_out-requires-clause-same_gates : goal.carry_out-requires-clause-same_gates
 carry_out-requires-clause-same_gates g c = c.loop-handled.invariant.0.same_gates
 
 pub carry_out-requires-clause-running : goal.carry_out-requires-clause-running
-carry_out-requires-clause-running g c =
-    let inv = c.loop-handled.invariant in
-    let did = c.held_status-status.ensures in
-    let note = c.note_taken.ensures in
-    let begun = begins-after c.loop-handled.claim c.held_status-status.new.claim inv.0 inv.3 did.same_gates did.same c.held_status-status.result did.status
-    did.known did.taken (sym c.should_process.ensures ∙ c.if-not-should_process.false) _ c.ready.new.self c.deref_mut.ensures.value c.ready.ensures.same
-    c.ready.ensures.settled _ c.take_next.new.self c.in-Some.envelope c.deref_mut-in-loop-handled.ensures.value c.in-Some.ensures.took c.note_taken.new.claim
-    (hold-one _ c.note_taken.new.claim (note.same_gates, note.actor) note.same.1 note.same.0 note.known note.taken) _ c.begin.new.self
-    (c.deref_mut-in-loop-handled-2.ensures.value ∙ ap (λ (x : Box Contents). x.value) note.same.1) c.begin.ensures.begun c.begin.ensures.leads
-    c.begin.ensures.settled in
-    begun.running
+carry_out-requires-clause-running g c = (begun g (goal.at.carry_out-requires-clause-running g c).After-begin).running
 
 pub carry_out-requires-clause-backlog : goal.carry_out-requires-clause-backlog
-carry_out-requires-clause-backlog g c =
-    let inv = c.loop-handled.invariant in
-    let did = c.held_status-status.ensures in
-    let note = c.note_taken.ensures in
-    let begun = begins-after c.loop-handled.claim c.held_status-status.new.claim inv.0 inv.3 did.same_gates did.same c.held_status-status.result did.status
-    did.known did.taken (sym c.should_process.ensures ∙ c.if-not-should_process.false) _ c.ready.new.self c.deref_mut.ensures.value c.ready.ensures.same
-    c.ready.ensures.settled _ c.take_next.new.self c.in-Some.envelope c.deref_mut-in-loop-handled.ensures.value c.in-Some.ensures.took c.note_taken.new.claim
-    (hold-one _ c.note_taken.new.claim (note.same_gates, note.actor) note.same.1 note.same.0 note.known note.taken) _ c.begin.new.self
-    (c.deref_mut-in-loop-handled-2.ensures.value ∙ ap (λ (x : Box Contents). x.value) note.same.1) c.begin.ensures.begun c.begin.ensures.leads
-    c.begin.ensures.settled in
-    begun.backlog
+carry_out-requires-clause-backlog g c = (begun g (goal.at.carry_out-requires-clause-backlog g c).After-begin).backlog
 
 -- ---- its acts stopped the run
 
 pub returns-in_err-carry_out-clause-in_run : goal.returns-in_err-carry_out-clause-in_run
-returns-in_err-carry_out-clause-in_run g c =
-    let inv = c.loop-handled.invariant in
-    let did = c.held_status-status.ensures in
-    let note = c.note_taken.ensures in
-    let begun = begins-after c.loop-handled.claim c.held_status-status.new.claim inv.0 inv.3 did.same_gates did.same c.held_status-status.result did.status
-    did.known did.taken (sym c.should_process.ensures ∙ c.if-not-should_process.false) _ c.ready.new.self c.deref_mut.ensures.value c.ready.ensures.same
-    c.ready.ensures.settled _ c.take_next.new.self c.in-Some.envelope c.deref_mut-in-loop-handled.ensures.value c.in-Some.ensures.took c.note_taken.new.claim
-    (hold-one _ c.note_taken.new.claim (note.same_gates, note.actor) note.same.1 note.same.0 note.known note.taken) _ c.begin.new.self
-    (c.deref_mut-in-loop-handled-2.ensures.value ∙ ap (λ (x : Box Contents). x.value) note.same.1) c.begin.ensures.begun c.begin.ensures.leads
-    c.begin.ensures.settled in
-    let carried = c.carry_out.ensures in
-    let begun_state : RunState = record (run_state c.note_taken.new.claim) { home = c.begin.new.self } in
-    carried-run g.K.Behaviours.gives g.W.RunQueue.origin c.args.gates.now c.carry_out.new.registrar begun_state c.carry_out.new.claim
-    (record c.loop-handled.turn { envelopes = c.loop-handled.turn.envelopes + 1 }) carried.same_gates carried.running carried.backlog
-    carried.carried_out carried.same begun.run_counts
+returns-in_err-carry_out-clause-in_run g c = carried-in_run g (goal.at.returns-in_err-carry_out-clause-in_run g c).After-carry_out
 
 pub returns-in_err-carry_out-clause-advances : goal.returns-in_err-carry_out-clause-advances
 returns-in_err-carry_out-clause-advances g c =
-    let inv = c.loop-handled.invariant in
-    let did = c.held_status-status.ensures in
-    let note = c.note_taken.ensures in
-    let begun = begins-after c.loop-handled.claim c.held_status-status.new.claim inv.0 inv.3 did.same_gates did.same c.held_status-status.result did.status
-    did.known did.taken (sym c.should_process.ensures ∙ c.if-not-should_process.false) _ c.ready.new.self c.deref_mut.ensures.value c.ready.ensures.same
-    c.ready.ensures.settled _ c.take_next.new.self c.in-Some.envelope c.deref_mut-in-loop-handled.ensures.value c.in-Some.ensures.took c.note_taken.new.claim
-    (hold-one _ c.note_taken.new.claim (note.same_gates, note.actor) note.same.1 note.same.0 note.known note.taken) _ c.begin.new.self
-    (c.deref_mut-in-loop-handled-2.ensures.value ∙ ap (λ (x : Box Contents). x.value) note.same.1) c.begin.ensures.begun c.begin.ensures.leads
-    c.begin.ensures.settled in
-    let start = run_state c.args.claim.now in
-    let before = run_state c.loop-handled.claim in
-    let carried = c.carry_out.ensures in
-    let begun_state : RunState = record (run_state c.note_taken.new.claim) { home = c.begin.new.self } in
-    let h = run_state c.carry_out.new.claim in
-    let same = same-keeps before begun_state h begun.same carried.same in
-    let sends = alike-then _ _ _ _ _ _ (alike-still _ _ _ _ (note.taken.recorded ∙ did.taken.recorded) refl) carried.sends in
-    let entries = begun.entries h carried.due carried.same.journal in
-    record {
-      same = same-run-then _ _ _ inv.1 same;
-      cleared = ok-passed _ c.from_residual-in_err-carry_out.result c.in_err-carry_out.field-0.0 c.from_residual-in_err-carry_out.ensures.1;
-      caller_advances = further-then _ _ _ inv.4 carried.caller_advances;
-      sends = alike-then _ _ _ _ _ _ inv.6 sends;
-      entries = entries-then start before h inv.1.actor inv.1.who inv.7 entries;
-    }
+    advances-failed c.from_residual-in_err-carry_out.result c.in_err-carry_out.field-0.0 c.from_residual-in_err-carry_out.ensures.1
+    (carried g (goal.at.returns-in_err-carry_out-clause-advances g c).After-carry_out)
 
 pub returns-in_err-carry_out-clause-stops : goal.returns-in_err-carry_out-clause-stops
 returns-in_err-carry_out-clause-stops g c =
-    let fault : ReadyError = c.in_err-carry_out.field-0.0 in
-    record {
-      full = λ is. absurd (not-full c.carry_out.result c.carry_out.ensures.refused
-          (c.in_err-carry_out.was ∙ ap (λ (f : ReadyError). Err f)
-          (passed-fault c.from_residual-in_err-carry_out.result fault c.from_residual-in_err-carry_out.ensures.1 is)));
-      out_of_memory = λ is. inr (err-at c.carry_out.result fault c.in_err-carry_out.was c.carry_out.ensures.ended);
-    }
+    stops-passed c.carry_out.result c.from_residual-in_err-carry_out.result c.in_err-carry_out.field-0.0 c.carry_out.new.claim c.in_err-carry_out.was
+    c.from_residual-in_err-carry_out.ensures.1
+    (stops-carried c.carry_out.result c.carry_out.new.claim c.carry_out.ensures.refused c.carry_out.ensures.ended)
 
 pub returns-in_err-carry_out-clause-within_limit : goal.returns-in_err-carry_out-clause-within_limit
-returns-in_err-carry_out-clause-within_limit g c = omega (arith, c.loop-handled.invariant.2, c.loop-handled-test.true)
+returns-in_err-carry_out-clause-within_limit g c = omega (arith, c.loop-handled.invariant.1, c.loop-handled-test.true)
 
 -- ---- they were carried out
 
@@ -452,102 +322,26 @@ has_no_system_work-requires-clause-carried_out g c = c.carry_out.ensures.carried
 
 pub loop-handled-preserved-then-has_no_system_work : goal.loop-handled-preserved-then-has_no_system_work
 loop-handled-preserved-then-has_no_system_work g c =
-    let inv = c.loop-handled.invariant in
-    let did = c.held_status-status.ensures in
-    let note = c.note_taken.ensures in
-    let begun = begins-after c.loop-handled.claim c.held_status-status.new.claim inv.0 inv.3 did.same_gates did.same c.held_status-status.result did.status
-    did.known did.taken (sym c.should_process.ensures ∙ c.if-not-should_process.false) _ c.ready.new.self c.deref_mut.ensures.value c.ready.ensures.same
-    c.ready.ensures.settled _ c.take_next.new.self c.in-Some.envelope c.deref_mut-in-loop-handled.ensures.value c.in-Some.ensures.took c.note_taken.new.claim
-    (hold-one _ c.note_taken.new.claim (note.same_gates, note.actor) note.same.1 note.same.0 note.known note.taken) _ c.begin.new.self
-    (c.deref_mut-in-loop-handled-2.ensures.value ∙ ap (λ (x : Box Contents). x.value) note.same.1) c.begin.ensures.begun c.begin.ensures.leads
-    c.begin.ensures.settled in
-    let start = run_state c.args.claim.now in
-    let before = run_state c.loop-handled.claim in
-    let carried = c.carry_out.ensures in
-    let begun_state : RunState = record (run_state c.note_taken.new.claim) { home = c.begin.new.self } in
-    let h = run_state c.carry_out.new.claim in
-    let same = same-keeps before begun_state h begun.same carried.same in
-    let sends = alike-then _ _ _ _ _ _ (alike-still _ _ _ _ (note.taken.recorded ∙ did.taken.recorded) refl) carried.sends in
-    let entries = begun.entries h carried.due carried.same.journal in
-    let at = carried-run g.K.Behaviours.gives g.W.RunQueue.origin c.args.gates.now c.carry_out.new.registrar begun_state c.carry_out.new.claim
-    (record c.loop-handled.turn { envelopes = c.loop-handled.turn.envelopes + 1 }) carried.same_gates carried.running carried.backlog
-    carried.carried_out carried.same begun.run_counts in
-    let cleared = cleared-then before begun_state h begun.same.takes (cleared-open before begun_state begun.open_yet) c.in_ok-carry_out.ensures.cleared in
-    let quiet = c.has_no_system_work.ensures in
-    let last = run_state c.has_no_system_work.new.claim in
-    let kept = entries-none h last quiet.same.journal quiet.due in (
-      quiet-run at quiet.running quiet.backlog quiet.left quiet.same,
-      same-run-then _ _ _ inv.1 (same-run-then _ _ _ same quiet.same.same),
-      ap (λ n. n + 1) inv.2,
-      inr (quiet.drained c.if-has_no_system_work.true),
-      further-then _ _ _ inv.4 carried.caller_advances,
-      cleared-then start before last inv.1.takes inv.5 (cleared-then before h last same.takes cleared quiet.cleared),
-      alike-then _ _ _ _ _ _ inv.6 (alike-then _ _ _ _ _ _ sends (alike-still _ _ _ _ quiet.recorded refl)),
-      entries-then start before last inv.1.actor inv.1.who inv.7 (entries-then before h last same.actor same.who entries kept),
+    let at = (goal.at.loop-handled-preserved-then-has_no_system_work g c).After-has_no_system_work in (
+      looked-in_run g at,
+      ap (λ n. n + 1) c.loop-handled.invariant.1,
+      inr (c.has_no_system_work.ensures.drained c.if-has_no_system_work.true),
+      looked g at,
     )
 
 -- ---- there may be one
 
 pub apply_all-requires : goal.apply_all-requires
-apply_all-requires g c =
-    let inv = c.loop-handled.invariant in
-    let did = c.held_status-status.ensures in
-    let note = c.note_taken.ensures in
-    let begun = begins-after c.loop-handled.claim c.held_status-status.new.claim inv.0 inv.3 did.same_gates did.same c.held_status-status.result did.status
-    did.known did.taken (sym c.should_process.ensures ∙ c.if-not-should_process.false) _ c.ready.new.self c.deref_mut.ensures.value c.ready.ensures.same
-    c.ready.ensures.settled _ c.take_next.new.self c.in-Some.envelope c.deref_mut-in-loop-handled.ensures.value c.in-Some.ensures.took c.note_taken.new.claim
-    (hold-one _ c.note_taken.new.claim (note.same_gates, note.actor) note.same.1 note.same.0 note.known note.taken) _ c.begin.new.self
-    (c.deref_mut-in-loop-handled-2.ensures.value ∙ ap (λ (x : Box Contents). x.value) note.same.1) c.begin.ensures.begun c.begin.ensures.leads
-    c.begin.ensures.settled in
-    let before = run_state c.loop-handled.claim in
-    let carried = c.carry_out.ensures in
-    let begun_state : RunState = record (run_state c.note_taken.new.claim) { home = c.begin.new.self } in
-    let h = run_state c.carry_out.new.claim in
-    let same = same-keeps before begun_state h begun.same carried.same in
-    let sends = alike-then _ _ _ _ _ _ (alike-still _ _ _ _ (note.taken.recorded ∙ did.taken.recorded) refl) carried.sends in
-    let entries = begun.entries h carried.due carried.same.journal in
-    let at = carried-run g.K.Behaviours.gives g.W.RunQueue.origin c.args.gates.now c.carry_out.new.registrar begun_state c.carry_out.new.claim
-    (record c.loop-handled.turn { envelopes = c.loop-handled.turn.envelopes + 1 }) carried.same_gates carried.running carried.backlog
-    carried.carried_out carried.same begun.run_counts in
-    let quiet = c.has_no_system_work.ensures in record { in_run = quiet-run at quiet.running quiet.backlog quiet.left quiet.same }
+apply_all-requires g c = record { in_run = looked-in_run g (goal.at.apply_all-requires g c).After-has_no_system_work }
 
 pub loop-handled-preserved : goal.loop-handled-preserved
-loop-handled-preserved g c =
-    let inv = c.loop-handled.invariant in
-    let did = c.held_status-status.ensures in
-    let note = c.note_taken.ensures in
-    let begun = begins-after c.loop-handled.claim c.held_status-status.new.claim inv.0 inv.3 did.same_gates did.same c.held_status-status.result did.status
-    did.known did.taken (sym c.should_process.ensures ∙ c.if-not-should_process.false) _ c.ready.new.self c.deref_mut.ensures.value c.ready.ensures.same
-    c.ready.ensures.settled _ c.take_next.new.self c.in-Some.envelope c.deref_mut-in-loop-handled.ensures.value c.in-Some.ensures.took c.note_taken.new.claim
-    (hold-one _ c.note_taken.new.claim (note.same_gates, note.actor) note.same.1 note.same.0 note.known note.taken) _ c.begin.new.self
-    (c.deref_mut-in-loop-handled-2.ensures.value ∙ ap (λ (x : Box Contents). x.value) note.same.1) c.begin.ensures.begun c.begin.ensures.leads
-    c.begin.ensures.settled in
-    let start = run_state c.args.claim.now in
-    let before = run_state c.loop-handled.claim in
-    let carried = c.carry_out.ensures in
-    let begun_state : RunState = record (run_state c.note_taken.new.claim) { home = c.begin.new.self } in
-    let h = run_state c.carry_out.new.claim in
-    let same = same-keeps before begun_state h begun.same carried.same in
-    let sends = alike-then _ _ _ _ _ _ (alike-still _ _ _ _ (note.taken.recorded ∙ did.taken.recorded) refl) carried.sends in
-    let entries = begun.entries h carried.due carried.same.journal in
-    let cleared = cleared-then before begun_state h begun.same.takes (cleared-open before begun_state begun.open_yet) c.in_ok-carry_out.ensures.cleared in
-    let quiet = c.has_no_system_work.ensures in
-    let all = c.in_ok-apply_all.ensures.advances in
-    let looked = run_state c.has_no_system_work.new.claim in
-    let last = run_state c.apply_all.new.claim in
-    let same_too = same-run-then before h looked same quiet.same.same in
-    let cleared_too = cleared-then before h looked same.takes cleared quiet.cleared in
-    let sends_too = alike-then _ _ _ _ _ _ sends (alike-still _ _ _ _ quiet.recorded refl) in
-    let entries_too = entries-then before h looked same.actor same.who entries (entries-none h looked quiet.same.journal quiet.due) in (
-      c.apply_all.ensures.in_run,
-      same-run-then _ _ _ inv.1 (same-run-then _ _ _ same_too all.same),
-      c.apply_all.ensures.envelopes ∙ ap (λ n. n + 1) inv.2,
-      c.in_ok-apply_all.ensures.whole,
-      further-then _ _ _ inv.4 (further-then _ _ _ carried.caller_advances all.caller_advances),
-      cleared-then start before last inv.1.takes inv.5 (cleared-then before looked last same_too.takes cleared_too all.cleared),
-      alike-then _ _ _ _ _ _ inv.6 (alike-then _ _ _ _ _ _ sends_too all.sends),
-      entries-then start before last inv.1.actor inv.1.who inv.7 (entries-then before looked last same_too.actor same_too.who entries_too all.entries),
-    )
+loop-handled-preserved g c = (
+  c.apply_all.ensures.in_run,
+  c.apply_all.ensures.envelopes ∙ ap (λ n. n + 1) c.loop-handled.invariant.1,
+  c.in_ok-apply_all.ensures.whole,
+  goes-then (Ok tt) (looked g (goal.at.loop-handled-preserved g c).After-has_no_system_work)
+      (goes-well c.apply_all.result c.in_ok-apply_all.was c.apply_all.ensures.advances),
+)
 
 -- ---- the system messages after it stopped the run
 
@@ -556,32 +350,8 @@ returns-in_err-apply_all-clause-in_run g c = c.apply_all.ensures.in_run
 
 pub returns-in_err-apply_all-clause-advances : goal.returns-in_err-apply_all-clause-advances
 returns-in_err-apply_all-clause-advances g c =
-    let inv = c.loop-handled.invariant in
-    let did = c.held_status-status.ensures in
-    let note = c.note_taken.ensures in
-    let begun = begins-after c.loop-handled.claim c.held_status-status.new.claim inv.0 inv.3 did.same_gates did.same c.held_status-status.result did.status
-    did.known did.taken (sym c.should_process.ensures ∙ c.if-not-should_process.false) _ c.ready.new.self c.deref_mut.ensures.value c.ready.ensures.same
-    c.ready.ensures.settled _ c.take_next.new.self c.in-Some.envelope c.deref_mut-in-loop-handled.ensures.value c.in-Some.ensures.took c.note_taken.new.claim
-    (hold-one _ c.note_taken.new.claim (note.same_gates, note.actor) note.same.1 note.same.0 note.known note.taken) _ c.begin.new.self
-    (c.deref_mut-in-loop-handled-2.ensures.value ∙ ap (λ (x : Box Contents). x.value) note.same.1) c.begin.ensures.begun c.begin.ensures.leads
-    c.begin.ensures.settled in
-    let start = run_state c.args.claim.now in
-    let before = run_state c.loop-handled.claim in
-    let carried = c.carry_out.ensures in
-    let begun_state : RunState = record (run_state c.note_taken.new.claim) { home = c.begin.new.self } in
-    let h = run_state c.carry_out.new.claim in
-    let same = same-keeps before begun_state h begun.same carried.same in
-    let sends = alike-then _ _ _ _ _ _ (alike-still _ _ _ _ (note.taken.recorded ∙ did.taken.recorded) refl) carried.sends in
-    let entries = begun.entries h carried.due carried.same.journal in
-    let quiet = c.has_no_system_work.ensures in
-    let looked = run_state c.has_no_system_work.new.claim in
-    let entries_too = entries-then before h looked same.actor same.who entries (entries-none h looked quiet.same.journal quiet.due) in
-    advances-passed c.apply_all.result c.from_residual-in_err-apply_all.result c.in_err-apply_all.field-0.0 c.args.registrar.now
-    c.carry_out.new.registrar c.apply_all.new.registrar c.args.claim.now c.has_no_system_work.new.claim c.apply_all.new.claim
-    c.from_residual-in_err-apply_all.ensures.1 (same-run-then _ _ _ inv.1 (same-run-then _ _ _ same quiet.same.same))
-    (further-then _ _ _ inv.4 carried.caller_advances)
-    (alike-then _ _ _ _ _ _ inv.6 (alike-then _ _ _ _ _ _ sends (alike-still _ _ _ _ quiet.recorded refl)))
-    (entries-then start before looked inv.1.actor inv.1.who inv.7 entries_too) c.apply_all.ensures.advances
+    advances-failed c.from_residual-in_err-apply_all.result c.in_err-apply_all.field-0.0 c.from_residual-in_err-apply_all.ensures.1
+    (goes-then c.apply_all.result (looked g (goal.at.returns-in_err-apply_all-clause-advances g c).After-has_no_system_work) c.apply_all.ensures.advances)
 
 pub returns-in_err-apply_all-clause-stops : goal.returns-in_err-apply_all-clause-stops
 returns-in_err-apply_all-clause-stops g c =
@@ -589,7 +359,7 @@ returns-in_err-apply_all-clause-stops g c =
     c.in_err-apply_all.was c.from_residual-in_err-apply_all.ensures.1 c.apply_all.ensures.stops
 
 pub returns-in_err-apply_all-clause-within_limit : goal.returns-in_err-apply_all-clause-within_limit
-returns-in_err-apply_all-clause-within_limit g c = omega (arith, c.apply_all.ensures.envelopes, c.loop-handled.invariant.2, c.loop-handled-test.true)
+returns-in_err-apply_all-clause-within_limit g c = omega (arith, c.apply_all.ensures.envelopes, c.loop-handled.invariant.1, c.loop-handled-test.true)
 
 -- ---- the throughput was used up
 
@@ -597,14 +367,7 @@ pub returns-clause-in_run : goal.returns-clause-in_run
 returns-clause-in_run g c = c.loop-handled.invariant.0
 
 pub returns-clause-advances : goal.returns-clause-advances
-returns-clause-advances g c =
-    record {
-      same = c.loop-handled.invariant.1;
-      cleared = c.loop-handled.invariant.5;
-      caller_advances = c.loop-handled.invariant.4;
-      sends = c.loop-handled.invariant.6;
-      entries = c.loop-handled.invariant.7;
-    }
+returns-clause-advances g c = c.loop-handled.invariant.3
 
 pub returns-clause-stops : goal.returns-clause-stops
 returns-clause-stops g c = stops-none tt c.loop-handled.claim
@@ -612,9 +375,9 @@ returns-clause-stops g c = stops-none tt c.loop-handled.claim
 pub returns-clause-ended : goal.returns-clause-ended
 returns-clause-ended g c =
     let n = c.loop-handled.turn.envelopes in
-    let all : n ≡ most_envelopes c.args.throughput = omega (arith, c.loop-handled.invariant.2, c.loop-handled-test.false) in
+    let all : n ≡ most_envelopes c.args.throughput = omega (arith, c.loop-handled.invariant.1, c.loop-handled-test.false) in
     reason-used g.K.Behaviours.gives (origin_of c.args.gates.now) (pass_view c.loop-handled.registrar.pass).log c.args.claim.now.home.value.take
-    (run_state c.loop-handled.claim) c.args.throughput n c.loop-handled.invariant.0.running all c.loop-handled.invariant.3
+    (run_state c.loop-handled.claim) c.args.throughput n c.loop-handled.invariant.0.running all c.loop-handled.invariant.2
 
 -- ---- the claim is as it was but for its home
 

@@ -1,9 +1,6 @@
-use Rattle.std.proofs.Common.{◌≡◌, ◌≤◌, inl, inr, List, [], false, length, refl, sym, ap, ◌∙◌, subst, arith}
-use Rattle.std.specs.Prelude.{◌↔◌, Err, IsErrOf}
+use Rattle.std.proofs.Common.{◌≡◌, List, [], false, refl, sym, ap, ◌∙◌, subst, arith}
 use Rattle.mb_journal.specs.Acts.{Act}
 use Rattle.mb_journal.specs.Life.{closed}
-use Rattle.mb_journal.specs.declared.error.ReadyError.{ReadyError}
-use Rattle.mb_journal.specs.declared.error.ReadyError.TheVariants.{JournalFull, NoMemory}
 use Rattle.mb_cell.specs.CellView.{CellView}
 use Rattle.mb_gate.specs.Accessors.{pass_view}
 use Rattle.mb_gate.specs.Untouched.{origin_of}
@@ -13,12 +10,12 @@ use Rattle.mb_home.specs.AgreesWithJournal.{AgreesWithJournal}
 use Rattle.mb_home.specs.Steps.{HasNext, AppliesNext}
 use Rattle.mb_mailbox.specs.RunState.{RunState, run_state}
 use Rattle.mb_mailbox.specs.Running.{IsRunning}
-use Rattle.mb_mailbox.proofs.AppliedLemmas.{passed-fault, same-keeps, not-full, room-short, acts-ready, room-ready, keeps-ready, backlog-ready, running-ready}
-use Rattle.mb_mailbox.proofs.AppliedLemmas.{full-ready, entries-ready, ready-then, systems-fit}
+use Rattle.mb_mailbox.proofs.AppliedLemmas.{same-keeps, acts-ready, keeps-ready, backlog-ready, running-ready}
+use Rattle.mb_mailbox.proofs.AppliedLemmas.{entries-ready, ready-then, systems-fit}
 use Rattle.mb_mailbox.proofs.BacklogLemmas.{same-run-then}
 use Rattle.mb_register.proofs.CallerLemmas.{further-none}
-use Rattle.mb_mailbox.proofs.EmptiedLemmas.{cleared-open, cleared-then, err-at, ok-so, takes-same}
-use Rattle.mb_mailbox.proofs.InRunLemmas.{ok-passed}
+use Rattle.mb_mailbox.proofs.EmptiedLemmas.{cleared-open, cleared-then, ok-so, takes-same}
+use Rattle.mb_mailbox.proofs.InRunLemmas.{ok-passed, stops-carried, stops-passed, stops-ready}
 use Rattle.mb_mailbox.proofs.RunningMoves.{journal-open, running-applied, backlog-applied}
 use Rattle.mb_mailbox.proofs.RunCountLemmas.{run_counts-keeps, run_counts-applied, same-applied}
 use Rattle.mb_mailbox.proofs.RecordedLemmas.{alike-still}
@@ -59,19 +56,8 @@ returns-in_err-ready-clause-advances g c =
 
 pub returns-in_err-ready-clause-stops : goal.returns-in_err-ready-clause-stops
 returns-in_err-ready-clause-stops g c =
-    let same = subst (λ (x : Contents). c.ready.new.self
-    ≡ record x { cell = record x.cell { is_ready = c.ready.new.self.cell.is_ready }; room = c.ready.new.self.room }) c.deref_mut.ensures.value
-    c.ready.ensures.same in
-    let full = subst (λ (x : Contents). IsErrOf c.ready.result JournalFull ↔ (x.cell.who.limit ≤ length x.cell.journal)) c.deref_mut.ensures.value
-    c.ready.ensures.full in
-    let old = run_state c.args.claim.now in
-    let fault : ReadyError = c.in_err-ready.field-0.0 in
-    record {
-      full = λ is. full-ready old c.ready.new.self _ _ same
-          (full.0 (c.in_err-ready.was ∙ ap (λ (f : ReadyError). Err f) (passed-fault c.from_residual.result fault c.from_residual.ensures.1 is)));
-      out_of_memory = λ is. inl (room-ready old c.ready.new.self _ _ same (room-short c.ready.result _ _ full
-          (c.in_err-ready.was ∙ ap (λ (f : ReadyError). Err f) (passed-fault c.from_residual.result fault c.from_residual.ensures.1 is))));
-    }
+    stops-passed c.ready.result c.from_residual.result c.in_err-ready.field-0.0 _ c.in_err-ready.was c.from_residual.ensures.1
+    (stops-ready c.ready.result c.deref_mut.result.now _ c.ready.ensures.same c.ready.ensures.full)
 
 -- ---- there was
 
@@ -205,10 +191,8 @@ returns-clause-advances g c =
     }
 
 pub returns-clause-stops : goal.returns-clause-stops
-returns-clause-stops g c = record {
-  full = λ full. absurd (not-full _ c.carry_out.ensures.refused full);
-  out_of_memory = λ short. inr (err-at c.carry_out.result NoMemory short c.carry_out.ensures.ended);
-}
+returns-clause-stops g c =
+    stops-carried c.carry_out.result c.carry_out.new.claim c.carry_out.ensures.refused c.carry_out.ensures.ended
 
 pub returns-clause-applied : goal.returns-clause-applied
 returns-clause-applied g c = ok-so c.carry_out.result (λ cleared. refl) c.carry_out.ensures.cleared

@@ -1,4 +1,4 @@
-use Rattle.std.proofs.Common.{◌==◌, [], ◌∷◌, None, Some, sym, ap, ◌∙◌, subst}
+use Rattle.std.proofs.Common.{◌==◌, false, [], ◌∷◌, None, Some, sym, ap, ◌∙◌, subst}
 use Rattle.mb_status.specs.Mailbox.{word_of}
 use Rattle.mb_msg.specs.declared.dead_letter.Why.TheVariants.{Closed}
 use Rattle.mb_journal.specs.Acts.Act.{Tell}
@@ -56,18 +56,18 @@ pub returns-then-closed-clause-same : goal.returns-then-closed-clause-same
 returns-then-closed-clause-same g c =
     let is_dead_letter = subst (λ (x : Contents). RecordsDeadLetter x c.record_closed_receiver.new.self c.args.to c.args.body Closed) c.deref_mut.ensures.value
     c.record_closed_receiver.ensures.is_dead_letter in
-    leaves-rest c.args.home.now.value _ _ _ _ _ is_dead_letter.same
+    leaves-rest c.args.home.now.value _ false _ _ _ _ is_dead_letter.same
 
 pub returns-in-Ok-clause-same : goal.returns-in-Ok-clause-same
 returns-in-Ok-clause-same g c =
     let pushed = subst (λ (x : Contents). Pushes x c.push.new.self c.args.to c.args.body) c.deref_mut-2.ensures.value c.in-Ok.ensures.pushed in
-    leaves-rest c.args.home.now.value _ _ _ _ _ pushed.same
+    leaves-rest c.args.home.now.value _ c.args.home.now.value.cell.is_ready _ _ _ _ pushed.same
 
 pub returns-in-Err-clause-same : goal.returns-in-Err-clause-same
 returns-in-Err-clause-same g c =
     let is_dead_letter = subst (λ (x : Contents). RecordsDeadLetter x c.push.new.self c.args.to c.args.body (reason_of c.in-Err.field-0)) c.deref_mut-2.ensures.value
     c.in-Err.ensures.pushed.1 in
-    leaves-rest c.args.home.now.value _ _ _ _ _ is_dead_letter.same
+    leaves-rest c.args.home.now.value _ false _ _ _ _ is_dead_letter.same
 
 -- ---- what was told
 

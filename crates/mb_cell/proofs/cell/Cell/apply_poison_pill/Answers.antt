@@ -1,4 +1,4 @@
-use Rattle.std.proofs.Common.{◌++◌, [], sym, refl, subst, ap, ◌∙◌}
+use Rattle.std.proofs.Common.{◌≡◌, ◌≤◌, ◌++◌, [], length, sym, refl, subst, ap, ◌∙◌}
 use Rattle.std.specs.Prelude.{None}
 use Rattle.mb_status.specs.Mailbox.{word_of}
 use Rattle.mb_journal.specs.Entry.{Entry}
@@ -8,6 +8,7 @@ use Rattle.mb_journal.specs.Reading.{IsOpen}
 use Rattle.mb_cell.specs.MayHandle.{MayHandle}
 use Rattle.mb_supervision.specs.ActorIdentity.{identity_of}
 use Rattle.mb_cell.specs.CellView.{CellView}
+use Rattle.mb_cell.proofs.CellLaws.{longer, longer-forgotten, within-forgotten}
 use Rattle.mb_cell.proofs.QuietEnvelope as quiet
 use Rattle.mb_cell.proofs.QuietEnvelope.{IsQuietEnvelope}
 use Rattle.mb_cell.proofs.QuietRows.{poison-row}
@@ -19,10 +20,10 @@ use Rattle.mb_cell.proofs.cell.Cell.apply_poison_pill.Goals as goal
 pub poison-requires-clause-carried_out : goal.poison-requires-clause-carried_out
 poison-requires-clause-carried_out g c = none-left _ _ (ap (λ (s : CellView). s.acts) c.self.view_is ∙ c.requires.may_handle.carried_out)
 
-abbrev entry : (g : given.Over) (c : goal.After-push_handled g) → Entry
+abbrev entry : (g : given.Over) (c : goal.After-forget_room g) → Entry
 entry g c = Handled c.args.envelope c.word.result (Applied None [])
 
-may_handle : (g : given.Over) (c : goal.After-push_handled g) →
+may_handle : (g : given.Over) (c : goal.After-forget_room g) →
     MayHandle (record {
       who = identity_of c.self.inside.place c.self.inside.journal.limit;
       journal = c.self.inside.journal.entries;
@@ -31,7 +32,7 @@ may_handle : (g : given.Over) (c : goal.After-push_handled g) →
     }) c.args.envelope (word_of c.args.reading)
 may_handle g c = subst (λ (s : CellView). MayHandle s c.args.envelope (word_of c.args.reading)) (sym c.self.view_is) c.requires.may_handle
 
-row : (g : given.Over) (c : goal.After-push_handled g) →
+row : (g : given.Over) (c : goal.After-forget_room g) →
     IsQuietEnvelope (identity_of c.self.inside.place c.self.inside.journal.limit) (g.K.Behaviours.gives c.self.inside.place.this.0)
     c.self.inside.journal.entries (entry g c) c.self.inside.cell_state c.poison.new.self
 row g c =
@@ -41,20 +42,26 @@ row g c =
     (sym c.word.ensures.word) (may_handle g c).open_reading)
     c.requires.poison c.poison.new.self c.poison.ensures
 
+added : (g : given.Over) (c : goal.After-forget_room g) → c.forget_room.new.self ≡ longer c.self.inside.journal (entry g c)
+added g c = longer-forgotten c.self.inside.journal c.push_handled.new.self _ (entry g c) c.push_handled.ensures.added c.forget_room.ensures
+
+within : (g : given.Over) (c : goal.After-forget_room g) → length c.forget_room.new.self.entries ≤ c.forget_room.new.self.limit
+within g c = within-forgotten c.push_handled.new.self _ c.push_handled.ensures.within c.forget_room.ensures
+
 pub invariant_of-self : goal.invariant_of-self
 invariant_of-self g c =
-    quiet.keeps c.self.inside.place c.self.inside.journal c.push_handled.new.self (entry g c) c.args.envelope (word_of c.args.reading)
+    quiet.keeps c.self.inside.place c.self.inside.journal c.forget_room.new.self (entry g c) c.args.envelope (word_of c.args.reading)
     (g.K.Behaviours.after c.self.inside.place.this.0) (g.K.Behaviours.gives c.self.inside.place.this.0) c.self.inside.cell_state
     c.poison.new.self c.self.inside.outbox c.self.inside.unsent c.self.inside.actor (λ a. g.A.Actor.after a.actor) (λ a. g.A.Actor.gives a.actor)
-    (λ a. g.A.Actor.content a.actor) (λ a. a.calls) c.args.self.now c.push_handled.ensures.added c.push_handled.ensures.within
+    (λ a. g.A.Actor.content a.actor) (λ a. a.calls) c.args.self.now (added g c) (within g c)
     c.self.invariant c.self.view_is c.requires.may_handle.carried_out (refl, c.word.ensures.word) (row g c)
 
 pub returns-clause-taken : goal.returns-clause-taken
 returns-clause-taken g c =
-    quiet.takes c.self.inside.place c.self.inside.journal c.push_handled.new.self (entry g c) c.args.envelope (word_of c.args.reading)
+    quiet.takes c.self.inside.place c.self.inside.journal c.forget_room.new.self (entry g c) c.args.envelope (word_of c.args.reading)
     (g.K.Behaviours.after c.self.inside.place.this.0) (g.K.Behaviours.gives c.self.inside.place.this.0) c.self.inside.cell_state
     c.poison.new.self c.self.inside.outbox c.self.inside.unsent c.self.inside.actor (λ a. g.A.Actor.after a.actor) (λ a. g.A.Actor.gives a.actor)
-    (λ a. g.A.Actor.content a.actor) (λ a. a.calls) c.args.self.now c.push_handled.ensures.added c.push_handled.ensures.within
+    (λ a. g.A.Actor.content a.actor) (λ a. a.calls) c.args.self.now (added g c) (within g c)
     c.self.invariant c.self.view_is c.requires.may_handle.carried_out (refl, c.word.ensures.word) (row g c)
 
 pub returns-clause-lawful : goal.returns-clause-lawful

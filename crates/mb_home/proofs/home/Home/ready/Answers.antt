@@ -1,7 +1,7 @@
 use Rattle.std.proofs.Common.{sym, subst}
 use Rattle.mb_home.specs.Contents.{Contents}
 use Rattle.mb_home.specs.AgreesWithJournal.{AgreesWithJournal}
-use Rattle.mb_home.proofs.LeadLemmas.{settled-ready}
+use Rattle.mb_home.proofs.AgreesLemmas.{settled-ready}
 use Rattle.mb_home.proofs.home.Home.ready.Goals as goal
 
 pub returns-clause-settled : goal.returns-clause-settled

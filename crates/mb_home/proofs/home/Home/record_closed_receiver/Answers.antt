@@ -1,4 +1,4 @@
-use Rattle.std.proofs.Common.{◌+◌, ◌%◌, ◌^◌, [], ◌∷◌, ◌++◌, sym, ap, subst, ◌∙◌}
+use Rattle.std.proofs.Common.{◌+◌, ◌%◌, ◌^◌, false, [], ◌∷◌, ◌++◌, sym, ap, subst, ◌∙◌}
 use Rattle.mb_msg.specs.declared.dead_letter.Why.TheVariants.{Closed}
 use Rattle.mb_msg.specs.declared.envelope.Envelope.{Envelope}
 use Rattle.mb_home.specs.Contents.{Contents}
@@ -12,6 +12,7 @@ returns-clause-settled g c =
     let same =
     c.record_dead_letter.ensures.same
     ∙ ap (λ (e : Envelope). record h {
+      cell = record h.cell { is_ready = false };
       dead = h.dead ++ record { envelope = e; why = Closed } ∷ [];
       sent = (h.sent + 1) % 2 ^ 64;
       room = c.record_dead_letter.new.self.room;

@@ -1,5 +1,7 @@
-use Rattle.std.proofs.Common.{refl, arith}
+use Rattle.std.proofs.Common.{[], refl, ap, arith}
 use Rattle.std.proofs.lemmas.List.Elements.{All-nil}
+use Rattle.mb_journal.specs.JournalView.{JournalView}
+use Rattle.mb_journal.proofs.StoredLemmas.{none-below}
 use Rattle.mb_journal.specs.Stored.{listed, StandInOrder}
 use Rattle.mb_journal.proofs.journal.Journal.new.Goals as goal
 
@@ -9,7 +11,6 @@ invariant_of-result c = record {
   in_order = rw (c.new.ensures.items, c.new-3.ensures.items) refl;
   there = rw c.new.ensures.items (All-nil _);
   within = omega arith;
-  one_more = λ e. cc;
   prepared_within = omega arith;
   row_room = omega arith;
   wide_room = omega arith;
@@ -19,4 +20,4 @@ invariant_of-result c = record {
 
 pub returns : goal.returns
 unfolding listed
-returns c = rw c.new.ensures.items refl
+returns c = rw c.new.ensures.items (ap {B = JournalView} (λ ready. record { entries = []; limit = c.args.limit; is_ready = ready }) (none-below _))

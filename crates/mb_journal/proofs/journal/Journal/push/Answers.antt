@@ -1,7 +1,8 @@
-use Rattle.std.proofs.Common.{false, ap, ◌∙◌, arith}
+use Rattle.std.proofs.Common.{ap, ◌∙◌, arith}
+use Rattle.std.specs.Prelude.{nat_lt, vec_len}
 use Rattle.mb_journal.proofs.EntryCounts.{counts-pushed, counts-within}
 use Rattle.mb_journal.proofs.RowLemmas.{length-rows, rows-pushed, there-pushed}
-use Rattle.mb_journal.proofs.StoredLemmas.{order-pushed, entries-pushed}
+use Rattle.mb_journal.proofs.StoredLemmas.{order-pushed, entries-pushed, is-below}
 use Rattle.mb_journal.specs.JournalView.{JournalView, entry_with}
 use Rattle.mb_journal.proofs.journal.Journal.push.Goals as goal
 
@@ -13,22 +14,22 @@ add-requires c =
 
 pub add_all-requires : goal.add_all-requires
 add_all-requires c =
-    let room = c.self.invariant.one_more (ap (λ (l : JournalView). l.is_ready) c.self.view_is ∙ c.requires.ready) in
+    let room = is-below _ _ (ap (λ (l : JournalView). l.is_ready) c.self.view_is ∙ c.requires.ready) in
     omega (arith, room, c.self.invariant.effect_room, c.requires.within_limit)
 
 pub row_of-requires : goal.row_of-requires
 row_of-requires c =
-    let room = c.self.invariant.one_more (ap (λ (l : JournalView). l.is_ready) c.self.view_is ∙ c.requires.ready) in
+    let room = is-below _ _ (ap (λ (l : JournalView). l.is_ready) c.self.view_is ∙ c.requires.ready) in
     omega (arith, room, c.self.invariant.wide_room)
 
 pub push_reserved-requires : goal.push_reserved-requires
 push_reserved-requires c =
-    let room = c.self.invariant.one_more (ap (λ (l : JournalView). l.is_ready) c.self.view_is ∙ c.requires.ready) in
+    let room = is-below _ _ (ap (λ (l : JournalView). l.is_ready) c.self.view_is ∙ c.requires.ready) in
     omega (arith, room, c.self.invariant.row_room)
 
 pub invariant_of-self : goal.invariant_of-self
 invariant_of-self c =
-    let room = c.self.invariant.one_more (ap (λ (l : JournalView). l.is_ready) c.self.view_is ∙ c.requires.ready) in
+    let room = is-below _ _ (ap (λ (l : JournalView). l.is_ready) c.self.view_is ∙ c.requires.ready) in
     record {
       in_order =
           order-pushed _ _ _ _ _ _ _ c.self.invariant.in_order
@@ -37,7 +38,6 @@ invariant_of-self c =
       there =
           there-pushed _ _ _ _ _ _ c.self.invariant.there c.push_reserved.ensures.items c.row_of.ensures.kept.1 c.row_of.ensures.there;
       within = omega arith;
-      one_more = λ e. cc;
       prepared_within = c.self.invariant.prepared_within;
       row_room = omega (arith, c.self.invariant.row_room);
       wide_room = omega (arith, room, c.row_of.ensures.one, c.row_of.ensures.room, c.self.invariant.wide_room);
@@ -53,7 +53,7 @@ invariant_of-self c =
 pub returns-clause-added : goal.returns-clause-added
 returns-clause-added c =
     rw (← c.self.view_is)
-    (ap {B = JournalView} (λ es. record { entries = es; limit = c.self.inside.limit; is_ready = false })
+    (ap {B = JournalView} (λ es. record { entries = es; limit = c.self.inside.limit; is_ready = nat_lt (vec_len c.push_reserved.new.self) c.self.inside.prepared })
     (entries-pushed _ _ _ _ _ _ _ c.self.invariant.in_order
     (rows-pushed _ _ _ _ _ _ _ c.self.invariant.there c.push_reserved.ensures.items c.row_of.ensures.kept.1 c.row_of.ensures.says)
     c.add_all.ensures.added (omega arith)))
@@ -61,5 +61,5 @@ returns-clause-added c =
 pub returns-clause-within : goal.returns-clause-within
 returns-clause-within c =
     let same = length-rows c.row_of.new.wide.items c.push_reserved.new.self.items c.add_all.new.list.items in
-    let room = c.self.invariant.one_more (ap (λ (l : JournalView). l.is_ready) c.self.view_is ∙ c.requires.ready) in
+    let room = is-below _ _ (ap (λ (l : JournalView). l.is_ready) c.self.view_is ∙ c.requires.ready) in
     omega (arith, room, c.self.invariant.prepared_within, c.push_reserved.new.self.ok.0)

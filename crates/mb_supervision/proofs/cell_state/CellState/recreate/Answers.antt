@@ -80,11 +80,11 @@ fail-requires-clause-below_bound c =
 
 pub invariant_of-self : goal.invariant_of-self
 invariant_of-self c =
-    used-up c.self.inside _ c.self.invariant (ap (λ (s : CellState). s.is_ready) c.self.view_is ∙ c.requires.ready) refl refl
+    used-up _ refl
 
 pub invariant_of-self-2 : goal.invariant_of-self-2
 invariant_of-self-2 c =
-    used-up c.self.inside _ c.self.invariant (ap (λ (s : CellState). s.is_ready) c.self.view_is ∙ c.requires.ready) refl refl
+    used-up _ refl
 
 pub returns-in_default : goal.returns-in_default
 returns-in_default c =

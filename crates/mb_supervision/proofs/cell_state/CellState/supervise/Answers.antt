@@ -44,23 +44,23 @@ restart_each-requires c =
 
 pub invariant_of-self : goal.invariant_of-self
 invariant_of-self c =
-    used-up c.self.inside _ c.self.invariant (ap (λ (s : CellState). s.is_ready) c.self.view_is ∙ c.requires.ready) refl refl
+    used-up _ refl
 
 pub invariant_of-self-then-ask : goal.invariant_of-self-then-ask
 invariant_of-self-then-ask c =
-    used-up c.self.inside _ c.self.invariant (ap (λ (s : CellState). s.is_ready) c.self.view_is ∙ c.requires.ready) refl refl
+    used-up _ refl
 
 pub invariant_of-self-else-ask : goal.invariant_of-self-else-ask
 invariant_of-self-else-ask c =
-    used-up c.self.inside _ c.self.invariant (ap (λ (s : CellState). s.is_ready) c.self.view_is ∙ c.requires.ready) refl refl
+    used-up _ refl
 
 pub invariant_of-self-in-Stop : goal.invariant_of-self-in-Stop
 invariant_of-self-in-Stop c =
-    used-up c.self.inside _ c.self.invariant (ap (λ (s : CellState). s.is_ready) c.self.view_is ∙ c.requires.ready) refl refl
+    used-up _ refl
 
 pub invariant_of-self-in-Escalate : goal.invariant_of-self-in-Escalate
 invariant_of-self-in-Escalate c =
-    used-up c.self.inside _ c.self.invariant (ap (λ (s : CellState). s.is_ready) c.self.view_is ∙ c.requires.ready) refl refl
+    used-up _ refl
 
 pub push_each-requires : goal.push_each-requires
 push_each-requires c =

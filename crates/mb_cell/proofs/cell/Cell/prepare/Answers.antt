@@ -1,6 +1,6 @@
 use Rattle.std.proofs.Common.{rules}
 use Rattle.mb_cell.proofs.CellLaws.{lists-short}
-use Rattle.mb_cell.proofs.cell.Cell.ready.Goals as goal
+use Rattle.mb_cell.proofs.cell.Cell.prepare.Goals as goal
 
 pub make_room-requires-clause-few_children : goal.make_room-requires-clause-few_children
 make_room-requires-clause-few_children g c = (lists-short _ _ _ _ _ c.self.invariant.0).children
