@@ -10,7 +10,7 @@ use Rattle.mb_gate.specs.Rule.{IsPart}
 use Rattle.mb_gate.specs.View.{View}
 use Rattle.mb_home.specs.Contents.{Contents}
 use Rattle.mb_pool.specs.Places.{gates_of}
-use Rattle.mb_pool.specs.declared.worker_port.WorkerPort.{WorkerPort}
+use Rattle.mb_pool.specs.WorkerPorts.{WorkerPortView}
 use Rattle.mb_msg.specs.declared.plan.Plan.{Plan}
 use Rattle.mb_shutdown.specs.Belonging.{HasRead}
 use Rattle.mb_shutdown.specs.Mismatched.{of_whom}
@@ -77,7 +77,7 @@ still-own-ends {A} {K} Reads built back ends (before, after, read, more) =
           (subst (All (λ (e : WorkerEnd A K). IsEndOf gates e.registrar)) (sym read.is)
           (All-cons (λ (e : WorkerEnd A K). IsEndOf gates e.registrar) read.first' read.rest (
             read.same_gates ∙ first.0,
-            ap (λ (port : WorkerPort (Box Contents)). gates_of port.end) read.others.1 ∙ first.1,
+            ap (λ (port : WorkerPortView (Box Contents)). gates_of port.end) read.others.1 ∙ first.1,
             first.2,
           )
           others)),

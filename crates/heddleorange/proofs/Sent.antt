@@ -14,9 +14,6 @@ use Rattle.mb_gate.specs.Rule.{IsPart}
 use Rattle.mb_gate.specs.Untouched.{Origin}
 use Rattle.mb_gate.specs.declared.gates.Gates.{Gates}
 use Rattle.mb_home.specs.Contents.{Contents}
-use Rattle.mb_pool.specs.Moves.{WasEmpty}
-use Rattle.mb_pool.specs.Places.{ports_of}
-use Rattle.mb_home.specs.Fresh.{IsFreshClaim}
 use Rattle.mb_register.specs.Owed.{IsNobody}
 use Rattle.mb_shutdown.proofs.Lists.{mapped, same-maps, there}
 use Rattle.mb_system.specs.Belonging.{BelongsTogether, senders_numbers}
@@ -29,6 +26,7 @@ use Rattle.mb_system.specs.declared.sender.Sender.{Sender}
 use Rattle.mb_dispatch.proofs.Alike.{look-alike}
 use Rattle.mb_dispatch.proofs.Together.{again, by_of}
 use Rattle.mb_dispatch.proofs.Runs.{no-run}
+use Rattle.mb_dispatch.specs.Found.{FoundPoolEmpty}
 use Rattle.mb_dispatch.specs.Runs.{OnlyRuns}
 use Rattle.mb_shutdown.proofs.Parts.{part-same}
 use Rattle.heddleorange.specs.Sent.{FoundNothing, HasSentAndRetried, HaveSent}
@@ -200,7 +198,7 @@ module _ {A K : Type 0} where
   -- the first of the ends, which ran, found nothing more
   pub found-nothing : (gives : ℕ → Moment → Reply → Type 0) (gates : Gates (Box Contents)) (ends : List (WorkerEnd A K)) (e : WorkerEnd A K)
       → ends ≢ [] → IsNobody e.registrar.owed → HasNoObligationTo (actors_of gates) (end_caller e.registrar)
-      → All (WasEmpty (IsFreshClaim gives)) (ports_of e.registrar.run_queue.end) → FoundNothing gives gates (slice_set ends 0 e)
+      → FoundPoolEmpty gives e → FoundNothing gives gates (slice_set ends 0 e)
   found-nothing gives gates [] e some nobody settled empty = absurd (some refl)
   found-nothing gives gates (x ∷ ends) e some nobody settled empty =
       record { first = e; rest = ends; are = refl; nobody = nobody; settled = settled; empty = empty }

@@ -1,17 +1,15 @@
 -- All that the senders were to send, and the run after it.
-use Rattle.std.specs.Prelude.{◌≡◌, ◌⊎◌, ℕ, List, ◌∷◌, All, Contains, Some, length, slice_get}
+use Rattle.std.specs.Prelude.{◌≡◌, ◌⊎◌, ℕ, List, ◌∷◌, Contains, Some, length, slice_get}
 use Rattle.std.specs.Global.{Box}
 use Rattle.mb_actor.specs.Behaviour.{Moment, Reply}
 use Rattle.mb_gate.specs.Accessors.{actors_of}
 use Rattle.mb_gate.specs.View.{View}
 use Rattle.mb_gate.specs.declared.gates.Gates.{Gates}
 use Rattle.mb_home.specs.Contents.{Contents}
-use Rattle.mb_pool.specs.Moves.{WasEmpty}
-use Rattle.mb_pool.specs.Places.{ports_of}
-use Rattle.mb_home.specs.Fresh.{IsFreshClaim}
 use Rattle.mb_register.specs.Owed.{IsNobody}
 use Rattle.mb_system.specs.Obligations.{KeepsObligations, HasNoObligationTo, OwesNobody}
 use Rattle.mb_system.specs.Members.{end_caller, sender_caller}
+use Rattle.mb_dispatch.specs.Found.{FoundPoolEmpty}
 use Rattle.mb_dispatch.specs.Orders.{HasSent}
 use Rattle.mb_system.specs.declared.end.WorkerEnd.{WorkerEnd}
 use Rattle.mb_system.specs.declared.failure.RunError.{RunError}
@@ -36,15 +34,15 @@ module _ {A K : Type 0} where
     pub each : (place : ℕ) (of : List Order) (before after : Sender A K) → slice_get orders place ≡ Some of → slice_get old place ≡ Some before
         → slice_get new place ≡ Some after → HasSentAndRetried gates of before after
 
-  -- The first of these ends owes nobody a look, and no actor anything. At its last take each place of the pool in which it looks was empty at some
-  -- moment.
+  -- The first of these ends owes nobody a look, and no actor anything. At its last take it kept no claim, and each place of the pool in which it looks
+  -- was empty at some moment.
   pub record FoundNothing (gives : ℕ → Moment → Reply → Type 0) (gates : Gates (Box Contents)) (ends : List (WorkerEnd A K)) : Type 0 where
     pub first : WorkerEnd A K
     pub rest : List (WorkerEnd A K)
     pub are : ends ≡ (first ∷ rest)
     pub nobody : IsNobody first.registrar.owed
     pub settled : HasNoObligationTo (actors_of gates) (end_caller first.registrar)
-    pub empty : All (WasEmpty (IsFreshClaim gives)) (ports_of first.registrar.run_queue.end)
+    pub empty : FoundPoolEmpty gives first
 
   -- Sending is broken off for this reason, or the run of one of these ends of the system is.
   abbrev pub BreaksOff : (ℕ → Moment → Reply → Type 0) → System A K → List (WorkerEnd A K) → List (List Order) → RunError → Type 0

@@ -1,5 +1,5 @@
 -- What a worker found when it last looked for a claim (this project's own profile).
-use Rattle.std.specs.Prelude.{ℕ, List, All}
+use Rattle.std.specs.Prelude.{◌≡◌, ℕ, List, [], All}
 use Rattle.mb_actor.specs.Behaviour.{Moment, Reply}
 use Rattle.mb_pool.specs.Moves.{WasEmpty}
 use Rattle.mb_pool.specs.Places.{ports_of}
@@ -7,9 +7,10 @@ use Rattle.mb_home.specs.Fresh.{IsFreshClaim}
 use Rattle.mb_system.specs.declared.end.WorkerEnd.{WorkerEnd}
 
 module _ {A K : Type 0} (gives : ℕ → Moment → Reply → Type 0) where
-  -- The last look of the end gave it nothing: each place in which it looks was empty at some moment, as the end knows the place.
+  -- The last look of the end gave it nothing: it keeps no claim, and each place in which it looks was empty at some moment, as the end knows the
+  -- place.
   abbrev pub FoundPoolEmpty : WorkerEnd A K → Type 0
-  FoundPoolEmpty end = All (WasEmpty (IsFreshClaim gives)) (ports_of end.registrar.run_queue.end)
+  FoundPoolEmpty end = (end.registrar.run_queue.next ≡ []) × All (WasEmpty (IsFreshClaim gives)) (ports_of end.registrar.run_queue.end)
 
   -- The last look of each of these ends gave it nothing.
   abbrev pub AllFoundPoolEmpty : List (WorkerEnd A K) → Type 0

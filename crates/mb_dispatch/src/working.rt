@@ -22,8 +22,9 @@ use mb_home::BoxedHome;
 use mb_system::{RunActivity, RunError, System, WorkerEnd};
 use std::sync::Wait;
 
-/// Takes and runs claims until no claim exists and no job of a run is open. It owes no looks then, and its last look for a
-/// claim found the pool empty. All that it does is to run mailboxes, by the system's throughput, and to look at actors.
+/// Takes and runs claims until it finds none while no job of a run is open and no worker counts as busy. It owes no looks then, and
+/// its last look for a claim found the pool empty. All that it does is to run mailboxes, by the system's throughput, and to look at
+/// actors.
 ///
 /// It stops at the first error: `JournalFull` or `NoMemory` as a run of a mailbox answers it, and `NoMemory` if the run queue
 /// refused a claim again. What was done stays done, and nothing that was owed is forgotten.
@@ -122,8 +123,8 @@ fn wait<A: Actor, K: Behaviours, R: Wait>(
     going.leave();
     let backoff = Backoff::new();
     for _ in rt.forever() {
-        // Read before the take: once it is over nobody brings a claim any more, so a take that then finds none has seen all. Read
-        // after it, a claim that was pushed between the two would be left.
+        // Read before the take: once it is over nobody brings a claim but a worker that has one, which takes on what it brings itself.
+        // Read after it, a claim that was pushed between the two would be left.
         let is_over = going.is_over();
         if let Some(claim) = end.take(rt) {
             going.enter();

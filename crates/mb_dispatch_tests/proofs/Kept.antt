@@ -9,7 +9,7 @@ use Rattle.mb_gate.specs.View.{View}
 use Rattle.mb_gate.specs.declared.gates.Gates.{Gates}
 use Rattle.mb_home.specs.Contents.{Contents}
 use Rattle.mb_pool.specs.Places.{gates_of}
-use Rattle.mb_pool.specs.declared.worker_port.WorkerPort.{WorkerPort}
+use Rattle.mb_pool.specs.WorkerPorts.{WorkerPortView}
 use Rattle.mb_system.specs.Belonging.{BelongsTogether, senders_numbers}
 use Rattle.mb_system.specs.Members.{IsEndOf, IsSenderOf}
 use Rattle.mb_system.specs.declared.built.Built.{Built}
@@ -79,7 +79,7 @@ module _ {A K : Type 0} where
       let were : All P (back.first ∷ back.rest) = subst (All P) back.was was.ends in
       let one = All-head P back.first back.rest were in
       let first : P back.first' =
-      (back.same_gates ∙ one.0, ap (λ (way : WorkerPort (Box Contents)). gates_of way.end) back.others.1 ∙ one.1, one.2) in
+      (back.same_gates ∙ one.0, ap (λ (way : WorkerPortView (Box Contents)). gates_of way.end) back.others.1 ∙ one.1, one.2) in
       again old new back.system
       (All-same P new.ends.items (back.first' ∷ back.rest) back.is (All-cons P back.first' back.rest first (All-tail P back.first back.rest were)))
       (All-same Q new.senders.items old.senders.items back.senders was.senders) (ap (map by_of) back.senders) was

@@ -17,13 +17,19 @@ pub struct RefusedClaim<H> {
 pub trait RunQueue<H: MailboxState> {
     // of which gates its claims are; none before that is settled
     ghost origin: { Self → Option (Origin H) };
-    // the claims that went into the pool by it, the first in front
+    // the claims that went into the pool by it or that it kept, the first in front
     ghost pushed: { Self → List (Claim H) };
     // those that the pool refused
     ghost refused: { Self → List (Claim H) };
 
-    /// Puts a claim into the pool, or gives it back.
-    fn push<R: Wait>(&mut self, rt: &R, claim: Claim<H>) -> Result<(), RefusedClaim<H>>
+    /// Puts a claim into the pool, or gives it back. `is_awaited` says whether a worker waits for a claim. Where none does, the
+    /// way of a worker may keep the claim, which the worker then takes next.
+    fn push<R: Wait>(
+        &mut self,
+        rt: &R,
+        claim: Claim<H>,
+        is_awaited: bool,
+    ) -> Result<(), RefusedClaim<H>>
         requires untouched { IsUntouched H.is_of H.facts (origin self.old) claim }
         ensures same { origin self.new ≡ origin self.old }
         ensures pushed { MatchResult result

@@ -29,14 +29,15 @@ abbrev pub rows_of : Inside → List WholeRow
 rows_of j = map (whole j.wide.items) j.rows.items
 
 -- what holds of the rows and effects of a journal at rest: the effects of the rows are those of the list, what they say is there, and there are
--- no more rows than there may be; up to the number of entries that are prepared, which is within the limit, there is room for a row, wide or not,
--- and all the effects of a call; and the counts are those of the entries
+-- no more rows than there may be; up to the number of places, which is within the limit and no less than that of the entries that are prepared, there
+-- is room for a row, wide or not, and all the effects of a call; and the counts are those of the entries
 pub record IsStored (j : Inside) : Type 0 where
   pub in_order : StandInOrder 0 (rows_of j) (length j.effects.items)
   pub there : All (λ row. needs row ≤ length j.wide.items) j.rows.items
   pub within : vec_len j.rows ≤ j.limit
-  pub prepared_within : j.prepared ≤ j.limit
-  pub row_room : j.prepared ≤ vec_capacity j.rows
-  pub wide_room : vec_len j.wide + (j.prepared - vec_len j.rows) ≤ vec_capacity j.wide
-  pub effect_room : vec_len j.effects + most_effects * (j.prepared - vec_len j.rows) ≤ vec_capacity j.effects
+  pub prepared_within : j.prepared ≤ j.places
+  pub places_within : j.places ≤ j.limit
+  pub row_room : j.places ≤ vec_capacity j.rows
+  pub wide_room : vec_len j.wide + (j.places - vec_len j.rows) ≤ vec_capacity j.wide
+  pub effect_room : vec_len j.effects + most_effects * (j.places - vec_len j.rows) ≤ vec_capacity j.effects
   pub counted : AreCountsOf (reverse (listed 0 (rows_of j) j.effects.items)) j.counts

@@ -33,10 +33,12 @@ const MOST_AT_ONCE: usize = 64;
 pub struct Journal {
     rows: Vec<Row>,
     counts: Counts,
-    /// Up to this many entries there is room, each with as many effects as a call may ask for.
+    /// Up to this many entries room is counted on: as many as there are places, or none.
     prepared: usize,
     limit: u32,
     effects: Vec<Effect>,
+    /// Up to this many entries there is room, each with as many effects as a call may ask for.
+    places: usize,
     /// The entries that do not fit into a row.
     wide: Vec<Received>,
 }
@@ -50,6 +52,7 @@ impl Drop for Journal {
             effects: _,
             limit: _,
             prepared: _,
+            places: _,
             counts: _,
         } = self;
     }
@@ -83,6 +86,7 @@ impl Journal {
             effects: Vec::new(alloc),
             limit,
             prepared: 0,
+            places: 0,
             counts: Counts::none(),
         }
     }
@@ -167,10 +171,14 @@ impl Journal {
         ensures ok { OnOk result (self.new ≡ record self.old { is_ready = true }) }
         ensures err { OnErr result (self.new ≡ self.old) }
     {
+        let len = self.rows.len();
+        if len < self.places {
+            self.prepared = self.places;
+            return Ok(());
+        }
         if self.is_full() {
             return Err(ReadyError::JournalFull);
         }
-        let len = self.rows.len();
         let more = (len / 4 + 1).min(MOST_AT_ONCE);
         if make_room(&mut self.rows, more).is_err() {
             return Err(ReadyError::NoMemory);
@@ -183,7 +191,8 @@ impl Journal {
         }
         let places = room_of(&self.rows).min(room_of(&self.wide));
         let with_effects = places.min(room_of(&self.effects) / EFFECTS);
-        self.prepared = with_effects.min(self.limit as usize - len) + len;
+        self.places = with_effects.min(self.limit as usize - len) + len;
+        self.prepared = self.places;
         Ok(())
     }
 

@@ -23,3 +23,4 @@ pub mod Stealing
 pub mod Steps
 pub mod Taking
 pub mod Wholes
+pub mod WorkerPortLemmas

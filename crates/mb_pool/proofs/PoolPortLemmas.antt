@@ -7,7 +7,7 @@ use Rattle.mb_gate.specs.declared.claim.Claim.{Claim}
 use Rattle.mb_gate.specs.Untouched.{Origin}
 use Rattle.mb_pool.specs.Ledger.{IndexedClaim, claims_in}
 use Rattle.mb_pool.specs.Moves.{Pushes, Takes}
-use Rattle.mb_pool.specs.Places.{PoolPort, Part, Parts, PoolEndpoint, gates_of, ports_of, parts_of}
+use Rattle.mb_pool.specs.Places.{PoolPort, Parts, PoolEndpoint, gates_of, ports_of, parts_of}
 use Rattle.mb_pool.specs.PoolPorts.{pushed_first}
 
 module _ {H : Type 0} where

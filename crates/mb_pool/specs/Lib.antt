@@ -13,3 +13,4 @@ pub mod PoolPorts
 pub mod PushedThrough
 pub mod Rule
 pub mod Shared
+pub mod WorkerPorts

@@ -43,7 +43,12 @@ impl<H: MailboxState> RunQueue<H> for FeedPort<H> {
     ghost refused = { λ port. map (λ claim. claim.value) port.refused };
 
     #[inline(always)]
-    fn push<R: Wait>(&mut self, rt: &R, claim: Claim<H>) -> Result<(), RefusedClaim<H>>
+    fn push<R: Wait>(
+        &mut self,
+        rt: &R,
+        claim: Claim<H>,
+        is_awaited: bool,
+    ) -> Result<(), RefusedClaim<H>>
         requires untouched { IsUntouched H.is_of H.facts (gates_of self.old.feed) claim }
         ensures same { gates_of self.new.feed ≡ gates_of self.old.feed }
         ensures pushed { MatchResult result
@@ -57,6 +62,8 @@ impl<H: MailboxState> RunQueue<H> for FeedPort<H> {
             (λ _. self.new.feed ≡ self.old.feed) }
         ensures parts { parts_of self.new.feed ≡ parts_of self.old.feed }
     {
+        // A feed has no worker that could take it next.
+        let _ = is_awaited;
         match self.feed.push(rt, claim) {
             Ok(()) => Ok(()),
             Err(refused) => {

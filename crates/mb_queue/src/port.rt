@@ -103,7 +103,8 @@ impl Port {
     }
 
     /// Takes the first envelope. `None` only if the fifo was empty at a moment of the call.
-    // Inlined, and the queues are asked right here: each call that is saved is one copy of an envelope less.
+    // Inlined, and the queues are asked right here: each call that is saved is one copy of an envelope less. Of a fifo
+    // without a bound one attempt is made first: its answer is copied once less.
     #[inline(always)]
     pub fn take<R: Wait>(&mut self, rt: &R) -> Option<Envelope>
         requires { IsTaker self.old.ledger }
@@ -111,7 +112,13 @@ impl Port {
             (λ e. (self.new ≡ record self.old { ledger = taking self.old.ledger e }) × FoundNext self.old.ledger e) }
     {
         match &mut self.end {
-            End::Unbounded(blocks, pass) => blocks.queue.pop_as::<FifoTake, R>(rt, pass),
+            End::Unbounded(blocks, pass) => {
+                let head = blocks.queue.head(pass);
+                match blocks.queue.try_pop_from::<FifoTake, R>(rt, pass, head) {
+                    Ok(popped) => return popped,
+                    Err(_) => return blocks.take_again::<R>(rt, pass),
+                }
+            }
             End::Bounded(slots, pass) => slots.queue.pop_as::<FifoTake, R>(rt, pass),
         }
     }

@@ -1,14 +1,16 @@
 //! A fifo without a bound, over the unbounded queue of `crossbeam_queue`.
-ghost use Rattle.std.specs.Prelude.{◌≡◌, [], IfOk};
+ghost use Rattle.std.specs.Prelude.{◌≡◌, [], IfOk, MatchOption};
 ghost use Rattle.crossbeam_queue.specs.SegTies.{IsSegPassOf};
 ghost use Rattle.mb_queue.specs.declared.ledger.Ledger.TheVariants.{Taker};
-ghost use Rattle.mb_queue.specs.Ledger.{IsSender, IsTaker, IsUnused, MayLend, lending, borrowing, joining};
+ghost use Rattle.mb_queue.specs.Ledger.{IsSender, IsTaker, IsUnused, MayLend, taking, lending, borrowing, joining};
+ghost use Rattle.mb_queue.specs.Rule.{FoundEmpty, FoundNext};
 
 use crate::ledger::Ledger;
-use crate::rule::{FifoRule, FifoScope, FifoSender, JoinAccount, LendAccount, OpenFifo};
+use crate::rule::{FifoRule, FifoScope, FifoSender, FifoTake, JoinAccount, LendAccount, OpenFifo};
 use crossbeam_queue::{RuledSegQueue, SegPass};
 use mb_msg::Envelope;
 use std::alloc::{AllocError, Global};
+use std::sync::Wait;
 
 /// An unbounded queue under the fifo's rule.
 pub struct UnboundedFifo {
@@ -66,5 +68,19 @@ impl UnboundedFifo {
         ensures joined { pass.new.me.view.client ≡ joining pass.old.me.view.client other.me.view.client }
     {
         self.queue.absorb::<JoinAccount>(pass, other);
+    }
+
+    /// Takes the first envelope, where one attempt lost to another thread. `None` only if the fifo was empty at a moment
+    /// of the call.
+    #[cold]
+    #[inline(never)]
+    pub fn take_again<R: Wait>(&self, rt: &R, pass: &mut UnboundedFifoPass) -> Option<Envelope>
+        requires queue { IsSegPassOf self.now.queue pass.old }
+        requires taker { IsTaker pass.old.me.view.client }
+        ensures queue { IsSegPassOf self.now.queue pass.new × (pass.new.id ≡ pass.old.id) }
+        ensures taken { MatchOption result ((pass.new.me.view.client ≡ pass.old.me.view.client) × FoundEmpty pass.old.me.view.client)
+            (λ e. (pass.new.me.view.client ≡ taking pass.old.me.view.client e) × FoundNext pass.old.me.view.client e) }
+    {
+        self.queue.pop_as::<FifoTake, R>(rt, pass)
     }
 }

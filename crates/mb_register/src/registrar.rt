@@ -81,7 +81,10 @@ impl<H: MailboxState, W: RunQueue<H>> Registrar<H, W> {
     {
         // Each answer is given in its own arm, and the claim is handed on right where it was got: so it stays in registers.
         match gates.try_schedule(&mut self.pass, id) {
-            Tried::Got(claim) => match self.run_queue.push(rt, claim) {
+            Tried::Got(claim) => match self
+                .run_queue
+                .push(rt, claim, gates.idle_workers().is_any())
+            {
                 Ok(()) => return true,
                 Err(RefusedClaim { claim }) => {
                     give_home(gates, &mut self.pass, claim);
@@ -123,7 +126,10 @@ impl<H: MailboxState, W: RunQueue<H>> Registrar<H, W> {
         let Some(claim) = take_due_again(rt, gates, &mut self.pass, id, hint) else {
             return false;
         };
-        match self.run_queue.push(rt, claim) {
+        match self
+            .run_queue
+            .push(rt, claim, gates.idle_workers().is_any())
+        {
             Ok(()) => true,
             Err(RefusedClaim { claim }) => {
                 give_home(gates, &mut self.pass, claim);

@@ -19,7 +19,7 @@ use Rattle.mb_shutdown.proofs.Lists.{length-mapped, mapped}
 use Rattle.mb_shutdown.proofs.Steps.{only-part}
 use Rattle.mb_report.specs.declared.report.ActorReport.{ActorReport}
 use Rattle.mb_report.specs.declared.report.Report.{Report}
-use Rattle.mb_pool.specs.declared.worker_port.WorkerPort.{WorkerPort}
+use Rattle.mb_pool.specs.WorkerPorts.{WorkerPortView}
 use Rattle.mb_system.specs.Belonging.{BelongsTogether, senders_numbers}
 use Rattle.mb_system.specs.Members.{IsEndOf, IsSenderOf, ends_numbers}
 use Rattle.mb_system.specs.declared.built.Built.{Built}
@@ -127,7 +127,7 @@ module _ {A K : Type 0} where
       let IsOurs = λ (e : WorkerEnd A K). IsEndOf old.system.gates e.registrar in
       let those = All-same IsOurs (back.first ∷ back.rest) old.ends.items (sym back.was) all in
       let one = All-head IsOurs back.first back.rest those in
-      let first : IsOurs back.first' = (back.same_gates ∙ one.0, ap (λ (port : WorkerPort (Box Contents)). gates_of port.end) back.others.1 ∙ one.1, one.2) in
+      let first : IsOurs back.first' = (back.same_gates ∙ one.0, ap (λ (port : WorkerPortView (Box Contents)). gates_of port.end) back.others.1 ∙ one.1, one.2) in
       subst (λ (s : System A K). All (λ (e : WorkerEnd A K). IsEndOf s.gates e.registrar) new.ends.items) (sym back.system)
       (All-same IsOurs new.ends.items (back.first' ∷ back.rest) back.is
       (All-cons IsOurs back.first' back.rest first (All-tail IsOurs back.first back.rest those)))

@@ -53,11 +53,11 @@ module _ {A K : Type 0} (gives : ℕ → Moment → Reply → Type 0) (ends : Li
     pub back : HaveGivenBack gives (first ∷ came) (pass_view pass)
 
   pub given-first : (rest : List (WorkerEnd A K)) (e : WorkerEnd A K) (pass : Pass (Box Contents)) → e ∷ rest ≡ ends
-      → GivesBack gives e.registrar.run_queue.end (pass_view e.registrar.pass) (pass_view pass) → SomeHaveGivenBack [] rest pass
+      → GivesBack gives e.registrar.run_queue (pass_view e.registrar.pass) (pass_view pass) → SomeHaveGivenBack [] rest pass
   given-first rest e pass are back = record { first = e; are = are; back = by_first e (pass_view pass) back }
 
   pub given-more : (came left rest : List (WorkerEnd A K)) (e : WorkerEnd A K) (old new other : Pass (Box Contents)) → SomeHaveGivenBack came left old
-      → left ≡ e ∷ rest → GivesBack gives e.registrar.run_queue.end (pass_view e.registrar.pass) (pass_view other)
+      → left ≡ e ∷ rest → GivesBack gives e.registrar.run_queue (pass_view e.registrar.pass) (pass_view other)
       → pass_view new ≡ taking_over (pass_view old) (pass_view other) → SomeHaveGivenBack (came ++ e ∷ []) rest new
   given-more came left rest e old new other some next back knows = record {
     first = some.first;

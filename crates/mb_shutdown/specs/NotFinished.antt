@@ -12,7 +12,7 @@ use Rattle.mb_shutdown.specs.Homes.{Disagrees}
 use Rattle.mb_shutdown.specs.Rooms.{AreCounted}
 use Rattle.mb_shutdown.specs.declared.mismatch.Mismatch.{Mismatch}
 use Rattle.mb_register.specs.declared.registrar.Registrar.{Registrar}
-use Rattle.mb_pool.specs.declared.worker_port.WorkerPort.{WorkerPort}
+use Rattle.mb_pool.specs.WorkerPorts.{WorkerPortView}
 use Rattle.mb_system.specs.Members.{IsEndOf}
 use Rattle.mb_build.specs.Planned.{IsDirectoryOf}
 use Rattle.mb_shutdown.specs.Refused.{FindsBusy}
@@ -23,8 +23,8 @@ pub record HasWorkLeft (plan : Plan) (id : ℕ) : Type 0 where
   pub gates : Gates (Box Contents)
   pub planned : IsDirectoryOf plan (first_home gates).value.directory
   pub within : id < actors_of gates
-  pub before : Registrar (Box Contents) (WorkerPort (Box Contents))
-  pub after : Registrar (Box Contents) (WorkerPort (Box Contents))
+  pub before : Registrar (Box Contents) (WorkerPortView (Box Contents))
+  pub after : Registrar (Box Contents) (WorkerPortView (Box Contents))
   pub same_gates : IsEndOf gates before
   pub same : pass_id after.pass ≡ pass_id before.pass
   pub found : FindsBusy id (pass_view before.pass) (pass_view after.pass)

@@ -14,8 +14,9 @@ use Rattle.mb_home.specs.Fresh.{IsFreshClaim}
 use Rattle.mb_journal.specs.Aside.{aside}
 use Rattle.mb_journal.specs.Life.{phase}
 use Rattle.mb_journal.specs.Suspension.{count}
-use Rattle.mb_pool.specs.Moves.{Takes, WasEmpty}
-use Rattle.mb_pool.specs.Places.{PoolEndpoint, ports_of}
+use Rattle.mb_pool.specs.Moves.{WasEmpty}
+use Rattle.mb_pool.specs.Places.{ports_of}
+use Rattle.mb_pool.specs.WorkerPorts.{TakesClaim, WorkerPortView}
 use Rattle.mb_shutdown.specs.Homes.{AreHomes, BoxedHome}
 use Rattle.mb_shutdown.specs.declared.unfinished.UnfinishedActor.{UnfinishedActor}
 use Rattle.mb_system.specs.declared.built.Built.{Built}
@@ -42,19 +43,20 @@ pub record ShowsHomes (gives : ℕ → Moment → Reply → Type 0) (first : Con
   pub left : AreHomes gives first actors view all
   pub shows : AllZip ShowsHome all shown
 
--- By this end of the pool claims were taken until it found the pool empty, and each went back to its actor. By that the first view became the second.
-pub data GivesBack (gives : ℕ → Moment → Reply → Type 0) : PoolEndpoint (Box Contents) → View → View → Type 0 where
-  found_none : (end : PoolEndpoint (Box Contents)) (view : View) → All (WasEmpty (IsFreshClaim gives)) (ports_of end) → GivesBack gives end view view
-  gave_one : (old new : PoolEndpoint (Box Contents)) (claim : Claim (Box Contents)) (before after : View) → Takes (IsFreshClaim gives) old claim new
+-- By this port claims were taken until it kept none and found the pool empty, and each went back to its actor. By that the first view became the second.
+pub data GivesBack (gives : ℕ → Moment → Reply → Type 0) : WorkerPortView (Box Contents) → View → View → Type 0 where
+  found_none : (port : WorkerPortView (Box Contents)) (view : View) → port.next ≡ [] → All (WasEmpty (IsFreshClaim gives)) (ports_of port.end)
+      → GivesBack gives port view view
+  gave_one : (old new : WorkerPortView (Box Contents)) (claim : Claim (Box Contents)) (before after : View) → TakesClaim (IsFreshClaim gives) old claim new
       → GivesBack gives new (idling (held_actor claim) (facts_of claim.home.value).journal (taking_in (claim_view claim) before)) after
       → GivesBack gives old before after
 
 -- Each of these workers' ends did so, one after another. What they know then is put together in this view.
 pub data HaveGivenBack {A K : Type 0} (gives : ℕ → Moment → Reply → Type 0) : List (WorkerEnd A K) → View → Type 0 where
-  by_first : (end : WorkerEnd A K) (view : View) → GivesBack gives end.registrar.run_queue.end (pass_view end.registrar.pass) view
+  by_first : (end : WorkerEnd A K) (view : View) → GivesBack gives end.registrar.run_queue (pass_view end.registrar.pass) view
       → HaveGivenBack gives (end ∷ []) view
   by_one_more : (ends : List (WorkerEnd A K)) (end : WorkerEnd A K) (view other : View) → HaveGivenBack gives ends view
-      → GivesBack gives end.registrar.run_queue.end (pass_view end.registrar.pass) other
+      → GivesBack gives end.registrar.run_queue (pass_view end.registrar.pass) other
       → HaveGivenBack gives (ends ++ end ∷ []) (taking_over view other)
 
 -- It shows what the gates of this system gave back of each actor. All that its ends saw was known then, and each claim that they found in the pool had

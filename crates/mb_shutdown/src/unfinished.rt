@@ -98,7 +98,7 @@ fn give_back<A: Actor, K: Behaviours, R: Wait>(
     requires same_gates { IsEndOf gates.now end.registrar }
     ensures same_gates { pass_id result ≡ gates_id gates.now }
     ensures seen { IsPart (pass_view end.registrar.pass).log (pass_view result).log }
-    ensures back { GivesBack K.gives end.registrar.run_queue.end (pass_view end.registrar.pass) (pass_view result) }
+    ensures back { GivesBack K.gives end.registrar.run_queue (pass_view end.registrar.pass) (pass_view result) }
 {
     let mut end = end;
     for _ in rt.forever() {

@@ -46,9 +46,9 @@ leaves-then a b c p q = record {
     by_last id (inr kept) (inr same) = inr (kept ∙ same)
 
 -- what an answer of none tells
-pub none-tells : {X : Type 0} (A B C : Type 0) (r : Option X) → (A → B) → IfNone r (A × C) → IfNone r (B × C)
-none-tells A B C None f h = (f h.0, h.1)
-none-tells A B C (Some x) f h = tt
+pub none-tells : {X : Type 0} (A B C D : Type 0) (r : Option X) → (A → B) → IfNone r (A × C × D) → IfNone r (B × C × D)
+none-tells A B C D None f h = (f h.0, h.1, h.2)
+none-tells A B C D (Some x) f h = tt
 
 pub none-still : {X : Type 0} (A B : Type 0) (r : Option X) → (A → B) → IfNone r A → IfNone r B
 none-still A B None f h = f h

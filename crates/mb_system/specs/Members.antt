@@ -14,14 +14,14 @@ use Rattle.mb_register.specs.Caller.{Caller, caller_of, IsRegistrarOf}
 use Rattle.mb_register.specs.Owed.{is_owed}
 use Rattle.mb_register.specs.declared.registrar.Registrar.{Registrar}
 use Rattle.mb_pool.specs.PoolPorts.{pushed_first}
-use Rattle.mb_pool.specs.declared.worker_port.WorkerPort.{WorkerPort}
+use Rattle.mb_pool.specs.WorkerPorts.{WorkerPortView}
 use Rattle.mb_pool.specs.declared.feed_port.FeedPort.{FeedPort}
 use Rattle.mb_system.specs.declared.end.WorkerEnd.{WorkerEnd}
 use Rattle.mb_system.specs.declared.sender.Sender.{Sender as OutsideSender}
 
 -- The end's pass and its port of the run queue are of these gates.
-abbrev pub IsEndOf : Gates (Box Contents) → Registrar (Box Contents) (WorkerPort (Box Contents)) → Type 0
-IsEndOf gates registrar = IsRegistrarOf (λ (run_queue : WorkerPort (Box Contents)). gates_of run_queue.end) gates registrar
+abbrev pub IsEndOf : Gates (Box Contents) → Registrar (Box Contents) (WorkerPortView (Box Contents)) → Type 0
+IsEndOf gates registrar = IsRegistrarOf (λ (run_queue : WorkerPortView (Box Contents)). gates_of run_queue.end) gates registrar
 
 -- The sender's pass and its port of the run queue are of these gates; and it has a pass into the queue of each actor from number 1 on, in their
 -- order.
@@ -31,9 +31,9 @@ pub record IsSenderOf (gates : Gates (Box Contents)) (sender : GatesSender (Box 
   pub queues : receiving_queues sender.sends.items ≡ drop 1 (queues_of (first_home gates).value.directory)
 
 -- What a worker's end knows and owes, with its account with the run queue.
-abbrev pub end_caller : Registrar (Box Contents) (WorkerPort (Box Contents)) → Caller (Box Contents)
-end_caller registrar = caller_of (λ (run_queue : WorkerPort (Box Contents)). pushed_first (ports_of run_queue.end))
-    (λ (run_queue : WorkerPort (Box Contents)). map (λ claim. claim.value) run_queue.refused) registrar
+abbrev pub end_caller : Registrar (Box Contents) (WorkerPortView (Box Contents)) → Caller (Box Contents)
+end_caller registrar = caller_of (λ (run_queue : WorkerPortView (Box Contents)). run_queue.pushed)
+    (λ (run_queue : WorkerPortView (Box Contents)). run_queue.refused) registrar
 
 -- What a sender knows and owes, with its account with the run queue.
 abbrev pub sender_caller : Registrar (Box Contents) (FeedPort (Box Contents)) → Caller (Box Contents)

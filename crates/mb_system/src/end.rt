@@ -1,11 +1,12 @@
 //! The end of a worker in a system.
-ghost use Rattle.std.specs.Prelude.{◌≡◌, ◌<◌, ℕ, false, true, All, IfNone, IfSome, IsErrOf, MatchResult, OnErr, OnOk};
+ghost use Rattle.std.specs.Prelude.{◌≡◌, ◌<◌, ℕ, [], false, true, All, IfNone, IfSome, IsErrOf, MatchResult, OnErr, OnOk};
 ghost use Rattle.mb_core.specs.Actor.{nothing};
 ghost use Rattle.mb_gate.specs.Accessors.{actors_of, pass_view};
 ghost use Rattle.mb_gate.specs.Rule.{IsPart};
 ghost use Rattle.mb_gate.specs.View.{obligation_to};
 ghost use Rattle.mb_pool.specs.Places.{gates_of, ports_of};
-ghost use Rattle.mb_pool.specs.Moves.{Takes, WasEmpty};
+ghost use Rattle.mb_pool.specs.Moves.{WasEmpty};
+ghost use Rattle.mb_pool.specs.WorkerPorts.{TakesClaim};
 ghost use Rattle.mb_register.specs.Caller.{IsDischargedOrOwed, LeavesCaller};
 ghost use Rattle.mb_register.specs.Due.{GotOnlyDue};
 ghost use Rattle.mb_home.specs.Fresh.{IsFreshClaim};
@@ -102,27 +103,28 @@ impl<A: Actor, K: Behaviours> WorkerEnd<A, K> {
         }
     }
 
-    /// Takes the claim of an actor out of the pool, as it was pushed, and no other: the first of the first place that has one.
-    /// The actor's mailbox is to be run. It answers `None` only if each place in which it looks was empty at some moment; then
-    /// the end is as it was.
+    /// Takes the claim that its port keeps, or else the claim of an actor out of the pool, as it was pushed, and no other: the first
+    /// of the first place that has one. The actor's mailbox is to be run. It answers `None` only if none is kept and each place in
+    /// which it looks was empty at some moment; then the end is as it was.
     #[inline(always)]
     pub fn take<R: Wait>(&mut self, rt: &R) -> Option<Claim<BoxedHome<A, K>>>
         ensures untouched { IfSome result (IsFreshClaim K.gives (gates_of self.old.registrar.run_queue.end)) }
-        ensures taken { IfSome result (λ claim. Takes (IsFreshClaim K.gives) self.old.registrar.run_queue.end claim self.new.registrar.run_queue.end) }
-        ensures none { IfNone result ((self.new ≡ self.old) × All (WasEmpty (IsFreshClaim K.gives)) (ports_of self.old.registrar.run_queue.end)) }
+        ensures taken { IfSome result (λ claim. TakesClaim (IsFreshClaim K.gives) self.old.registrar.run_queue claim self.new.registrar.run_queue) }
+        ensures none { IfNone result ((self.new ≡ self.old) × (self.old.registrar.run_queue.next ≡ [])
+            × All (WasEmpty (IsFreshClaim K.gives)) (ports_of self.old.registrar.run_queue.end)) }
         ensures same { (self.new.registrar.pass ≡ self.old.registrar.pass) × (self.new.registrar.owed ≡ self.old.registrar.owed)
             × (gates_of self.new.registrar.run_queue.end ≡ gates_of self.old.registrar.run_queue.end) × (self.new.number ≡ self.old.number) }
     {
         self.registrar.run_queue.take(rt)
     }
 
-    /// Takes the claim of an actor out of the pool by one attempt, as it was pushed, and no other: the first of the first place in
-    /// which the end looks. The actor's mailbox is to be run. It answers `None` if that place was empty, or another thread was in
-    /// the way; then the end is as it was. It does not wait.
+    /// Takes the claim that its port keeps, or else the claim of an actor out of the pool by one attempt, as it was pushed, and no
+    /// other: the first of the first place in which the end looks. The actor's mailbox is to be run. It answers `None` if none is
+    /// kept and that place was empty, or another thread was in the way; then the end is as it was. It does not wait.
     #[inline(always)]
     pub fn try_take(&mut self) -> Option<Claim<BoxedHome<A, K>>>
         ensures untouched { IfSome result (IsFreshClaim K.gives (gates_of self.old.registrar.run_queue.end)) }
-        ensures taken { IfSome result (λ claim. Takes (IsFreshClaim K.gives) self.old.registrar.run_queue.end claim self.new.registrar.run_queue.end) }
+        ensures taken { IfSome result (λ claim. TakesClaim (IsFreshClaim K.gives) self.old.registrar.run_queue claim self.new.registrar.run_queue) }
         ensures none { IfNone result (self.new ≡ self.old) }
         ensures same { (self.new.registrar.pass ≡ self.old.registrar.pass) × (self.new.registrar.owed ≡ self.old.registrar.owed)
             × (gates_of self.new.registrar.run_queue.end ≡ gates_of self.old.registrar.run_queue.end) × (self.new.number ≡ self.old.number) }

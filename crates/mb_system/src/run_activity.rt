@@ -38,7 +38,8 @@ impl RunActivity {
         self.busy.fetch_sub(1, Ordering::SeqCst);
     }
 
-    /// Whether no job is open and no worker busy: then nobody brings claims any more.
+    /// Whether no job is open and no worker counts as busy. A worker that waited counts as busy only right after it took a claim, so
+    /// another may read this, and leave, while it begins with the last one.
     pub fn is_over(&self) -> bool {
         self.jobs.load(Ordering::SeqCst) == 0 && self.busy.load(Ordering::SeqCst) == 0
     }

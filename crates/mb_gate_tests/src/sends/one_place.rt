@@ -51,6 +51,7 @@ impl RunQueue<OpenHome> for OnePlace {
         &mut self,
         rt: &R,
         claim: Claim<OpenHome>,
+        is_awaited: bool,
     ) -> Result<(), RefusedClaim<OpenHome>>
         requires untouched { IsUntouched ⟦<OpenHome as MailboxState>⟧.is_of ⟦<OpenHome as MailboxState>⟧.facts (Some (origin_of self.old.gates.value)) claim }
         ensures same { self.new.gates ≡ self.old.gates }
@@ -60,6 +61,8 @@ impl RunQueue<OpenHome> for OnePlace {
             (λ back. (back.claim ≡ claim) × (map (λ p. claim_in p) (option_to_list self.new.place) ≡ map (λ p. claim_in p) (option_to_list self.old.place))
             × (map (λ s. s.value) self.new.refused ≡ map (λ s. s.value) self.old.refused ++ claim ∷ [])) }
     {
+        // There is no worker that could take it next.
+        let _ = is_awaited;
         if self.place.is_some() {
             self.refused.add(Snapshot::of(&claim));
             return Err(RefusedClaim { claim });

@@ -121,7 +121,7 @@ returns-in_err-retry_refused-in-None-take-clause-runs g c =
 
 pub returns-then-is_empty-clause-empty : goal.returns-then-is_empty-clause-empty
 returns-then-is_empty-clause-empty g c =
-    let none = c.in-None-take.ensures.none in subst (FoundPoolEmpty g.K.Behaviours.gives) (sym none.0) none.1
+    let none = c.in-None-take.ensures.none in subst (FoundPoolEmpty g.K.Behaviours.gives) (sym none.0) (none.1, none.2)
 
 pub returns-then-is_empty-clause-settled : goal.returns-then-is_empty-clause-settled
 returns-then-is_empty-clause-settled g c =

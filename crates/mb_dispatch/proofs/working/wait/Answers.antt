@@ -30,7 +30,7 @@ returns-then-is_over-clause-untouched g c = tt
 
 pub returns-then-is_over-clause-empty : goal.returns-then-is_over-clause-empty
 returns-then-is_over-clause-empty g c =
-    let none = c.in_default.ensures.none in subst (FoundPoolEmpty g.K.Behaviours.gives) (sym none.0) none.1
+    let none = c.in_default.ensures.none in subst (FoundPoolEmpty g.K.Behaviours.gives) (sym none.0) (none.1, none.2)
 
 pub returns-then-is_over-clause-same : goal.returns-then-is_over-clause-same
 returns-then-is_over-clause-same g c =

@@ -1,11 +1,10 @@
-use Rattle.std.proofs.Common.{◌≡◌, subst, sym}
-use Rattle.std.specs.Prelude.{Some, None}
+use Rattle.std.proofs.Common.{subst, sym}
+use Rattle.std.specs.Prelude.{Some}
 use Rattle.mb_pool.specs.Moves.{Takes}
 use Rattle.mb_pool.specs.Parts.{port_view}
-use Rattle.mb_pool.specs.Places.{parts_of}
 use Rattle.mb_gate.specs.Untouched.{IsUntouched}
 use Rattle.mb_pool.specs.Endpoints.{AreOpen, endpoint_of}
-use Rattle.mb_pool.proofs.Ports.{shared_port_open, feed_parts, own_open, own_parts, tried_take_by_own, tried_take_by_shared_port, tried_take_same, stealing}
+use Rattle.mb_pool.proofs.Ports.{shared_port_open, own_open, tried_take_by_own, stealing}
 use Rattle.mb_pool.proofs.end.try_take_first.Goals as goal
 
 pub try_take-requires : goal.try_take-requires

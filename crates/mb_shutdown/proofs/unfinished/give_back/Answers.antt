@@ -42,8 +42,8 @@ loop-preserved g c =
           (subst (λ p. IsPart (pass_view p).log now) same.0
           (released-part (held_actor claim) (facts_of claim.home.value).journal (claim_view claim) (pass_view c.take.new.self.registrar.pass)
           (pass_view c.release.new.pass) c.release.ensures.known)),
-      λ after back. c.loop.invariant.2 after (gave_one c.loop.end.registrar.run_queue.end c.take.new.self.registrar.run_queue.end claim old after
-          c.in-Some-take.ensures.taken (subst (λ v. GivesBack gives c.take.new.self.registrar.run_queue.end v after) known back)),
+      λ after back. c.loop.invariant.2 after (gave_one c.loop.end.registrar.run_queue c.take.new.self.registrar.run_queue claim old after
+          c.in-Some-take.ensures.taken (subst (λ v. GivesBack gives c.take.new.self.registrar.run_queue v after) known back)),
     )
 
 pub returns-in_default-clause-back : goal.returns-in_default-clause-back
@@ -51,5 +51,5 @@ returns-in_default-clause-back g c =
     let none = c.in_default.ensures.none in let end = c.loop.end.registrar in
     let same : c.into_pass.result ≡ end.pass = c.into_pass.ensures ∙ ap (λ e. e.registrar.pass) none.0 in
     c.loop.invariant.2 (pass_view c.into_pass.result)
-    (subst (λ p. GivesBack g.K.Behaviours.gives end.run_queue.end (pass_view end.pass) (pass_view p)) (sym same)
-    (found_none end.run_queue.end (pass_view end.pass) none.1))
+    (subst (λ p. GivesBack g.K.Behaviours.gives end.run_queue (pass_view end.pass) (pass_view p)) (sym same)
+    (found_none end.run_queue (pass_view end.pass) none.1 none.2))

@@ -15,4 +15,4 @@ returns-clause-room c ready =
     let room = is-below _ _ (ap (λ (l : JournalView). l.is_ready) c.self.view_is ∙ ready) in
     let same = length-rows c.self.inside.wide.items c.self.inside.rows.items c.self.inside.effects.items in
     let entries = ap (λ (l : JournalView). length l.entries) c.self.view_is in
-    grind (arith, nat_tests, room, c.self.invariant.prepared_within)
+    grind (arith, nat_tests, room, c.self.invariant.prepared_within, c.self.invariant.places_within)

@@ -10,4 +10,4 @@ returns-clause-not_full c ready =
     let limit = ap (λ (l : JournalView). l.limit) c.self.view_is in
     let entries = ap (λ (l : JournalView). length l.entries) c.self.view_is in
     let below = is-below _ _ ready in
-    omega (arith, below, c.self.invariant.prepared_within, c.self.inside.rows.ok.0)
+    omega (arith, below, c.self.invariant.prepared_within, c.self.invariant.places_within, c.self.inside.rows.ok.0)

@@ -12,6 +12,7 @@ invariant_of-result c = record {
   there = rw c.new.ensures.items (All-nil _);
   within = omega arith;
   prepared_within = omega arith;
+  places_within = omega arith;
   row_room = omega arith;
   wide_room = omega arith;
   effect_room = omega arith;

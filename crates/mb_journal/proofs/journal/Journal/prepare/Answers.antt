@@ -11,6 +11,13 @@ on_ok : {A E : Type 0} (r : Result A E) (P : Type 0) → false ≡ is_err r → 
 on_ok (Ok x) P no_error h = h
 on_ok (Err e) P no_error h = cc
 
+pub returns-then-len-self-clause-full : goal.returns-then-len-self-clause-full
+returns-then-len-self-clause-full c =
+    let same = length-rows c.self.inside.wide.items c.self.inside.rows.items c.self.inside.effects.items in
+    let limit = ap (λ (l : JournalView). l.limit) c.self.view_is in
+    let entries = ap (λ (l : JournalView). length l.entries) c.self.view_is in
+    (λ no. absurd (cc), λ full. absurd (omega (arith, c.self.invariant.places_within, c.self.inside.rows.ok.0)))
+
 pub invariant_of-self-2 : goal.invariant_of-self-2
 invariant_of-self-2 c =
     let same = length-rows c.self.inside.wide.items c.self.inside.rows.items c.self.inside.effects.items in
@@ -25,6 +32,7 @@ invariant_of-self-2 c =
       there = rw (c.make_room.ensures.same.1, c.make_room-2.ensures.same.1) c.self.invariant.there;
       within = omega arith;
       prepared_within = omega arith;
+      places_within = omega arith;
       row_room = omega arith;
       wide_room = omega arith;
       effect_room = omega arith;

@@ -15,17 +15,17 @@ add-requires c =
 pub add_all-requires : goal.add_all-requires
 add_all-requires c =
     let room = is-below _ _ (ap (λ (l : JournalView). l.is_ready) c.self.view_is ∙ c.requires.ready) in
-    omega (arith, room, c.self.invariant.effect_room, c.requires.within_limit)
+    omega (arith, room, c.self.invariant.prepared_within, c.self.invariant.effect_room, c.requires.within_limit)
 
 pub row_of-requires : goal.row_of-requires
 row_of-requires c =
     let room = is-below _ _ (ap (λ (l : JournalView). l.is_ready) c.self.view_is ∙ c.requires.ready) in
-    omega (arith, room, c.self.invariant.wide_room)
+    omega (arith, room, c.self.invariant.prepared_within, c.self.invariant.wide_room)
 
 pub push_reserved-requires : goal.push_reserved-requires
 push_reserved-requires c =
     let room = is-below _ _ (ap (λ (l : JournalView). l.is_ready) c.self.view_is ∙ c.requires.ready) in
-    omega (arith, room, c.self.invariant.row_room)
+    omega (arith, room, c.self.invariant.prepared_within, c.self.invariant.row_room)
 
 pub invariant_of-self : goal.invariant_of-self
 invariant_of-self c =
@@ -39,15 +39,16 @@ invariant_of-self c =
           there-pushed _ _ _ _ _ _ c.self.invariant.there c.push_reserved.ensures.items c.row_of.ensures.kept.1 c.row_of.ensures.there;
       within = omega arith;
       prepared_within = c.self.invariant.prepared_within;
+      places_within = c.self.invariant.places_within;
       row_room = omega (arith, c.self.invariant.row_room);
-      wide_room = omega (arith, room, c.row_of.ensures.one, c.row_of.ensures.room, c.self.invariant.wide_room);
+      wide_room = omega (arith, room, c.self.invariant.prepared_within, c.row_of.ensures.one, c.row_of.ensures.room, c.self.invariant.wide_room);
       counted =
           counts-pushed _ _ (entry_with c.args.arrival c.args.effects.now) _ _ c.self.invariant.counted
           (entries-pushed _ _ _ _ _ _ _ c.self.invariant.in_order
           (rows-pushed _ _ _ _ _ _ _ c.self.invariant.there c.push_reserved.ensures.items c.row_of.ensures.kept.1 c.row_of.ensures.says)
           c.add_all.ensures.added (omega arith))
           (c.add.ensures.envelopes c.args.effects.now) (c.add.ensures.restarts c.args.effects.now);
-      effect_room = omega (arith, room, c.add_all.ensures.more, c.requires.within_limit, c.self.invariant.effect_room, c.add_all.ensures.room);
+      effect_room = omega (arith, room, c.self.invariant.prepared_within, c.add_all.ensures.more, c.requires.within_limit, c.self.invariant.effect_room, c.add_all.ensures.room);
     }
 
 pub returns-clause-added : goal.returns-clause-added
@@ -62,4 +63,4 @@ pub returns-clause-within : goal.returns-clause-within
 returns-clause-within c =
     let same = length-rows c.row_of.new.wide.items c.push_reserved.new.self.items c.add_all.new.list.items in
     let room = is-below _ _ (ap (λ (l : JournalView). l.is_ready) c.self.view_is ∙ c.requires.ready) in
-    omega (arith, room, c.self.invariant.prepared_within, c.push_reserved.new.self.ok.0)
+    omega (arith, room, c.self.invariant.prepared_within, c.self.invariant.places_within, c.push_reserved.new.self.ok.0)

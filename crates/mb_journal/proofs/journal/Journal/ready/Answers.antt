@@ -9,4 +9,5 @@ returns-clause-full c =
     let limit = ap (λ (l : JournalView). l.limit) c.self.view_is in
     let entries = ap (λ (l : JournalView). length l.entries) c.self.view_is in
     let prepared = c.self.invariant.prepared_within in
+    let places = c.self.invariant.places_within in
     (λ no. absurd (cc), λ full. absurd (omega (arith, c.self.inside.rows.ok.0)))

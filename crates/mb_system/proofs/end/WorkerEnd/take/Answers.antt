@@ -4,7 +4,7 @@ use Rattle.mb_system.proofs.end.WorkerEnd.take.Goals as goal
 
 pub returns-clause-none : goal.returns-clause-none
 returns-clause-none g c =
-    none-tells _ _ _ c.take.result (λ same. ap (λ run_queue. record c.args.self.now { registrar = record c.args.self.now.registrar { run_queue = run_queue } }) same)
+    none-tells _ _ _ _ c.take.result (λ same. ap (λ run_queue. record c.args.self.now { registrar = record c.args.self.now.registrar { run_queue = run_queue } }) same)
     c.take.ensures.none
 
 pub returns-clause-untouched : goal.returns-clause-untouched
