@@ -123,9 +123,10 @@ fn wait<A: Actor, K: Behaviours, R: Wait>(
     going.leave();
     let backoff = Backoff::new();
     for _ in rt.forever() {
-        // Read before the take: once it is over nobody brings a claim but a worker that has one, which takes on what it brings itself.
-        // Read after it, a claim that was pushed between the two would be left.
-        let is_over = going.is_over();
+        // Read before the take: once it is over nobody brings a claim but a worker that has one. Read after it, a claim that was pushed
+        // between the two would be left.
+        // Asked only after a while: another worker that has just taken a claim counts as busy only after that.
+        let is_over = backoff.is_completed() && going.is_over();
         if let Some(claim) = end.take(rt) {
             going.enter();
             return Some(claim);

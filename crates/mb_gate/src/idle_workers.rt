@@ -1,11 +1,13 @@
 //! Whether a worker waits for a claim.
 use std::sync::atomic::{AtomicUsize, Ordering};
 
-/// How many workers wait for a claim, and one more while no run on threads is on. So outside such a run, where nobody counts
-/// who waits, the answer is always that one does. No contract says anything of the count: any answer is right, and it only
-/// shows whether a claim would be taken at once. (This project's own profile: Akka's executor knows its idle threads itself.)
+/// How many runs on threads are on, and how many workers wait for a claim. No contract says anything of these counts: any answer is
+/// right, and it only shows whether a claim would be taken at once. (This project's own profile: Akka's executor knows its idle
+/// threads itself.)
 #[derive(Drop)]
 pub struct IdleWorkers {
+    runs: AtomicUsize,
+    /// How many workers wait, and one more while no run on threads is on.
     count: AtomicUsize,
 }
 
@@ -13,18 +15,21 @@ impl IdleWorkers {
     /// No worker waits, and no run on threads is on.
     pub fn new() -> IdleWorkers {
         IdleWorkers {
+            runs: AtomicUsize::new(0),
             count: AtomicUsize::new(1),
         }
     }
 
     /// A run on threads begins: only workers that wait count from now on.
     pub fn run_begins(&self) {
+        self.runs.fetch_add(1, Ordering::SeqCst);
         self.count.fetch_sub(1, Ordering::SeqCst);
     }
 
     /// The run on threads has ended.
     pub fn run_ends(&self) {
         self.count.fetch_add(1, Ordering::SeqCst);
+        self.runs.fetch_sub(1, Ordering::SeqCst);
     }
 
     /// Counts one more worker as waiting for a claim.
@@ -37,8 +42,13 @@ impl IdleWorkers {
         self.count.fetch_sub(1, Ordering::SeqCst);
     }
 
-    /// Whether a worker waits for a claim, or no run on threads is on.
+    /// Whether a worker waits for a claim, or no run on threads is on: outside such a run nobody counts who waits.
     pub fn is_any(&self) -> bool {
         self.count.load(Ordering::SeqCst) != 0
+    }
+
+    /// Whether no run on threads is on.
+    pub fn is_quiet(&self) -> bool {
+        self.runs.load(Ordering::SeqCst) == 0
     }
 }

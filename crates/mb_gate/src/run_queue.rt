@@ -22,8 +22,8 @@ pub trait RunQueue<H: MailboxState> {
     // those that the pool refused
     ghost refused: { Self → List (Claim H) };
 
-    /// Puts a claim into the pool, or gives it back. `is_awaited` says whether a worker waits for a claim. Where none does, the
-    /// way of a worker may keep the claim, which the worker then takes next.
+    /// Puts a claim into the pool, or gives it back. `is_awaited` says whether another worker waits for it. Where none does, the way
+    /// of a worker may keep the claim, which the worker then takes next.
     fn push<R: Wait>(
         &mut self,
         rt: &R,

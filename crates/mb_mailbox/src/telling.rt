@@ -92,8 +92,9 @@ fn send<A: Actor, K: Behaviours, R: Wait>(
         home.record_closed_receiver(to, body);
         return None;
     }
+    let envelope = home.next_envelope(to, body);
     gates.note_sent(pass, to);
-    match home.push(rt, to, body) {
+    match home.push(rt, &envelope) {
         Ok(()) => Some(Hint::Message),
         Err(_) => {
             gates.note_unsent(pass, to);

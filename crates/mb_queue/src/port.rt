@@ -75,26 +75,27 @@ impl Port {
         })
     }
 
-    /// Pushes the envelope. Where it is refused, nothing has changed.
+    /// Pushes the envelope. Where it is refused, nothing has changed. It is lent, so that a caller that made it some steps ago has it
+    /// in memory already: a copy right after it was written would wait for those writes.
     // Not inlined: its answer fits a register, so that a call costs less than the code in each caller would. The queues
     // are asked right here, as in `take`.
     #[inline(never)]
-    pub fn push<R: Wait>(&mut self, rt: &R, envelope: Envelope) -> Result<(), Refusal>
-        requires { MayPush envelope self.old.ledger }
-        ensures pushed { MatchResult result (λ _. self.new ≡ record self.old { ledger = pushing self.old.ledger envelope })
+    pub fn push<R: Wait>(&mut self, rt: &R, envelope: &Envelope) -> Result<(), Refusal>
+        requires { MayPush envelope.now self.old.ledger }
+        ensures pushed { MatchResult result (λ _. self.new ≡ record self.old { ledger = pushing self.old.ledger envelope.now })
             (λ _. self.new ≡ self.old) }
         ensures refused { IfErr result (IsFifoRefusal self.old.fifo.capacity self.old.ledger) }
     {
         match &mut self.end {
             End::Unbounded(blocks, pass) => match blocks
                 .queue
-                .push_as::<FifoPush, R>(rt, pass, envelope)
+                .push_as::<FifoPush, R>(rt, pass, *envelope)
             {
                 Ok(()) => Ok(()),
                 Err(_) => Err(Refusal::NoMemory),
             },
             End::Bounded(slots, pass) => {
-                match slots.queue.push_as::<FifoPush, R>(rt, pass, envelope) {
+                match slots.queue.push_as::<FifoPush, R>(rt, pass, *envelope) {
                     Ok(()) => Ok(()),
                     Err(_) => Err(Refusal::Full),
                 }

@@ -50,30 +50,30 @@ impl SendPass {
             (λ refused. (given_back refused ≡ envelope) × (self.new ≡ self.old)) }
         ensures refused { IfErr result (IsRefusal self.old) }
     {
-        match self.put(rt, envelope) {
+        match self.put(rt, &envelope) {
             Ok(()) => Ok(()),
             Err(refusal) => Err(refusal.of(envelope)),
         }
     }
 
     /// Pushes as `push` does, and answers only why the envelope was refused.
-    // The answer fits a register, as a `PushError` does not. The caller has its envelope still.
+    // The answer fits a register, as a `PushError` does not. The caller has its envelope still; `Port::push` says why it is lent.
     #[inline(always)]
-    pub fn put<R: Wait>(&mut self, rt: &R, envelope: Envelope) -> Result<(), Refusal>
-        requires sender { envelope.by.0 ≡ self.old.by }
-        requires addressed { envelope.to.0 ≡ self.old.queue.to }
-        ensures pushed { MatchResult result (λ _. self.new ≡ record self.old { pushed = self.old.pushed ++ envelope ∷ [] })
+    pub fn put<R: Wait>(&mut self, rt: &R, envelope: &Envelope) -> Result<(), Refusal>
+        requires sender { envelope.now.by.0 ≡ self.old.by }
+        requires addressed { envelope.now.to.0 ≡ self.old.queue.to }
+        ensures pushed { MatchResult result (λ _. self.new ≡ record self.old { pushed = self.old.pushed ++ envelope.now ∷ [] })
             (λ _. self.new ≡ self.old) }
         ensures refused { IfErr result (IsReason self.old) }
     {
-        if is_for_control(&self.control, envelope) {
+        if is_for_control(&self.control, *envelope) {
             let Some(control) = &mut self.control else {
                 unreachable!()
             };
             return put_to(control, &mut self.pushed, rt, envelope);
         }
         let answer = self.main.push(rt, envelope);
-        add_pushed(&mut self.pushed, envelope, &answer);
+        add_pushed(&mut self.pushed, *envelope, &answer);
         answer
     }
 }
@@ -85,14 +85,14 @@ fn put_to<R: Wait>(
     port: &mut Port,
     pushed: &mut Log<Envelope>,
     rt: &R,
-    envelope: Envelope,
+    envelope: &Envelope,
 ) -> Result<(), Refusal>
-    requires { MayPush envelope port.old.ledger }
-    ensures pushed { IsPushed envelope result port.old port.new pushed.old pushed.new }
+    requires { MayPush envelope.now port.old.ledger }
+    ensures pushed { IsPushed envelope.now result port.old port.new pushed.old pushed.new }
     ensures refused { IfErr result (IsFifoRefusal port.old.fifo.capacity port.old.ledger) }
 {
     let answer = port.push(rt, envelope);
-    add_pushed(pushed, envelope, &answer);
+    add_pushed(pushed, *envelope, &answer);
     answer
 }
 

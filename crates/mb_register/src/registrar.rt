@@ -81,17 +81,17 @@ impl<H: MailboxState, W: RunQueue<H>> Registrar<H, W> {
     {
         // Each answer is given in its own arm, and the claim is handed on right where it was got: so it stays in registers.
         match gates.try_schedule(&mut self.pass, id) {
-            Tried::Got(claim) => match self
-                .run_queue
-                .push(rt, claim, gates.idle_workers().is_any())
-            {
-                Ok(()) => return true,
-                Err(RefusedClaim { claim }) => {
-                    give_home(gates, &mut self.pass, claim);
-                    self.owed.insert(id);
-                    return false;
+            Tried::Got(claim) => {
+                let is_awaited = self.is_awaited(gates, id);
+                match self.run_queue.push(rt, claim, is_awaited) {
+                    Ok(()) => return true,
+                    Err(RefusedClaim { claim }) => {
+                        give_home(gates, &mut self.pass, claim);
+                        self.owed.insert(id);
+                        return false;
+                    }
                 }
-            },
+            }
             Tried::Already => return false,
             Tried::Closed => return false,
             Tried::Lost(_) => return self.register_due_again(rt, gates, id, hint),
@@ -126,16 +126,29 @@ impl<H: MailboxState, W: RunQueue<H>> Registrar<H, W> {
         let Some(claim) = take_due_again(rt, gates, &mut self.pass, id, hint) else {
             return false;
         };
-        match self
-            .run_queue
-            .push(rt, claim, gates.idle_workers().is_any())
-        {
+        let is_awaited = self.is_awaited(gates, id);
+        match self.run_queue.push(rt, claim, is_awaited) {
             Ok(()) => true,
             Err(RefusedClaim { claim }) => {
                 give_home(gates, &mut self.pass, claim);
                 self.owed.insert(id);
                 false
             }
+        }
+    }
+
+    // Whether another worker is to have the actor's claim, rather than the worker that registers the actor. In a run on threads this
+    // is so where the run told the actor something and a worker waits. Any other actor is best run next where it is: its own run has
+    // just ended, or a system message went to it, and after that a run has mostly little left to do. Any answer is right.
+    #[inline(always)]
+    fn is_awaited(&self, gates: &Gates<H>, id: ActorId) -> bool
+        requires { id.0 < 64 }
+    {
+        let idle_workers = gates.idle_workers();
+        if self.told.contains(id) {
+            idle_workers.is_any()
+        } else {
+            idle_workers.is_quiet()
         }
     }
 }

@@ -43,8 +43,8 @@ impl<H: MailboxState, W: RunQueue<H>> Registrar<H, W> {
             let Some(id) = self.told.first() else {
                 return;
             };
-            self.told.remove(id);
             self.register(rt, gates, id, Hint::None);
+            self.told.remove(id);
         }
     }
 }

@@ -60,7 +60,7 @@ impl<H: MailboxState, W: RunQueue<H>> GatesSender<H, W> {
         // Counted before its queue gets it, and taken back where that refuses it (`counts` of `mb_register`). A run does so too with
         // what its actor tells (`send` of `mb_mailbox`, which says why these are two functions).
         gates.note_sent(&mut self.registrar.pass, to);
-        match self.sends[to.0 as usize - 1].put(rt, envelope) {
+        match self.sends[to.0 as usize - 1].put(rt, &envelope) {
             Ok(()) => {
                 self.send_log.record_queued(envelope);
                 self.registrar.register(rt, gates, to, Hint::Message);

@@ -29,28 +29,43 @@ impl<A: Actor, K: Behaviours> Home<A, K> {
         self.cell.next_act()
     }
 
-    /// Sends what the actor tells: puts its envelope last into the receiver's queue (`ActorRef.tell`).
+    /// The envelope of what the actor tells next. It is made before it is counted as waiting, so that it is in memory when its queue
+    /// copies it.
+    #[inline(always)]
+    pub fn next_envelope(&self, to: ActorId, body: Body) -> Envelope
+        ensures { result ≡ next_envelope self.now to body }
+    {
+        Envelope {
+            by: SenderId(u32::from(self.id.0)),
+            to,
+            number: self.sent,
+            body,
+        }
+    }
+
+    /// Sends what the actor tells: puts its next envelope last into the receiver's queue (`ActorRef.tell`).
     ///
     /// It answers `Full` or `NoMemory` with the envelope if the queue refused it: `Full` only if the queue has a bound and was
     /// full at some moment. The envelope is then a dead letter for that reason.
     #[inline(always)]
-    pub fn push<R: Wait>(&mut self, rt: &R, to: ActorId, body: Body) -> Result<(), PushError>
-        requires settled { AgreesWithJournal (K.gives self.old.cell.who.this.0) (Tell to body ∷ self.old.cell.acts) self.old }
-        ensures pushed { MatchResult result (λ _. Pushes self.old self.new to body)
-            (λ refused. (given_back refused ≡ next_envelope self.old to body) × RecordsDeadLetter self.old self.new to body (reason_of refused)) }
-        ensures refused { IfErr result (λ refused. RefusesPush self.old (to.0 - 1) refused) }
+    pub fn push<R: Wait>(&mut self, rt: &R, envelope: &Envelope) -> Result<(), PushError>
+        requires settled { AgreesWithJournal (K.gives self.old.cell.who.this.0) (Tell envelope.now.to envelope.now.body ∷ self.old.cell.acts) self.old }
+        requires next { envelope.now ≡ next_envelope self.old envelope.now.to envelope.now.body }
+        ensures pushed { MatchResult result (λ _. Pushes self.old self.new envelope.now.to envelope.now.body)
+            (λ refused. (given_back refused ≡ envelope.now)
+            × RecordsDeadLetter self.old self.new envelope.now.to envelope.now.body (reason_of refused)) }
+        ensures refused { IfErr result (λ refused. RefusesPush self.old (envelope.now.to.0 - 1) refused) }
         ensures settled { AgreesWithJournal (K.gives self.new.cell.who.this.0) self.new.cell.acts self.new }
     {
-        let envelope = self.envelope(to, body);
-        let place = to.0 as usize - 1;
+        let place = envelope.to.0 as usize - 1;
         match self.sends[place].put(rt, envelope) {
             Ok(()) => {
                 self.sent = self.sent.wrapping_add(1);
                 Ok(())
             }
             Err(refusal) => {
-                let refused = refusal.of(envelope);
-                self.record_dead_letter(envelope, reason(&refused));
+                let refused = refusal.of(*envelope);
+                self.record_dead_letter(*envelope, reason(&refused));
                 Err(refused)
             }
         }
@@ -62,20 +77,8 @@ impl<A: Actor, K: Behaviours> Home<A, K> {
         ensures is_dead_letter { RecordsDeadLetter self.old self.new to body Closed }
         ensures settled { AgreesWithJournal (K.gives self.new.cell.who.this.0) self.new.cell.acts self.new }
     {
-        let envelope = self.envelope(to, body);
+        let envelope = self.next_envelope(to, body);
         self.record_dead_letter(envelope, Why::Closed);
-    }
-
-    /// The envelope of what the actor tells next.
-    fn envelope(&self, to: ActorId, body: Body) -> Envelope
-        ensures { result ≡ next_envelope self.now to body }
-    {
-        Envelope {
-            by: SenderId(u32::from(self.id.0)),
-            to,
-            number: self.sent,
-            body,
-        }
     }
 
     /// Makes the next envelope a dead letter. Room for others is made before the next message.

@@ -1,4 +1,5 @@
-use Rattle.std.proofs.Common.{◌==◌, false, [], ◌∷◌, None, Some, sym, ap, ◌∙◌, subst}
+use Rattle.std.proofs.Common.{◌≡◌, ◌==◌, false, [], ◌∷◌, None, Some, refl, sym, ap, ◌∙◌, subst}
+use Rattle.mb_msg.specs.declared.envelope.Envelope.{Envelope}
 use Rattle.mb_status.specs.Mailbox.{word_of}
 use Rattle.mb_msg.specs.declared.dead_letter.Why.TheVariants.{Closed}
 use Rattle.mb_journal.specs.Acts.Act.{Tell}
@@ -6,7 +7,7 @@ use Rattle.mb_gate.specs.Accessors.{pass_view}
 use Rattle.mb_gate.specs.View.{View}
 use Rattle.mb_home.specs.Contents.{Contents}
 use Rattle.mb_home.specs.AgreesWithJournal.{AgreesWithJournal}
-use Rattle.mb_home.specs.Steps.{Pushes, RecordsDeadLetter, reason_of}
+use Rattle.mb_home.specs.Steps.{Pushes, RecordsDeadLetter, next_envelope, reason_of}
 use Rattle.mb_register.specs.Sending.{counts}
 use Rattle.mb_register.proofs.SendingLemmas.{does-read, open-word}
 use Rattle.mb_register.proofs.Views.{looks-none, does-sending, does-unsending}
@@ -37,11 +38,19 @@ record_closed_receiver-requires g c = record {
 }
 
 pub push-requires : goal.push-requires
-push-requires g c = record {
-  settled =
-      subst (λ (x : Contents). AgreesWithJournal (g.K.Behaviours.gives x.cell.who.this.0) (Tell c.args.to c.args.body ∷ x.cell.acts) x)
-      (sym c.deref_mut-2.ensures.value) c.requires.settled;
-}
+push-requires g c =
+    let home = c.args.home.now.value in
+    let e = c.next_envelope-envelope.result in
+    let made = c.next_envelope-envelope.ensures ∙ ap (λ (x : Contents). next_envelope x c.args.to c.args.body) c.deref.ensures in
+    record {
+      settled =
+          subst (λ (x : Contents). AgreesWithJournal (g.K.Behaviours.gives x.cell.who.this.0) (Tell e.to e.body ∷ x.cell.acts) x)
+          (sym c.deref_mut-2.ensures.value)
+          (subst (λ (y : Envelope). AgreesWithJournal (g.K.Behaviours.gives home.cell.who.this.0) (Tell y.to y.body ∷ home.cell.acts) home) (sym made)
+          c.requires.settled);
+      next = subst (λ (x : Contents). e ≡ next_envelope x e.to e.body) (sym c.deref_mut-2.ensures.value)
+          (subst (λ (y : Envelope). y ≡ next_envelope home y.to y.body) (sym made) refl);
+    }
 
 pub returns-then-closed-clause-settled : goal.returns-then-closed-clause-settled
 returns-then-closed-clause-settled g c = c.record_closed_receiver.ensures.settled
@@ -60,13 +69,16 @@ returns-then-closed-clause-same g c =
 
 pub returns-in-Ok-clause-same : goal.returns-in-Ok-clause-same
 returns-in-Ok-clause-same g c =
-    let pushed = subst (λ (x : Contents). Pushes x c.push.new.self c.args.to c.args.body) c.deref_mut-2.ensures.value c.in-Ok.ensures.pushed in
+    let made = c.next_envelope-envelope.ensures ∙ ap (λ (x : Contents). next_envelope x c.args.to c.args.body) c.deref.ensures in
+    let pushed = subst (λ (x : Contents × Envelope). Pushes x.0 c.push.new.self x.1.to x.1.body) (λ i. (c.deref_mut-2.ensures.value i, made i))
+    c.in-Ok.ensures.pushed in
     leaves-rest c.args.home.now.value _ c.args.home.now.value.cell.is_ready _ _ _ _ pushed.same
 
 pub returns-in-Err-clause-same : goal.returns-in-Err-clause-same
 returns-in-Err-clause-same g c =
-    let is_dead_letter = subst (λ (x : Contents). RecordsDeadLetter x c.push.new.self c.args.to c.args.body (reason_of c.in-Err.field-0)) c.deref_mut-2.ensures.value
-    c.in-Err.ensures.pushed.1 in
+    let made = c.next_envelope-envelope.ensures ∙ ap (λ (x : Contents). next_envelope x c.args.to c.args.body) c.deref.ensures in
+    let is_dead_letter = subst (λ (x : Contents × Envelope). RecordsDeadLetter x.0 c.push.new.self x.1.to x.1.body (reason_of c.in-Err.field-0))
+    (λ i. (c.deref_mut-2.ensures.value i, made i)) c.in-Err.ensures.pushed.1 in
     leaves-rest c.args.home.now.value _ false _ _ _ _ is_dead_letter.same
 
 -- ---- what was told
@@ -88,7 +100,9 @@ returns-then-closed-clause-told g c =
 
 pub returns-in-Ok-clause-told : goal.returns-in-Ok-clause-told
 returns-in-Ok-clause-told g c =
-    let pushed = subst (λ (x : Contents). Pushes x c.push.new.self c.args.to c.args.body) c.deref_mut-2.ensures.value c.in-Ok.ensures.pushed in
+    let made = c.next_envelope-envelope.ensures ∙ ap (λ (x : Contents). next_envelope x c.args.to c.args.body) c.deref.ensures in
+    let pushed = subst (λ (x : Contents × Envelope). Pushes x.0 c.push.new.self x.1.to x.1.body) (λ i. (c.deref_mut-2.ensures.value i, made i))
+    c.in-Ok.ensures.pushed in
     let id = c.args.to.0 in
     let word = word_of c.status-status.result in
     let a = pass_view c.args.pass.now in let b = pass_view c.status-status.new.pass in let d = pass_view c.note_sent.new.pass in
@@ -101,8 +115,9 @@ returns-in-Ok-clause-told g c =
 
 pub returns-in-Err-clause-told : goal.returns-in-Err-clause-told
 returns-in-Err-clause-told g c =
-    let is_dead_letter = subst (λ (x : Contents). RecordsDeadLetter x c.push.new.self c.args.to c.args.body (reason_of c.in-Err.field-0)) c.deref_mut-2.ensures.value
-    c.in-Err.ensures.pushed.1 in
+    let made = c.next_envelope-envelope.ensures ∙ ap (λ (x : Contents). next_envelope x c.args.to c.args.body) c.deref.ensures in
+    let is_dead_letter = subst (λ (x : Contents × Envelope). RecordsDeadLetter x.0 c.push.new.self x.1.to x.1.body (reason_of c.in-Err.field-0))
+    (λ i. (c.deref_mut-2.ensures.value i, made i)) c.in-Err.ensures.pushed.1 in
     let id = c.args.to.0 in
     let word = word_of c.status-status.result in
     let a = pass_view c.args.pass.now in let b = pass_view c.status-status.new.pass in

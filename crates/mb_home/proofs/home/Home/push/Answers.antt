@@ -21,13 +21,13 @@ index_mut-requires g c =
 pub put-requires-clause-sender : goal.put-requires-clause-sender
 put-requires-clause-sender g c =
     let there = pass-next _ _ _ _ _ c.requires.settled _ c.index_mut.result.now c.self.view_is c.index_mut.ensures.value in
-    subst (λ (e : Envelope). e.by.0 ≡ c.index_mut.result.now.by) (sym c.envelope-envelope.ensures)
+    subst (λ (e : Envelope). e.by.0 ≡ c.index_mut.result.now.by) (sym c.requires.next)
     (fits-next _ _ _ _ _ c.requires.settled c.index_mut.result.now there).0
 
 pub put-requires-clause-addressed : goal.put-requires-clause-addressed
 put-requires-clause-addressed g c =
     let there = pass-next _ _ _ _ _ c.requires.settled _ c.index_mut.result.now c.self.view_is c.index_mut.ensures.value in
-    subst (λ (e : Envelope). e.to.0 ≡ c.index_mut.result.now.queue.to) (sym c.envelope-envelope.ensures)
+    subst (λ (e : Envelope). e.to.0 ≡ c.index_mut.result.now.queue.to) (sym c.requires.next)
     (fits-next _ _ _ _ _ c.requires.settled c.index_mut.result.now there).1
 
 -- it was pushed
@@ -36,15 +36,15 @@ pub returns-in-Ok-clause-pushed : goal.returns-in-Ok-clause-pushed
 returns-in-Ok-clause-pushed g c =
     let there = pass-next _ _ _ _ _ c.requires.settled _ c.index_mut.result.now c.self.view_is c.index_mut.ensures.value in
     pushes-next _ _ _ _ _ c.requires.settled _
-    (delivered c.args.self.now _ (c.args.to.0 - 1) c.index_mut.result.now c.put.new.self (next_envelope c.args.self.now c.args.to c.args.body)
-    c.self.view_is there (c.in-Ok.ensures.pushed ∙ ap (λ e. with_pushed e c.index_mut.result.now) c.envelope-envelope.ensures))
+    (delivered c.args.self.now _ (c.args.envelope.now.to.0 - 1) c.index_mut.result.now c.put.new.self (next_envelope c.args.self.now c.args.envelope.now.to c.args.envelope.now.body)
+    c.self.view_is there (c.in-Ok.ensures.pushed ∙ ap (λ e. with_pushed e c.index_mut.result.now) c.requires.next))
 
 pub returns-in-Ok-clause-settled : goal.returns-in-Ok-clause-settled
 returns-in-Ok-clause-settled g c =
     let there = pass-next _ _ _ _ _ c.requires.settled _ c.index_mut.result.now c.self.view_is c.index_mut.ensures.value in
-    settled-pushes c.args.self.now _ g.K.Behaviours.gives c.args.to c.args.body c.requires.settled
-    (delivered c.args.self.now _ (c.args.to.0 - 1) c.index_mut.result.now c.put.new.self (next_envelope c.args.self.now c.args.to c.args.body)
-    c.self.view_is there (c.in-Ok.ensures.pushed ∙ ap (λ e. with_pushed e c.index_mut.result.now) c.envelope-envelope.ensures))
+    settled-pushes c.args.self.now _ g.K.Behaviours.gives c.args.envelope.now.to c.args.envelope.now.body c.requires.settled
+    (delivered c.args.self.now _ (c.args.envelope.now.to.0 - 1) c.index_mut.result.now c.put.new.self (next_envelope c.args.self.now c.args.envelope.now.to c.args.envelope.now.body)
+    c.self.view_is there (c.in-Ok.ensures.pushed ∙ ap (λ e. with_pushed e c.index_mut.result.now) c.requires.next))
 
 -- it was refused
 
@@ -59,8 +59,8 @@ returns-in-Err-clause-refused g c = record {
 pub returns-in-Err-clause-settled : goal.returns-in-Err-clause-settled
 returns-in-Err-clause-settled g c =
     let there = pass-next _ _ _ _ _ c.requires.settled _ c.index_mut.result.now c.self.view_is c.index_mut.ensures.value in
-    settled-dead_letter c.args.self.now _ c.record_dead_letter.new.self g.K.Behaviours.gives c.args.to c.args.body c.of-refused.result
-    c.envelope-envelope.result c.reason.result c.requires.settled
-    (undelivered c.args.self.now _ (c.args.to.0 - 1) c.index_mut.result.now c.put.new.self c.self.view_is there c.in-Err.ensures.pushed)
-    (returns-in-Err-clause-refused g c) c.envelope-envelope.ensures c.reason.ensures c.record_dead_letter.ensures.same
+    settled-dead_letter c.args.self.now _ c.record_dead_letter.new.self g.K.Behaviours.gives c.args.envelope.now.to c.args.envelope.now.body c.of-refused.result
+    c.args.envelope.now c.reason.result c.requires.settled
+    (undelivered c.args.self.now _ (c.args.envelope.now.to.0 - 1) c.index_mut.result.now c.put.new.self c.self.view_is there c.in-Err.ensures.pushed)
+    (returns-in-Err-clause-refused g c) c.requires.next c.reason.ensures c.record_dead_letter.ensures.same
     c.record_dead_letter.ensures.room

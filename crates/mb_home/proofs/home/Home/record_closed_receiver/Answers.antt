@@ -16,7 +16,7 @@ returns-clause-settled g c =
       dead = h.dead ++ record { envelope = e; why = Closed } ∷ [];
       sent = (h.sent + 1) % 2 ^ 64;
       room = c.record_dead_letter.new.self.room;
-    }) c.envelope-envelope.ensures in
+    }) c.next_envelope-envelope.ensures in
     subst (λ (x : Contents). AgreesWithJournal (g.K.Behaviours.gives x.cell.who.this.0) x.cell.acts x) (sym same)
     (settled-dead h (g.K.Behaviours.gives h.cell.who.this.0) c.args.to c.args.body h.cell.acts Closed c.record_dead_letter.new.self.room c.requires.settled
     c.record_dead_letter.ensures.room tt)

@@ -30,9 +30,10 @@ loop-number-preserved g c =
     let id = c.in-Some.id.0 in let few = c.in-Some.ensures.within_limit in
     let did = c.register.ensures in
     let account = account-registered id _ _ c.register.result did.registered in
-    let out : (other : ℕ) → other < 64 → is_owed now.told other ≡ (not (other == id) && is_owed mid.told other) =
-    λ other small. ap (λ (o : Owed). is_owed o other) did.told ∙ c.remove.ensures other small in
-    let above = first-above at.4 id old.told mid.told now.told _ _ _ _ _ _ few at.6 c.in-Some.ensures.first out did.looks account did.discharged in (
+    let gone = c.remove.new.self in
+    let out : (other : ℕ) → other < 64 → is_owed gone other ≡ (not (other == id) && is_owed mid.told other) =
+    λ other small. c.remove.ensures other small ∙ ap (λ (o : Owed). not (other == id) && is_owed o other) did.told in
+    let above = first-above at.4 id old.told mid.told gone _ _ _ _ _ _ few at.6 c.in-Some.ensures.first out did.looks account did.discharged in (
       did.same_gates.0 ∙ at.0,
       did.same_gates.1 ∙ at.1,
       loses-then _ _ _ _ _ _ at.2 (loses-handed id _ _ _ _ c.register.result did.handed),
