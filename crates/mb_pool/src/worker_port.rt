@@ -4,7 +4,7 @@ ghost use Rattle.mb_gate.specs.Untouched.{IsUntouched};
 ghost use Rattle.mb_pool.specs.Moves.{Pushes, WasEmpty};
 ghost use Rattle.mb_pool.specs.Places.{gates_of, ports_of, parts_of};
 ghost use Rattle.mb_pool.specs.PoolPorts.{IsRefusedByPool};
-ghost use Rattle.mb_pool.specs.WorkerPorts.{TakesClaim};
+ghost use Rattle.mb_pool.specs.WorkerPorts.{TakesClaim, keeps_next};
 
 use crate::back::back;
 use crate::end::PoolEnd;
@@ -15,12 +15,12 @@ use std::snapshot::Snapshot;
 use std::sync::Wait;
 
 /// How many claims in turn are kept at most, before one goes into the pool again behind those that are there.
-const MOST_IN_TURN: u32 = 16;
+const MOST_IN_TURN: u32 = 64;
 
-/// A worker's end of the pool. Where no worker waits for a claim, it keeps one for its own worker, which takes it next: so that
+/// A worker's end of the pool. A claim that no other worker is to have it keeps for its own worker, which takes it next: so that
 /// claim needs no step that other workers see (this project's own profile: a thread of Akka's `ForkJoinPool` runs a task next that
-/// it forked while its deque was empty). Contracts see the end, the claim that is kept, and the claims that were pushed and those
-/// that were refused, in order.
+/// it forked while its deque was empty). It keeps one at a time, and 64 in turn before one goes into the pool. Contracts see the
+/// end, the claim that is kept, the claims that were pushed and those that were refused, in order, and how many were kept in turn.
 pub struct WorkerPort<H: MailboxState> {
     end: PoolEnd<H>,
     refused: Log<Snapshot<Claim<H>>>,
@@ -58,6 +58,7 @@ impl<H: MailboxState> Model for WorkerPort<H> {
       next = map (λ pooled. claim_in pooled) (option_to_list p.next);
       pushed = map (λ claim. claim.value) p.pushed;
       refused = map (λ claim. claim.value) p.refused;
+      in_turn = p.in_turn;
     } };
 
     ghost invariant = { λ p. All (IsUntouched H.is_of H.facts (gates_of p.end)) (map (λ pooled. claim_in pooled) (option_to_list p.next)) };
@@ -66,7 +67,7 @@ impl<H: MailboxState> Model for WorkerPort<H> {
 impl<H: MailboxState> WorkerPort<H> {
     /// This end, which keeps no claim, and of which nothing was pushed or refused yet.
     pub fn new(end: PoolEnd<H>) -> WorkerPort<H>
-        ensures { result ≡ record { end = end; next = []; pushed = []; refused = [] } }
+        ensures { result ≡ record { end = end; next = []; pushed = []; refused = []; in_turn = 0 } }
     {
         WorkerPort {
             end,
@@ -116,6 +117,17 @@ impl<H: MailboxState> WorkerPort<H> {
         self.end.try_take()
     }
 
+    // Whether it keeps the claim that it is given next.
+    #[inline(always)]
+    fn keeps_next(&self, is_awaited: bool) -> bool
+        ensures { result ≡ keeps_next is_awaited self.now }
+    {
+        if is_awaited || self.next.is_some() {
+            return false;
+        }
+        self.in_turn < MOST_IN_TURN
+    }
+
     /// Pushes a claim that one attempt did not push. It is a function of its own, so that the compiler keeps the claim of
     /// the attempt in registers.
     #[cold]
@@ -129,7 +141,7 @@ impl<H: MailboxState> WorkerPort<H> {
         ensures put { MatchResult result
             (λ _. Pushes (IsUntouched H.is_of H.facts) self.old.end claim self.new.end)
             (λ _. self.new.end ≡ self.old.end) }
-        ensures next { self.new.next ≡ self.old.next }
+        ensures next { (self.new.next ≡ self.old.next) × (self.new.in_turn ≡ self.old.in_turn) }
         ensures parts { parts_of self.new.end ≡ parts_of self.old.end }
     {
         let known = Snapshot::of(&claim);
@@ -174,12 +186,12 @@ impl<H: MailboxState> RunQueue<H> for WorkerPort<H> {
             (λ back. (back.claim ≡ claim) × (self.new.pushed ≡ self.old.pushed) × (self.new.refused ≡ self.old.refused ++ claim ∷ [])) }
         ensures asked { IfErr result (λ _. IsRefusedByPool (IsUntouched H.is_of H.facts) self.old.end claim) }
         ensures put { MatchResult result
-            (λ _. PutsClaim (IsUntouched H.is_of H.facts) self.old claim self.new)
-            (λ _. (self.new.end ≡ self.old.end) × (self.new.next ≡ self.old.next)) }
+            (λ _. PutsClaim (IsUntouched H.is_of H.facts) is_awaited self.old claim self.new)
+            (λ _. (self.new.end ≡ self.old.end) × (self.new.next ≡ self.old.next) × (self.new.in_turn ≡ 0)) }
         ensures awaited { IsTrue is_awaited → self.new.next ≡ self.old.next }
         ensures parts { parts_of self.new.end ≡ parts_of self.old.end }
     {
-        if !is_awaited && self.in_turn < MOST_IN_TURN && self.next.is_none() {
+        if self.keeps_next(is_awaited) {
             self.in_turn += 1;
             self.pushed.add(Snapshot::of(&claim));
             self.next = Some(PooledClaim::new(claim));

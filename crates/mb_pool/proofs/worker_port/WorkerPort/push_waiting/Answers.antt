@@ -26,7 +26,7 @@ returns-in-Ok-clause-put g c =
     c.self.view_is c.in-Ok.ensures.pushed
 
 pub returns-in-Ok-clause-next : goal.returns-in-Ok-clause-next
-returns-in-Ok-clause-next g c = ap (λ (v : WorkerPortView _). v.next) c.self.view_is
+returns-in-Ok-clause-next g c = (ap (λ (v : WorkerPortView _). v.next) c.self.view_is, ap (λ (v : WorkerPortView _). v.in_turn) c.self.view_is)
 
 pub returns-in-Ok-clause-parts : goal.returns-in-Ok-clause-parts
 returns-in-Ok-clause-parts g c = c.push.ensures.same ∙ ap (λ (v : WorkerPortView _). parts_of v.end) c.self.view_is
@@ -48,7 +48,7 @@ pub returns-in-Err-clause-put : goal.returns-in-Err-clause-put
 returns-in-Err-clause-put g c = c.in-Err.ensures.pushed.1 ∙ ap (λ (v : WorkerPortView _). v.end) c.self.view_is
 
 pub returns-in-Err-clause-next : goal.returns-in-Err-clause-next
-returns-in-Err-clause-next g c = ap (λ (v : WorkerPortView _). v.next) c.self.view_is
+returns-in-Err-clause-next g c = (ap (λ (v : WorkerPortView _). v.next) c.self.view_is, ap (λ (v : WorkerPortView _). v.in_turn) c.self.view_is)
 
 pub returns-in-Err-clause-parts : goal.returns-in-Err-clause-parts
 returns-in-Err-clause-parts g c = c.push.ensures.same ∙ ap (λ (v : WorkerPortView _). parts_of v.end) c.self.view_is

@@ -14,12 +14,12 @@ use Rattle.mb_pool.proofs.worker_port.WorkerPort.take.Goals as goal
 pub returns-in-Some-clause-untouched : goal.returns-in-Some-clause-untouched
 returns-in-Some-clause-untouched g c =
     kept-fits (IsUntouched g.H.MailboxState.is_of g.H.MailboxState.facts) c.self.inside.end c.self.inside.next c.self.inside.pushed
-    c.self.inside.refused c.args.self.now c.in-Some.pooled c.open.result c.self.view_is (sym c.in-Some.ensures.value) c.open.ensures c.self.invariant
+    c.self.inside.refused c.self.inside.in_turn c.args.self.now c.in-Some.pooled c.open.result c.self.view_is (sym c.in-Some.ensures.value) c.open.ensures c.self.invariant
 
 pub returns-in-Some-clause-taken : goal.returns-in-Some-clause-taken
 returns-in-Some-clause-taken g c =
     takes-kept (IsUntouched g.H.MailboxState.is_of g.H.MailboxState.facts) c.self.inside.end c.self.inside.next c.take.new.self
-    c.self.inside.pushed c.self.inside.refused c.args.self.now c.in-Some.pooled c.open.result c.self.view_is (sym c.in-Some.ensures.value)
+    c.self.inside.pushed c.self.inside.refused c.self.inside.in_turn c.args.self.now c.in-Some.pooled c.open.result c.self.view_is (sym c.in-Some.ensures.value)
     c.in-Some.ensures.after c.open.ensures
 
 pub returns-in-Some-clause-parts : goal.returns-in-Some-clause-parts
@@ -42,7 +42,7 @@ returns-in-Some-try_take-clause-untouched g c =
 pub returns-in-Some-try_take-clause-taken : goal.returns-in-Some-try_take-clause-taken
 returns-in-Some-try_take-clause-taken g c =
     takes-pooled (IsUntouched g.H.MailboxState.is_of g.H.MailboxState.facts) c.self.inside.end c.try_take.new.self
-    c.self.inside.next c.take.new.self c.self.inside.pushed c.self.inside.refused c.args.self.now c.in-Some-try_take.claim c.self.view_is
+    c.self.inside.next c.take.new.self c.self.inside.pushed c.self.inside.refused c.self.inside.in_turn c.args.self.now c.in-Some-try_take.claim c.self.view_is
     (sym c.take.ensures.value ∙ c.in_default.is) c.take.ensures.after c.in-Some-try_take.ensures.taken
 
 pub returns-in-Some-try_take-clause-parts : goal.returns-in-Some-try_take-clause-parts
@@ -61,7 +61,7 @@ pub returns-clause-untouched : goal.returns-clause-untouched
 returns-clause-untouched g c =
     let still = of_none _ _ c.try_take.result c.in_default-try_take.is c.try_take.ensures.taken in
     untouched-still (IsUntouched g.H.MailboxState.is_of g.H.MailboxState.facts) c.take-2.result c.self.inside.end c.self.inside.next
-    c.self.inside.pushed c.self.inside.refused c.args.self.now c.self.view_is
+    c.self.inside.pushed c.self.inside.refused c.self.inside.in_turn c.args.self.now c.self.view_is
     (subst (λ w. IfSome c.take-2.result (IsUntouched g.H.MailboxState.is_of g.H.MailboxState.facts (gates_of w))) still c.take-2.ensures.untouched)
 
 pub returns-clause-taken : goal.returns-clause-taken
@@ -69,7 +69,7 @@ returns-clause-taken g c =
     let fit = IsUntouched g.H.MailboxState.is_of g.H.MailboxState.facts in
     let still = of_none _ _ c.try_take.result c.in_default-try_take.is c.try_take.ensures.taken in
     answers-taken fit _ c.take-2.result c.self.inside.end c.take-2.new.self c.self.inside.next c.take.new.self c.self.inside.pushed
-    c.self.inside.refused c.args.self.now c.self.view_is (sym c.take.ensures.value ∙ c.in_default.is) c.take.ensures.after
+    c.self.inside.refused c.self.inside.in_turn c.args.self.now c.self.view_is (sym c.take.ensures.value ∙ c.in_default.is) c.take.ensures.after
     (subst (λ w. MatchOption c.take-2.result ((c.take-2.new.self ≡ w) × All (WasEmpty fit) (ports_of w)) (λ x. Takes fit w x c.take-2.new.self)) still
     c.take-2.ensures.taken)
 
@@ -82,7 +82,7 @@ returns-clause-none g c =
     let fit = IsUntouched g.H.MailboxState.is_of g.H.MailboxState.facts in
     let still = of_none _ _ c.try_take.result c.in_default-try_take.is c.try_take.ensures.taken in
     answers-empty fit c.take-2.result c.self.inside.end c.take-2.new.self c.self.inside.next c.take.new.self c.self.inside.pushed
-    c.self.inside.refused c.args.self.now c.self.view_is (sym c.take.ensures.value ∙ c.in_default.is) c.take.ensures.after
+    c.self.inside.refused c.self.inside.in_turn c.args.self.now c.self.view_is (sym c.take.ensures.value ∙ c.in_default.is) c.take.ensures.after
     (subst (λ w. MatchOption c.take-2.result ((c.take-2.new.self ≡ w) × All (WasEmpty fit) (ports_of w)) (λ x. Takes fit w x c.take-2.new.self)) still
     c.take-2.ensures.taken)
 

@@ -11,12 +11,12 @@ use Rattle.mb_pool.proofs.worker_port.WorkerPort.try_take.Goals as goal
 pub returns-in-Some-clause-untouched : goal.returns-in-Some-clause-untouched
 returns-in-Some-clause-untouched g c =
     kept-fits (IsUntouched g.H.MailboxState.is_of g.H.MailboxState.facts) c.self.inside.end c.self.inside.next c.self.inside.pushed
-    c.self.inside.refused c.args.self.now c.in-Some.pooled c.open.result c.self.view_is (sym c.in-Some.ensures.value) c.open.ensures c.self.invariant
+    c.self.inside.refused c.self.inside.in_turn c.args.self.now c.in-Some.pooled c.open.result c.self.view_is (sym c.in-Some.ensures.value) c.open.ensures c.self.invariant
 
 pub returns-in-Some-clause-taken : goal.returns-in-Some-clause-taken
 returns-in-Some-clause-taken g c =
     takes-kept (IsUntouched g.H.MailboxState.is_of g.H.MailboxState.facts) c.self.inside.end c.self.inside.next c.take.new.self
-    c.self.inside.pushed c.self.inside.refused c.args.self.now c.in-Some.pooled c.open.result c.self.view_is (sym c.in-Some.ensures.value)
+    c.self.inside.pushed c.self.inside.refused c.self.inside.in_turn c.args.self.now c.in-Some.pooled c.open.result c.self.view_is (sym c.in-Some.ensures.value)
     c.in-Some.ensures.after c.open.ensures
 
 pub returns-in-Some-clause-parts : goal.returns-in-Some-clause-parts
@@ -34,12 +34,12 @@ returns-in-Some-clause-same g c = (
 pub returns-clause-untouched : goal.returns-clause-untouched
 returns-clause-untouched g c =
     untouched-still (IsUntouched g.H.MailboxState.is_of g.H.MailboxState.facts) c.try_take.result c.self.inside.end c.self.inside.next
-    c.self.inside.pushed c.self.inside.refused c.args.self.now c.self.view_is c.try_take.ensures.untouched
+    c.self.inside.pushed c.self.inside.refused c.self.inside.in_turn c.args.self.now c.self.view_is c.try_take.ensures.untouched
 
 pub returns-clause-taken : goal.returns-clause-taken
 returns-clause-taken g c =
     answers-taken (IsUntouched g.H.MailboxState.is_of g.H.MailboxState.facts) _ c.try_take.result c.self.inside.end c.try_take.new.self
-    c.self.inside.next c.take.new.self c.self.inside.pushed c.self.inside.refused c.args.self.now c.self.view_is
+    c.self.inside.next c.take.new.self c.self.inside.pushed c.self.inside.refused c.self.inside.in_turn c.args.self.now c.self.view_is
     (sym c.take.ensures.value ∙ c.in_default.is) c.take.ensures.after c.try_take.ensures.taken
 
 pub returns-clause-parts : goal.returns-clause-parts
@@ -48,7 +48,7 @@ returns-clause-parts g c = c.try_take.ensures.same ∙ ap (λ (v : WorkerPortVie
 pub returns-clause-none : goal.returns-clause-none
 returns-clause-none g c =
     answers-none (IsUntouched g.H.MailboxState.is_of g.H.MailboxState.facts) c.try_take.result c.self.inside.end c.try_take.new.self
-    c.self.inside.next c.take.new.self c.self.inside.pushed c.self.inside.refused c.args.self.now c.self.view_is
+    c.self.inside.next c.take.new.self c.self.inside.pushed c.self.inside.refused c.self.inside.in_turn c.args.self.now c.self.view_is
     (sym c.take.ensures.value ∙ c.in_default.is) c.take.ensures.after c.try_take.ensures.taken
 
 pub returns-clause-same : goal.returns-clause-same

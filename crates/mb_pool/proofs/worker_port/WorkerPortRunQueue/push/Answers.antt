@@ -31,9 +31,9 @@ returns-in-Ok-clause-pushed g c = (
 
 pub returns-in-Ok-clause-put : goal.returns-in-Ok-clause-put
 returns-in-Ok-clause-put g c =
-    pooled (subst (λ (v : WorkerPortView _). Pushes (IsUntouched g.H.MailboxState.is_of g.H.MailboxState.facts) v.end c.args.claim c.try_push.new.self)
+    pooled (sym c.keeps_next.ensures ∙ c.if-keeps_next.false) (subst (λ (v : WorkerPortView _). Pushes (IsUntouched g.H.MailboxState.is_of g.H.MailboxState.facts) v.end c.args.claim c.try_push.new.self)
     c.self.view_is c.in-Ok.ensures.pushed)
-    (ap (λ (v : WorkerPortView _). v.next) c.self.view_is)
+    (ap (λ (v : WorkerPortView _). v.next) c.self.view_is) refl
 
 pub returns-in-Ok-clause-awaited : goal.returns-in-Ok-clause-awaited
 returns-in-Ok-clause-awaited g c = λ _. ap (λ (v : WorkerPortView _). v.next) c.self.view_is
@@ -74,13 +74,13 @@ returns-in-Err-clause-asked g c =
 pub returns-in-Err-clause-put : goal.returns-in-Err-clause-put
 returns-in-Err-clause-put g c =
     let tried = c.in-Err.ensures.pushed in
-    later-put (IsUntouched g.H.MailboxState.is_of g.H.MailboxState.facts) c.self.inside.end c.try_push.new.self c.push_waiting.new.self.end
-    c.args.claim c.in-Err.claim c.push_waiting.result c.args.self.now c.push_waiting.new.self
+    later-put (IsUntouched g.H.MailboxState.is_of g.H.MailboxState.facts) c.args.is_awaited c.self.inside.end c.try_push.new.self c.push_waiting.new.self.end
+    c.args.claim c.in-Err.claim c.push_waiting.result c.args.self.now c.push_waiting.new.self (sym c.keeps_next.ensures ∙ c.if-keeps_next.false)
     (sym (ap (λ (v : WorkerPortView _). v.end) c.self.view_is)) tried.1 tried.0 refl
-    (c.push_waiting.ensures.next ∙ ap (λ (v : WorkerPortView _). v.next) c.self.view_is) c.push_waiting.ensures.put
+    (c.push_waiting.ensures.next.0 ∙ ap (λ (v : WorkerPortView _). v.next) c.self.view_is) c.push_waiting.ensures.next.1 c.push_waiting.ensures.put
 
 pub returns-in-Err-clause-awaited : goal.returns-in-Err-clause-awaited
-returns-in-Err-clause-awaited g c = λ _. c.push_waiting.ensures.next ∙ ap (λ (v : WorkerPortView _). v.next) c.self.view_is
+returns-in-Err-clause-awaited g c = λ _. c.push_waiting.ensures.next.0 ∙ ap (λ (v : WorkerPortView _). v.next) c.self.view_is
 
 pub returns-in-Err-clause-parts : goal.returns-in-Err-clause-parts
 returns-in-Err-clause-parts g c =
