@@ -41,8 +41,8 @@ examples: proved
 # The gate: what the documents name, the pictures, the list of the wrong bodies, the schema, the scenarios as they stand, every proof from
 # nothing, the must-fail edits, the tests, the program by two compilers, the program on all scenarios, whose outcomes were worked out by
 # hand, as a user runs it, and on worker threads, the commands of the documents, traces in each form, pages in a browser, where one is
-# there, what becomes of refused allocations, where a C compiler is there, random scenarios beside a second reader, and the system messages of
-# random systems on threads, counted.
+# there, what becomes of refused allocations, where a C compiler is there, random scenarios beside a second reader, the journals of one worker
+# beside those of the quiet run, and the system messages of random systems on threads, counted.
 test:
 	tools/documents --check
 	tools/draw_layers --check
@@ -61,6 +61,7 @@ test:
 	tools/try_pages $(TRACE)
 	@if command -v "$${CC:-cc}" > /dev/null; then $(MAKE) --no-print-directory refuse; else echo 'no C compiler: no allocation was refused'; fi
 	tools/compare_with_a_model $(PROGRAM)
+	tools/check_order $(TRACE)
 	tools/check_system_messages $(TRACE)
 
 # Refuses each allocation of the program in turn, and each of a whole run by the tests that the gate has built.

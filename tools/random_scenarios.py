@@ -97,6 +97,55 @@ class Lively:
         }
 
 
+class WithoutSends(Lively):
+    """Makes such scenarios for one worker, to which nothing is sent from outside: all comes from what the actors do when they start. Their
+    reports hang on the order in which the actors are run: mailboxes have little room, actors stop and fail, and who watches one passes on
+    which ended."""
+
+    LAST_KIND = 6
+
+    def __init__(self, chance):
+        super().__init__(chance)
+        self.names = ["a", "b", "c", "ab", "z_9", "d", "e", "f"][: chance.randint(3, 8)]
+
+    def tell_below(self, kind):
+        """Tells a kind below this one, so that what a message leads to comes to an end."""
+        verb = self.chance.choice(["tell", "tell", "tell", "control"])
+        return f"{verb} {self.chance.choice(self.names)} {self.chance.randint(1, kind - 1)}"
+
+    def operations(self, most=2):
+        return self.some(most, lambda: self.tell_below(4))
+
+    def started(self):
+        """What it tells when it starts, and whom it watches or stops then."""
+        tell = lambda: self.tell_below(self.LAST_KIND + 1)
+        return self.some(2, self.order) + self.some(6, tell, tell, tell, tell, self.order)
+
+    def hooks(self, children):
+        """It tells some of its children something before it starts them."""
+        hooks = super().hooks(children)
+        start = hooks["start"] + self.started()
+        self.chance.shuffle(start)
+        return hooks | {"start": start}
+
+    def rows(self):
+        """Kind 1 adds, and each other kind tells some of lower kinds, and may do more."""
+        rows = [{"kind": 1, "do": ["add"]}]
+        for kind in range(2, self.LAST_KIND + 1):
+            tell = lambda: self.tell_below(kind)
+            rows.append({"kind": kind, "do": self.some(3, tell, tell, tell, tell, self.add, self.order, self.fail)})
+        return {"on": rows}
+
+    def document(self):
+        return {
+            "workers": 1,
+            "pool": self.chance.choice(["shared", "stealing"]),
+            "throughput": self.chance.choice([0, 1, 1, 2, 2, 3, 5]),
+            "journal_limit": 300,
+            "actor": self.actors(),
+        }
+
+
 class Writer:
     """Writes documents as TOML, the keys of each table in any order."""
 

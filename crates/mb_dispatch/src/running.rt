@@ -52,10 +52,8 @@ pub fn run<A: Actor + Send, K: Behaviours + Send, R: Threads + Wait + Sync>(
     ensures fault { IfErr result (BreaksRun K.gives system.now ends.old ends.new jobs.old jobs.new) }
 {
     register_by_first(rt, system, ends);
-    system.gates.idle_workers().run_begins();
     system.going.open_jobs(jobs.len());
     let (of_jobs, of_ends) = both_in_parallel(rt, system, jobs, ends);
-    system.gates.idle_workers().run_ends();
     first_error(of_ends, of_jobs)
 }
 

@@ -22,13 +22,13 @@ pub trait RunQueue<H: MailboxState> {
     // those that the pool refused
     ghost refused: { Self → List (Claim H) };
 
-    /// Puts a claim into the pool, or gives it back. `is_awaited` says whether another worker waits for it. Where none does, the way
-    /// of a worker may keep the claim, which the worker then takes next.
+    /// Puts a claim into the pool, or gives it back. `at_run_end` says that the worker's run is over, so that it takes a claim next.
+    /// Then the way of a worker may keep one claim for it.
     fn push<R: Wait>(
         &mut self,
         rt: &R,
         claim: Claim<H>,
-        is_awaited: bool,
+        at_run_end: bool,
     ) -> Result<(), RefusedClaim<H>>
         requires untouched { IsUntouched H.is_of H.facts (origin self.old) claim }
         ensures same { origin self.new ≡ origin self.old }

@@ -1,35 +1,55 @@
 -- Which claims a run gets, and what becomes of them.
-use Rattle.std.proofs.Common.{◌≡◌, ℕ, ◌+◌, ◌==◌, if◌then◌else◌, Bool, true, false}
-use Rattle.std.proofs.Common.{List, [], ◌∷◌, ◌++◌, refl, ap, ◌∙◌, arith, append_assoc, append-nil}
+use Rattle.std.proofs.Common.{◌≡◌, ◌⊎◌, inl, inr, ℕ, ◌+◌, ◌<◌, ◌==◌, if◌then◌else◌, Bool, true, false}
+use Rattle.mb_core.specs.Actor.{nothing}
+use Rattle.mb_gate.specs.declared.claim.Claim.{Claim}
+use Rattle.mb_register.specs.declared.owed.Owed.{Owed}
+use Rattle.mb_register.specs.Owed.{is_owed}
+use Rattle.std.proofs.Common.{List, [], ◌∷◌, ◌++◌, refl, sym, ap, ◌∙◌, subst, arith, append_assoc, append-nil}
 use Rattle.mb_msg.specs.declared.system.SysMsg.{SysMsg}
 use Rattle.mb_journal.specs.Entry.{Entry}
 use Rattle.mb_gate.specs.ClaimCounts.{times}
-use Rattle.mb_gate.specs.View.{View, Saw, Pushed, enlisting, idling, taking_in}
-use Rattle.mb_register.specs.Caller.{Caller, CallerAdvances}
+use Rattle.mb_gate.specs.View.{View, Saw, Pushed, enlisting, idling, obligation_to, taking_in}
+use Rattle.mb_register.specs.Caller.{Caller, CallerAdvances, IsDischargedOrOwed, IsTold, OwesForRefusals}
 use Rattle.mb_register.specs.Due.{GotOnlyDue, GotDue}
 use Rattle.mb_register.specs.Registering.{QueueAccount, HandsClaimOn, LosesNoClaim}
-use Rattle.mb_register.specs.Views.{LooksAfter}
+use Rattle.mb_register.specs.Views.{GotAndGaveBack, LooksAfter}
 use Rattle.mb_register.specs.declared.hint.Hint.TheVariants as hint
-use Rattle.mb_register.proofs.ClaimCounts.{hands-after, loses-handed, loses-then}
-use Rattle.mb_register.proofs.DueLemmas.{all-carried, carries-below, carries-later, due-hinted-by, got-further, got-registered}
+use Rattle.mb_register.proofs.CallerLemmas.{account-none}
+use Rattle.mb_register.proofs.ClaimCounts.{loses-handed, loses-then}
+use Rattle.mb_register.proofs.DueLemmas.{all-carried, carries-below, carries-later, due-hinted-by, got-further, got-no-claim, got-registered}
+use Rattle.mb_register.proofs.MoveLemmas.{Moves, further-tells, moves-does}
+use Rattle.mb_register.proofs.Views.{does-enlisting}
 use Rattle.mb_mailbox.specs.Ran.{LosesNoClaimBut, with_steps}
 
-module _ {H : Type 0} (old new : QueueAccount H) where
-  -- a system message was put into a list, and its receiver was registered with that
-  module _ (id number : ℕ) (message : SysMsg) (a b d : View) (result : Bool) (put : b ≡ enlisting id number message a)
-      (handed : HandsClaimOn id old new b d result) where
-    pub listed-due : LooksAfter id b d → GotOnlyDue hint.System b d → GotDue a d
-    listed-due looks due =
-        let is : b.log ≡ Pushed id number message ∷ a.log = ap (λ (v : View). v.log) put in
-        got-registered id hint.System old new a b d result handed due
-        (due-hinted-by id hint.System a b d (Pushed id number message ∷ []) is refl
-        (λ has. (number, message, record { later = looks.looks ++ []; earlier = []; log = looks.log ∙ ap (λ l. (looks.looks ++ []) ++ l) is })))
-        (ap (λ (v : View). v.got) put)
+-- a system message was put into a list, and its receiver is to be registered
+pub further-listed : {H : Type 0} (id number : ℕ) (message : SysMsg) (a b : Caller H) → b.view ≡ enlisting id number message a.view →
+    b.account ≡ a.account → IsTold id b → ((other : ℕ) → IsTold other a → IsTold other b) → CallerAdvances a b
+further-listed id number message a b put same here told =
+    further-tells id a b
+    (moves-does id (Pushed id number message ∷ []) _ a.view b.view (tt, tt) tt (does-enlisting id number message a.view b.view put))
+    (subst (OwesForRefusals a.account) (sym same) (account-none a.account)) (inr here) told
+    (loses-handed id a.account b.account a.view b.view false
+    (inl (same, record { got = ap (λ (v : View). v.got) put; returned = ap (λ (v : View). v.returned) put })))
+    (got-no-claim a.view b.view (ap (λ (v : View). v.got) put))
 
-    pub listed-claims : LosesNoClaim old new a d
-    listed-claims =
-        loses-handed id old new a d result
-        (hands-after id old new a b d result (record { got = ap (λ (v : View). v.got) put; returned = ap (λ (v : View). v.returned) put }) handed)
+-- an envelope was sent or refused, and its receiver was noted if it is due
+pub further-noted : {H : Type 0} (id : ℕ) (a b : Caller H) → Moves id a.view b.view → b.account ≡ a.account → id < 64 →
+    (obligation_to id b.view ≡ nothing) ⊎ (is_owed b.told id ≡ true) → ((other : ℕ) → is_owed a.told other ≡ true → is_owed b.told other ≡ true) →
+    GotAndGaveBack [] [] a.view b.view → CallerAdvances a b
+further-noted id a b moves same few here told claims =
+    further-tells id a b moves (subst (OwesForRefusals a.account) (sym same) (account-none a.account)) (noted here)
+    (λ other still. (still.0, told other still.1)) (loses-handed id a.account b.account a.view b.view false (inl (same, claims)))
+    (got-no-claim a.view b.view claims.got)
+  where
+    noted : (obligation_to id b.view ≡ nothing) ⊎ (is_owed b.told id ≡ true) → IsDischargedOrOwed id b ⊎ IsTold id b
+    noted (inl owes_nothing) = inl (inl owes_nothing)
+    noted (inr there) = inr (few, there)
+
+-- the port and the looks that are owed are as before, and so is the account
+pub same-account : {H W : Type 0} (pushed refused : W → List (Claim H)) (old new : W) (owed owed' : Owed) → new ≡ old → owed' ≡ owed →
+    (let x : QueueAccount H = record { pushed = pushed new; refused = refused new; owed = owed' } in x)
+    ≡ (let y : QueueAccount H = record { pushed = pushed old; refused = refused old; owed = owed } in y)
+same-account pushed refused old new owed owed' same still = (λ i. record { pushed = pushed (same i); refused = refused (same i); owed = still i })
 
 plus-moved : (f r b : ℕ) → f + (r + b) ≡ (f + r) + b
 plus-moved f r b = omega arith

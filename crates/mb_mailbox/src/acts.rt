@@ -30,8 +30,8 @@ use mb_register::Registrar;
 use std::alloc::AllocError;
 use std::sync::Wait;
 
-/// Carries out the acts of the last message, in order. After each, and once where there is none, whom the run told something is
-/// registered if a worker waits for a claim. It answers `NoMemory` if a place for an envelope of an actor that ended was refused;
+/// Carries out the acts of the last message, in order. After each, and once where there is none, whom the run told something, or sent a
+/// system message, is registered if a worker waits for a claim. It answers `NoMemory` if a place for an envelope of an actor that ended was refused;
 /// the other acts are carried out all the same.
 #[inline(always)]
 pub(crate) fn carry_out<A: Actor, K: Behaviours, W: RunQueue<BoxedHome<A, K>>, R: Wait>(
@@ -73,7 +73,7 @@ pub(crate) fn carry_out<A: Actor, K: Behaviours, W: RunQueue<BoxedHome<A, K>>, R
     if has_looked || registrar.told.is_empty() || !gates.idle_workers().is_any() {
         return answer_of(is_clean);
     }
-    register_told(rt, gates, registrar);
+    register_told(rt, gates, registrar, false);
     answer_of(is_clean)
 }
 

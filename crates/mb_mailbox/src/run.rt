@@ -1,11 +1,12 @@
 //! The run of a mailbox, from its claim to its result.
-ghost use Rattle.std.specs.Prelude.{◌≡◌, ◌≤◌, length, List, MatchResult, IfOk, IsErrOf, Some};
+ghost use Rattle.std.specs.Prelude.{◌≡◌, ◌≤◌, ◌<◌, ℕ, false, length, List, MatchResult, IfOk, IsErrOf, Some};
 ghost use Rattle.mb_journal.specs.Entry.{Entry};
 ghost use Rattle.mb_journal.specs.Run.{Stopped, most_envelopes};
 ghost use Rattle.mb_journal.specs.Run.Stopped.{NoRoom};
 ghost use Rattle.mb_gate.specs.Accessors.{actors_of, first_home, pass_view, held_actor};
 ghost use Rattle.mb_gate.specs.Untouched.{origin_of};
 ghost use Rattle.mb_register.specs.Caller.{IsRegistrarOf, caller_of, IsDischargedOrOwed, LeavesCaller};
+ghost use Rattle.mb_register.specs.Owed.{is_owed};
 ghost use Rattle.mb_home.specs.Fresh.{IsFreshClaim};
 ghost use Rattle.mb_mailbox.specs.RunRegistrar.{IsRunRegistrarOf, LeavesTelling};
 ghost use Rattle.mb_mailbox.specs.RunState.{run_state};
@@ -21,13 +22,14 @@ use mb_actor::{Actor, Behaviours};
 use mb_gate::{Claim, Gates, RunQueue};
 use mb_home::BoxedHome;
 use mb_journal::ReadyError;
-use mb_register::{Hint, Owed, Registrar};
+use mb_register::{Hint, Registrar};
 use std::sync::Wait;
 
 /// Runs the mailbox of the claim's actor: all its system messages, and then at most as many envelopes as `throughput` says (0
-/// counts as 1), each followed by all system messages that came. Then the cell is given back, and the actor is registered again
-/// if it has to be given to a worker. Whom the run told something is registered at once where a worker waits for a claim, or no run
-/// on threads is on, and else at the end (this project's own profile: in Akka each message that is sent registers its receiver).
+/// counts as 1), each followed by all system messages that came. Whom the run told something, or sent a system message, is registered
+/// at once where a worker waits for a claim, and else at the end of the run, in the order of what was sent (this project's own
+/// profile: in Akka each message that is sent registers its receiver). Then the cell is given back, and its actor is registered again
+/// if it has to be given to a worker: so it goes behind those.
 ///
 /// It answers `JournalFull` if the journal was full before the next message, or before it asked for one more envelope; else
 /// `NoMemory` if memory was refused then, or for an envelope of an actor that ended. The run ends there: what was drained stays
@@ -55,17 +57,11 @@ pub fn run_mailbox<A: Actor, K: Behaviours, W: RunQueue<BoxedHome<A, K>>, R: Wai
         × LeavesRun throughput claim (pass_view registrar.old.pass) (pass_view registrar.new.pass) journal turn NoRoom
         × IsShortOfMemory claim.home.value.cell.who journal }
 {
-    registrar.told = Owed::none();
-    let outcome = run_and_release(rt, gates, registrar, throughput, claim);
-    if registrar.told.is_empty() {
-        return outcome;
-    }
-    register_told(rt, gates, registrar);
-    outcome
+    registrar.told.clear();
+    run_and_release(rt, gates, registrar, throughput, claim)
 }
 
-// The run itself, after which the actor is registered again. Whom the run told something while no worker waited is to be registered
-// still: so a worker that is busy goes on with this actor first, and others take those that it told.
+// The run itself, of a registrar that has nobody to register yet.
 fn run_and_release<A: Actor, K: Behaviours, W: RunQueue<BoxedHome<A, K>>, R: Wait>(
     rt: &R,
     gates: &Gates<BoxedHome<A, K>>,
@@ -78,6 +74,7 @@ fn run_and_release<A: Actor, K: Behaviours, W: RunQueue<BoxedHome<A, K>>, R: Wai
     requires same_count { length (first_home gates.now).value.directory ≡ actors_of gates.now }
     ensures same_gates { IsRunRegistrarOf W.origin gates.now registrar.new }
     ensures caller_advances { LeavesTelling (caller_of W.pushed W.refused registrar.old) (caller_of W.pushed W.refused registrar.new) }
+    ensures none_left { (id : ℕ) → id < 64 → is_owed registrar.new.told.set id ≡ false }
     ensures claims { LosesNoClaimBut (held_actor claim) (caller_of W.pushed W.refused registrar.old) (caller_of W.pushed W.refused registrar.new) }
     ensures discharged { IsDischargedOrOwed (held_actor claim) (caller_of W.pushed W.refused registrar.new) }
     ensures ran { (journal : List Entry) × MatchResult result
@@ -98,15 +95,42 @@ fn run_and_release<A: Actor, K: Behaviours, W: RunQueue<BoxedHome<A, K>>, R: Wai
     };
     let outcome = run_claim(rt, gates, registrar, throughput, &mut claim, &mut turn);
     gates.release(claim, &mut registrar.pass);
-    registrar.register(rt, gates, actor, Hint::None);
+    registrar.register(rt, gates, actor, Hint::None, true);
     match outcome {
         Ok(()) => Ok(turn),
         Err(fault) => Err(fault),
     }
 }
 
-// The steps of the run before the claim goes back.
+// The steps of the run before the claim goes back. At their end all whom the run told something, or sent a system message, are
+// registered.
 fn run_claim<A: Actor, K: Behaviours, W: RunQueue<BoxedHome<A, K>>, R: Wait>(
+    rt: &R,
+    gates: &Gates<BoxedHome<A, K>>,
+    registrar: &mut Registrar<BoxedHome<A, K>, W>,
+    throughput: u32,
+    claim: &mut Claim<BoxedHome<A, K>>,
+    turn: &mut Turn,
+) -> Result<(), ReadyError>
+    requires in_run { InRun K.gives W.origin gates.now registrar.old claim.old turn.old }
+    requires none_taken { turn.old.envelopes ≡ 0 }
+    ensures in_run { InRun K.gives W.origin gates.now registrar.new claim.new turn.new }
+    ensures advances { Advances W.pushed W.refused result registrar.old registrar.new claim.old claim.new }
+    ensures stops { StopsRun result claim.new }
+    ensures within_limit { turn.new.envelopes ≤ most_envelopes throughput }
+    ensures ended { IfOk result (λ _. HasStopped claim.old.home.value.take (run_state claim.new) throughput turn.new.envelopes) }
+    ensures none_left { (id : ℕ) → id < 64 → is_owed registrar.new.told.set id ≡ false }
+{
+    let outcome = apply_all(rt, gates, registrar, throughput, claim, turn);
+    if registrar.told.is_empty() {
+        return outcome;
+    }
+    register_told(rt, gates, registrar, true);
+    outcome
+}
+
+// All system messages, and then envelopes.
+fn apply_all<A: Actor, K: Behaviours, W: RunQueue<BoxedHome<A, K>>, R: Wait>(
     rt: &R,
     gates: &Gates<BoxedHome<A, K>>,
     registrar: &mut Registrar<BoxedHome<A, K>, W>,

@@ -17,11 +17,11 @@ use mb_actor::{Actor, Behaviours};
 use mb_gate::{Claim, Gates, RunQueue};
 use mb_home::BoxedHome;
 use mb_msg::{ActorId, SysMsg};
-use mb_register::{Hint, Registrar};
+use mb_register::Registrar;
 use mb_syslist::{ListClosed, Node};
 use std::sync::Wait;
 
-/// Sends a system message in the run of a claim. If the receiver's list is ended, who waits for an answer is told that the
+/// Sends a system message in the run of a claim, and notes that the receiver is to be registered. If the receiver's list is ended, who waits for an answer is told that the
 /// receiver has ended, with the same node: of a Watch the watcher, of a Create the claim's actor, which is the parent
 /// (`EmptyLocalActorRef.sendSystemMessage`; that a Create is answered is this project's own profile).
 // Not inlined, so that a message that only tells has less to do.
@@ -49,9 +49,7 @@ pub(crate) fn send_system<A: Actor, K: Behaviours, W: RunQueue<BoxedHome<A, K>>,
     ensures due { SendsDue ((to.0, node) ∷ []) [] (run_state claim.old) (run_state claim.new) }
 {
     match gates.sys_enqueue_in_run(rt, &mut registrar.pass, claim, to, node) {
-        Ok(_) => {
-            registrar.register(rt, gates, to, Hint::System);
-        }
+        Ok(_) => registrar.told.insert(to),
         Err(ListClosed(node)) => {
             let parent = claim.actor();
             answer(rt, gates, registrar, claim, Some(parent), to, node);
@@ -124,5 +122,5 @@ fn notify<A: Actor, K: Behaviours, W: RunQueue<BoxedHome<A, K>>, R: Wait>(
     let Ok(_) = gates.sys_enqueue_in_run(rt, &mut registrar.pass, claim, whom, node) else {
         return;
     };
-    registrar.register(rt, gates, whom, Hint::System);
+    registrar.told.insert(whom);
 }

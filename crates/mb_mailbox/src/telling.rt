@@ -23,7 +23,7 @@ use mb_register::{Hint, Registrar};
 use std::sync::Wait;
 
 /// Sends what the claim's actor tells: reads the receiver's status, counts the envelope, queues it, and notes that the receiver is
-/// to be registered. If the receiver was read as closed, or its queue refused the envelope, that is a dead letter.
+/// to be registered, if it is due. If the receiver was read as closed, or its queue refused the envelope, that is a dead letter.
 #[inline(always)]
 pub(crate) fn tell<A: Actor, K: Behaviours, W: RunQueue<BoxedHome<A, K>>, R: Wait>(
     rt: &R,
@@ -51,7 +51,7 @@ pub(crate) fn tell<A: Actor, K: Behaviours, W: RunQueue<BoxedHome<A, K>>, R: Wai
     let Some(_hint) = send(rt, gates, &mut registrar.pass, &mut claim.home, to, body) else {
         return;
     };
-    registrar.told.insert(to);
+    registrar.note_told(gates, to);
 }
 
 /// Reads the receiver's status, counts the envelope and queues it. `None` where the receiver was read closed, and else what the

@@ -14,6 +14,7 @@ pub mod Loops
 pub mod Making
 pub mod Moves
 pub mod Permuted
+pub mod OneWorkerLemmas
 pub mod PoolPortCrossing
 pub mod PoolPortLemmas
 pub mod PortViews

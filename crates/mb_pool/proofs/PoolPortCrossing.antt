@@ -17,7 +17,10 @@ module _ (H : RattleType) (g : resident.Ghosts H.Denot) (home : IsSend H) where
     pool.end_send H g home,
     (
       search (sendable, log_send) depth 20,
-      (search (sendable, log_send) depth 20, (search (sendable, std_crosses, pooled_send) depth 20, (search sendable, tt))),
+      (
+        search (sendable, log_send) depth 20,
+        (search (sendable, log_send) depth 20, (search (sendable, std_crosses, pooled_send) depth 20, tt)),
+      ),
     ),
   ))
 

@@ -6,7 +6,7 @@ use Rattle.std.proofs.lemmas.List.Elements.{All-nil, All-cons, All-head, All-tai
 use Rattle.mb_gate.specs.declared.claim.Claim.{Claim}
 use Rattle.mb_pool.specs.declared.claim_refused.ClaimRefused.{ClaimRefused}
 use Rattle.mb_pool.specs.declared.claim_refused.ClaimRefused.TheVariants.{NoMemory}
-use Rattle.mb_pool.specs.Moves.{given_back, IsRefusal, IsRefusedBy, Pushes, PutsFirst, Takes, TakesOne, WasEmpty}
+use Rattle.mb_pool.specs.Moves.{given_back, FindsOwnEmpty, IsRefusal, IsRefusedBy, Pushes, PutsFirst, Takes, TakesOne, TakesOwn, WasEmpty}
 use Rattle.mb_gate.specs.Untouched.{Origin}
 use Rattle.mb_pool.specs.Account.{ClaimAccount}
 use Rattle.mb_pool.specs.Places.{PoolPort, Part, Parts, PoolEndpoint, gates_of, ports_of, part_of, parts_of}
@@ -202,6 +202,24 @@ module _ {H : Type 0} where
           took_next_same None h = (λ i. record { own_deque = part_of (still i) ∷ []; shared_port = part_of (still' i); next = map (part_of {H = H}) (h.0 i) })
           took_next_same (Some c) t = (λ i. record { own_deque = part_of (still i) ∷ []; shared_port = part_of (still' i); next = takes_parts next next' c t i })
 
+    -- a claim of the queue to which an end pushes is one of those that it takes
+    pub own_takes : (old new : List (PoolPort H)) (c : Claim H) → TakesOwn IsFit old c new → TakesOne IsFit old c new
+    own_takes old new c t = record {
+      before = [];
+      pool_port = t.pool_port;
+      rest = t.rest;
+      after = t.after;
+      found = t.found;
+      empty = All-nil (WasEmpty IsFit);
+      first = t.first;
+      then' = t.then';
+    }
+
+    pub own_answers : (A B : Type 0) (r : Option (Claim H)) (old new : List (PoolPort H)) → MatchOption r (A × B) (λ c. TakesOwn IsFit old c new) →
+        MatchOption r A (λ c. TakesOne IsFit old c new)
+    own_answers A B None old new h = h.0
+    own_answers A B (Some c) old new t = own_takes old new c t
+
     -- by the port of the queue that all share alone
     module _ (shared_port door' : PoolPort H) (same : door'.queue ≡ shared_port.queue) where
       pub push_by_shared_port : (c : Claim H) (r : Result (Unit {0}) (ClaimRefused H))
@@ -228,6 +246,15 @@ module _ {H : Type 0} where
           (λ c. TakesFirst IsFit shared_port.ledger c door'.ledger) → part_of door' ≡ part_of shared_port
       take_same None h = ap (part_of {H = H}) h.0
       take_same (Some c) t = took_part shared_port door' c same t
+
+      -- which is the queue to which it pushes
+      pub take_own_by_shared_port : (r : Option (Claim H)) → MatchOption r ((door' ≡ shared_port) × QueueMoment IsFit shared_port.ledger [])
+          (λ c. TakesFirst IsFit shared_port.ledger c door'.ledger)
+          → MatchOption r ((of_feed door' ≡ of_feed shared_port) × FindsOwnEmpty IsFit (ports_of (of_feed shared_port)))
+          (λ c. TakesOwn IsFit (ports_of (of_feed shared_port)) c (ports_of (of_feed door')))
+      take_own_by_shared_port None h = (ap (of_feed {H = H}) h.0, record { pool_port = shared_port; rest = []; found = refl; empty = h.1 })
+      take_own_by_shared_port (Some c) t =
+          record { pool_port = shared_port; rest = []; after = door'.ledger; found = refl; first = t; then' = ap (λ x. x ∷ []) (moved shared_port door' same) }
 
       -- by one attempt
       pub tried_by_shared_port : (c : Claim H) (r : Result (Unit {0}) (Claim H))
@@ -260,6 +287,31 @@ module _ {H : Type 0} where
           (λ back. (back ≡ c) × (stealing own_deque' shared_port next ≡ stealing own_deque shared_port next))
       tried_by_own c (Ok u) p = puts_first own_deque own_deque' (shared_port ∷ next) c same p
       tried_by_own c (Err back) h = (h.0, ap (λ (l : PoolPort H). stealing l shared_port next) h.1)
+
+      -- which is the queue to which it pushes
+      pub take_own_by_own : (r : Option (Claim H)) → MatchOption r ((own_deque' ≡ own_deque) × QueueMoment IsFit own_deque.ledger [])
+          (λ c. TakesFirst IsFit own_deque.ledger c own_deque'.ledger)
+          → MatchOption r ((stealing own_deque' shared_port next ≡ stealing own_deque shared_port next)
+          × FindsOwnEmpty IsFit (ports_of (stealing own_deque shared_port next)))
+          (λ c. TakesOwn IsFit (ports_of (stealing own_deque shared_port next)) c (ports_of (stealing own_deque' shared_port next)))
+      take_own_by_own None h = (
+        ap (λ (l : PoolPort H). stealing l shared_port next) h.0,
+        record { pool_port = own_deque; rest = shared_port ∷ next; found = refl; empty = h.1 },
+      )
+      take_own_by_own (Some c) t = record {
+        pool_port = own_deque;
+        rest = shared_port ∷ next;
+        after = own_deque'.ledger;
+        found = refl;
+        first = t;
+        then' = ap (λ x. x ∷ shared_port ∷ next) (moved own_deque own_deque' same);
+      }
+
+      pub take_own_parts : (r : Option (Claim H)) → MatchOption r ((own_deque' ≡ own_deque) × QueueMoment IsFit own_deque.ledger [])
+          (λ c. TakesFirst IsFit own_deque.ledger c own_deque'.ledger)
+          → parts_of (stealing own_deque' shared_port next) ≡ parts_of (stealing own_deque shared_port next)
+      take_own_parts None h = own_parts own_deque own_deque' shared_port next (ap (part_of {H = H}) h.0)
+      take_own_parts (Some c) t = own_parts own_deque own_deque' shared_port next (took_part own_deque own_deque' c same t)
 
       pub tried_take_by_own : (r : Option (Claim H)) → MatchOption r (own_deque' ≡ own_deque) (λ c. TakesFirst IsFit own_deque.ledger c own_deque'.ledger)
           → MatchOption r (stealing own_deque' shared_port next ≡ stealing own_deque shared_port next)

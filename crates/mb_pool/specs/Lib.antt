@@ -14,3 +14,4 @@ pub mod PushedThrough
 pub mod Rule
 pub mod Shared
 pub mod WorkerPorts
+pub mod OneWorker

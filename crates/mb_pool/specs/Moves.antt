@@ -44,6 +44,22 @@ module _ {H : Type 0} (IsFit : Option (Origin H) → Claim H → Type 0) where
     pub first : TakesFirst IsFit pool_port.ledger c after
     pub then' : new ≡ before ++ record pool_port { ledger = after } ∷ rest
 
+  -- the queue to which it pushes was empty at a moment
+  pub record FindsOwnEmpty (old : List (PoolPort H)) : Type 0 where
+    pub pool_port : PoolPort H
+    pub rest : List (PoolPort H)
+    pub found : old ≡ pool_port ∷ rest
+    pub empty : WasEmpty pool_port
+
+  -- the claim was the first of the queue to which it pushes
+  pub record TakesOwn (old : List (PoolPort H)) (c : Claim H) (new : List (PoolPort H)) : Type 0 where
+    pub pool_port : PoolPort H
+    pub rest : List (PoolPort H)
+    pub after : ClaimAccount H
+    pub found : old ≡ pool_port ∷ rest
+    pub first : TakesFirst IsFit pool_port.ledger c after
+    pub then' : new ≡ record pool_port { ledger = after } ∷ rest
+
   -- the claim was pushed into the queue that the end or the feed pushes to
   abbrev pub Pushes : PoolEndpoint H → Claim H → PoolEndpoint H → Type 0
   Pushes old c new = PutsFirst (ports_of old) c (ports_of new)

@@ -1,37 +1,39 @@
 -- What contracts see of a worker's way into the pool, and what its calls do (this project's own profile: a thread of Akka's `ForkJoinPool` runs a
 -- task next that it forked while its deque was empty).
-use Rattle.std.specs.Prelude.{◌≡◌, ℕ, ◌+◌, Bool, true, false, not, ◌&&◌, nat_eq, nat_lt, List, [], ◌∷◌, length, Option}
+use Rattle.std.specs.Prelude.{◌≡◌, ◌⊎◌, ◌≢◌, Bool, true, false, List, [], ◌∷◌, ◌++◌, Option}
 use Rattle.mb_gate.specs.declared.claim.Claim.{Claim}
 use Rattle.mb_gate.specs.Untouched.{Origin}
-use Rattle.mb_pool.specs.Moves.{Pushes, Takes}
-use Rattle.mb_pool.specs.Places.{PoolEndpoint}
+use Rattle.mb_pool.specs.Moves.{FindsOwnEmpty, Pushes, Takes, TakesOwn}
+use Rattle.mb_pool.specs.Places.{PoolEndpoint, ports_of}
+use Rattle.mb_pool.specs.PoolPorts.{IsRefusedByPool}
 
 -- Its end of the pool; the claim that it keeps for its worker, or none; the claims that it was given and did not give back; those that the pool
--- refused; and how many it kept since one went into the pool.
+-- refused; and those that its worker took. The lists are in order.
 pub record WorkerPortView (H : Type 0) : Type 0 where
   pub end : PoolEndpoint H
   pub next : List (Claim H)
   pub pushed : List (Claim H)
   pub refused : List (Claim H)
-  pub in_turn : ℕ
-
--- How many claims it keeps in turn at most, before one goes into the pool again behind those that are there.
-abbrev pub most_in_turn : ℕ
-most_in_turn = 64
-
--- Whether it keeps the claim that it is given next: no other worker is to have that, it keeps none, and it kept fewer than the most in turn.
-abbrev pub keeps_next : {H : Type 0} → Bool → WorkerPortView H → Bool
-keeps_next is_awaited port = not is_awaited && nat_eq (length port.next) 0 && nat_lt port.in_turn most_in_turn
+  pub taken : List (Claim H)
 
 module _ {H : Type 0} (IsFit : Option (Origin H) → Claim H → Type 0) where
-  -- The claim is kept, where it keeps the next, or else it was pushed into the pool.
-  pub data PutsClaim (is_awaited : Bool) (old : WorkerPortView H) (claim : Claim H) (new : WorkerPortView H) : Type 0 where
-    kept : keeps_next is_awaited old ≡ true → old.next ≡ [] → new.next ≡ claim ∷ [] → new.end ≡ old.end → new.in_turn ≡ old.in_turn + 1
-        → PutsClaim is_awaited old claim new
-    pooled : keeps_next is_awaited old ≡ false → Pushes IsFit old.end claim new.end → new.next ≡ old.next → new.in_turn ≡ 0
-        → PutsClaim is_awaited old claim new
+  -- What becomes of a claim. It goes behind all claims of the queue to which the end pushes. Only at the end of a run, where no claim is kept, a look
+  -- into that queue says which claim the worker takes next: if it is empty, this one, which is kept; else the first one there.
+  pub data PutsClaim (at_run_end : Bool) (old : WorkerPortView H) (claim : Claim H) (new : WorkerPortView H) : Type 0 where
+    kept : at_run_end ≡ true → old.next ≡ [] → FindsOwnEmpty IsFit (ports_of old.end) → new.next ≡ claim ∷ [] → new.end ≡ old.end
+        → PutsClaim at_run_end old claim new
+    behind : (first : Claim H) (mid : PoolEndpoint H) → at_run_end ≡ true → old.next ≡ [] → TakesOwn IsFit (ports_of old.end) first (ports_of mid)
+        → Pushes IsFit mid claim new.end → new.next ≡ first ∷ [] → PutsClaim at_run_end old claim new
+    pooled : (at_run_end ≡ false) ⊎ (old.next ≢ []) → Pushes IsFit old.end claim new.end → new.next ≡ old.next → PutsClaim at_run_end old claim new
+
+  -- The queue refused the claim. Before that, at the end of a run, its first claim may have become the one that the worker takes next.
+  pub data RefusesClaim (at_run_end : Bool) (old : WorkerPortView H) (claim : Claim H) (new : WorkerPortView H) : Type 0 where
+    behind : (first : Claim H) → at_run_end ≡ true → old.next ≡ [] → TakesOwn IsFit (ports_of old.end) first (ports_of new.end)
+        → IsRefusedByPool IsFit new.end claim → new.next ≡ first ∷ [] → RefusesClaim at_run_end old claim new
+    pooled : IsRefusedByPool IsFit old.end claim → new.end ≡ old.end → new.next ≡ old.next → RefusesClaim at_run_end old claim new
 
   -- The claim was kept and no longer is; or none was kept, and it was taken out of the pool.
   pub data TakesClaim (old : WorkerPortView H) (claim : Claim H) (new : WorkerPortView H) : Type 0 where
-    kept : old.next ≡ claim ∷ [] → new ≡ record old { next = [] } → TakesClaim old claim new
-    pooled : old.next ≡ [] → Takes IsFit old.end claim new.end → new ≡ record old { end = new.end } → TakesClaim old claim new
+    kept : old.next ≡ claim ∷ [] → new ≡ record old { next = []; taken = old.taken ++ claim ∷ [] } → TakesClaim old claim new
+    pooled : old.next ≡ [] → Takes IsFit old.end claim new.end → new ≡ record old { end = new.end; taken = old.taken ++ claim ∷ [] }
+        → TakesClaim old claim new

@@ -1,6 +1,6 @@
 //! A worker's end of a pool.
 ghost use Rattle.std.specs.Prelude.{◌≡◌, All, IfSome, MatchOption, MatchResult};
-ghost use Rattle.mb_pool.specs.Moves.{given_back, IsRefusedBy, Pushes, Takes, WasEmpty};
+ghost use Rattle.mb_pool.specs.Moves.{given_back, FindsOwnEmpty, IsRefusedBy, Pushes, Takes, TakesOwn, WasEmpty};
 ghost use Rattle.mb_pool.specs.Parts.{port_view};
 ghost use Rattle.mb_pool.specs.Places.{gates_of, number_of, ports_of, parts_of};
 ghost use Rattle.mb_gate.specs.Untouched.{IsUntouched};
@@ -110,6 +110,19 @@ impl<H: MailboxState> PoolEnd<H> {
         ensures same { parts_of self.new ≡ parts_of self.old }
     {
         try_take_first(&mut self.shared_port, &mut self.member)
+    }
+
+    /// Takes the first claim of the queue to which the end pushes: the one queue of a shared pool, the end's own deque in a stealing
+    /// one. It is of the pool's gates, and as it was when it was pushed. `None` only where that queue was empty at a moment of the
+    /// call.
+    #[inline(always)]
+    pub(crate) fn take_own<R: Wait>(&mut self, rt: &R) -> Option<Claim<H>>
+        ensures taken { MatchOption result ((self.new ≡ self.old) × FindsOwnEmpty (IsUntouched H.is_of H.facts) (ports_of self.old))
+            (λ c. TakesOwn (IsUntouched H.is_of H.facts) (ports_of self.old) c (ports_of self.new)) }
+        ensures untouched { IfSome result (λ c. IsUntouched H.is_of H.facts (gates_of self.old) c) }
+        ensures same { parts_of self.new ≡ parts_of self.old }
+    {
+        take_own_first(rt, &mut self.shared_port, &mut self.member)
     }
 
     /// Its number in a stealing pool. In a shared one no end has a number of its own, and this is 0.
@@ -231,5 +244,25 @@ fn try_take_first<H: MailboxState>(
             Some(claim) => return Some(claim),
             None => return None,
         },
+    }
+}
+
+/// Takes the first claim of the end's own deque, if it has one, else of the queue that all share.
+#[inline(always)]
+fn take_own_first<H: MailboxState, R: Wait>(
+    rt: &R,
+    shared_port: &mut SharedPort<H>,
+    member: &mut Option<EndDeques<H>>,
+) -> Option<Claim<H>>
+    requires { AreOpen (endpoint_of (port_view shared_port.old) member.old) }
+    ensures taken { MatchOption result ((endpoint_of (port_view shared_port.new) member.new ≡ endpoint_of (port_view shared_port.old) member.old)
+        × FindsOwnEmpty (IsUntouched H.is_of H.facts) (ports_of (endpoint_of (port_view shared_port.old) member.old)))
+        (λ c. TakesOwn (IsUntouched H.is_of H.facts) (ports_of (endpoint_of (port_view shared_port.old) member.old)) c
+        (ports_of (endpoint_of (port_view shared_port.new) member.new))) }
+    ensures same { parts_of (endpoint_of (port_view shared_port.new) member.new) ≡ parts_of (endpoint_of (port_view shared_port.old) member.old) }
+{
+    match member {
+        None => return shared_port.take(rt),
+        Some(member) => return member.own_deque.take(),
     }
 }

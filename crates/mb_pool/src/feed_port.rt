@@ -47,7 +47,7 @@ impl<H: MailboxState> RunQueue<H> for FeedPort<H> {
         &mut self,
         rt: &R,
         claim: Claim<H>,
-        is_awaited: bool,
+        at_run_end: bool,
     ) -> Result<(), RefusedClaim<H>>
         requires untouched { IsUntouched H.is_of H.facts (gates_of self.old.feed) claim }
         ensures same { gates_of self.new.feed ≡ gates_of self.old.feed }
@@ -63,7 +63,7 @@ impl<H: MailboxState> RunQueue<H> for FeedPort<H> {
         ensures parts { parts_of self.new.feed ≡ parts_of self.old.feed }
     {
         // A feed has no worker that could take it next.
-        let _ = is_awaited;
+        let _ = at_run_end;
         match self.feed.push(rt, claim) {
             Ok(()) => Ok(()),
             Err(refused) => {

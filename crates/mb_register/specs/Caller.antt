@@ -52,7 +52,7 @@ module _ {H W : Type 0} where
   caller_of pushed refused registrar = record {
     view = pass_view registrar.pass;
     account = record { pushed = pushed registrar.run_queue; refused = refused registrar.run_queue; owed = registrar.owed };
-    told = registrar.told;
+    told = registrar.told.set;
   }
 
 module _ {H : Type 0} where

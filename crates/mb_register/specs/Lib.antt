@@ -1,5 +1,6 @@
 pub mod Hint
 pub mod Owed
+pub mod Told
 pub mod Views
 pub mod Due
 pub mod Registering

@@ -9,6 +9,7 @@
 mod due;
 mod hint;
 mod owed;
+mod registering_told;
 mod registrar;
 mod retrying;
 mod still_refused;
@@ -19,3 +20,4 @@ pub use hint::Hint;
 pub use owed::Owed;
 pub use registrar::Registrar;
 pub use still_refused::StillRefused;
+pub use told::Told;

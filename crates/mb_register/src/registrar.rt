@@ -12,6 +12,7 @@ ghost use Rattle.mb_register.specs.Registering.{HandsClaimOn, IsRegistered, Join
 use crate::due::{is_due, take_due_again};
 use crate::hint::Hint;
 use crate::owed::Owed;
+use crate::told::Told;
 use crate::untouched::give_home;
 use mb_gate::{Gates, MailboxState, Pass, RefusedClaim, RunQueue, Tried};
 use mb_msg::ActorId;
@@ -26,19 +27,27 @@ pub struct Registrar<H, W> {
     pub run_queue: W,
     /// The actors to which it owes a look.
     pub owed: Owed,
-    /// The actors that a run told something and has not registered yet. Between two runs there are none.
-    pub told: Owed,
+    /// The actors that a run told something, or sent a system message, and has not registered yet. Between two runs there are none.
+    pub told: Told,
 }
 
 impl<H: MailboxState, W: RunQueue<H>> Registrar<H, W> {
     /// Gives the actor's claim to the run queue, where the actor has to be given to a worker
     /// (`Dispatcher.registerForExecution`), and answers whether it did. A hint says that the actor has envelopes, or system
-    /// work, and saves reading that. It takes the claim only of an actor that it saw to be due.
+    /// work, and saves reading that. It takes the claim only of an actor that it saw to be due. `at_run_end` says that the run of
+    /// its worker is over, so that a worker's port may keep the claim: the worker takes one next.
     ///
     /// Where the run queue refuses the claim, the claim goes back, and a look is owed to the actor: it joins the set, and the
     /// pass owes it the look.
     #[inline(always)]
-    pub fn register<R: Wait>(&mut self, rt: &R, gates: &Gates<H>, id: ActorId, hint: Hint) -> bool
+    pub fn register<R: Wait>(
+        &mut self,
+        rt: &R,
+        gates: &Gates<H>,
+        id: ActorId,
+        hint: Hint,
+        at_run_end: bool,
+    ) -> bool
         requires same_gates { (pass_id self.old.pass ≡ gates_id gates.now) × (W.origin self.old.run_queue ≡ Some (origin_of gates.now)) }
         requires present { (id.0 < actors_of gates.now) × (id.0 < 64) }
         ensures same_gates { (pass_id self.new.pass ≡ pass_id self.old.pass) × (W.origin self.new.run_queue ≡ W.origin self.old.run_queue) }
@@ -58,12 +67,19 @@ impl<H: MailboxState, W: RunQueue<H>> Registrar<H, W> {
         if !is_due(gates, &mut self.pass, id, hint) {
             return false;
         }
-        self.register_due(rt, gates, id, hint)
+        self.register_due(rt, gates, id, hint, at_run_end)
     }
 
     // Gives the claim of an actor that is due to the run queue. It is a function of its own, so that where none is due nothing
     // is called that may wait.
-    fn register_due<R: Wait>(&mut self, rt: &R, gates: &Gates<H>, id: ActorId, hint: Hint) -> bool
+    fn register_due<R: Wait>(
+        &mut self,
+        rt: &R,
+        gates: &Gates<H>,
+        id: ActorId,
+        hint: Hint,
+        at_run_end: bool,
+    ) -> bool
         requires same_gates { (pass_id self.old.pass ≡ gates_id gates.now) × (W.origin self.old.run_queue ≡ Some (origin_of gates.now)) }
         requires present { (id.0 < actors_of gates.now) × (id.0 < 64) }
         ensures same_gates { (pass_id self.new.pass ≡ pass_id self.old.pass) × (W.origin self.new.run_queue ≡ W.origin self.old.run_queue) }
@@ -81,20 +97,17 @@ impl<H: MailboxState, W: RunQueue<H>> Registrar<H, W> {
     {
         // Each answer is given in its own arm, and the claim is handed on right where it was got: so it stays in registers.
         match gates.try_schedule(&mut self.pass, id) {
-            Tried::Got(claim) => {
-                let is_awaited = self.is_awaited(gates, id);
-                match self.run_queue.push(rt, claim, is_awaited) {
-                    Ok(()) => return true,
-                    Err(RefusedClaim { claim }) => {
-                        give_home(gates, &mut self.pass, claim);
-                        self.owed.insert(id);
-                        return false;
-                    }
+            Tried::Got(claim) => match self.run_queue.push(rt, claim, at_run_end) {
+                Ok(()) => return true,
+                Err(RefusedClaim { claim }) => {
+                    give_home(gates, &mut self.pass, claim);
+                    self.owed.insert(id);
+                    return false;
                 }
-            }
+            },
             Tried::Already => return false,
             Tried::Closed => return false,
-            Tried::Lost(_) => return self.register_due_again(rt, gates, id, hint),
+            Tried::Lost(_) => return self.register_due_again(rt, gates, id, hint, at_run_end),
         }
     }
 
@@ -107,6 +120,7 @@ impl<H: MailboxState, W: RunQueue<H>> Registrar<H, W> {
         gates: &Gates<H>,
         id: ActorId,
         hint: Hint,
+        at_run_end: bool,
     ) -> bool
         requires same_gates { (pass_id self.old.pass ≡ gates_id gates.now) × (W.origin self.old.run_queue ≡ Some (origin_of gates.now)) }
         requires present { (id.0 < actors_of gates.now) × (id.0 < 64) }
@@ -126,29 +140,13 @@ impl<H: MailboxState, W: RunQueue<H>> Registrar<H, W> {
         let Some(claim) = take_due_again(rt, gates, &mut self.pass, id, hint) else {
             return false;
         };
-        let is_awaited = self.is_awaited(gates, id);
-        match self.run_queue.push(rt, claim, is_awaited) {
+        match self.run_queue.push(rt, claim, at_run_end) {
             Ok(()) => true,
             Err(RefusedClaim { claim }) => {
                 give_home(gates, &mut self.pass, claim);
                 self.owed.insert(id);
                 false
             }
-        }
-    }
-
-    // Whether another worker is to have the actor's claim, rather than the worker that registers the actor. In a run on threads this
-    // is so where the run told the actor something and a worker waits. Any other actor is best run next where it is: its own run has
-    // just ended, or a system message went to it, and after that a run has mostly little left to do. Any answer is right.
-    #[inline(always)]
-    fn is_awaited(&self, gates: &Gates<H>, id: ActorId) -> bool
-        requires { id.0 < 64 }
-    {
-        let idle_workers = gates.idle_workers();
-        if self.told.contains(id) {
-            idle_workers.is_any()
-        } else {
-            idle_workers.is_quiet()
         }
     }
 }

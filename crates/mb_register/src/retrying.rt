@@ -86,7 +86,7 @@ impl<H: MailboxState, W: RunQueue<H>> Registrar<H, W> {
             return Ok(());
         }
         self.owed.remove(id);
-        self.register(rt, gates, id, Hint::None);
+        self.register(rt, gates, id, Hint::None, false);
         if self.owed.contains(id) {
             return Err(StillRefused);
         }

@@ -1,50 +1,101 @@
-//! Registering the actors that a run told something.
-ghost use Rattle.std.specs.Prelude.{◌≡◌, ℕ, ◌<◌, ◌≤◌, ◌⊎◌, true, false, Some};
-ghost use Rattle.mb_core.specs.Actor.{nothing};
-ghost use Rattle.mb_gate.specs.Accessors.{gates_id, pass_id, actors_of, pass_view};
-ghost use Rattle.mb_gate.specs.Untouched.{origin_of};
-ghost use Rattle.mb_gate.specs.View.{obligation_to};
-ghost use Rattle.mb_register.specs.Caller.{OwesForRefusals};
-ghost use Rattle.mb_register.specs.Due.{GotOnlyDue};
-ghost use Rattle.mb_register.specs.Owed.{is_owed};
-ghost use Rattle.mb_register.specs.Registering.{LosesNoClaim};
-ghost use Rattle.mb_register.specs.Views.{LooksAmong};
-ghost use Rattle.mb_register.specs.declared.hint.Hint.TheVariants as hint;
+//! Whom a run sent something and has not registered yet.
+ghost use Rattle.std.specs.Prelude.{◌≡◌, ◌<◌, ◌==◌, ◌||◌, [], ℕ, length, IsFalse, IsTrue, slice_index_or};
+ghost use Rattle.mb_register.specs.Owed.{is_owed, IsNobody};
+ghost use Rattle.mb_register.specs.Told.{IsSetOf, with_told};
 
-use crate::hint::Hint;
-use crate::registrar::Registrar;
-use mb_gate::{Gates, MailboxState, RunQueue};
-use mb_msg::limits::ACTORS;
-use std::sync::Wait;
+use crate::owed::Owed;
+use mb_msg::ActorId;
+use std::marker::Model;
 
-impl<H: MailboxState, W: RunQueue<H>> Registrar<H, W> {
-    /// Registers each actor that a run told something and has not registered yet, in the order of their numbers
-    /// (`Dispatcher.registerForExecution`; that a run may register them later than it tells them is this project's own profile).
-    /// A look is owed to one whose claim the run queue refuses.
-    pub fn register_told<R: Wait>(&mut self, rt: &R, gates: &Gates<H>)
-        requires same_gates { (pass_id self.old.pass ≡ gates_id gates.now) × (W.origin self.old.run_queue ≡ Some (origin_of gates.now)) }
-        requires present { (id : ℕ) → id < 64 → is_owed self.old.told id ≡ true → id < actors_of gates.now }
-        ensures same_gates { (pass_id self.new.pass ≡ pass_id self.old.pass) × (W.origin self.new.run_queue ≡ W.origin self.old.run_queue) }
-        ensures looks { LooksAmong (is_owed self.old.told) (pass_view self.old.pass) (pass_view self.new.pass) }
-        ensures discharged { (id : ℕ) → id < 64 → is_owed self.old.told id ≡ true
-            → (obligation_to id (pass_view self.new.pass) ≡ nothing) ⊎ (is_owed self.new.owed id ≡ true) }
-        ensures beyond { (id : ℕ) → 64 ≤ id → obligation_to id (pass_view self.new.pass) ≡ obligation_to id (pass_view self.old.pass) }
-        ensures none_left { (id : ℕ) → id < 64 → is_owed self.new.told id ≡ false }
-        ensures owed { OwesForRefusals
-            (record { pushed = W.pushed self.old.run_queue; refused = W.refused self.old.run_queue; owed = self.old.owed })
-            (record { pushed = W.pushed self.new.run_queue; refused = W.refused self.new.run_queue; owed = self.new.owed }) }
-        ensures handed { LosesNoClaim
-            (record { pushed = W.pushed self.old.run_queue; refused = W.refused self.old.run_queue; owed = self.old.owed })
-            (record { pushed = W.pushed self.new.run_queue; refused = W.refused self.new.run_queue; owed = self.new.owed })
-            (pass_view self.old.pass) (pass_view self.new.pass) }
-        ensures due { GotOnlyDue hint.None (pass_view self.old.pass) (pass_view self.new.pass) }
+/// How many actors it has at most: as many as a system has.
+const MOST_TOLD: usize = 64;
+
+/// The actors that a run told something, or sent a system message, and that it is to register, each once: in the order in which the
+/// run sent to each of them first.
+#[derive(Drop)]
+pub struct Told {
+    /// The same as a set, so that one look tells whether an actor is there.
+    set: Owed,
+    places: [ActorId; MOST_TOLD],
+    count: usize,
+}
+
+impl Model for Told {
+    ghost use Rattle.mb_register.specs.Told.{ToldView};
+
+    ghost Value = { ToldView };
+
+    ghost use Rattle.std.specs.Prelude.{◌≡◌, ◌≤◌, length, take};
+    ghost use Rattle.mb_register.specs.Told.{IsSetOf};
+
+    ghost view = { λ t. record { set = t.set; order = take t.count t.places } };
+
+    ghost invariant = { λ t. (t.count ≤ 64) × (length t.places ≡ 64) × IsSetOf t.set (take t.count t.places) };
+}
+
+impl Told {
+    /// Nobody.
+    pub fn none() -> Told
+        ensures order { result.order ≡ [] }
+        ensures nobody { IsNobody result.set }
     {
-        for number in 0..ACTORS {
-            let Some(id) = self.told.first() else {
-                return;
-            };
-            self.register(rt, gates, id, Hint::None);
-            self.told.remove(id);
+        Told {
+            set: Owed::none(),
+            places: [ActorId(0); MOST_TOLD],
+            count: 0,
         }
+    }
+
+    /// Lets all go.
+    #[inline(always)]
+    pub fn clear(&mut self)
+        ensures order { self.new.order ≡ [] }
+        ensures nobody { IsNobody self.new.set }
+    {
+        self.set = Owed::none();
+        self.count = 0;
+    }
+
+    /// The actors, in order.
+    #[inline(always)]
+    pub fn as_slice(&self) -> &[ActorId]
+        ensures value { result.now ≡ self.now.order }
+        ensures all { IsSetOf self.now.set self.now.order }
+    {
+        &self.places[..self.count]
+    }
+
+    /// Whether nobody is in it.
+    #[inline(always)]
+    pub fn is_empty(&self) -> bool
+        ensures nobody { IsTrue result → IsNobody self.now.set }
+        ensures somebody { IsFalse result → 0 < length self.now.order }
+    {
+        self.count == 0
+    }
+
+    /// Whether this actor is in it.
+    #[inline(always)]
+    pub fn contains(&self, id: ActorId) -> bool
+        requires { id.0 < 64 }
+        ensures { result ≡ is_owed self.now.set id.0 }
+    {
+        self.set.contains(id)
+    }
+
+    /// Puts this actor last, unless it is there.
+    #[inline(always)]
+    pub fn insert(&mut self, id: ActorId)
+        requires { id.0 < 64 }
+        ensures set { (other : ℕ) → is_owed self.new.set other ≡ (other == id.0 || is_owed self.old.set other) }
+        ensures order { self.new.order ≡ with_told id self.old }
+    {
+        if self.set.contains(id) {
+            return;
+        }
+        let count = self.count;
+        self.places[count] = id;
+        self.count = count + 1;
+        self.set.insert(id);
     }
 }

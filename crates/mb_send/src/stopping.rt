@@ -48,10 +48,10 @@ impl<H: MailboxState, W: RunQueue<H>> GatesSender<H, W> {
             return Err(SendError::NoMemory);
         };
         let Ok(_) = gates.sys_enqueue(rt, &mut self.registrar.pass, id, node) else {
-            self.registrar.register(rt, gates, id, Hint::None);
+            self.registrar.register(rt, gates, id, Hint::None, false);
             return Ok(false);
         };
-        self.registrar.register(rt, gates, id, Hint::System);
+        self.registrar.register(rt, gates, id, Hint::System, false);
         Ok(true)
     }
 }

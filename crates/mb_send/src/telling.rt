@@ -63,14 +63,14 @@ impl<H: MailboxState, W: RunQueue<H>> GatesSender<H, W> {
         match self.sends[to.0 as usize - 1].put(rt, &envelope) {
             Ok(()) => {
                 self.send_log.record_queued(envelope);
-                self.registrar.register(rt, gates, to, Hint::Message);
+                self.registrar.register(rt, gates, to, Hint::Message, false);
                 Ok(Put::Queued(number))
             }
             Err(refused) => {
                 let why = why_of(refused);
                 self.send_log.record_dead(envelope, why);
                 gates.note_unsent(&mut self.registrar.pass, to);
-                self.registrar.register(rt, gates, to, Hint::None);
+                self.registrar.register(rt, gates, to, Hint::None, false);
                 Ok(Put::Dead(number, why))
             }
         }

@@ -18,7 +18,7 @@ use mb_msg::limits::ACTORS;
 use mb_msg::{ActorId, SenderId, SysMsg};
 use mb_pool::{Feed, FeedPort, WorkerPort};
 use mb_queue::SendPass;
-use mb_register::{Owed, Registrar};
+use mb_register::{Owed, Registrar, Told};
 use mb_syslist::Node;
 use mb_system::{Sender, WorkerEnd};
 use std::alloc::{AllocError, Global};
@@ -99,7 +99,7 @@ fn open_senders<A: Actor, K: Behaviours>(
             pass: gates.new_pass(pass),
             run_queue: FeedPort::new(feed),
             owed: Owed::none(),
-            told: Owed::none(),
+            told: Told::none(),
         };
         let by = SenderId(ACTORS + senders.len() as u32);
         let inner = mb_send::GatesSender::new(alloc, by, registrar, sends);
@@ -131,7 +131,7 @@ fn open_ends<A: Actor, K: Behaviours>(
             pass: gates.new_pass(pass),
             run_queue: WorkerPort::new(end),
             owed: Owed::none(),
-            told: Owed::none(),
+            told: Told::none(),
         };
         let number = opened.len() as u32;
         opened.push(WorkerEnd { number, registrar })?;

@@ -82,7 +82,7 @@ impl<A: Actor, K: Behaviours> WorkerEnd<A, K> {
         ensures leaves { LeavesCaller (end_caller self.old.registrar) (end_caller self.new.registrar) }
         ensures number { self.new.number ≡ self.old.number }
     {
-        self.registrar.register(rt, &system.gates, id, hint)
+        self.registrar.register(rt, &system.gates, id, hint, false)
     }
 
     /// Registers all actors, each once, in the order of their numbers. Each is owed nothing then, or is in the set of actors that
@@ -125,7 +125,7 @@ impl<A: Actor, K: Behaviours> WorkerEnd<A, K> {
     pub fn try_take(&mut self) -> Option<Claim<BoxedHome<A, K>>>
         ensures untouched { IfSome result (IsFreshClaim K.gives (gates_of self.old.registrar.run_queue.end)) }
         ensures taken { IfSome result (λ claim. TakesClaim (IsFreshClaim K.gives) self.old.registrar.run_queue claim self.new.registrar.run_queue) }
-        ensures none { IfNone result (self.new ≡ self.old) }
+        ensures none { IfNone result ((self.new ≡ self.old) × (self.old.registrar.run_queue.next ≡ [])) }
         ensures same { (self.new.registrar.pass ≡ self.old.registrar.pass) × (self.new.registrar.owed ≡ self.old.registrar.owed)
             × (gates_of self.new.registrar.run_queue.end ≡ gates_of self.old.registrar.run_queue.end) × (self.new.number ≡ self.old.number) }
     {

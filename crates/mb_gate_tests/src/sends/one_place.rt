@@ -51,7 +51,7 @@ impl RunQueue<OpenHome> for OnePlace {
         &mut self,
         rt: &R,
         claim: Claim<OpenHome>,
-        is_awaited: bool,
+        at_run_end: bool,
     ) -> Result<(), RefusedClaim<OpenHome>>
         requires untouched { IsUntouched ⟦<OpenHome as MailboxState>⟧.is_of ⟦<OpenHome as MailboxState>⟧.facts (Some (origin_of self.old.gates.value)) claim }
         ensures same { self.new.gates ≡ self.old.gates }
@@ -62,7 +62,7 @@ impl RunQueue<OpenHome> for OnePlace {
             × (map (λ s. s.value) self.new.refused ≡ map (λ s. s.value) self.old.refused ++ claim ∷ [])) }
     {
         // There is no worker that could take it next.
-        let _ = is_awaited;
+        let _ = at_run_end;
         if self.place.is_some() {
             self.refused.add(Snapshot::of(&claim));
             return Err(RefusedClaim { claim });

@@ -11,7 +11,7 @@ use crate::sends::sending::{HELLO, SendStep};
 use mb_gate::{Gates, Pass};
 use mb_msg::{ActorId, MailboxType, SenderId};
 use mb_queue::{MailQueue, SendPass};
-use mb_register::{Owed, Registrar};
+use mb_register::{Owed, Registrar, Told};
 use mb_send::{GatesSender, Look, Put, SendError, Ticket};
 use std::alloc::Global;
 use std::sync::Wait;
@@ -80,7 +80,7 @@ impl Outside {
             pass,
             run_queue: OnePlace::new(&gates),
             owed: Owed::none(),
-            told: Owed::none(),
+            told: Told::none(),
         };
         let sender = GatesSender::new(alloc, ME, registrar, sends);
         Ok(Outside {

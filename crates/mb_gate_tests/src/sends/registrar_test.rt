@@ -8,7 +8,7 @@ use crate::sends::one_place::OnePlace;
 use crate::sends::registering::SendStep;
 use mb_gate::Gates;
 use mb_msg::ActorId;
-use mb_register::{Hint, Owed, Registrar};
+use mb_register::{Hint, Owed, Registrar, Told};
 use std::alloc::Global;
 use std::sync::Wait;
 use std::test::Fail;
@@ -46,7 +46,7 @@ impl RegistrarTest {
             pass,
             run_queue,
             owed: Owed::none(),
-            told: Owed::none(),
+            told: Told::none(),
         };
         Ok(RegistrarTest { gates, registrar })
     }
@@ -72,6 +72,6 @@ impl RegistrarTest {
     fn register<R: Wait>(&mut self, rt: &R, id: ActorId, hint: Hint) -> bool
         requires present { id.0 < 3 }
     {
-        self.registrar.register(rt, &self.gates, id, hint)
+        self.registrar.register(rt, &self.gates, id, hint, false)
     }
 }

@@ -124,7 +124,7 @@ returns-in_err-run_mailbox-clause-fault g c =
 
 pub loop-preserved : goal.loop-preserved
 loop-preserved g c =
-    let at = kept-still g.K.Behaviours.gives c.args.system.now c.args.end.now c.loop.end c.try_take.new.self c.in_default.ensures.none c.loop.invariant in let next = c.next_claim.ensures in let did = c.run_mailbox-in-loop.ensures in let actors = actors_of c.args.system.now.gates in
+    let at = kept-still g.K.Behaviours.gives c.args.system.now c.args.end.now c.loop.end c.try_take.new.self c.in_default.ensures.none.0 c.loop.invariant in let next = c.next_claim.ensures in let did = c.run_mailbox-in-loop.ensures in let actors = actors_of c.args.system.now.gates in
     let gives = g.K.Behaviours.gives in let origin = origin_of c.args.system.now.gates in let throughput = c.args.system.now.throughput in
     let first = end_caller c.args.end.now.registrar in let old = end_caller c.try_take.new.self.registrar in
     let between = end_caller c.next_claim.new.end.registrar in let new = end_caller c.run_mailbox-in-loop.new.end.registrar in
@@ -151,17 +151,17 @@ returns-in_default-2-clause-same_gates g c = c.next_claim.ensures.same_gates
 
 pub returns-in_default-2-clause-number : goal.returns-in_default-2-clause-number
 returns-in_default-2-clause-number g c =
-    let kept = kept-still g.K.Behaviours.gives c.args.system.now c.args.end.now c.loop.end c.try_take.new.self c.in_default.ensures.none c.loop.invariant in
+    let kept = kept-still g.K.Behaviours.gives c.args.system.now c.args.end.now c.loop.end c.try_take.new.self c.in_default.ensures.none.0 c.loop.invariant in
     c.next_claim.ensures.number ∙ kept.1
 
 pub returns-in_default-2-clause-log_kept : goal.returns-in_default-2-clause-log_kept
 returns-in_default-2-clause-log_kept g c =
-    let kept = kept-still g.K.Behaviours.gives c.args.system.now c.args.end.now c.loop.end c.try_take.new.self c.in_default.ensures.none c.loop.invariant in
+    let kept = kept-still g.K.Behaviours.gives c.args.system.now c.args.end.now c.loop.end c.try_take.new.self c.in_default.ensures.none.0 c.loop.invariant in
     saw-then _ _ _ kept.2 c.next_claim.ensures.log_kept
 
 pub returns-in_default-2-clause-obligations : goal.returns-in_default-2-clause-obligations
 returns-in_default-2-clause-obligations g c =
-    let kept = kept-still g.K.Behaviours.gives c.args.system.now c.args.end.now c.loop.end c.try_take.new.self c.in_default.ensures.none c.loop.invariant in
+    let kept = kept-still g.K.Behaviours.gives c.args.system.now c.args.end.now c.loop.end c.try_take.new.self c.in_default.ensures.none.0 c.loop.invariant in
     let actors = actors_of c.args.system.now.gates in
     let first = end_caller c.args.end.now.registrar in let old = end_caller c.try_take.new.self.registrar in let between = end_caller c.next_claim.new.end.registrar in
     obligations-then actors first old between kept.3 c.next_claim.ensures.obligations
@@ -174,7 +174,7 @@ returns-in_default-2-clause-empty g c = none-left _ _ c.in_default-2.is c.in_ok-
 
 pub returns-in_default-2-clause-ran : goal.returns-in_default-2-clause-ran
 returns-in_default-2-clause-ran g c =
-    let kept = kept-still g.K.Behaviours.gives c.args.system.now c.args.end.now c.loop.end c.try_take.new.self c.in_default.ensures.none c.loop.invariant in
+    let kept = kept-still g.K.Behaviours.gives c.args.system.now c.args.end.now c.loop.end c.try_take.new.self c.in_default.ensures.none.0 c.loop.invariant in
     let gives = g.K.Behaviours.gives in let system = c.args.system.now in let origin = origin_of system.gates in let throughput = system.throughput in
     let start = pass_view c.args.end.now.registrar.pass in let old = pass_view c.try_take.new.self.registrar.pass in
     let between = pass_view c.next_claim.new.end.registrar.pass in
@@ -188,17 +188,17 @@ returns-in_err-claim-clause-same_gates g c = c.next_claim.ensures.same_gates
 
 pub returns-in_err-claim-clause-number : goal.returns-in_err-claim-clause-number
 returns-in_err-claim-clause-number g c =
-    let kept = kept-still g.K.Behaviours.gives c.args.system.now c.args.end.now c.loop.end c.try_take.new.self c.in_default.ensures.none c.loop.invariant in
+    let kept = kept-still g.K.Behaviours.gives c.args.system.now c.args.end.now c.loop.end c.try_take.new.self c.in_default.ensures.none.0 c.loop.invariant in
     c.next_claim.ensures.number ∙ kept.1
 
 pub returns-in_err-claim-clause-log_kept : goal.returns-in_err-claim-clause-log_kept
 returns-in_err-claim-clause-log_kept g c =
-    let kept = kept-still g.K.Behaviours.gives c.args.system.now c.args.end.now c.loop.end c.try_take.new.self c.in_default.ensures.none c.loop.invariant in
+    let kept = kept-still g.K.Behaviours.gives c.args.system.now c.args.end.now c.loop.end c.try_take.new.self c.in_default.ensures.none.0 c.loop.invariant in
     saw-then _ _ _ kept.2 c.next_claim.ensures.log_kept
 
 pub returns-in_err-claim-clause-obligations : goal.returns-in_err-claim-clause-obligations
 returns-in_err-claim-clause-obligations g c =
-    let kept = kept-still g.K.Behaviours.gives c.args.system.now c.args.end.now c.loop.end c.try_take.new.self c.in_default.ensures.none c.loop.invariant in
+    let kept = kept-still g.K.Behaviours.gives c.args.system.now c.args.end.now c.loop.end c.try_take.new.self c.in_default.ensures.none.0 c.loop.invariant in
     let actors = actors_of c.args.system.now.gates in
     let first = end_caller c.args.end.now.registrar in let old = end_caller c.try_take.new.self.registrar in let between = end_caller c.next_claim.new.end.registrar in
     obligations-then actors first old between kept.3 c.next_claim.ensures.obligations
@@ -214,7 +214,7 @@ returns-in_err-claim-clause-ran g c = IfOk-from_err c.from_residual-in_err-claim
 
 pub returns-in_err-claim-clause-fault : goal.returns-in_err-claim-clause-fault
 returns-in_err-claim-clause-fault g c =
-    let kept = kept-still g.K.Behaviours.gives c.args.system.now c.args.end.now c.loop.end c.try_take.new.self c.in_default.ensures.none c.loop.invariant in
+    let kept = kept-still g.K.Behaviours.gives c.args.system.now c.args.end.now c.loop.end c.try_take.new.self c.in_default.ensures.none.0 c.loop.invariant in
     let gives = g.K.Behaviours.gives in let system = c.args.system.now in let origin = origin_of system.gates in let throughput = system.throughput in
     let start = pass_view c.args.end.now.registrar.pass in let old = pass_view c.try_take.new.self.registrar.pass in
     let between = pass_view c.next_claim.new.end.registrar.pass in let new = c.next_claim.new.end in
@@ -226,17 +226,17 @@ returns-in_err-run_mailbox-2-clause-same_gates g c = c.run_mailbox-in-loop.ensur
 
 pub returns-in_err-run_mailbox-2-clause-number : goal.returns-in_err-run_mailbox-2-clause-number
 returns-in_err-run_mailbox-2-clause-number g c =
-    let kept = kept-still g.K.Behaviours.gives c.args.system.now c.args.end.now c.loop.end c.try_take.new.self c.in_default.ensures.none c.loop.invariant in
+    let kept = kept-still g.K.Behaviours.gives c.args.system.now c.args.end.now c.loop.end c.try_take.new.self c.in_default.ensures.none.0 c.loop.invariant in
     c.run_mailbox-in-loop.ensures.number ∙ c.next_claim.ensures.number ∙ kept.1
 
 pub returns-in_err-run_mailbox-2-clause-log_kept : goal.returns-in_err-run_mailbox-2-clause-log_kept
 returns-in_err-run_mailbox-2-clause-log_kept g c =
-    let kept = kept-still g.K.Behaviours.gives c.args.system.now c.args.end.now c.loop.end c.try_take.new.self c.in_default.ensures.none c.loop.invariant in
+    let kept = kept-still g.K.Behaviours.gives c.args.system.now c.args.end.now c.loop.end c.try_take.new.self c.in_default.ensures.none.0 c.loop.invariant in
     saw-then _ _ _ (saw-then _ _ _ kept.2 c.next_claim.ensures.log_kept) c.run_mailbox-in-loop.ensures.leaves.log
 
 pub returns-in_err-run_mailbox-2-clause-obligations : goal.returns-in_err-run_mailbox-2-clause-obligations
 returns-in_err-run_mailbox-2-clause-obligations g c =
-    let kept = kept-still g.K.Behaviours.gives c.args.system.now c.args.end.now c.loop.end c.try_take.new.self c.in_default.ensures.none c.loop.invariant in
+    let kept = kept-still g.K.Behaviours.gives c.args.system.now c.args.end.now c.loop.end c.try_take.new.self c.in_default.ensures.none.0 c.loop.invariant in
     let actors = actors_of c.args.system.now.gates in
     let first = end_caller c.args.end.now.registrar in let old = end_caller c.try_take.new.self.registrar in let between = end_caller c.next_claim.new.end.registrar in let new = end_caller c.run_mailbox-in-loop.new.end.registrar in
     obligations-then actors first between new (obligations-then actors first old between kept.3 c.next_claim.ensures.obligations)
@@ -256,7 +256,7 @@ returns-in_err-run_mailbox-2-clause-ran g c =
 
 pub returns-in_err-run_mailbox-2-clause-fault : goal.returns-in_err-run_mailbox-2-clause-fault
 returns-in_err-run_mailbox-2-clause-fault g c =
-    let kept = kept-still g.K.Behaviours.gives c.args.system.now c.args.end.now c.loop.end c.try_take.new.self c.in_default.ensures.none c.loop.invariant in
+    let kept = kept-still g.K.Behaviours.gives c.args.system.now c.args.end.now c.loop.end c.try_take.new.self c.in_default.ensures.none.0 c.loop.invariant in
     let gives = g.K.Behaviours.gives in let system = c.args.system.now in let origin = origin_of system.gates in let throughput = system.throughput in
     let start = pass_view c.args.end.now.registrar.pass in let old = pass_view c.try_take.new.self.registrar.pass in
     let between = pass_view c.next_claim.new.end.registrar.pass in let new = c.run_mailbox-in-loop.new.end in let error = c.in_err-run_mailbox-2.field-0.0 in

@@ -13,8 +13,8 @@ use Rattle.mb_ghost.proofs.SeenLemmas.{each_append}
 use Rattle.mb_home.specs.AtHome.{system_entries}
 use Rattle.mb_gate.specs.Untouched.{origin_of}
 use Rattle.mb_register.specs.Views.{LooksAfter}
-use Rattle.mb_register.specs.declared.owed.Owed.{Owed}
 use Rattle.mb_register.specs.Owed.{is_owed}
+use Rattle.mb_register.specs.Told.{ToldView}
 use Rattle.mb_register.specs.Caller.{IsDischargedOrOwed, caller_of}
 use Rattle.mb_mailbox.specs.Emptied.{IsCleared}
 use Rattle.mb_mailbox.specs.RunState.{run_state}
@@ -92,7 +92,7 @@ returns-in-Ok-clause-same_gates g c = (
   c.register.ensures.same_gates.0 ∙ c.release.ensures.same_gates ∙ c.run_claim-outcome.ensures.in_run.same_gates.0,
   c.register.ensures.same_gates.1 ∙ c.run_claim-outcome.ensures.in_run.same_gates.1,
   c.requires.same_gates.2,
-  λ id few told. c.run_claim-outcome.ensures.in_run.same_gates.3 id few (sym (ap (λ (o : Owed). is_owed o id) c.register.ensures.told) ∙ told),
+  λ id few told. c.run_claim-outcome.ensures.in_run.same_gates.3 id few (sym (ap (λ (t : ToldView). is_owed t.set id) c.register.ensures.told) ∙ told),
 )
 
 pub returns-in-Err-clause-same_gates : goal.returns-in-Err-clause-same_gates
@@ -100,7 +100,7 @@ returns-in-Err-clause-same_gates g c = (
   c.register.ensures.same_gates.0 ∙ c.release.ensures.same_gates ∙ c.run_claim-outcome.ensures.in_run.same_gates.0,
   c.register.ensures.same_gates.1 ∙ c.run_claim-outcome.ensures.in_run.same_gates.1,
   c.requires.same_gates.2,
-  λ id few told. c.run_claim-outcome.ensures.in_run.same_gates.3 id few (sym (ap (λ (o : Owed). is_owed o id) c.register.ensures.told) ∙ told),
+  λ id few told. c.run_claim-outcome.ensures.in_run.same_gates.3 id few (sym (ap (λ (t : ToldView). is_owed t.set id) c.register.ensures.told) ∙ told),
 )
 
 pub register-requires-clause-present : goal.register-requires-clause-present
@@ -126,7 +126,7 @@ returns-in-Ok-clause-caller_advances g c =
     leaves-caller (held_actor last) last.home.value.cell.journal (claim_view last) (pass_view c.release.new.pass) _ _ _
     run.ensures.in_run.running.owes_nothing run.ensures.in_run.running.bare c.release.ensures.known
     (subst (λ n. LooksAfter n (pass_view c.release.new.pass) (pass_view c.register.new.self.pass)) here c.register.ensures.looks)
-    run.ensures.advances.caller_advances c.register.ensures.told
+    run.ensures.advances.caller_advances (ap (λ (t : ToldView). t.set) c.register.ensures.told)
     (account-registered c.actor-actor.result.0 _ _ c.register.result c.register.ensures.registered)
     (subst (λ n. IsDischargedOrOwed n (caller_of g.W.RunQueue.pushed g.W.RunQueue.refused c.register.new.self)) here c.register.ensures.discharged)
 
@@ -138,7 +138,7 @@ returns-in-Err-clause-caller_advances g c =
     leaves-caller (held_actor last) last.home.value.cell.journal (claim_view last) (pass_view c.release.new.pass) _ _ _
     run.ensures.in_run.running.owes_nothing run.ensures.in_run.running.bare c.release.ensures.known
     (subst (λ n. LooksAfter n (pass_view c.release.new.pass) (pass_view c.register.new.self.pass)) here c.register.ensures.looks)
-    run.ensures.advances.caller_advances c.register.ensures.told
+    run.ensures.advances.caller_advances (ap (λ (t : ToldView). t.set) c.register.ensures.told)
     (account-registered c.actor-actor.result.0 _ _ c.register.result c.register.ensures.registered)
     (subst (λ n. IsDischargedOrOwed n (caller_of g.W.RunQueue.pushed g.W.RunQueue.refused c.register.new.self)) here c.register.ensures.discharged)
 
@@ -329,3 +329,11 @@ returns-in-Err-clause-out_of_memory g c = λ short.
 
 pub returns-in-Ok-clause-out_of_memory : goal.returns-in-Ok-clause-out_of_memory
 returns-in-Ok-clause-out_of_memory g c = λ short. absurd (cc short)
+
+pub returns-in-Ok-clause-none_left : goal.returns-in-Ok-clause-none_left
+returns-in-Ok-clause-none_left g c id few =
+    ap (λ (t : ToldView). is_owed t.set id) c.register.ensures.told ∙ c.run_claim-outcome.ensures.none_left id few
+
+pub returns-in-Err-clause-none_left : goal.returns-in-Err-clause-none_left
+returns-in-Err-clause-none_left g c id few =
+    ap (λ (t : ToldView). is_owed t.set id) c.register.ensures.told ∙ c.run_claim-outcome.ensures.none_left id few

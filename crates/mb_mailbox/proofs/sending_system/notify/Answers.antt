@@ -3,12 +3,9 @@ use Rattle.std.specs.Prelude.{is_err}
 use Rattle.mb_gate.specs.NamedActors.{NamesBelow}
 use Rattle.mb_gate.specs.Accessors.{actors_of, pass_view}
 use Rattle.mb_gate.specs.View.{View}
-use Rattle.mb_register.specs.declared.owed.Owed.{Owed}
-use Rattle.mb_register.specs.Owed.{is_owed}
-use Rattle.mb_register.proofs.Views.{does-then, does-enlisting}
-use Rattle.mb_register.proofs.CallerLemmas.{account-registered}
-use Rattle.mb_register.proofs.MoveLemmas.{moves-does, further-moves}
-use Rattle.mb_mailbox.proofs.ClaimLemmas.{listed-claims, listed-due}
+use Rattle.mb_register.proofs.ToldLemmas.{told-here, told-still, told-within}
+use Rattle.mb_register.proofs.Views.{does-enlisting}
+use Rattle.mb_mailbox.proofs.ClaimLemmas.{further-listed}
 use Rattle.mb_mailbox.proofs.SendSystemLemmas.{notified}
 use Rattle.mb_mailbox.proofs.RecordedLemmas.{alike-one, does-end-none, does-give-none, does-list, further-refused, refused-gives-none, refused-one, unrefused}
 use Rattle.mb_mailbox.specs.RunSends.{listed_by}
@@ -17,18 +14,15 @@ use Rattle.mb_mailbox.proofs.sending_system.notify.Goals as goal
 pub sys_enqueue_in_run-requires-clause-same_gates : goal.sys_enqueue_in_run-requires-clause-same_gates
 sys_enqueue_in_run-requires-clause-same_gates g c = c.requires.same_gates.0
 
-pub register-requires-clause-same_gates : goal.register-requires-clause-same_gates
-register-requires-clause-same_gates g c = (c.sys_enqueue_in_run.ensures.same_gates ∙ c.requires.same_gates.0, c.requires.same_gates.1)
-
-pub register-requires-clause-present : goal.register-requires-clause-present
-register-requires-clause-present g c = (c.requires.present.0, omega (arith, c.requires.present.0, c.requires.same_gates.2))
+pub insert-requires : goal.insert-requires
+insert-requires g c = omega (arith, c.requires.present.0, c.requires.same_gates.2)
 
 pub returns-clause-same_gates : goal.returns-clause-same_gates
 returns-clause-same_gates g c = (
-  c.register.ensures.same_gates.0 ∙ c.sys_enqueue_in_run.ensures.same_gates ∙ c.requires.same_gates.0,
-  c.register.ensures.same_gates.1 ∙ c.requires.same_gates.1,
+  c.sys_enqueue_in_run.ensures.same_gates ∙ c.requires.same_gates.0,
+  c.requires.same_gates.1,
   c.requires.same_gates.2,
-  λ id few told. c.requires.same_gates.3 id few (sym (ap (λ (o : Owed). is_owed o id) c.register.ensures.told) ∙ told),
+  told-within c.args.whom.0 _ _ c.insert.ensures.set _ c.requires.present.0 c.requires.same_gates.3,
 )
 
 pub returns-in_default-clause-same_gates : goal.returns-in_default-clause-same_gates
@@ -44,15 +38,9 @@ returns-clause-told g c =
 
 pub returns-clause-caller_advances : goal.returns-clause-caller_advances
 returns-clause-caller_advances g c =
-    let id = c.args.whom.0 in
-    let a = pass_view c.args.registrar.now.pass in let b = pass_view c.sys_enqueue_in_run.new.pass in let d = pass_view c.register.new.self.pass in
-    further-moves id _ _
-    (moves-does id _ _ a d (tt, tt) tt
-    (does-then id _ _ a b d (does-enlisting id c.in-Ok.field-0 c.set.new.self a b c.in-Ok.ensures.listed) c.register.ensures.looks))
-    (account-registered id _ _ c.register.result c.register.ensures.registered) c.register.ensures.discharged c.register.ensures.told
-    (listed-claims _ _ id c.in-Ok.field-0 c.set.new.self a b d c.register.result c.in-Ok.ensures.listed c.register.ensures.handed)
-    (listed-due _ _ id c.in-Ok.field-0 c.set.new.self a b d c.register.result c.in-Ok.ensures.listed c.register.ensures.handed c.register.ensures.looks
-    c.register.ensures.due)
+    further-listed c.args.whom.0 c.in-Ok.field-0 c.set.new.self _ _ c.in-Ok.ensures.listed refl
+    (omega (arith, c.requires.present.0, c.requires.same_gates.2), told-here c.args.whom.0 _ _ c.insert.ensures.set)
+    (λ other still. (still.0, told-still c.args.whom.0 _ _ c.insert.ensures.set other still.1))
 
 pub returns-in_default-clause-told : goal.returns-in_default-clause-told
 returns-in_default-clause-told g c =
@@ -65,10 +53,10 @@ returns-in_default-clause-caller_advances g c = further-refused _ _ _ _ c.in_def
 pub returns-clause-sends : goal.returns-clause-sends
 returns-clause-sends g c =
     let id = c.args.whom.0 in
-    let a = pass_view c.args.registrar.now.pass in let b = pass_view c.sys_enqueue_in_run.new.pass in let d = pass_view c.register.new.self.pass in
-    let did = does-then id _ _ a b d (does-enlisting id c.in-Ok.field-0 c.set.new.self a b c.in-Ok.ensures.listed) c.register.ensures.looks in
-    alike-one _ _ _ _ _ c.in-Ok.ensures.recorded.record_is did.sent_system (does-list id _ _ a d did) (does-give-none id _ _ a d refl did)
-    (unrefused (record { to = id; message = c.set.new.self; was_ended = false }) a d refl (does-end-none id _ _ a d (λ to. omega arith) did))
+    let a = pass_view c.args.registrar.now.pass in let b = pass_view c.sys_enqueue_in_run.new.pass in
+    let did = does-enlisting id c.in-Ok.field-0 c.set.new.self a b c.in-Ok.ensures.listed in
+    alike-one _ _ _ _ _ c.in-Ok.ensures.recorded.record_is did.sent_system (does-list id _ _ a b did) (does-give-none id _ _ a b refl did)
+    (unrefused (record { to = id; message = c.set.new.self; was_ended = false }) a b refl (does-end-none id _ _ a b (λ to. omega arith) did))
 
 pub returns-in_default-clause-sends : goal.returns-in_default-clause-sends
 returns-in_default-clause-sends g c =

@@ -6,19 +6,16 @@ use Rattle.mb_gate.specs.Accessors.{actors_of, pass_view}
 use Rattle.mb_gate.specs.Untouched.{origin_of}
 use Rattle.mb_gate.specs.View.{View}
 use Rattle.mb_home.specs.Contents.{Contents}
-use Rattle.mb_register.specs.declared.owed.Owed.{Owed}
-use Rattle.mb_register.specs.Owed.{is_owed}
-use Rattle.mb_register.proofs.Views.{does-then, does-enlisting}
+use Rattle.mb_register.proofs.ToldLemmas.{told-here, told-still, told-within}
+use Rattle.mb_register.proofs.Views.{does-enlisting}
 use Rattle.mb_mailbox.specs.RunState.{run_state}
 use Rattle.mb_mailbox.specs.Notice.{asker}
 use Rattle.mb_mailbox.proofs.BacklogLemmas.{keeps-then}
-use Rattle.mb_register.proofs.CallerLemmas.{account-registered, further-then}
+use Rattle.mb_register.proofs.CallerLemmas.{further-then}
 use Rattle.mb_mailbox.proofs.CleanLemmas.{status-answered}
 use Rattle.mb_mailbox.proofs.EmptiedLemmas.{cleared-same}
-use Rattle.mb_register.proofs.MoveLemmas.{moves-does, further-moves}
-use Rattle.mb_mailbox.proofs.ClaimLemmas.{listed-claims, listed-due}
 use Rattle.mb_mailbox.proofs.SendSystemLemmas.{running-caller_advances, running-sent_system, running-refused, keeps-recorded, keeps-answered, backlog-sent_system, backlog-answered}
-use Rattle.mb_mailbox.proofs.ClaimLemmas.{listed-claims, listed-due}
+use Rattle.mb_mailbox.proofs.ClaimLemmas.{further-listed}
 use Rattle.mb_mailbox.proofs.SendSystemLemmas.{home-answered}
 use Rattle.mb_mailbox.proofs.RecordedLemmas.{
   alike-one,
@@ -40,19 +37,15 @@ use Rattle.mb_mailbox.proofs.sending_system.send_system.Goals as goal
 pub sys_enqueue_in_run-requires-clause-same_gates : goal.sys_enqueue_in_run-requires-clause-same_gates
 sys_enqueue_in_run-requires-clause-same_gates g c = c.requires.same_gates.0
 
-pub register-requires-clause-same_gates : goal.register-requires-clause-same_gates
-register-requires-clause-same_gates g c = (c.sys_enqueue_in_run.ensures.same_gates ∙ c.requires.same_gates.0, c.requires.same_gates.1)
-
-pub register-requires-clause-present : goal.register-requires-clause-present
-register-requires-clause-present g c =
-    let below = c.requires.running.sends.0.0 in (below, omega (arith, below, c.requires.same_gates.2))
+pub insert-requires : goal.insert-requires
+insert-requires g c = let below = c.requires.running.sends.0.0 in omega (arith, below, c.requires.same_gates.2)
 
 pub returns-in-Ok-clause-same_gates : goal.returns-in-Ok-clause-same_gates
 returns-in-Ok-clause-same_gates g c = (
-  c.register.ensures.same_gates.0 ∙ c.sys_enqueue_in_run.ensures.same_gates ∙ c.requires.same_gates.0,
-  c.register.ensures.same_gates.1 ∙ c.requires.same_gates.1,
+  c.sys_enqueue_in_run.ensures.same_gates ∙ c.requires.same_gates.0,
+  c.requires.same_gates.1,
   c.requires.same_gates.2,
-  λ id few told. c.requires.same_gates.3 id few (sym (ap (λ (o : Owed). is_owed o id) c.register.ensures.told) ∙ told),
+  told-within c.args.to.0 _ _ c.insert.ensures.set _ c.requires.running.sends.0.0 c.requires.same_gates.3,
 )
 
 pub answer-requires-clause-same_gates : goal.answer-requires-clause-same_gates
@@ -68,15 +61,10 @@ sys_enqueue_in_run-requires-clause-named g c = c.requires.running.sends.0.1
 
 pub returns-in-Ok-clause-caller_advances : goal.returns-in-Ok-clause-caller_advances
 returns-in-Ok-clause-caller_advances g c =
-    let id = c.args.to.0 in
-    let a = pass_view c.args.registrar.now.pass in let b = pass_view c.sys_enqueue_in_run.new.pass in let d = pass_view c.register.new.self.pass in
-    further-moves id _ _
-    (moves-does id _ _ a d (tt, tt) tt
-    (does-then id _ _ a b d (does-enlisting id c.in-Ok.field-0 c.args.node a b c.in-Ok.ensures.listed) c.register.ensures.looks))
-    (account-registered id _ _ c.register.result c.register.ensures.registered) c.register.ensures.discharged c.register.ensures.told
-    (listed-claims _ _ id c.in-Ok.field-0 c.args.node a b d c.register.result c.in-Ok.ensures.listed c.register.ensures.handed)
-    (listed-due _ _ id c.in-Ok.field-0 c.args.node a b d c.register.result c.in-Ok.ensures.listed c.register.ensures.handed c.register.ensures.looks
-    c.register.ensures.due)
+    let below = c.requires.running.sends.0.0 in
+    further-listed c.args.to.0 c.in-Ok.field-0 c.args.node _ _ c.in-Ok.ensures.listed refl
+    (omega (arith, below, c.requires.same_gates.2), told-here c.args.to.0 _ _ c.insert.ensures.set)
+    (λ other still. (still.0, told-still c.args.to.0 _ _ c.insert.ensures.set other still.1))
 
 pub returns-in-Ok-clause-running : goal.returns-in-Ok-clause-running
 returns-in-Ok-clause-running g c =
@@ -165,10 +153,10 @@ returns-in-Err-clause-cleared g c =
 pub returns-in-Ok-clause-sends : goal.returns-in-Ok-clause-sends
 returns-in-Ok-clause-sends g c =
     let id = c.args.to.0 in
-    let a = pass_view c.args.registrar.now.pass in let b = pass_view c.sys_enqueue_in_run.new.pass in let d = pass_view c.register.new.self.pass in
-    let did = does-then id _ _ a b d (does-enlisting id c.in-Ok.field-0 c.args.node a b c.in-Ok.ensures.listed) c.register.ensures.looks in
-    alike-one _ _ _ _ _ c.in-Ok.ensures.recorded.record_is did.sent_system (does-list id _ _ a d did) (does-give-none id _ _ a d refl did)
-    (unrefused (record { to = id; message = c.args.node; was_ended = false }) a d refl (does-end-none id _ _ a d (λ to. omega arith) did))
+    let a = pass_view c.args.registrar.now.pass in let b = pass_view c.sys_enqueue_in_run.new.pass in
+    let did = does-enlisting id c.in-Ok.field-0 c.args.node a b c.in-Ok.ensures.listed in
+    alike-one _ _ _ _ _ c.in-Ok.ensures.recorded.record_is did.sent_system (does-list id _ _ a b did) (does-give-none id _ _ a b refl did)
+    (unrefused (record { to = id; message = c.args.node; was_ended = false }) a b refl (does-end-none id _ _ a b (λ to. omega arith) did))
 
 pub returns-in-Err-clause-sends : goal.returns-in-Err-clause-sends
 returns-in-Err-clause-sends g c =

@@ -1,4 +1,4 @@
-use Rattle.std.proofs.Common.{inl, inr, false, [], List, refl, sym, ap, ◌∙◌, subst, arith}
+use Rattle.std.proofs.Common.{◌<◌, inl, false, [], List, refl, sym, ap, ◌∙◌, subst, arith}
 use Rattle.mb_gate.specs.Accessors.{pass_view}
 use Rattle.mb_gate.specs.Untouched.{origin_of}
 use Rattle.mb_gate.specs.View.{Observation}
@@ -6,14 +6,17 @@ use Rattle.mb_home.specs.Contents.{Contents}
 use Rattle.mb_register.proofs.CallerLemmas.{account-none}
 use Rattle.mb_register.proofs.ClaimCounts.{loses-handed}
 use Rattle.mb_register.proofs.DueLemmas.{got-no-claim}
-use Rattle.mb_register.proofs.MoveLemmas.{moves-does, further-moves, further-tells}
-use Rattle.mb_register.proofs.ToldLemmas.{told-here, told-still, told-within}
+use Rattle.mb_register.proofs.MoveLemmas.{moves-does, further-moves}
+use Rattle.mb_mailbox.proofs.ClaimLemmas.{further-noted, same-account}
+use Rattle.mb_register.specs.Caller.{caller_of}
+use Rattle.mb_register.proofs.ClaimCounts.{claims-then}
+use Rattle.mb_register.proofs.ToldLemmas.{only-within}
 use Rattle.mb_mailbox.specs.RunState.{run_state}
 use Rattle.mb_mailbox.specs.Running.{IsRunning}
 use Rattle.mb_mailbox.proofs.EmptiedLemmas.{cleared-same}
 use Rattle.mb_mailbox.proofs.SendSystemLemmas.{running-caller_advances}
 use Rattle.mb_mailbox.proofs.TellingLemmas.{running-own, told-below, log-closed, discharged-closed, cell-told, take-told, keeps-told, backlog-told, running-told_closed}
-use Rattle.mb_mailbox.proofs.TellingLemmas.{running-sent, sent-moves, sent-told}
+use Rattle.mb_mailbox.proofs.TellingLemmas.{running-sent, sent-moves, sent-then, sent-told}
 use Rattle.mb_mailbox.proofs.RecordedLemmas.{
   alike-quiet,
   does-end-none,
@@ -36,19 +39,22 @@ send-requires g c = record {
   settled = running-own _ _ _ _ (run_state c.args.claim.now) c.requires.running;
 }
 
-pub insert-requires : goal.insert-requires
-insert-requires g c =
-    let below = told-below _ _ _ _ _ _ c.requires.running in omega (arith, below, c.requires.same_gates.2)
+pub note_told-requires : goal.note_told-requires
+note_told-requires g c =
+    let below = told-below _ _ _ _ _ _ c.requires.running in record {
+      same_gates = c.send.ensures.same_gates ∙ c.requires.same_gates.0;
+      present = (below, omega (arith, below, c.requires.same_gates.2));
+    }
 
 pub returns-in_default-clause-same_gates : goal.returns-in_default-clause-same_gates
 returns-in_default-clause-same_gates g c = (c.send.ensures.same_gates ∙ c.requires.same_gates.0, c.requires.same_gates.1, c.requires.same_gates.2, c.requires.same_gates.3)
 
 pub returns-clause-same_gates : goal.returns-clause-same_gates
 returns-clause-same_gates g c = (
-  c.send.ensures.same_gates ∙ c.requires.same_gates.0,
-  c.requires.same_gates.1,
+  c.note_told.ensures.same_gates ∙ c.send.ensures.same_gates ∙ c.requires.same_gates.0,
+  ap g.W.RunQueue.origin c.note_told.ensures.rest.0 ∙ c.requires.same_gates.1,
   c.requires.same_gates.2,
-  told-within c.args.to.0 _ _ c.insert.ensures _ (told-below _ _ _ _ _ _ c.requires.running) c.requires.same_gates.3,
+  only-within c.args.to.0 _ _ c.note_told.ensures.only _ (told-below _ _ _ _ _ _ c.requires.running) c.requires.same_gates.3,
 )
 
 -- ---- the receiver was read closed
@@ -93,13 +99,20 @@ returns-in_default-clause-cleared g c =
 pub returns-clause-caller_advances : goal.returns-clause-caller_advances
 returns-clause-caller_advances g c =
     let below = told-below _ _ _ _ _ _ c.requires.running in
-    further-tells c.args.to.0 _ _ (sent-moves c.args.to c.args.body c.in-Some._hint _ _ _ _ c.in-Some.ensures.told) (account-none _)
-    (inr (omega (arith, below, c.requires.same_gates.2), told-here c.args.to.0 _ _ c.insert.ensures))
-    (λ other still. (still.0, told-still c.args.to.0 _ _ c.insert.ensures other still.1))
-    (loses-handed c.args.to.0 _ _ _ _ false (inl (refl, c.send.ensures.claims))) (got-no-claim _ _ c.send.ensures.claims.got)
+    let few : c.args.to.0 < 64 = omega (arith, below, c.requires.same_gates.2) in
+    let a = pass_view c.args.registrar.now.pass in let b = pass_view c.send.new.pass in let d = pass_view c.note_told.new.self.pass in
+    let all = claims-then [] [] [] [] a b d c.send.ensures.claims c.note_told.ensures.claims in
+    further-noted c.args.to.0 (caller_of g.W.RunQueue.pushed g.W.RunQueue.refused c.args.registrar.now)
+    (caller_of g.W.RunQueue.pushed g.W.RunQueue.refused c.note_told.new.self)
+    (sent-moves c.args.to c.args.body c.in-Some._hint a d _ _
+    (sent-then c.args.to c.args.body c.in-Some._hint a b d _ _ c.in-Some.ensures.told c.note_told.ensures.looks))
+    (same-account g.W.RunQueue.pushed g.W.RunQueue.refused _ _ _ _ c.note_told.ensures.rest.0 c.note_told.ensures.rest.1) few
+    c.note_told.ensures.noted c.note_told.ensures.kept all
 
 pub returns-clause-told : goal.returns-clause-told
-returns-clause-told g c = sent-told c.args.to c.args.body c.in-Some._hint _ _ _ _ c.in-Some.ensures.told
+returns-clause-told g c =
+    sent-told c.args.to c.args.body c.in-Some._hint _ _ _ _
+    (sent-then c.args.to c.args.body c.in-Some._hint _ (pass_view c.send.new.pass) _ _ _ c.in-Some.ensures.told c.note_told.ensures.looks)
 
 pub returns-clause-running : goal.returns-clause-running
 returns-clause-running g c =
@@ -135,7 +148,7 @@ returns-in_default-clause-sends g c =
 
 pub returns-clause-sends : goal.returns-clause-sends
 returns-clause-sends g c =
-    let told = c.in-Some.ensures.told in
+    let told = sent-then c.args.to c.args.body c.in-Some._hint _ (pass_view c.send.new.pass) _ _ _ c.in-Some.ensures.told c.note_told.ensures.looks in
     alike-quiet _ _ _ _ refl (sent-tells c.args.to c.args.body _ _ _ _ c.in-Some._hint told)
     (listed-tells c.args.to c.args.body _ _ _ _ c.in-Some._hint told) (given-tells c.args.to c.args.body _ _ _ _ c.in-Some._hint told)
     (ended-tells c.args.to c.args.body _ _ _ _ c.in-Some._hint told)

@@ -8,4 +8,4 @@ pub returns-else-is_any-clause-caller_advances : goal.returns-else-is_any-clause
 returns-else-is_any-clause-caller_advances g c = further-none _
 
 pub returns-else-is_any-clause-looks : goal.returns-else-is_any-clause-looks
-returns-else-is_any-clause-looks g c = among-none (is_owed c.args.registrar.now.told) (pass_view c.args.registrar.now.pass)
+returns-else-is_any-clause-looks g c = among-none (is_owed c.args.registrar.now.told.set) (pass_view c.args.registrar.now.pass)

@@ -24,3 +24,6 @@ returns-clause-caller_advances g c =
     let did = c.register_told.ensures in
     further-told _ _ did.looks did.beyond did.discharged did.owed did.handed
     (got-unhinted (pass_view c.args.registrar.now.pass) (pass_view c.register_told.new.self.pass) did.due)
+
+pub returns-clause-in_order : goal.returns-clause-in_order
+returns-clause-in_order g c = c.register_told.ensures.in_order

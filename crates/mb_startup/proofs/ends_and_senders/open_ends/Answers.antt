@@ -55,7 +55,7 @@ loop-end-preserved g c =
       opened = ends-next gates at.opened.items _ _ pushed at.invariant.opened (record {
         same_gates = (
           c.new_pass.ensures.same_gates.1 ∙ at.invariant.same_gates ∙ c.requires.same_gates.0,
-          ap (λ (port : WorkerPortView _). gates_of port.end) c.new.ensures ∙ All-head (λ e. gates_of e ≡ Some (origin_of gates)) end rest these,
+          ap (λ (port : WorkerPortView _). gates_of port.end) c.new.ensures.value ∙ All-head (λ e. gates_of e ≡ Some (origin_of gates)) end rest these,
           c.requires.same_gates.1,
         );
         number_is = place;
@@ -66,7 +66,7 @@ loop-end-preserved g c =
         none_released = ap (λ (v : View). v.releases) c.new_pass.ensures.known.1;
       });
       ports = ap pool_ends_of pushed ∙ map_push (λ (e : WorkerEnd _ _). e.registrar.run_queue.end) at.opened.items _
-          ∙ (λ i. at.invariant.ports i ++ ap (λ (port : WorkerPortView _). port.end) c.new.ensures i ∷ []);
+          ∙ (λ i. at.invariant.ports i ++ ap (λ (port : WorkerPortView _). port.end) c.new.ensures.value i ∷ []);
     }
 
 pub returns-clause-opened : goal.returns-clause-opened

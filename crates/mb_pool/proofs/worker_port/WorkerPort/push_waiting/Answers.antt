@@ -25,8 +25,8 @@ returns-in-Ok-clause-put g c =
     subst (λ (v : WorkerPortView _). Pushes (IsUntouched g.H.MailboxState.is_of g.H.MailboxState.facts) v.end c.args.claim c.push.new.self)
     c.self.view_is c.in-Ok.ensures.pushed
 
-pub returns-in-Ok-clause-next : goal.returns-in-Ok-clause-next
-returns-in-Ok-clause-next g c = (ap (λ (v : WorkerPortView _). v.next) c.self.view_is, ap (λ (v : WorkerPortView _). v.in_turn) c.self.view_is)
+pub returns-in-Ok-clause-kept : goal.returns-in-Ok-clause-kept
+returns-in-Ok-clause-kept g c = (ap (λ (v : WorkerPortView _). v.next) c.self.view_is, ap (λ (v : WorkerPortView _). v.taken) c.self.view_is)
 
 pub returns-in-Ok-clause-parts : goal.returns-in-Ok-clause-parts
 returns-in-Ok-clause-parts g c = c.push.ensures.same ∙ ap (λ (v : WorkerPortView _). parts_of v.end) c.self.view_is
@@ -39,16 +39,15 @@ returns-in-Err-clause-pushed g c = (
       (ap (λ (v : WorkerPortView _). v.refused) c.self.view_is) c.add-in-Err.ensures c.of-known.ensures,
 )
 
-pub returns-in-Err-clause-asked : goal.returns-in-Err-clause-asked
-returns-in-Err-clause-asked g c =
-    subst (λ (v : WorkerPortView _). IsRefusedByPool (IsUntouched g.H.MailboxState.is_of g.H.MailboxState.facts) v.end c.args.claim) c.self.view_is
-    (c.in-Err.refused, c.in-Err.ensures.pushed.0, c.in-Err.ensures.pushed.2)
-
 pub returns-in-Err-clause-put : goal.returns-in-Err-clause-put
-returns-in-Err-clause-put g c = c.in-Err.ensures.pushed.1 ∙ ap (λ (v : WorkerPortView _). v.end) c.self.view_is
+returns-in-Err-clause-put g c = (
+  subst (λ (v : WorkerPortView _). IsRefusedByPool (IsUntouched g.H.MailboxState.is_of g.H.MailboxState.facts) v.end c.args.claim) c.self.view_is
+      (c.in-Err.refused, c.in-Err.ensures.pushed.0, c.in-Err.ensures.pushed.2),
+  c.in-Err.ensures.pushed.1 ∙ ap (λ (v : WorkerPortView _). v.end) c.self.view_is,
+)
 
-pub returns-in-Err-clause-next : goal.returns-in-Err-clause-next
-returns-in-Err-clause-next g c = (ap (λ (v : WorkerPortView _). v.next) c.self.view_is, ap (λ (v : WorkerPortView _). v.in_turn) c.self.view_is)
+pub returns-in-Err-clause-kept : goal.returns-in-Err-clause-kept
+returns-in-Err-clause-kept g c = (ap (λ (v : WorkerPortView _). v.next) c.self.view_is, ap (λ (v : WorkerPortView _). v.taken) c.self.view_is)
 
 pub returns-in-Err-clause-parts : goal.returns-in-Err-clause-parts
 returns-in-Err-clause-parts g c = c.push.ensures.same ∙ ap (λ (v : WorkerPortView _). parts_of v.end) c.self.view_is

@@ -1,87 +1,92 @@
-use Rattle.std.proofs.Common.{◌≡◌, ◌∙◌, [], ◌∷◌, ◌++◌, List, MatchResult, ap, refl, subst, sym}
-use Rattle.std.specs.Prelude.{IfErr}
+use Rattle.std.proofs.Common.{◌≡◌, ◌≢◌, ◌∙◌, ◌⊎◌, false, inl, inr, [], ◌∷◌, ◌++◌, List, MatchResult, ap, subst, sym}
 use Rattle.mb_gate.specs.declared.claim.Claim.{Claim}
 use Rattle.mb_gate.specs.Untouched.{IsUntouched}
-use Rattle.mb_pool.specs.Moves.{Pushes}
-use Rattle.mb_pool.specs.Places.{PoolEndpoint, gates_of, parts_of}
-use Rattle.mb_pool.specs.PoolPorts.{IsRefusedByPool}
-use Rattle.mb_pool.specs.WorkerPorts.{WorkerPortView, pooled}
+use Rattle.mb_pool.specs.Moves.{FindsOwnEmpty, TakesOwn}
+use Rattle.mb_pool.specs.Places.{gates_of, ports_of}
+use Rattle.mb_pool.specs.WorkerPorts.{WorkerPortView, kept}
+use Rattle.mb_pool.proofs.OneWorkerLemmas.{order-answered, order-put}
 use Rattle.mb_pool.proofs.PoolPortLemmas.{same-gates}
-use Rattle.mb_pool.proofs.WorkerPortLemmas.{later-put, logged-more}
+use Rattle.mb_pool.proofs.WorkerPortLemmas.{fits-alone, keeps-none, keeps-one, logged-more, put-behind, put-last}
+use Rattle.mb_pool.proofs.worker_port.WorkerPortRunQueue.push.Goals.{
+  then-not-at_run_end-via-else-not-at_run_end+then-is_some,
+  then-not-at_run_end-via-then-not-at_run_end,
+}
 use Rattle.mb_pool.proofs.worker_port.WorkerPortRunQueue.push.Goals as goal
 
-pub try_push-requires : goal.try_push-requires
-try_push-requires g c = record {
-  untouched = subst (λ (v : WorkerPortView _). IsUntouched g.H.MailboxState.is_of g.H.MailboxState.facts (gates_of v.end) c.args.claim)
-      (sym c.self.view_is) c.requires.untouched;
-}
+-- ---- while a run goes on, or where one is kept
 
--- ---- one attempt pushed it
+pub returns-then-not-at_run_end-clause-in_order : goal.returns-then-not-at_run_end-clause-in_order
+returns-then-not-at_run_end-clause-in_order g c alone ordered =
+    let fit = IsUntouched g.H.MailboxState.is_of g.H.MailboxState.facts in
+    let why : (c.args.at_run_end ≡ false) ⊎ (c.args.self.now.next ≢ []) = elim c.then-not-at_run_end.branch [
+      | then-not-at_run_end-via-then-not-at_run_end w ↦ inl w.if-not-at_run_end.true
+      | then-not-at_run_end-via-else-not-at_run_end+then-is_some w ↦
+          inr (keeps-one w.is_some.result c.self.inside.end c.self.inside.next c.self.inside.pushed c.self.inside.refused c.self.inside.taken
+          c.args.self.now c.self.view_is w.is_some.ensures w.if-is_some.true)
+    ] in
+    order-answered fit c.args.self.now c.push_last.new.self c.args.claim alone ordered c.args.at_run_end c.push_last.result
+    (λ back. back.claim ≡ c.args.claim) c.push_last.ensures.pushed c.push_last.ensures.kept.1
+    (put-last fit c.args.at_run_end c.args.claim c.push_last.result c.args.self.now c.push_last.new.self why c.push_last.ensures.kept.0 c.push_last.ensures.put)
 
-pub returns-in-Ok-clause-same : goal.returns-in-Ok-clause-same
-returns-in-Ok-clause-same g c =
-    same-gates c.self.inside.end c.try_push.new.self c.try_push.ensures.same ∙ ap (λ (v : WorkerPortView _). gates_of v.end) c.self.view_is
+-- ---- at the end of a run, where the queue was found empty
 
-pub returns-in-Ok-clause-pushed : goal.returns-in-Ok-clause-pushed
-returns-in-Ok-clause-pushed g c = (
-  logged-more c.self.inside.pushed c.add-in-Ok.new.self c.of-known.result c.args.claim c.args.self.now.pushed
-      (ap (λ (v : WorkerPortView _). v.pushed) c.self.view_is) c.add-in-Ok.ensures c.of-known.ensures,
-  ap (λ (v : WorkerPortView _). v.refused) c.self.view_is,
-)
+pub invariant_of-self : goal.invariant_of-self
+invariant_of-self g c =
+    let fit = IsUntouched g.H.MailboxState.is_of g.H.MailboxState.facts in
+    fits-alone fit (gates_of c.take_own.new.self) c.new.result c.args.claim c.new.ensures
+    (subst (λ gates. fit gates c.args.claim)
+    (sym (same-gates c.self-2.inside.end c.take_own.new.self c.take_own.ensures.same ∙ ap (λ (v : WorkerPortView _). gates_of v.end) c.self-2.view_is))
+    c.requires.untouched)
 
-pub returns-in-Ok-clause-put : goal.returns-in-Ok-clause-put
-returns-in-Ok-clause-put g c =
-    pooled (sym c.keeps_next.ensures ∙ c.if-keeps_next.false) (subst (λ (v : WorkerPortView _). Pushes (IsUntouched g.H.MailboxState.is_of g.H.MailboxState.facts) v.end c.args.claim c.try_push.new.self)
-    c.self.view_is c.in-Ok.ensures.pushed)
-    (ap (λ (v : WorkerPortView _). v.next) c.self.view_is) refl
+pub returns-in_default-clause-in_order : goal.returns-in_default-clause-in_order
+returns-in_default-clause-in_order g c alone ordered =
+    let fit = IsUntouched g.H.MailboxState.is_of g.H.MailboxState.facts in
+    let old = c.args.self.now in let is = c.self-2.view_is in
+    order-put fit old _ c.args.claim alone ordered c.args.at_run_end
+    (logged-more c.self-2.inside.pushed c.add.new.self c.of.result c.args.claim old.pushed (ap (λ (v : WorkerPortView _). v.pushed) is) c.add.ensures
+    c.of.ensures)
+    (ap (λ (v : WorkerPortView _). v.taken) is)
+    (kept c.if-not-at_run_end.false
+    (keeps-none c.is_some.result c.self.inside.end c.self.inside.next c.self.inside.pushed c.self.inside.refused c.self.inside.taken old c.self.view_is
+    c.is_some.ensures c.if-is_some.false)
+    (subst (λ (v : WorkerPortView _). FindsOwnEmpty fit (ports_of v.end)) is c.in_default.ensures.taken.1)
+    (ap (λ x. x ∷ []) c.new.ensures) (c.in_default.ensures.taken.0 ∙ ap (λ (v : WorkerPortView _). v.end) is))
 
-pub returns-in-Ok-clause-awaited : goal.returns-in-Ok-clause-awaited
-returns-in-Ok-clause-awaited g c = λ _. ap (λ (v : WorkerPortView _). v.next) c.self.view_is
+-- ---- where it was not
 
-pub returns-in-Ok-clause-parts : goal.returns-in-Ok-clause-parts
-returns-in-Ok-clause-parts g c = c.try_push.ensures.same ∙ ap (λ (v : WorkerPortView _). parts_of v.end) c.self.view_is
+pub invariant_of-self-2 : goal.invariant_of-self-2
+invariant_of-self-2 g c =
+    let fit = IsUntouched g.H.MailboxState.is_of g.H.MailboxState.facts in
+    fits-alone fit (gates_of c.take_own.new.self) c.new-2.result c.in-Some.first c.new-2.ensures
+    (subst (λ gates. fit gates c.in-Some.first) (sym (same-gates c.self-2.inside.end c.take_own.new.self c.take_own.ensures.same))
+    c.in-Some.ensures.untouched)
 
--- ---- it did not
+pub returns-clause-put : goal.returns-clause-put
+returns-clause-put g c =
+    let fit = IsUntouched g.H.MailboxState.is_of g.H.MailboxState.facts in
+    let old = c.args.self.now in
+    put-behind fit c.args.at_run_end c.args.claim c.in-Some.first c.push_last-2.result old c.push_last-2.new.self c.take_own.new.self
+    c.if-not-at_run_end.false
+    (keeps-none c.is_some.result c.self.inside.end c.self.inside.next c.self.inside.pushed c.self.inside.refused c.self.inside.taken old c.self.view_is
+    c.is_some.ensures c.if-is_some.false)
+    (subst (λ (v : WorkerPortView _). TakesOwn fit (ports_of v.end) c.in-Some.first (ports_of c.take_own.new.self)) c.self-2.view_is
+    c.in-Some.ensures.taken)
+    (c.push_last-2.ensures.kept.0 ∙ ap (λ x. x ∷ []) c.new-2.ensures) c.push_last-2.ensures.put
 
-pub push_waiting-requires : goal.push_waiting-requires
-push_waiting-requires g c =
-    let tried = c.in-Err.ensures.pushed in record {
-      untouched = subst (λ (y : PoolEndpoint _ × Claim _). IsUntouched g.H.MailboxState.is_of g.H.MailboxState.facts (gates_of y.0) y.1)
-          (λ i. ((ap (λ (v : WorkerPortView _). v.end) (sym c.self.view_is) ∙ sym tried.1) i, sym tried.0 i)) c.requires.untouched;
-    }
-
-pub returns-in-Err-clause-same : goal.returns-in-Err-clause-same
-returns-in-Err-clause-same g c =
-    same-gates c.self.inside.end c.push_waiting.new.self.end (c.push_waiting.ensures.parts ∙ c.try_push.ensures.same)
-    ∙ ap (λ (v : WorkerPortView _). gates_of v.end) c.self.view_is
-
-pub returns-in-Err-clause-pushed : goal.returns-in-Err-clause-pushed
-returns-in-Err-clause-pushed g c =
-    let tried = c.in-Err.ensures.pushed in
-    subst (λ (y : Claim _ × List (Claim _) × List (Claim _)). MatchResult c.push_waiting.result
-    (λ _. (c.push_waiting.new.self.pushed ≡ y.1 ++ y.0 ∷ []) × (c.push_waiting.new.self.refused ≡ y.2))
-    (λ back. (back.claim ≡ y.0) × (c.push_waiting.new.self.pushed ≡ y.1) × (c.push_waiting.new.self.refused ≡ y.2 ++ y.0 ∷ [])))
-    (λ i. (tried.0 i, ap (λ (v : WorkerPortView _). v.pushed) c.self.view_is i, ap (λ (v : WorkerPortView _). v.refused) c.self.view_is i))
-    c.push_waiting.ensures.pushed
-
-pub returns-in-Err-clause-asked : goal.returns-in-Err-clause-asked
-returns-in-Err-clause-asked g c =
-    let tried = c.in-Err.ensures.pushed in
-    subst (λ (y : PoolEndpoint _ × Claim _). IfErr c.push_waiting.result
-    (λ _. IsRefusedByPool (IsUntouched g.H.MailboxState.is_of g.H.MailboxState.facts) y.0 y.1))
-    (λ i. ((tried.1 ∙ ap (λ (v : WorkerPortView _). v.end) c.self.view_is) i, tried.0 i)) c.push_waiting.ensures.asked
-
-pub returns-in-Err-clause-put : goal.returns-in-Err-clause-put
-returns-in-Err-clause-put g c =
-    let tried = c.in-Err.ensures.pushed in
-    later-put (IsUntouched g.H.MailboxState.is_of g.H.MailboxState.facts) c.args.is_awaited c.self.inside.end c.try_push.new.self c.push_waiting.new.self.end
-    c.args.claim c.in-Err.claim c.push_waiting.result c.args.self.now c.push_waiting.new.self (sym c.keeps_next.ensures ∙ c.if-keeps_next.false)
-    (sym (ap (λ (v : WorkerPortView _). v.end) c.self.view_is)) tried.1 tried.0 refl
-    (c.push_waiting.ensures.next.0 ∙ ap (λ (v : WorkerPortView _). v.next) c.self.view_is) c.push_waiting.ensures.next.1 c.push_waiting.ensures.put
-
-pub returns-in-Err-clause-awaited : goal.returns-in-Err-clause-awaited
-returns-in-Err-clause-awaited g c = λ _. c.push_waiting.ensures.next.0 ∙ ap (λ (v : WorkerPortView _). v.next) c.self.view_is
-
-pub returns-in-Err-clause-parts : goal.returns-in-Err-clause-parts
-returns-in-Err-clause-parts g c =
-    c.push_waiting.ensures.parts ∙ c.try_push.ensures.same ∙ ap (λ (v : WorkerPortView _). parts_of v.end) c.self.view_is
+pub returns-clause-in_order : goal.returns-clause-in_order
+returns-clause-in_order g c alone ordered =
+    let fit = IsUntouched g.H.MailboxState.is_of g.H.MailboxState.facts in
+    let old = c.args.self.now in let is = c.self-2.view_is in
+    order-answered fit old c.push_last-2.new.self c.args.claim alone ordered c.args.at_run_end c.push_last-2.result
+    (λ back. back.claim ≡ c.args.claim)
+    (subst (λ (y : List (Claim _) × List (Claim _)). MatchResult c.push_last-2.result
+    (λ _. (c.push_last-2.new.self.pushed ≡ y.0 ++ c.args.claim ∷ []) × (c.push_last-2.new.self.refused ≡ y.1))
+    (λ back. (back.claim ≡ c.args.claim) × (c.push_last-2.new.self.pushed ≡ y.0) × (c.push_last-2.new.self.refused ≡ y.1 ++ c.args.claim ∷ [])))
+    (λ i. (ap (λ (v : WorkerPortView _). v.pushed) is i, ap (λ (v : WorkerPortView _). v.refused) is i)) c.push_last-2.ensures.pushed)
+    (c.push_last-2.ensures.kept.1 ∙ ap (λ (v : WorkerPortView _). v.taken) is)
+    (put-behind fit c.args.at_run_end c.args.claim c.in-Some.first c.push_last-2.result old c.push_last-2.new.self c.take_own.new.self
+    c.if-not-at_run_end.false
+    (keeps-none c.is_some.result c.self.inside.end c.self.inside.next c.self.inside.pushed c.self.inside.refused c.self.inside.taken old c.self.view_is
+    c.is_some.ensures c.if-is_some.false)
+    (subst (λ (v : WorkerPortView _). TakesOwn fit (ports_of v.end) c.in-Some.first (ports_of c.take_own.new.self)) is c.in-Some.ensures.taken)
+    (c.push_last-2.ensures.kept.0 ∙ ap (λ x. x ∷ []) c.new-2.ensures) c.push_last-2.ensures.put)

@@ -1,4 +1,4 @@
-use Rattle.std.proofs.Common.{◌≡◌, ◌∙◌, ℕ, [], ◌∷◌, refl, subst, ap, inl, inr}
+use Rattle.std.proofs.Common.{◌∙◌, ℕ, [], ◌∷◌, refl, subst, ap, inl, inr}
 use Rattle.mb_status.specs.Mailbox.{word_of}
 use Rattle.mb_gate.specs.Accessors.{pass_view, held_actor}
 use Rattle.mb_gate.specs.declared.claim.Claim.{Claim}

@@ -1,103 +1,82 @@
-use Rattle.std.proofs.Common.{◌≡◌, ◌+◌, ◌<◌, ◌==◌, ◌&&◌, not, ℕ, ap, ◌∙◌, arith, refl}
-use Rattle.mb_gate.specs.Accessors.{pass_view}
-use Rattle.mb_register.specs.declared.owed.Owed.{Owed}
-use Rattle.mb_register.specs.Owed.{is_owed}
+use Rattle.std.proofs.Common.{◌≡◌, ◌⊎◌, ◌<◌, ◌+◌, ◌++◌, [], ◌∷◌, ℕ, List, true, sym, ap, ◌∙◌, subst, refl, length, get_or, take}
+use Rattle.std.proofs.lemmas.List.{take_all, take_more}
+use Rattle.std.proofs.lemmas.List.Elements.{All-get_or}
+use Rattle.std.specs.Prelude.{All}
+use Rattle.mb_core.specs.Actor.{nothing}
+use Rattle.mb_gate.specs.Accessors.{actors_of, pass_view}
+use Rattle.mb_gate.specs.View.{obligation_to}
+use Rattle.mb_msg.specs.declared.id.ActorId.{ActorId}
 use Rattle.mb_register.specs.declared.hint.Hint.TheVariants as hint
+use Rattle.mb_register.specs.Owed.{is_owed}
+use Rattle.mb_register.specs.Told.{ToldView, is_among}
 use Rattle.mb_register.proofs.CallerLemmas.{account-registered}
 use Rattle.mb_register.proofs.ClaimCounts.{loses-none, loses-handed, loses-then}
 use Rattle.mb_register.proofs.Dues.{got-none, got-then}
-use Rattle.mb_register.proofs.ToldLemmas.{first-above, registered-none, registered-next, settled-out}
+use Rattle.mb_register.proofs.ToldLemmas.{all-among, holds-among, order-as, order-none, order-next, registered-as, registered-none, registered-next}
 use Rattle.mb_register.proofs.registrar.Registrar.register_told.Goals as goal
 
-pub loop-number-init : goal.loop-number-init
-loop-number-init g c =
+abbrev nobody : ActorId
+nobody = record { 0 = 0 }
+
+pub loop-index-init : goal.loop-index-init
+loop-index-init g c =
     let v = pass_view c.args.self.now.pass in
-    (refl, refl, loses-none _ v, got-none hint.None v v refl, 0, omega arith, registered-none c.args.self.now.told _ v)
+    (refl, refl, loses-none _ v, got-none hint.None v v refl, registered-none c.args.self.now.told _ v, order-none _, refl)
 
 pub register-requires : goal.register-requires
 register-requires g c =
-    let at = c.loop-number.invariant in
-    let few = c.in-Some.ensures.within_limit in
+    let at = c.loop-index.invariant in
+    let told = c.args.self.now.told in
+    let all = c.as_slice-index-end.ensures.all in
+    let same : c.as_slice.result.now ≡ told.order = c.as_slice.ensures.value ∙ ap (λ (t : ToldView). t.order) at.6 in
+    let less : c.loop-index.index < length told.order
+    = subst (λ (l : List ActorId). c.loop-index.index < length l) c.as_slice-index-end.ensures.value c.loop-index-test.true in
+    let few = All-get_or (λ (a : ActorId). a.0 < 64) told.order c.loop-index.index nobody less all.within_limit in
+    let there = All-get_or (λ (a : ActorId). is_among told.order a.0 ≡ true) told.order c.loop-index.index nobody less (all-among told.order) in
+    let present = c.requires.present (get_or told.order c.loop-index.index nobody).0 few (all.same _ ∙ there) in
     record {
       same_gates = (at.0 ∙ c.requires.same_gates.0, at.1 ∙ c.requires.same_gates.1);
-      present = (c.requires.present c.in-Some.id.0 few (at.6.left c.in-Some.id.0 few c.in-Some.ensures.first.present), few);
+      present = (
+        subst (λ (l : List ActorId). (get_or l c.loop-index.index nobody).0 < actors_of c.args.gates.now) (sym same) present,
+        subst (λ (l : List ActorId). (get_or l c.loop-index.index nobody).0 < 64) (sym same) few,
+      );
     }
 
-pub loop-number-preserved : goal.loop-number-preserved
-loop-number-preserved g c =
-    let old = c.args.self.now in let mid = c.loop-number.self in let now = c.register.new.self in
-    let at = c.loop-number.invariant in
-    let id = c.in-Some.id.0 in let few = c.in-Some.ensures.within_limit in
+pub loop-index-preserved : goal.loop-index-preserved
+loop-index-preserved g c =
+    let at = c.loop-index.invariant in
+    let old = c.args.self.now in let mid = c.loop-index.self in let now = c.register.new.self in
+    let told = old.told in
+    let index = c.loop-index.index in
+    let all = c.as_slice-index-end.ensures.all in
+    let same : c.as_slice.result.now ≡ told.order = c.as_slice.ensures.value ∙ ap (λ (t : ToldView). t.order) at.6 in
+    let less : index < length told.order
+    = subst (λ (l : List ActorId). index < length l) c.as_slice-index-end.ensures.value c.loop-index-test.true in
+    let id = get_or c.as_slice.result.now index nobody in
+    let few = subst (λ (l : List ActorId). (get_or l index nobody).0 < 64) (sym same)
+    (All-get_or (λ (a : ActorId). a.0 < 64) told.order index nobody less all.within_limit) in
+    let there = subst (λ (l : List ActorId). is_owed told.set (get_or l index nobody).0 ≡ true) (sym same)
+    (all.same _ ∙ All-get_or (λ (a : ActorId). is_among told.order a.0 ≡ true) told.order index nobody less (all-among told.order)) in
+    let whole : take (index + 1) told.order ≡ take index told.order ++ id ∷ []
+    = take_more told.order index nobody less ∙ ap (λ (l : List ActorId). take index told.order ++ get_or l index nobody ∷ []) (sym same) in
     let did = c.register.ensures in
-    let account = account-registered id _ _ c.register.result did.registered in
-    let gone = c.remove.new.self in
-    let out : (other : ℕ) → other < 64 → is_owed gone other ≡ (not (other == id) && is_owed mid.told other) =
-    λ other small. c.remove.ensures other small ∙ ap (λ (o : Owed). not (other == id) && is_owed o other) did.told in
-    let above = first-above at.4 id old.told mid.told gone _ _ _ _ _ _ few at.6 c.in-Some.ensures.first out did.looks account did.discharged in (
+    let account = account-registered id.0 _ _ c.register.result did.registered in (
       did.same_gates.0 ∙ at.0,
       did.same_gates.1 ∙ at.1,
-      loses-then _ _ _ _ _ _ at.2 (loses-handed id _ _ _ _ c.register.result did.handed),
-      got-then hint.None (pass_view old.pass) (pass_view mid.pass) (pass_view now.pass) _ _ at.6.looks.log did.looks.log at.3 did.due,
-      id + 1,
-      omega (arith, above, at.5),
-      registered-next at.4 id _ _ _ _ _ _ _ _ _ few at.6 c.in-Some.ensures.first out did.looks account did.discharged,
+      loses-then _ _ _ _ _ _ at.2 (loses-handed id.0 _ _ _ _ c.register.result did.handed),
+      got-then hint.None (pass_view old.pass) (pass_view mid.pass) (pass_view now.pass) _ _ at.4.looks.log did.looks.log at.3 did.due,
+      registered-as _ _ told _ _ _ _ whole (registered-next id _ told _ _ _ _ _ _ few there at.4 did.looks account did.discharged),
+      order-as _ _ _ _ whole (order-next id _ _ _ _ c.register.result at.5 did.registered),
+      did.told ∙ at.6,
     )
 
--- ---- no more is to be registered
-
-pub returns-in_default-clause-same_gates : goal.returns-in_default-clause-same_gates
-returns-in_default-clause-same_gates g c = (c.loop-number.invariant.0, c.loop-number.invariant.1)
-
-pub returns-in_default-clause-looks : goal.returns-in_default-clause-looks
-returns-in_default-clause-looks g c = c.loop-number.invariant.6.looks
-
-pub returns-in_default-clause-discharged : goal.returns-in_default-clause-discharged
-returns-in_default-clause-discharged g c id few told =
-    settled-out _ id _ _ _ _ _ _ few told c.loop-number.invariant.6 (c.in_default.ensures.first id)
-
-pub returns-in_default-clause-beyond : goal.returns-in_default-clause-beyond
-returns-in_default-clause-beyond g c = c.loop-number.invariant.6.beyond
-
-pub returns-in_default-clause-none_left : goal.returns-in_default-clause-none_left
-returns-in_default-clause-none_left g c id few = c.in_default.ensures.first id
-
-pub returns-in_default-clause-owed : goal.returns-in_default-clause-owed
-returns-in_default-clause-owed g c = c.loop-number.invariant.6.account
-
-pub returns-in_default-clause-handed : goal.returns-in_default-clause-handed
-returns-in_default-clause-handed g c = c.loop-number.invariant.2
-
-pub returns-in_default-clause-due : goal.returns-in_default-clause-due
-returns-in_default-clause-due g c = c.loop-number.invariant.3
-
--- ---- each number was looked at
-
-pub returns-clause-same_gates : goal.returns-clause-same_gates
-returns-clause-same_gates g c = (c.loop-number.invariant.0, c.loop-number.invariant.1)
-
-pub returns-clause-looks : goal.returns-clause-looks
-returns-clause-looks g c = c.loop-number.invariant.6.looks
-
 pub returns-clause-discharged : goal.returns-clause-discharged
-returns-clause-discharged g c id few told =
-    let at = c.loop-number.invariant in
-    let all = at.5 in let end = c.loop-number-test.false in
-    settled-out _ id _ _ _ _ _ _ few told at.6 (at.6.gone id (omega (arith, few, all, end)) few)
-
-pub returns-clause-beyond : goal.returns-clause-beyond
-returns-clause-beyond g c = c.loop-number.invariant.6.beyond
-
-pub returns-clause-none_left : goal.returns-clause-none_left
-returns-clause-none_left g c id few =
-    let at = c.loop-number.invariant in
-    let all = at.5 in let end = c.loop-number-test.false in
-    at.6.gone id (omega (arith, few, all, end)) few
-
-pub returns-clause-owed : goal.returns-clause-owed
-returns-clause-owed g c = c.loop-number.invariant.6.account
-
-pub returns-clause-handed : goal.returns-clause-handed
-returns-clause-handed g c = c.loop-number.invariant.2
-
-pub returns-clause-due : goal.returns-clause-due
-returns-clause-due g c = c.loop-number.invariant.3
+returns-clause-discharged g c id few there =
+    let at = c.loop-index.invariant in
+    let told = c.args.self.now.told in
+    let now = c.loop-index.self in
+    let all = c.as_slice-index-end.ensures.all in
+    let Settled : ℕ → Type 0 = λ i. (obligation_to i (pass_view now.pass) ≡ nothing) ⊎ (is_owed now.owed i ≡ true) in
+    let whole : take c.loop-index.index told.order ≡ told.order
+    = subst (λ (l : List ActorId). take c.loop-index.index l ≡ l) c.as_slice-index-end.ensures.value (take_all _ _ c.loop-index-test.false) in
+    holds-among Settled told.order id (subst (All (λ (a : ActorId). Settled a.0)) whole at.4.settled) (sym (all.same id) ∙ there)

@@ -4,7 +4,10 @@ use Rattle.mb_system.proofs.end.WorkerEnd.try_take.Goals as goal
 
 pub returns-clause-none : goal.returns-clause-none
 returns-clause-none g c =
-    none-still _ _ c.try_take.result (λ same. ap (λ run_queue. record c.args.self.now { registrar = record c.args.self.now.registrar { run_queue = run_queue } }) same)
+    none-still _ _ c.try_take.result (λ none. (
+      ap (λ run_queue. record c.args.self.now { registrar = record c.args.self.now.registrar { run_queue = run_queue } }) none.0,
+      none.1,
+    ))
     c.try_take.ensures.none
 
 pub returns-clause-untouched : goal.returns-clause-untouched
