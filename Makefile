@@ -4,7 +4,7 @@ PREFIX ?= /usr/local
 PROGRAM := crates/mailrun/out/mailrun
 TRACE := crates/mailtrace/out/mailtrace
 
-.PHONY: run trace prove quick examples test refuse check wrong-bodies bench install proved
+.PHONY: run trace prove quick examples test refuse check wrong-bodies bench compare install proved
 .DEFAULT_GOAL := run
 
 # Runs a scenario and prints its report: make run [SCENARIO=path]. Where the program is not proved yet, an unproved build of its
@@ -83,6 +83,12 @@ bench:
 	@tools/prove mailrun
 	@crates/bench/out/bench
 	@tools/time_workloads $(PROGRAM)
+
+# The program beside its peers, as docs/SPEED.md shows them: make compare [ROUNDS=number]. It says which peers this machine can run, and
+# installs nothing.
+compare:
+	@tools/prove mailrun
+	@tools/compare_with_peers $(PROGRAM) $(if $(ROUNDS),--rounds $(ROUNDS))
 
 # Installs the two programs: make install [PREFIX=path]
 install: proved

@@ -11,7 +11,7 @@ import re
 import crate_list
 from crate_list import ROOT
 
-FOLDERS = ("crates", "tools", "docs", "examples", "scenarios")
+FOLDERS = ("crates", "tools", "docs", "examples", "scenarios", "peers")
 PATH = re.compile(r"(?<![\w/.-])(?:\.\./)?((?:%s)/[\w./*-]*[\w*])" % "|".join([*FOLDERS, r"mb_\w+"]))
 CRATE = re.compile(r"`(mb_\w+)(?:`|::)")
 LINK = re.compile(r"\]\(([^()\s]+)\)")
