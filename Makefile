@@ -4,7 +4,7 @@ PREFIX ?= /usr/local
 PROGRAM := crates/mailrun/out/mailrun
 TRACE := crates/mailtrace/out/mailtrace
 
-.PHONY: run trace prove quick examples test refuse check wrong-bodies bench compare install proved
+.PHONY: run trace prove docs quick examples test refuse check wrong-bodies bench compare install proved
 .DEFAULT_GOAL := run
 
 # Runs a scenario and prints its report: make run [SCENARIO=path]. Where the program is not proved yet, an unproved build of its
@@ -21,13 +21,18 @@ trace:
 prove:
 	@tools/prove $(CRATE)
 
-# What needs no proof: what the documents name, the pictures, the commands that need no program, the schema, the scenarios as they stand,
-# the examples and whole runs beside a second reader, and each scenario by an unproved build.
+# Writes the API reference, pages that a browser opens without a network: out/docs/index.html.
+docs:
+	@tools/api_reference
+
+# What needs no proof: what the documents name, the pictures, the commands that need no program, the API reference, the schema, the
+# scenarios as they stand, the examples and whole runs beside a second reader, and each scenario by an unproved build.
 quick:
 	tools/documents --check
 	tools/draw_layers --check
 	tools/draw_states --check
 	tools/check_commands
+	tools/check_api_reference
 	tools/check_schema
 	tools/check_scenarios
 	tools/check_traces
@@ -38,7 +43,7 @@ quick:
 examples: proved
 	@tools/check_scenarios $(PROGRAM) examples
 
-# The gate: what the documents name, the pictures, the list of the wrong bodies, the schema, the scenarios as they stand, every proof from
+# The gate: what the documents name, the pictures, the list of the wrong bodies, the API reference, the schema, the scenarios as they stand, every proof from
 # nothing, the must-fail edits, the tests, the program by two compilers, the program on all scenarios, whose outcomes were worked out by
 # hand, as a user runs it, and on worker threads, the commands of the documents, traces in each form, pages in a browser, where one is
 # there, what becomes of refused allocations, where a C compiler is there, random scenarios beside a second reader, the journals of one worker
@@ -49,6 +54,7 @@ test:
 	tools/draw_states --check
 	tools/check_commands
 	tools/check_wrong_bodies
+	tools/check_api_reference
 	tools/check_schema
 	tools/check_scenarios
 	sum=$$(tools/prove --sum) && rt ci && tools/prove --note $$sum
