@@ -1,9 +1,10 @@
-"""Figures that stand in more than one document are the same. The table of README.md is a part of that of docs/SPEED.md, without the
+"""Figures that stand in more than one document are the same. README.md says how many wrong bodies there are. The table of README.md is a part of that of docs/SPEED.md, without the
 quartiles: the names of its rows and columns say which part. A time in minutes is one of the figures of docs/CONTRIBUTING.md; README.md and
 docs/EMBEDDING.md say that of a proof of the program alone."""
 
 import re
 
+import wrong_bodies
 from crate_list import ROOT
 from document_names import cells_of, documents
 
@@ -40,9 +41,15 @@ def place_in_speed(row, column):
     return row, column.partition(":")[0]
 
 
+def with_wrong_bodies(text):
+    """The text with the numbers of wrong bodies, in the gate and outside."""
+    gate, rest = (len(wrong_bodies.edits(folder)) for folder in (wrong_bodies.GATE, wrong_bodies.REST))
+    return re.sub(r"\b\d+(\swrong\sbodies\s)\(\d+(\smore)", rf"{gate}\g<1>({rest}\g<2>", text)
+
+
 def readme():
-    """README.md with the figures of docs/SPEED.md."""
-    text, figures = README.read_text(), measured()
+    """README.md with the figures of docs/SPEED.md, and with the numbers of wrong bodies."""
+    text, figures = with_wrong_bodies(README.read_text()), measured()
     begin, end = section(text, "How fast")
     head, *rows = ROW.findall(text[begin:end]) or [""]
     for row in rows[1:]:

@@ -174,19 +174,14 @@ def definitions_page(file):
     """The page of a file of definitions: each with its comment and its text."""
     told = {it.name: it for it in spec_definitions.definitions(file)}
     crate, name = file.split("/")[1], file.partition("/specs/")[2].removesuffix(".antt")
-    body = [f"<h1>{html.escape(name)}</h1>", f'<p class="faint">{html.escape(file)}</p>', f"<p>{html.escape(sentence(spec_definitions.opening(file)))}</p>"]
+    body = [f"<h1>{html.escape(name)}</h1>", f'<p class="faint">{html.escape(file)}</p>', f"<p>{html.escape(spec_definitions.sentence(spec_definitions.opening(file)))}</p>"]
     for name, text in document_clauses.blocks(file).items():
         it = told.get(name)
         code = "\n".join(line for line in text.split("\n") if not line.startswith("--")).rstrip()
         body.append(f'<h3 id="{html.escape(name)}">{html.escape(name)}</h3>')
-        body.append(f"<p>{html.escape(sentence(it.comment))} <span class=\"faint\">({it.kind})</span></p>" if it else "")
+        body.append(f"<p>{html.escape(spec_definitions.sentence(it.comment))} <span class=\"faint\">({it.kind})</span></p>" if it else "")
         body.append(f"<pre>{linked(code, lambda word: links.target_of(file, word) if word != name else None)}</pre>")
     return page(f"{name} in {crate}", "\n".join(it for it in body if it))
-
-
-def sentence(text):
-    text = text[:1].upper() + text[1:]
-    return text + ("" if not text or text[-1] in ".:" else ".")
 
 
 def first_sentence(about):
@@ -214,7 +209,7 @@ def index_page():
     rows = []
     for file in links.cited_files():
         crate, name = file.split("/")[1], file.partition("/specs/")[2].removesuffix(".antt")
-        rows.append(entry(links.page_of_definitions(file), f"{crate} {name}", sentence(spec_definitions.opening(file))))
+        rows.append(entry(links.page_of_definitions(file), f"{crate} {name}", spec_definitions.sentence(spec_definitions.opening(file))))
     body.append(f"<section><h2>Definitions</h2><ul>{''.join(rows)}</ul></section>")
     return page("Heddleorange: API reference", "\n".join(body), SEARCH)
 

@@ -126,38 +126,25 @@ def faults():
             yield f"{file}: {told.name}, cited in {source}, has no comment"
 
 
-def as_markdown(text):
-    """A comment as a sentence in a cell."""
+def sentence(text):
+    """A comment as a sentence."""
     text = text[:1].upper() + text[1:]
-    text += "" if not text or text[-1] in ".:" else "."
-    parts = re.split(r"(`[^`]*`)", text)
-    plain = (part if part.startswith("`") else re.sub(r"([<*])", r"\\\1", part) for part in parts)
-    return "".join(plain).replace("|", "\\|")
+    return text + ("" if not text or text[-1] in ".:" else ".")
 
 
-def section(crate, file):
-    """What the document says of one file."""
-    rows, bare = [], []
+def lines_of(file):
+    """What is said of one file: what it is about, and each definition with its kind."""
+    yield f"{file}: {sentence(opening(file))}".rstrip(": ")
     for it in definitions(file):
-        said = it.comment
-        cases = f" Cases: {', '.join(f'`{case}`' for case in it.constructors)}." if it.constructors else ""
-        rows += [f"| `{it.name}` | {it.kind} | {as_markdown(said)}{cases} |"] if said else []
-        bare += [] if said else [f"`{it.name}`"]
-    module = file.partition("/specs/")[2].removesuffix(".antt")
-    text = [f"**[{module}](../{file})** {as_markdown(opening(file))}".rstrip(), ""]
-    text += ["| Name | Kind | What it says |", "|---|---|---|", *rows, ""] if rows else []
-    return text + ([f"No contract cites, and no comment tells of: {', '.join(bare)}.", ""] if bare else [])
+        cases = f" Cases: {', '.join(it.constructors)}." if it.constructors else ""
+        yield f"  {it.name} ({it.kind}): {sentence(it.comment)}{cases}" if it.comment else f"  {it.name} ({it.kind})"
 
 
-def generated():
-    """The generated part of the document."""
-    names = dict.fromkeys(crate for crate, _ in files())
-    text, last = [", ".join(f"[{name}](#{name})" for name in names) + ".", ""], ""
+def listed(crates):
+    """All definitions of these crates, of all if none is named."""
     for crate, file in files():
-        text += [f"### {crate}", ""] if crate != last else []
-        text += section(crate, file)
-        last = crate
-    return "\n".join(text)
+        if not crates or crate in crates:
+            yield from [*lines_of(file), ""]
 
 
 def count():

@@ -61,35 +61,29 @@ def shortened(text, before, after):
 
 
 def told(old, new):
-    """A change as a line of a table tells of it: the two texts where they differ."""
+    """A change in a line: the two texts where they differ."""
     old, new = old.strip(), new.strip()
     before = len(os.path.commonprefix([old, new]))
     after = len(os.path.commonprefix([old[before:][::-1], new[before:][::-1]]))
-    old, new = (shortened(text, before, after).replace("|", "\\|") for text in (old, new))
+    old, new = (shortened(text, before, after) for text in (old, new))
     return f"`{old}` becomes `{new}`" if new else f"`{old}` goes"
 
 
-def row(edit):
-    """The row of a wrong body."""
+def line_of(edit):
+    """A wrong body in a line: its file, and what it changes."""
     parts, last = [], ""
     for path, old, new in changes(edit):
-        parts.append((f"`{path}`: " if path != last else "") + told(old, new))
+        parts.append((f"{path}: " if path != last else "") + told(old, new))
         last = path
-    tried = "yes" if edit.parent.name == GATE else "no"
-    return f"| [{edit.stem}](../{edit.relative_to(ROOT).as_posix()}) | {tried} | {'; '.join(parts)} |"
+    return f"  {edit.parent.name}/{edit.stem}: {'; '.join(parts)}"
 
 
-def generated():
-    """The document that lists them all, crate by crate."""
+def listed(crates):
+    """All wrong bodies of these crates, of all if none is named, with their number."""
     gate, rest = edits(GATE), edits(REST)
-    text = ["# Wrong bodies", ""]
-    text += ["Each changes the code so that a contract has to refuse it, and stands here with its file. The gate tries those with a"]
-    text += ["`yes`; `make wrong-bodies CRATE=name` tries the others. [PROOFS](PROOFS.md) names some at the claims that they break."]
-    text += ["Written by `tools/documents`; change nothing here by hand.", ""]
+    yield f"{len(gate)} that the gate tries ({GATE}), and {len(rest)} for `make wrong-bodies` ({REST})"
     for crate in crate_list.rows():
         own = [edit for edit in [*gate.values(), *rest.values()] if edit.parent.parent.name == crate]
-        if own:
-            tried = sum(edit.parent.name == GATE for edit in own)
-            text += [f"## {crate}", "", f"{len(own)}, of which the gate tries {tried}.", ""]
-            text += ["| Wrong body | Gate | What it changes |", "|---|---|---|", *map(row, sorted(own, key=lambda edit: edit.stem)), ""]
-    return "\n".join(text)
+        if own and (not crates or crate in crates):
+            yield from ["", f"{crate}: {len(own)}, of which the gate tries {sum(edit.parent.name == GATE for edit in own)}"]
+            yield from (line_of(edit) for edit in sorted(own, key=lambda edit: edit.stem))

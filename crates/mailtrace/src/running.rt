@@ -27,7 +27,7 @@ Runs the scenario and shows what came to each actor and what became of it.
   --version        the version
 ";
 
-const VERSION: &str = "mailtrace 1\n";
+const VERSION: &str = "mailtrace 0.4.0\n";
 
 /// The whole program: reads a scenario, runs it, and writes what came to each actor and what became of it. The answer is the exit
 /// status: 0 with the trace written, or where whoever reads it has closed it; 2 where the arguments are none that the program takes, or
