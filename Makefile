@@ -12,9 +12,9 @@ TRACE := crates/mailtrace/out/mailtrace
 run:
 	@tools/run $(SCENARIO)
 
-# The same, and prints the trace: what came to each actor and what became of it (docs/TRACE.md).
+# The same, and prints the trace: what came to each actor and what became of it (docs/TRACE.md). FORMAT is text, json, svg or html.
 trace:
-	@tools/run --trace $(SCENARIO)
+	@tools/run --trace $(if $(FORMAT),--format $(FORMAT)) $(SCENARIO)
 
 # Proves the program, or another crate, with all that it stands on, and builds it: make prove [CRATE=name]. What was proved before and
 # did not change takes seconds.

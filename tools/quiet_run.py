@@ -2,11 +2,13 @@
 """The rules of docs/SEMANTICS.md as a second program, for a scenario that passes all checks, run quietly on one thread. It shares
 nothing with the program, knows no locks and no threads, and proves nothing: the reports beside the examples and the program's own
 are held to it. As a command it prints the report: tools/quiet_run.py SCENARIO [--turns]. With --turns each run of a mailbox is told
-before that, as (actor;system messages,envelopes)."""
+before that, as (actor;system messages,envelopes). What is no scenario is told by the program's line, with the status 2."""
 
 import collections
 import sys
-import tomllib
+
+sys.dont_write_bytecode = True
+from scenario_checks import fail_tool, scenario_of
 
 FRESH, LIVE, BROKEN, ENDING, ENDED = "fresh", "live", "broken", "ending", "ended"
 LOW, HIGH = -(2**63), 2**63 - 1
@@ -468,9 +470,15 @@ def report_of(top, refused=0):
     return system.report(), system.turns
 
 
-if __name__ == "__main__":
-    with open(sys.argv[1], "rb") as file:
-        told, turns = report_of(tomllib.load(file))
-    if "--turns" in sys.argv:
+def main():
+    is_turns = "--turns" in sys.argv
+    told, turns = report_of(scenario_of([word for word in sys.argv[1:] if word != "--turns"], "tools/quiet_run.py SCENARIO [--turns]"))
+    if is_turns:
         print(*(f"({actor};{systems},{envelopes})" for actor, systems, envelopes in turns))
+    if told.startswith("mailrun: "):
+        fail_tool(told.rstrip(), 1)
     print(told, end="")
+
+
+if __name__ == "__main__":
+    main()

@@ -3,10 +3,10 @@
 beside the examples and the program's own are held to it. As a command it prints the trace: tools/quiet_trace.py SCENARIO."""
 
 import sys
-import tomllib
 
 sys.dont_write_bytecode = True
 from quiet_run import Cell, JournalFull, Script, System
+from scenario_checks import fail_tool, scenario_of
 
 
 class Recorded(Script):
@@ -178,5 +178,7 @@ def trace_of(top, form=Trace):
 
 
 if __name__ == "__main__":
-    with open(sys.argv[1], encoding="utf-8-sig") as file:
-        print(trace_of(tomllib.loads(file.read())), end="")
+    told = trace_of(scenario_of(sys.argv[1:], "tools/quiet_trace.py SCENARIO"))
+    if told is None:
+        fail_tool("mailtrace: 6 JournalFull", 1)
+    print(told, end="")

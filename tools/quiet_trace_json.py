@@ -4,10 +4,10 @@ has them. The program's own are held to it. As a command it prints the lines: to
 
 import json
 import sys
-import tomllib
 
 sys.dont_write_bytecode = True
 from quiet_trace import Trace, trace_of
+from scenario_checks import fail_tool, scenario_of
 
 # The status of a mailbox while its actor is given an envelope: scheduled, and neither closed nor suspended.
 SCHEDULED = 2
@@ -73,5 +73,7 @@ class JsonTrace(Trace):
 
 
 if __name__ == "__main__":
-    with open(sys.argv[1], encoding="utf-8-sig") as file:
-        print(trace_of(tomllib.loads(file.read()), JsonTrace), end="")
+    told = trace_of(scenario_of(sys.argv[1:], "tools/quiet_trace_json.py SCENARIO"), JsonTrace)
+    if told is None:
+        fail_tool("mailtrace: 6 JournalFull", 1)
+    print(told, end="")
