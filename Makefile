@@ -26,7 +26,8 @@ docs:
 	@tools/api_reference
 
 # What needs no proof: what the documents name, the pictures, the commands that need no program, the API reference, the schema, the
-# scenarios as they stand, the examples and whole runs beside a second reader, and each scenario by an unproved build.
+# scenarios as they stand, the examples and whole runs beside a second reader, each scenario by an unproved build, and the library in a
+# repository of its own.
 quick:
 	tools/documents --check
 	tools/draw_layers --check
@@ -38,6 +39,7 @@ quick:
 	tools/check_traces
 	tools/check_trace_forms
 	tools/try_scenarios
+	tools/check_embed
 
 # Runs each scenario of examples/, and sees to it that the report is printed that stands beside it.
 examples: proved
@@ -47,7 +49,7 @@ examples: proved
 # nothing, the must-fail edits, the tests, the program by two compilers, the program on all scenarios, whose outcomes were worked out by
 # hand, as a user runs it, and on worker threads, the commands of the documents, traces in each form, pages in a browser, where one is
 # there, what becomes of refused allocations, where a C compiler is there, random scenarios beside a second reader, the journals of one worker
-# beside those of the quiet run, and the system messages of random systems on threads, counted.
+# beside those of the quiet run, the system messages of random systems on threads, counted, and the library in a repository of its own.
 test:
 	tools/documents --check
 	tools/draw_layers --check
@@ -69,6 +71,7 @@ test:
 	tools/compare_with_a_model $(PROGRAM)
 	tools/check_order $(TRACE)
 	tools/check_system_messages $(TRACE)
+	tools/check_embed --prove
 
 # Refuses each allocation of the program in turn, and each of a whole run by the tests that the gate has built.
 refuse: proved
