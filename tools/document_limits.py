@@ -1,16 +1,27 @@
 """The numbers of docs/LIMITS.md are those of the sources. The last cell of a row names where its number stands: `FILE::CONSTANT`, of a
 constant with fields `FILE::CONSTANT.field`, and of a file of JSON `FILE::a/b/c`, the way to the number. It is the first number of the
-row's second cell. Where that cell is empty, a rule and no number of the sources is told."""
+row's second cell. Where that cell is empty, a rule and no number of the sources is told. Where another document says such a number in one of
+the forms below, it is that of docs/LIMITS.md."""
 
 import json
 import re
 
 from crate_list import ROOT
-from document_names import cells_of
+from document_names import cells_of, documents
 
 LIMITS = ROOT / "docs/LIMITS.md"
 SOURCE = re.compile(r"`([\w./]+)::([\w$./]+)`")
 NUMBER = re.compile(r"2\^(\d+)( - 1)?|\d[\d,]*")
+# How documents say the number of a row, by the beginning of its first cell.
+SAID = {
+    "actors, the guardian": [r"at most (N) actors", r"limits are (N) actors"],
+    "outside senders": [r"(N)\s+outside senders", r"(N)\s+senders\s+outside"],
+    "effects of one call": [r"(N) effects", r"call may ask for (N)"],
+    "envelopes among which": [r"mailbox holds (N)", r"choice is among (N)", r"until (N) are held", r"among the (N)"],
+    "places of a shared pool": [r"with (N) places", r"whose (N) places"],
+    "suspensions of an actor": [r"at most (N) suspensions", r"count below (N)", r"count is at most (N)", r"suspensions are at most (N)"],
+    "bytes of the text": [r"at most (N) bytes"],
+}
 HEAD = ["Limit", "Number", "What happens there", "Why", "Source"]
 
 
@@ -47,6 +58,26 @@ def rows():
 
 
 def faults():
+    yield from faults_of_rows()
+    yield from faults_of_sentences()
+
+
+def faults_of_sentences():
+    """Which sentence of another document says another number."""
+    numbers = {cells[0]: number_in(cells[1]) for cells in rows()}
+    for beginning, forms in SAID.items():
+        row = next((name for name in numbers if name.startswith(beginning)), None)
+        if row is None:
+            yield f"docs/LIMITS.md: it has no row {beginning}"
+            continue
+        for document in (one for one in documents() if one != LIMITS):
+            for form in forms:
+                for found in re.finditer(form.replace("N", NUMBER.pattern), document.read_text()):
+                    if number_in(found[1]) != numbers[row]:
+                        yield f"{document.relative_to(ROOT)}: `{' '.join(found[0].split())}` is not what docs/LIMITS.md says: {numbers[row]}"
+
+
+def faults_of_rows():
     for cells in rows():
         if len(cells) != len(HEAD) or not all(cells[:4]):
             yield f"docs/LIMITS.md: a row has not the cells {', '.join(HEAD)}: {cells}"
