@@ -4,6 +4,7 @@ import functools
 import re
 
 import public_items
+import spec_definitions
 from crate_list import ROOT
 from document_clauses import blocks
 from spec_definitions import imported
@@ -126,6 +127,12 @@ def target_in_text(item, words):
 
 
 @functools.cache
+def comments():
+    """What is said of each definition, by the link that leads to it."""
+    return {f"{page_of_definitions(file)}#{it.name}": it.comment for file in cited_files() for it in spec_definitions.definitions(file)}
+
+
+@functools.cache
 def cited_files():
     """The files of definitions that the contracts of the items cite, and those that these cite in turn."""
     found, left = {}, []
@@ -157,7 +164,7 @@ def example_lines():
         (file.relative_to(ROOT).as_posix(), file.read_text(), line.strip())
         for file in files
         for line in public_items.USE.sub("", file.read_text()).splitlines()
-        if line.startswith("    ") and not re.match(r"\s*(//|ghost|requires|ensures)", line)
+        if line.startswith("    ") and not re.match(r"\s*(//|ghost|requires|ensures|(pub )?fn|\w+: [^=]*,$)", line)
     ]
 
 

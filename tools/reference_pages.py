@@ -54,11 +54,12 @@ def page(title, body, script=""):
 
 
 def linked(text, target, here=""):
-    """A text in which each name that `target` knows is a link, but to the very page."""
+    """A text in which each name that `target` knows is a link, but to the very page. A definition's comment shows beside the pointer."""
     parts, last = [], 0
     for word in links.WORD.finditer(text):
         if (goal := target(word[0])) and goal != here:
-            parts += [html.escape(text[last : word.start()]), f'<a href="{html.escape(goal)}">{html.escape(word[0])}</a>']
+            said = f' title="{html.escape(links.comments()[goal])}"' if links.comments().get(goal) else ""
+            parts += [html.escape(text[last : word.start()]), f'<a href="{html.escape(goal)}"{said}>{html.escape(word[0])}</a>']
             last = word.end()
     return "".join([*parts, html.escape(text[last:])])
 
