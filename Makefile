@@ -2,6 +2,7 @@
 SCENARIO ?= examples/count.toml
 PREFIX ?= /usr/local
 PROGRAM := crates/mailrun/out/mailrun
+KEPT := crates/mailrun_kept/out/mailrun_kept
 TRACE := crates/mailtrace/out/mailtrace
 
 .PHONY: run trace prove docs quick examples test refuse check wrong-bodies bench compare install proved
@@ -48,7 +49,7 @@ examples: proved
 # The gate: what the documents name, the pictures, the list of the wrong bodies, the API reference, the schema, the scenarios as they stand, every proof from
 # nothing, the must-fail edits, the tests, the program by two compilers, the program on all scenarios, whose outcomes were worked out by
 # hand, as a user runs it, and on worker threads, the commands of the documents, traces in each form, pages in a browser, where one is
-# there, what becomes of refused allocations, where a C compiler is there, random scenarios beside a second reader, the journals of one worker
+# there, what becomes of refused allocations, where a C compiler is there, random scenarios beside a second reader, also with kept journals, the journals of one worker
 # beside those of the quiet run, the system messages of random systems on threads, counted, and the library in a repository of its own.
 test:
 	tools/documents --check
@@ -61,6 +62,7 @@ test:
 	tools/check_scenarios
 	sum=$$(tools/prove --sum) && rt ci && tools/prove --note $$sum
 	tools/check_scenarios $(PROGRAM)
+	tools/check_scenarios $(KEPT)
 	tools/check_program $(PROGRAM)
 	tools/check_workers $(PROGRAM)
 	tools/check_commands $(PROGRAM)
@@ -69,6 +71,7 @@ test:
 	tools/try_pages $(TRACE)
 	@if command -v "$${CC:-cc}" > /dev/null; then $(MAKE) --no-print-directory refuse; else echo 'no C compiler: no allocation was refused'; fi
 	tools/compare_with_a_model $(PROGRAM)
+	tools/compare_with_a_model $(KEPT)
 	tools/check_order $(TRACE)
 	tools/check_system_messages $(TRACE)
 	tools/check_embed --prove
@@ -93,11 +96,12 @@ bench:
 	@crates/bench/out/bench
 	@tools/time_workloads $(PROGRAM)
 
-# The program beside its peers, as docs/SPEED.md shows them: make compare [ROUNDS=number]. It says which peers this machine can run, and
-# installs nothing.
+# The program beside its peers, with counted and with kept journals, as docs/SPEED.md shows them: make compare [ROUNDS=number]. It says
+# which peers this machine can run, and installs nothing.
 compare:
 	@tools/prove mailrun
-	@tools/compare_with_peers $(PROGRAM) $(if $(ROUNDS),--rounds $(ROUNDS))
+	@tools/prove mailrun_kept
+	@tools/compare_with_peers $(PROGRAM) $(KEPT) $(if $(ROUNDS),--rounds $(ROUNDS))
 
 # Installs the two programs: make install [PREFIX=path]
 install: proved

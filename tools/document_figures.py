@@ -1,6 +1,6 @@
-"""Figures that stand in more than one document are the same. README.md says how many wrong bodies there are. The table of README.md is a part of that of docs/SPEED.md, without the
-quartiles: the names of its rows and columns say which part. A time in minutes is one of the figures of docs/CONTRIBUTING.md; README.md and
-docs/EMBEDDING.md say that of a proof of the program alone."""
+"""Figures that stand in more than one document are the same. README.md says how many wrong bodies there are. Its table is a part of that of
+docs/SPEED.md, without the quartiles: the names of its rows and columns say which part. A time in minutes is one of the figures of
+docs/CONTRIBUTING.md; README.md and docs/EMBEDDING.md say that of a proof of the program alone."""
 
 import re
 

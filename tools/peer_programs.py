@@ -53,13 +53,15 @@ class Language(typing.NamedTuple):
 
 class Peer(typing.NamedTuple):
     """A peer by its name in the table; the command that runs a workload, with WORKLOAD for its name; which pool of ours stands beside it,
-    the faster one if none is named; and the workload that it lacks, if it lacks one."""
+    the faster one if none is named; the workload that it lacks, if it lacks one; and which journals of ours stand beside it: a peer that
+    keeps a journal stands beside kept ones, another beside counted ones."""
 
     name: str
     language: Language
     words: list
     pool: str | None = None
     lacks: str | None = None
+    journal: str = "counted"
 
     def seconds(self, workload, messages):
         """The seconds of a run, as the peer tells them. It has to have handled so many messages."""
@@ -124,15 +126,15 @@ ERL = ["erl", "+S", SCHEDULERS, "-noinput", "-boot", "start_clean", "-pa", str(O
 JVM = ["java", "-Xms1g", "-Xmx4g", "-XX:+UseParallelGC", "-cp", str(OUT / "java"), "JavaPeer", "WORKLOAD", *SETTINGS]
 
 
-def rust(steps, pool):
-    return Peer(f"{steps} Rust, {pool}", RUST, [str(RUST.made), steps.lower(), pool, "WORKLOAD", *SETTINGS], pool)
+def rust(steps, pool, journal):
+    return Peer(f"{steps} Rust, {pool}", RUST, [str(RUST.made), steps.lower(), pool, "WORKLOAD", *SETTINGS], pool, journal=journal)
 
 
 PEERS = (
-    rust("Plain", "shared"),
-    rust("Plain", "stealing"),
-    rust("Lean", "shared"),
-    rust("Lean", "stealing"),
+    rust("Plain", "shared", "kept"),
+    rust("Plain", "stealing", "kept"),
+    rust("Lean", "shared", "counted"),
+    rust("Lean", "stealing", "counted"),
     Peer("Erlang", ERLANG, ERL),
     Peer("CAF", CAF, [str(CAF.made), "WORKLOAD", *SETTINGS], lacks="restart"),
     Peer("Stand-in, cold", JAVA, [*JVM, "1"]),

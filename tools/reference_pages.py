@@ -175,7 +175,8 @@ def definitions_page(file):
     """The page of a file of definitions: each with its comment and its text."""
     told = {it.name: it for it in spec_definitions.definitions(file)}
     crate, name = file.split("/")[1], file.partition("/specs/")[2].removesuffix(".antt")
-    body = [f"<h1>{html.escape(name)}</h1>", f'<p class="faint">{html.escape(file)}</p>', f"<p>{html.escape(spec_definitions.sentence(spec_definitions.opening(file)))}</p>"]
+    about = spec_definitions.sentence(spec_definitions.opening(file))
+    body = [f"<h1>{html.escape(name)}</h1>", f'<p class="faint">{html.escape(file)}</p>', f"<p>{html.escape(about)}</p>"]
     for name, text in document_clauses.blocks(file).items():
         it = told.get(name)
         code = "\n".join(line for line in text.split("\n") if not line.startswith("--")).rstrip()
@@ -191,21 +192,23 @@ def first_sentence(about):
 
 
 def entry(goal, name, said):
-    return f'<li class="entry"><a href="{html.escape(goal)}"><code>{html.escape(name)}</code></a> {html.escape(said.replace("`", ""), quote=False)}</li>'
+    said = html.escape(said.replace("`", ""), quote=False)
+    return f'<li class="entry"><a href="{html.escape(goal)}"><code>{html.escape(name)}</code></a> {said}</li>'
 
 
 def index_page():
     """The index: each item with its methods, then the files of definitions. The search box leaves what has all words."""
-    body = ["<h1>API reference</h1>", "<p>What a program of your own can use, and the definitions that the contracts cite. "]
-    body.append('Begin with <a href="heddleorange.PlannedSystem.html"><code>PlannedSystem</code></a> and <a href="mb_actor.Actor.html"><code>Actor</code></a>.</p>')
+    first = '<a href="heddleorange.PlannedSystem.html"><code>PlannedSystem</code></a> and <a href="mb_actor.Actor.html"><code>Actor</code></a>'
+    body = ["<h1>API reference</h1>", "<p>What a program of your own can use, and the definitions that the contracts cite.", f"Begin with {first}.</p>"]
     body.append('<p id="none" hidden>Nothing has all these words.</p>')
     found = sorted(links.items().values(), key=lambda item: (item.name.lower(), item.crate))
     for kind, title in KINDS.items():
         rows = []
         for item in (it for it in found if it.kind == kind):
             rows.append(entry(links.page_of_item(item), item.name, first_sentence(item.about)))
-            methods = (part for part in item.parts if part.kind == "method")
-            rows += [entry(f"{links.page_of_item(item)}#{links.anchor(part)}", f"{item.name}::{part.name}", first_sentence(part.about)) for part in methods]
+            for part in (part for part in item.parts if part.kind == "method"):
+                goal = f"{links.page_of_item(item)}#{links.anchor(part)}"
+                rows.append(entry(goal, f"{item.name}::{part.name}", first_sentence(part.about)))
         body.append(f"<section><h2>{title}</h2><ul>{''.join(rows)}</ul></section>" if rows else "")
     rows = []
     for file in links.cited_files():

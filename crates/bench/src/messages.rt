@@ -1,4 +1,4 @@
-//! Benchmarks of the cell: handling a message, without effects and with a tell; a push on a system list and its drain;
+//! Benchmarks of the cell: handling a message, without effects and with a tell, and with a journal that is counted; a push on a system list and its drain;
 //! and a tell in an outbox.
 
 ghost use Rattle.std.specs.Prelude.{◌≡◌, pos};
@@ -12,6 +12,7 @@ mod outboxes;
 use crate::told::note;
 use adder::Adder;
 use lists::measure_lists;
+use mb_msg::JournalMode;
 use measured::{Measured, measure};
 use memory::Memory;
 use outboxes::measure_outbox;
@@ -29,22 +30,29 @@ const ROUNDS: u32 = 62_500;
 
 /// Runs all benchmarks of this kind, one after another.
 pub fn run<R: Print + Eprint + Clock + Files + AllocGlobal>(rt: &R) -> io::Result<()> {
-    print_messages(rt, Adder::new(), "message")?;
-    print_messages(rt, Adder::telling(), "message with a tell")?;
+    print_messages(rt, Adder::new(), JournalMode::Kept, "message")?;
+    print_messages(
+        rt,
+        Adder::telling(),
+        JournalMode::Kept,
+        "message with a tell",
+    )?;
+    print_messages(rt, Adder::new(), JournalMode::Counted, "counted message")?;
     print_lists(rt)?;
     print_outbox(rt)
 }
 
-/// Prints what this actor's messages cost. The journal has room for all of them, so that the only error is that memory
+/// Prints what this actor's messages cost, with a journal of this mode. It has room for all of them, so that the only error is that memory
 /// was refused.
 fn print_messages<R: Print + Eprint + Clock + Files + AllocGlobal>(
     rt: &R,
     actor: Adder,
+    mode: JournalMode,
     what: &str,
 ) -> io::Result<()>
     requires { actor.sum ≡ pos 0 }
 {
-    match measure::<_, Adder, Brand>(rt, actor, MESSAGES) {
+    match measure::<_, Adder, Brand>(rt, actor, mode, MESSAGES) {
         Ok(measured) => print_measured(rt, &measured, what),
         Err(_refused) => Err(ErrorKind::OutOfMemory.into()),
     }

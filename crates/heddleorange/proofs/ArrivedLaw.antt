@@ -130,7 +130,7 @@ module _ (after : ℕ → List Message → ℤ) (gives : ℕ → Moment → Repl
   parents = map (λ (p : ActorPlan). p.parent) plan.actors.items
 
   abbrev the_guardian : Identity
-  the_guardian = guardian_of (length plan.actors.items + 1) plan.journal_limit parents
+  the_guardian = guardian_of (length plan.actors.items + 1) plan.journal plan.journal_limit parents
 
   pub each-of-the-guardian-is-started : EachOfTheGuardianIsStarted plan report
   each-of-the-guardian-is-started place planned guardian a at guards there_is here = by_guardian (guardian-is-started guardian there_is)

@@ -76,7 +76,7 @@ module _ {A K : Type 0} (gives : ℕ → Moment → Reply → Type 0) (plan : Pl
     (same : now.system ≡ built.system) (actors : ℕ) (orders : List (List Order)) (right : IsRight plan actors orders) where
   so-many : actors_of built.system.gates ≡ actors + 1
   so-many =
-      actors-there gives plan built begun ∙ length-who plan.journal_limit plan.actors.items ∙ ap (λ n. n + 1) (as-planned plan actors right.0)
+      actors-there gives plan built begun ∙ length-who plan.journal plan.journal_limit plan.actors.items ∙ ap (λ n. n + 1) (as-planned plan actors right.0)
 
   -- orders that are right are for somebody
   somebody : (error : RunError) → BreaksOff gives built.system now.ends.items orders error → error ≢ Fault.NoSuchActor

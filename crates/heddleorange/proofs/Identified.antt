@@ -10,6 +10,7 @@ use Rattle.mb_build.specs.declared.check.PlanError.{PlanError}
 use Rattle.mb_build.specs.declared.check.PlanError.TheVariants.{Actors, Boxes}
 use Rattle.mb_journal.specs.Identity.{Identity, is_guardian}
 use Rattle.mb_msg.specs.declared.id.ActorId.{ActorId}
+use Rattle.mb_msg.specs.declared.journal_mode.JournalMode.{JournalMode}
 use Rattle.mb_msg.specs.declared.plan.Plan.{Plan}
 use Rattle.mb_msg.specs.declared.strategy.Strategy.{Strategy}
 
@@ -28,26 +29,26 @@ as-planned plan actors none =
     equal (length plan.actors.items) actors (no-reason (length plan.actors.items == actors) Boxes rest first.1).0
 
 -- who the actor of a number is
-planned-at : (actors limit : ℕ) (all : List ActorId) (number : ℕ) (parents : List ActorId) (strategies : List Strategy) (place : ℕ) (who : Identity)
-    → slice_get (planned_from actors limit all number parents strategies) place ≡ Some who
+planned-at : (actors : ℕ) (mode : JournalMode) (limit : ℕ) (all : List ActorId) (number : ℕ) (parents : List ActorId) (strategies : List Strategy) (place : ℕ) (who : Identity)
+    → slice_get (planned_from actors mode limit all number parents strategies) place ≡ Some who
     → (who.this.0 ≡ number + place) × (is_guardian who ≡ false) × (who.actors ≡ actors)
-planned-at actors limit all number [] [] place who is = absurd (none-some who is)
-planned-at actors limit all number [] (s ∷ strategies) place who is = absurd (none-some who is)
-planned-at actors limit all number (p ∷ parents) [] place who is = absurd (none-some who is)
-planned-at actors limit all number (p ∷ parents) (s ∷ strategies) zero who is =
-    let same = sym (same_Some (planned actors limit all number p s) who is) in (
+planned-at actors mode limit all number [] [] place who is = absurd (none-some who is)
+planned-at actors mode limit all number [] (s ∷ strategies) place who is = absurd (none-some who is)
+planned-at actors mode limit all number (p ∷ parents) [] place who is = absurd (none-some who is)
+planned-at actors mode limit all number (p ∷ parents) (s ∷ strategies) zero who is =
+    let same = sym (same_Some (planned actors mode limit all number p s) who is) in (
       ap (λ (w : Identity). w.this.0) same ∙ (let e : number ≡ number + 0 = omega arith in e),
       ap is_guardian same,
       ap (λ (w : Identity). w.actors) same,
     )
-planned-at actors limit all number (p ∷ parents) (s ∷ strategies) (suc place) who is =
-    let rest = planned-at actors limit all (number + 1) parents strategies place who is in let this = rest.0 in
+planned-at actors mode limit all number (p ∷ parents) (s ∷ strategies) (suc place) who is =
+    let rest = planned-at actors mode limit all (number + 1) parents strategies place who is in let this = rest.0 in
     (omega (arith, this), rest.1, rest.2)
 
 pub actor-at : (plan : Plan) (place : ℕ) (who : Identity) → slice_get (actors_in plan) (suc place) ≡ Some who
     → (who.this.0 ≡ suc place) × (is_guardian who ≡ false) × (who.actors ≡ length plan.actors.items + 1)
 actor-at plan place who is =
-    let at = planned-at (length plan.actors.items + 1) plan.journal_limit _ 1 _ _ place who is in let this = at.0 in (omega (arith, this), at.1, at.2)
+    let at = planned-at (length plan.actors.items + 1) plan.journal plan.journal_limit _ 1 _ _ place who is in let this = at.0 in (omega (arith, this), at.1, at.2)
 
 pub number-at : (plan : Plan) (id : ℕ) (who : Identity) → slice_get (actors_in plan) id ≡ Some who → who.this.0 ≡ id
 number-at plan zero who is = ap (λ (w : Identity). w.this.0) (sym (same_Some _ who is))

@@ -124,7 +124,7 @@ module _ (after : ℕ → List Message → ℤ) (gives : ℕ → Moment → Repl
   rows = length directory
 
   pub whos : length (actors_in plan) ≡ actors + 1
-  whos = length-who plan.journal_limit plan.actors.items ∙ ap (λ n. n + 1) (as-planned plan actors right.0)
+  whos = length-who plan.journal plan.journal_limit plan.actors.items ∙ ap (λ n. n + 1) (as-planned plan actors right.0)
 
   listed : rows ≡ actors + 1
   listed = sym (length-map directory (λ (e : DirectoryEntry). e.who)) ∙ ap length story.planned.who ∙ whos
@@ -267,7 +267,7 @@ module _ (after : ℕ → List Message → ℤ) (gives : ℕ → Moment → Repl
         ap (λ n. total n (λ id. weigh (fates_at id))) count in
         let none = guardian-none in omega (arith, first, second, swapped, receivers, letters, all, none)
 
-    sent-list : total senders (λ place. weigh (accepted (answers place))) ≡ weigh (all_sent plan orders report)
+    pub sent-list : total senders (λ place. weigh (accepted (answers place))) ≡ weigh (all_sent plan orders report)
     sent-list =
         let at = λ (place : ℕ). weigh (accepted (answers place)) in
         let count : senders ≡ rows + length orders =

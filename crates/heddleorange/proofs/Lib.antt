@@ -39,3 +39,5 @@ pub mod Started
 pub mod ArrivedLaw
 pub mod PassedOn
 pub mod Adding
+pub mod ByCounts
+pub mod Kept

@@ -35,7 +35,7 @@ pub turns-of : {A K : Type 0} (gives : ℕ → Moment → Reply → Type 0) (pla
     (turns : List Turn) → All (IsTurnOf (actors_of built.system.gates) built.system.throughput) turns → AreTurnsOf plan turns
 turns-of gives plan built begun turns are =
     let actors : actors_of built.system.gates ≡ length plan.actors.items + 1 =
-    actors-there gives plan built begun ∙ length-who plan.journal_limit plan.actors.items in
+    actors-there gives plan built begun ∙ length-who plan.journal plan.journal_limit plan.actors.items in
     let throughput : built.system.throughput ≡ plan.throughput = begun.numbers.2 in
     subst (λ n. All (IsTurnOf n plan.throughput) turns) actors
     (subst (λ n. All (IsTurnOf (actors_of built.system.gates) n) turns) throughput are)

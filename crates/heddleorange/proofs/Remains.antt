@@ -25,6 +25,7 @@ use Rattle.mb_journal.specs.Lawful.{IsLawful}
 use Rattle.mb_journal.specs.Life.{phase}
 use Rattle.mb_journal.specs.Suspension.{count}
 use Rattle.mb_msg.specs.declared.id.ActorId.{ActorId}
+use Rattle.mb_msg.specs.declared.journal_mode.JournalMode.{JournalMode}
 use Rattle.mb_msg.specs.declared.plan.Plan.{Plan}
 use Rattle.mb_msg.specs.declared.strategy.Strategy.{Strategy}
 use Rattle.mb_shutdown.proofs.Lists.{at-place, mapped-to, there, within}
@@ -44,18 +45,18 @@ use Rattle.heddleorange.specs.Remains.{AreRemains, HasOwnEnds, IsLeftOf, IsToldA
 use Rattle.heddleorange.proofs.Recipients.{none-passes}
 
 -- each actor's journal may have as many entries as the plan says
-limit-of : (actors limit : ℕ) (all : List ActorId) (number : ℕ) (parents : List ActorId) (strategies : List Strategy) (place : ℕ) (who : Identity)
-    → slice_get (planned_from actors limit all number parents strategies) place ≡ Some who → who.limit ≡ limit
-limit-of actors limit all number [] [] place who is = absurd (none-some who is)
-limit-of actors limit all number [] (s ∷ strategies) place who is = absurd (none-some who is)
-limit-of actors limit all number (p ∷ parents) [] place who is = absurd (none-some who is)
-limit-of actors limit all number (p ∷ parents) (s ∷ strategies) zero who is = ap (λ (w : Identity). w.limit) (sym (same_Some _ who is))
-limit-of actors limit all number (p ∷ parents) (s ∷ strategies) (suc place) who is =
-    limit-of actors limit all (number + 1) parents strategies place who is
+limit-of : (actors : ℕ) (mode : JournalMode) (limit : ℕ) (all : List ActorId) (number : ℕ) (parents : List ActorId) (strategies : List Strategy) (place : ℕ) (who : Identity)
+    → slice_get (planned_from actors mode limit all number parents strategies) place ≡ Some who → who.limit ≡ limit
+limit-of actors mode limit all number [] [] place who is = absurd (none-some who is)
+limit-of actors mode limit all number [] (s ∷ strategies) place who is = absurd (none-some who is)
+limit-of actors mode limit all number (p ∷ parents) [] place who is = absurd (none-some who is)
+limit-of actors mode limit all number (p ∷ parents) (s ∷ strategies) zero who is = ap (λ (w : Identity). w.limit) (sym (same_Some _ who is))
+limit-of actors mode limit all number (p ∷ parents) (s ∷ strategies) (suc place) who is =
+    limit-of actors mode limit all (number + 1) parents strategies place who is
 
 limit-planned : (plan : Plan) (place : ℕ) (who : Identity) → slice_get (actors_in plan) place ≡ Some who → who.limit ≡ plan.journal_limit
 limit-planned plan zero who is = ap (λ (w : Identity). w.limit) (sym (same_Some _ who is))
-limit-planned plan (suc place) who is = limit-of _ plan.journal_limit _ 1 _ _ place who is
+limit-planned plan (suc place) who is = limit-of _ plan.journal plan.journal_limit _ 1 _ _ place who is
 
 -- what stands at a place of the second list has its like in the first
 from-zip : {X Y : Type 0} (R : X → Y → Type 0) (xs : List X) (ys : List Y) (i : ℕ) (y : Y) → AllZip R xs ys → slice_get ys i ≡ Some y
@@ -80,6 +81,7 @@ left-of gives home who a same lawful shows = record {
   count_is = shows.count_is ∙ (λ i. count (same i) (sym shows.journal_is i));
   aside_is = shows.aside_is ∙ (λ i. aside (same i) (sym shows.journal_is i));
   lawful = subst (λ (p : Identity × List Entry). IsLawful p.0 gives p.1) (λ i. (same i, sym shows.journal_is i)) lawful;
+  kept_is = shows.kept_is ∙ ap (λ (w : Identity). w.is_kept) same;
 }
 
 module _ {A K : Type 0} (gives : ℕ → Moment → Reply → Type 0) (plan : Plan) (built : Built A K)

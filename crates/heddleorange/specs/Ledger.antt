@@ -1,5 +1,5 @@
 -- The ledger of a run: what was sent, and what became of it.
-use Rattle.std.specs.Prelude.{◌≡◌, ℕ, ◌+◌, List, [], ◌∷◌, ◌++◌, sum_by}
+use Rattle.std.specs.Prelude.{◌≡◌, ℕ, ◌+◌, ◌<◌, ◌^◌, List, [], ◌∷◌, ◌++◌, length, sum_by}
 use Rattle.std.specs.List.{flat_map}
 use Rattle.mb_build.specs.Planned.{actors_in}
 use Rattle.mb_dispatch.specs.Orders.{envelopes_of as ordered_bodies}
@@ -11,6 +11,7 @@ use Rattle.mb_msg.specs.Limits.{most_actors}
 use Rattle.mb_msg.specs.declared.envelope.Envelope.{Envelope}
 use Rattle.mb_msg.specs.declared.order.Order.{Order}
 use Rattle.mb_msg.specs.declared.plan.Plan.{Plan}
+use Rattle.mb_report.specs.Counts.{handled_of, left_of}
 use Rattle.mb_report.specs.declared.report.ActorReport.{ActorReport}
 use Rattle.mb_report.specs.declared.report.Report.{Report}
 use Rattle.mb_report.specs.declared.report.SenderReport.{SenderReport}
@@ -55,3 +56,18 @@ all_refused report = flat_map (λ (s : SenderReport). envelopes_of s.dead.items)
 abbrev pub AddsUp : Plan → List (List Order) → Report → Type 0
 AddsUp plan orders report = (weight : Envelope → ℕ) → sum_by weight (all_sent plan orders report)
     ≡ sum_by weight (all_begun report) + sum_by weight (all_cleaned report) + sum_by weight (all_left report) + sum_by weight (all_refused report)
+
+-- How many envelopes were sent, by the numbers that the report has of its senders.
+abbrev pub sent_count : Report → ℕ
+sent_count report = sum_by (λ (s : SenderReport). s.sent) report.senders.items
+
+-- How many have an end, by the report's other numbers: those that were handled or dropped, those that were cleaned up, those that are left, and those
+-- that were refused.
+abbrev pub settled_count : Report → ℕ
+settled_count report = sum_by handled_of report.actors.items + sum_by (λ (a : ActorReport). length a.cleaned.items) report.actors.items
+    + sum_by left_of report.actors.items + sum_by (λ (s : SenderReport). length s.dead.items) report.senders.items
+
+-- The ledger in numbers alone, which whoever has the report can add up: as many envelopes were sent as have an end. A sender counts what it sent modulo
+-- 2^64, so this is said of fewer than that.
+abbrev pub AddsUpByCounts : Report → Type 0
+AddsUpByCounts report = settled_count report < 2 ^ 64 → sent_count report ≡ settled_count report

@@ -9,6 +9,7 @@ pub mod HasRun
 pub mod Reading
 pub mod States
 pub mod Ledger
+pub mod Kept
 pub mod Conservation
 pub mod Names
 pub mod RunHeadline

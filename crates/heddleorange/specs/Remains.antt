@@ -31,12 +31,13 @@ use Rattle.heddleorange.specs.declared.error.Error.{Error}
 use Rattle.heddleorange.specs.declared.error.Error.TheVariants.{Mismatch, NoMemory, NotQuiet, Run}
 use Rattle.heddleorange.specs.declared.failed_run.FailedRun.{FailedRun}
 
--- What is left of an actor is what its journal says of it, and the journal is one that it can have.
+-- What is left of an actor is what its journal says of it, and the journal is one that it can have, and keeps its entries where the plan says so.
 pub record IsLeftOf (gives : Moment → Reply → Type 0) (who : Identity) (a : UnfinishedActor) : Type 0 where
   pub phase_is : a.phase ≡ phase who a.journal.entries
   pub count_is : a.count ≡ count who a.journal.entries
   pub aside_is : a.aside.items ≡ aside who a.journal.entries
   pub lawful : IsLawful who gives a.journal.entries
+  pub kept_is : a.journal.is_kept ≡ who.is_kept
 
 -- This is left of the actors of a run of the plan, the guardian first: what the gates of its system gave back of each, whose journals go on from all
 -- that was seen. What is shown of an actor is left of the one that the plan has at its number.

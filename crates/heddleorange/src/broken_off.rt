@@ -19,7 +19,7 @@ pub(crate) fn broken_off<A: Actor, K: Behaviours, R: Wait>(
     rt: &R,
     built: Built<A, K>,
     fault: RunError,
-    limit: u32,
+    limit: u64,
 ) -> FailedRun
     requires own_ends { HasOwnEnds built }
     requires full { fault ≡ JournalFull → SawFull (actors_of built.system.gates) limit built.ends.items }
@@ -36,7 +36,7 @@ pub(crate) fn broken_off<A: Actor, K: Behaviours, R: Wait>(
 }
 
 // The error that tells of this reason, by what is left.
-fn error_of(fault: RunError, limit: u32, actors: &[Option<UnfinishedActor>]) -> Error
+fn error_of(fault: RunError, limit: u64, actors: &[Option<UnfinishedActor>]) -> Error
     requires few { length actors.now ≤ 64 }
     requires full { fault ≡ JournalFull → ShowFull limit actors.now ⊎ LackOne actors.now }
     ensures { IsToldAs fault limit actors.now result }
@@ -54,18 +54,18 @@ fn error_of(fault: RunError, limit: u32, actors: &[Option<UnfinishedActor>]) -> 
 }
 
 // Whether one of these journals has at least so many entries.
-fn has_full(limit: u32, actors: &[Option<UnfinishedActor>]) -> bool
+fn has_full(limit: u64, actors: &[Option<UnfinishedActor>]) -> bool
     ensures { result ≡ list_any (is_full limit) actors.now }
 {
     actors.iter().any(|actor| is_full(limit, actor))
 }
 
 // Whether this one has.
-fn is_full(limit: u32, actor: &Option<UnfinishedActor>) -> bool
+fn is_full(limit: u64, actor: &Option<UnfinishedActor>) -> bool
     ensures { result ≡ is_full limit actor.now }
 {
     match actor {
-        Some(actor) => actor.journal.len() >= limit as usize,
+        Some(actor) => actor.journal.len() as u64 >= limit,
         None => false,
     }
 }

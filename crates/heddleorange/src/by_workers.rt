@@ -5,7 +5,8 @@ ghost use Rattle.mb_actor.specs.declared.message.Message.TheVariants.{Terminated
 ghost use Rattle.mb_msg.specs.declared.id.ActorId.{ActorId as Id};
 ghost use Rattle.mb_quantity.specs.Quantity.{AllConserve, Holding};
 ghost use Rattle.heddleorange.specs.Conservation.{IsConserved};
-ghost use Rattle.heddleorange.specs.Ledger.{AddsUp};
+ghost use Rattle.heddleorange.specs.Kept.{KeepsAsPlanned};
+ghost use Rattle.heddleorange.specs.Ledger.{AddsUp, AddsUpByCounts};
 ghost use Rattle.heddleorange.specs.NoReport.{IsErrorOfRun, IsRight};
 ghost use Rattle.heddleorange.specs.RunHeadline.{RunHeadline};
 ghost use Rattle.heddleorange.specs.States.{ShowsStates};
@@ -39,6 +40,8 @@ impl<A: Actor + Send> PlannedSystem<A> {
         ensures lines { IfOk result (λ report. length report.actors.items ≡ length self.actors.items + 1) }
         ensures headline { IfOk result (RunHeadline self.plan (map (λ orders. orders.items) sends.now)) }
         ensures ledger { IfOk result (AddsUp self.plan (map (λ orders. orders.items) sends.now)) }
+        ensures counts { IfOk result AddsUpByCounts }
+        ensures kept { IfOk result (KeepsAsPlanned self.plan) }
         ensures conserved { (worth : Message → ℤ) (holdings : List (Option Holding)) → ((ended : Id) → worth (Terminated ended) ≡ pos 0)
             → AllConserve A.after A.gives worth holdings self.actors.items → IfOk result (IsConserved worth holdings (map (λ orders. orders.items) sends.now)) }
     {

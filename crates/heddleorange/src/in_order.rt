@@ -2,7 +2,8 @@
 ghost use Rattle.std.specs.Prelude.{◌≡◌, ◌+◌, [], All, IfErr, IfOk, OnOk, length};
 ghost use Rattle.mb_build.specs.BehavesAsPlanned.{BehaveAsPlanned};
 ghost use Rattle.mb_dispatch.specs.Runs.{turns_in};
-ghost use Rattle.heddleorange.specs.Ledger.{AddsUp};
+ghost use Rattle.heddleorange.specs.Kept.{KeepsAsPlanned};
+ghost use Rattle.heddleorange.specs.Ledger.{AddsUp, AddsUpByCounts};
 ghost use Rattle.heddleorange.specs.NoReport.{IsErrorOfRun, IsRight};
 ghost use Rattle.heddleorange.specs.Orders.{lists_of};
 ghost use Rattle.heddleorange.specs.RunHeadline.{RunHeadline};
@@ -55,6 +56,8 @@ pub fn run_in_order<A: Actor, R: Wait>(
     ensures lines { IfOk result (λ run. length run.report.actors.items ≡ length actors.items + 1) }
     ensures headline { IfOk result (λ run. RunHeadline plan (lists_of plan.senders sends.now) run.report) }
     ensures ledger { IfOk result (λ run. AddsUp plan (lists_of plan.senders sends.now) run.report) }
+    ensures counts { IfOk result (λ run. AddsUpByCounts run.report) }
+    ensures kept { IfOk result (λ run. KeepsAsPlanned plan run.report) }
     ensures turns { IfOk result (λ run. AreTurnsOf plan (turns_in run.turns)) }
     ensures stretches { IfOk result (λ run. AreStretches run.report (turns_in run.turns)) }
     ensures covers { IfOk result (λ run. CoverJournals run.report (turns_in run.turns)) }

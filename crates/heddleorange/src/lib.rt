@@ -38,9 +38,9 @@ pub use mb_build::PlanError;
 pub use mb_dispatch::{Turn, Turns};
 pub use mb_journal::{EntryRef, Journal, Received};
 pub use mb_msg::{
-    ActorId, ActorPlan, Body, Cause, DeadLetter, Directive, Envelope, MailboxType, Order,
-    OrderKind, Pattern, Payload, Plan, PoolKind, RankRow, SenderId, SenderOrder, Strategy, SysMsg,
-    Why,
+    ActorId, ActorPlan, Body, Cause, DeadLetter, Directive, Envelope, JournalMode, MailboxType,
+    Order, OrderKind, Pattern, Payload, Plan, PoolKind, RankRow, SenderId, SenderOrder, Strategy,
+    SysMsg, Why,
 };
 pub use mb_report::{ActorReport, Report, SenderReport, report_text};
 pub use mb_shutdown::{Mismatch, UnfinishedActor};

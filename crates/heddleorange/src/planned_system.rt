@@ -4,7 +4,8 @@ ghost use Rattle.mb_build.specs.declared.check.PlanError.TheVariants.{Actors};
 ghost use Rattle.mb_msg.specs.declared.pool_kind.PoolKind.TheVariants as pool_kind;
 ghost use Rattle.mb_msg.specs.declared.id.ActorId.{ActorId as Id};
 ghost use Rattle.heddleorange.specs.declared.error.Error.TheVariants.{BadPlan, NameTaken, NoMemory};
-ghost use Rattle.heddleorange.specs.Ledger.{AddsUp};
+ghost use Rattle.heddleorange.specs.Kept.{KeepsAsPlanned};
+ghost use Rattle.heddleorange.specs.Ledger.{AddsUp, AddsUpByCounts};
 ghost use Rattle.heddleorange.specs.Names.{name_by_default, number_of, texts_of};
 ghost use Rattle.heddleorange.specs.NoReport.{IsErrorOfRun, IsRight};
 ghost use Rattle.heddleorange.specs.RunHeadline.{RunHeadline};
@@ -18,7 +19,7 @@ use crate::run::{run_here, run_on_threads};
 use mb_actor::Actor;
 use mb_build::PlanError;
 use mb_msg::limits::ACTORS;
-use mb_msg::{ActorId, ActorPlan, Order, Plan, PoolKind};
+use mb_msg::{ActorId, ActorPlan, JournalMode, Order, Plan, PoolKind};
 use mb_report::Report;
 use std::alloc::{AllocError, Global};
 use std::sync::Wait;
@@ -35,17 +36,20 @@ pub struct Settings {
     pub pool: PoolKind,
     /// How many senders outside the actors there are, up to 16.
     pub senders: u32,
-    /// How many entries the journal of each actor may have, at least 1.
-    pub journal_limit: u32,
+    /// What the journal of each actor keeps.
+    pub journal: JournalMode,
+    /// How many entries the journal of each actor may have, from 1 to 2^56.
+    pub journal_limit: u64,
 }
 
-/// Five envelopes in a run of a mailbox (as Akka's default dispatcher), one worker, one queue, one sender outside, and journals of
-/// up to a million entries.
+/// Five envelopes in a run of a mailbox (as Akka's default dispatcher), one worker, one queue, one sender outside, and journals that
+/// keep all their entries, up to a million.
 pub const SETTINGS: Settings = Settings {
     throughput: 5,
     workers: 1,
     pool: PoolKind::Shared,
     senders: 1,
+    journal: JournalMode::Kept,
     journal_limit: 1_000_000,
 };
 
@@ -77,6 +81,7 @@ impl<A: Actor> PlannedSystem<A> {
         ensures workers { result.plan.workers ≡ settings.workers }
         ensures pool { result.plan.pool ≡ settings.pool }
         ensures senders { result.plan.senders ≡ settings.senders }
+        ensures journal { result.plan.journal ≡ settings.journal }
         ensures journal_limit { result.plan.journal_limit ≡ settings.journal_limit }
         ensures unused { All (λ actor. A.content actor ≡ A.after actor []) result.actors.items }
     {
@@ -85,6 +90,7 @@ impl<A: Actor> PlannedSystem<A> {
             workers,
             pool,
             senders,
+            journal,
             journal_limit,
         } = settings;
         PlannedSystem {
@@ -93,6 +99,7 @@ impl<A: Actor> PlannedSystem<A> {
                 workers,
                 pool,
                 senders,
+                journal,
                 journal_limit,
                 actors: Vec::new(alloc),
             },
@@ -245,6 +252,8 @@ impl<A: Actor> PlannedSystem<A> {
         ensures lines { IfOk result (λ report. length report.actors.items ≡ length self.actors.items + 1) }
         ensures headline { IfOk result (RunHeadline self.plan (map (λ orders. orders.items) sends.now)) }
         ensures ledger { IfOk result (AddsUp self.plan (map (λ orders. orders.items) sends.now)) }
+        ensures counts { IfOk result AddsUpByCounts }
+        ensures kept { IfOk result (KeepsAsPlanned self.plan) }
     {
         let PlannedSystem {
             plan,
@@ -273,6 +282,8 @@ impl<A: Actor + Send> PlannedSystem<A> {
         ensures lines { IfOk result (λ report. length report.actors.items ≡ length self.actors.items + 1) }
         ensures headline { IfOk result (RunHeadline self.plan (map (λ orders. orders.items) sends.now)) }
         ensures ledger { IfOk result (AddsUp self.plan (map (λ orders. orders.items) sends.now)) }
+        ensures counts { IfOk result AddsUpByCounts }
+        ensures kept { IfOk result (KeepsAsPlanned self.plan) }
     {
         let PlannedSystem {
             plan,

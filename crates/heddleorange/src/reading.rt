@@ -41,7 +41,8 @@ pub fn dead_letters(report: &Report, id: ActorId) -> Option<&[DeadLetter]>
     }
 }
 
-/// What came to this actor and what became of that. `None` where there is no such actor.
+/// What came to this actor and what became of that. `None` where there is no such actor. Its entries can be read where the plan says
+/// that journals keep them; its counts always.
 pub fn journal(report: &Report, id: ActorId) -> Option<&Journal>
     ensures { option_copied result ≡ journal_in report.now id.0 }
 {

@@ -1,7 +1,8 @@
 //! A whole run of actors, on one thread or on several.
 ghost use Rattle.std.specs.Prelude.{◌≡◌, ◌+◌, [], All, IfErr, IfOk, OnOk, length, map};
 ghost use Rattle.mb_build.specs.BehavesAsPlanned.{BehaveAsPlanned};
-ghost use Rattle.heddleorange.specs.Ledger.{AddsUp};
+ghost use Rattle.heddleorange.specs.Kept.{KeepsAsPlanned};
+ghost use Rattle.heddleorange.specs.Ledger.{AddsUp, AddsUpByCounts};
 ghost use Rattle.heddleorange.specs.NoReport.{IsErrorOfRun, IsRight};
 ghost use Rattle.heddleorange.specs.RunHeadline.{RunHeadline};
 ghost use Rattle.heddleorange.specs.States.{ShowsStates};
@@ -44,6 +45,8 @@ pub fn run_here<A: Actor, R: Wait>(
     ensures lines { IfOk result (λ report. length report.actors.items ≡ length actors.items + 1) }
     ensures headline { IfOk result (RunHeadline plan (map (λ orders. orders.items) sends.now)) }
     ensures ledger { IfOk result (AddsUp plan (map (λ orders. orders.items) sends.now)) }
+    ensures counts { IfOk result AddsUpByCounts }
+    ensures kept { IfOk result (KeepsAsPlanned plan) }
 {
     run_planned::<A, Brand, R>(rt, alloc, plan, actors, sends)
 }
@@ -66,6 +69,8 @@ pub fn run_on_threads<A: Actor + Send, R: Threads + Wait + Sync>(
     ensures lines { IfOk result (λ report. length report.actors.items ≡ length actors.items + 1) }
     ensures headline { IfOk result (RunHeadline plan (map (λ orders. orders.items) sends.now)) }
     ensures ledger { IfOk result (AddsUp plan (map (λ orders. orders.items) sends.now)) }
+    ensures counts { IfOk result AddsUpByCounts }
+    ensures kept { IfOk result (KeepsAsPlanned plan) }
 {
     run_planned_on_threads::<A, Brand, R>(rt, alloc, plan, actors, sends)
 }

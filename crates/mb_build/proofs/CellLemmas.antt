@@ -8,6 +8,7 @@ use Rattle.std.proofs.lemmas.List.Elements.{All-cons, All-nil}
 use Rattle.mb_msg.specs.declared.id.ActorId.{ActorId}
 use Rattle.mb_msg.specs.declared.strategy.Strategy.{Strategy}
 use Rattle.mb_cell.specs.CellView.{CellView}
+use Rattle.mb_msg.specs.declared.journal_mode.JournalMode.{JournalMode}
 use Rattle.mb_msg.specs.declared.actor_plan.ActorPlan.{ActorPlan}
 use Rattle.mb_build.specs.Identities.{children_from, guardian, id, identities, planned, planned_from}
 use Rattle.mb_build.specs.Unstarted.{unstarted}
@@ -58,46 +59,46 @@ module _ (number parent index : ℕ) (old new parents whole : List ActorId) (lt 
       ∙ ap (λ l. old ++ children_from number parent l) (sym (drop_more parents index (record { 0 = 0 }) lt)) ∙ so_far
 
 -- a cell with its children
-pub cell-is : (actors limit : ℕ) (all : List ActorId) (number place : ℕ) (p : ActorId) (s : Strategy) (prepared : List ActorId) (c : CellView)
-    → c ≡ unstarted (record (planned actors limit all number p s) { prepared = prepared }) → prepared ≡ children_from 1 number all → number ≡ place
-    → c ≡ unstarted (planned actors limit all place p s)
-cell-is actors limit all number place p s prepared c fresh are at =
-    fresh ∙ ap (λ l. unstarted (record (planned actors limit all number p s) { prepared = l })) are
-    ∙ ap (λ n. unstarted (planned actors limit all n p s)) at
+pub cell-is : (actors : ℕ) (mode : JournalMode) (limit : ℕ) (all : List ActorId) (number place : ℕ) (p : ActorId) (s : Strategy) (prepared : List ActorId) (c : CellView)
+    → c ≡ unstarted (record (planned actors mode limit all number p s) { prepared = prepared }) → prepared ≡ children_from 1 number all → number ≡ place
+    → c ≡ unstarted (planned actors mode limit all place p s)
+cell-is actors mode limit all number place p s prepared c fresh are at =
+    fresh ∙ ap (λ l. unstarted (record (planned actors mode limit all number p s) { prepared = l })) are
+    ∙ ap (λ n. unstarted (planned actors mode limit all n p s)) at
 
 -- the cells of these plans, which are numbered on from this one
-abbrev pub cells_from : ℕ → ℕ → List ActorId → ℕ → List ActorPlan → List CellView
-cells_from actors limit all number plans =
-    map unstarted (planned_from actors limit all number (map (λ (a : ActorPlan). a.parent) plans) (map (λ (a : ActorPlan). a.strategy) plans))
+abbrev pub cells_from : ℕ → JournalMode → ℕ → List ActorId → ℕ → List ActorPlan → List CellView
+cells_from actors mode limit all number plans =
+    map unstarted (planned_from actors mode limit all number (map (λ (a : ActorPlan). a.parent) plans) (map (λ (a : ActorPlan). a.strategy) plans))
 
 -- one cell more
-pub cell-more : (actors limit : ℕ) (all : List ActorId) (number next : ℕ) (a : ActorPlan) (before after : List ActorPlan)
+pub cell-more : (actors : ℕ) (mode : JournalMode) (limit : ℕ) (all : List ActorId) (number next : ℕ) (a : ActorPlan) (before after : List ActorPlan)
     (old new whole : List CellView) → before ≡ a ∷ after → next ≡ number + 1
-    → new ≡ old ++ unstarted (planned actors limit all number a.parent a.strategy) ∷ [] → old ++ cells_from actors limit all number before ≡ whole
-    → new ++ cells_from actors limit all next after ≡ whole
-cell-more actors limit all number next a before after old new whole steps further pushed so_far =
-    let this = unstarted (planned actors limit all number a.parent a.strategy) in
-    ap (λ l. l ++ cells_from actors limit all next after) pushed ∙ append_assoc old (this ∷ []) (cells_from actors limit all next after)
-    ∙ ap (λ n. old ++ this ∷ cells_from actors limit all n after) further
-    ∙ ap (λ l. old ++ cells_from actors limit all number l) (sym steps) ∙ so_far
+    → new ≡ old ++ unstarted (planned actors mode limit all number a.parent a.strategy) ∷ [] → old ++ cells_from actors mode limit all number before ≡ whole
+    → new ++ cells_from actors mode limit all next after ≡ whole
+cell-more actors mode limit all number next a before after old new whole steps further pushed so_far =
+    let this = unstarted (planned actors mode limit all number a.parent a.strategy) in
+    ap (λ l. l ++ cells_from actors mode limit all next after) pushed ∙ append_assoc old (this ∷ []) (cells_from actors mode limit all next after)
+    ∙ ap (λ n. old ++ this ∷ cells_from actors mode limit all n after) further
+    ∙ ap (λ l. old ++ cells_from actors mode limit all number l) (sym steps) ∙ so_far
 
 -- there are as many as parents
-pub length-planned : (actors limit : ℕ) (all : List ActorId) (number : ℕ) (parents : List ActorId) (strategies : List Strategy)
-    → length strategies ≡ length parents → length (planned_from actors limit all number parents strategies) ≡ length parents
-length-planned actors limit all number [] strategies many = refl
-length-planned actors limit all number (p ∷ parents) [] many = absurd (omega (arith, many))
-length-planned actors limit all number (p ∷ parents) (s ∷ strategies) many =
-    ap suc (length-planned actors limit all (number + 1) parents strategies (omega (arith, many)))
+pub length-planned : (actors : ℕ) (mode : JournalMode) (limit : ℕ) (all : List ActorId) (number : ℕ) (parents : List ActorId) (strategies : List Strategy)
+    → length strategies ≡ length parents → length (planned_from actors mode limit all number parents strategies) ≡ length parents
+length-planned actors mode limit all number [] strategies many = refl
+length-planned actors mode limit all number (p ∷ parents) [] many = absurd (omega (arith, many))
+length-planned actors mode limit all number (p ∷ parents) (s ∷ strategies) many =
+    ap suc (length-planned actors mode limit all (number + 1) parents strategies (omega (arith, many)))
 
 -- the guardian's cell, and then the others'
-pub all-cells : (limit : ℕ) (plans : List ActorPlan) (here there : List ActorId) (first cells : List CellView)
-    → here ≡ map (λ a. a.parent) plans → there ≡ map (λ a. a.parent) plans → first ≡ unstarted (guardian (length here + 1) limit here) ∷ []
-    → cells ≡ first ++ cells_from (length there + 1) limit there 1 plans
-    → cells ≡ map unstarted (identities (length plans + 1) limit (map (λ a. a.parent) plans) (map (λ a. a.strategy) plans))
-all-cells limit plans here there first cells heres theres one are =
+pub all-cells : (mode : JournalMode) (limit : ℕ) (plans : List ActorPlan) (here there : List ActorId) (first cells : List CellView)
+    → here ≡ map (λ a. a.parent) plans → there ≡ map (λ a. a.parent) plans → first ≡ unstarted (guardian (length here + 1) mode limit here) ∷ []
+    → cells ≡ first ++ cells_from (length there + 1) mode limit there 1 plans
+    → cells ≡ map unstarted (identities (length plans + 1) mode limit (map (λ a. a.parent) plans) (map (λ a. a.strategy) plans))
+all-cells mode limit plans here there first cells heres theres one are =
     let parents : List ActorId = map (λ (a : ActorPlan). a.parent) plans in
     let count : length parents ≡ length plans = length-map plans (λ (a : ActorPlan). a.parent) in
-    are ∙ ap (λ l. l ++ cells_from (length there + 1) limit there 1 plans) one
-    ∙ ap (λ l. unstarted (guardian (length l + 1) limit l) ∷ cells_from (length there + 1) limit there 1 plans) heres
-    ∙ ap (λ l. unstarted (guardian (length parents + 1) limit parents) ∷ cells_from (length l + 1) limit l 1 plans) theres
-    ∙ ap (λ n. unstarted (guardian (n + 1) limit parents) ∷ cells_from (n + 1) limit parents 1 plans) count
+    are ∙ ap (λ l. l ++ cells_from (length there + 1) mode limit there 1 plans) one
+    ∙ ap (λ l. unstarted (guardian (length l + 1) mode limit l) ∷ cells_from (length there + 1) mode limit there 1 plans) heres
+    ∙ ap (λ l. unstarted (guardian (length parents + 1) mode limit parents) ∷ cells_from (length l + 1) mode limit l 1 plans) theres
+    ∙ ap (λ n. unstarted (guardian (n + 1) mode limit parents) ∷ cells_from (n + 1) mode limit parents 1 plans) count

@@ -1,8 +1,10 @@
 -- What the homes of a plan consist of.
-use Rattle.std.proofs.Common.{◌≡◌, ◌<◌, ◌^◌, ℕ, ◌+◌, List, [], ◌∷◌, length, map, drop, refl, sym, ap, ◌∙◌, subst, arith}
+use Rattle.std.proofs.Common.{◌≡◌, ◌≤◌, ℕ, ◌+◌, List, [], ◌∷◌, length, map, drop, refl, sym, ap, ◌∙◌, subst, arith}
 use Rattle.std.proofs.lemmas.List.{drop-map, length-map}
 use Rattle.mb_journal.specs.Identity.{Identity}
 use Rattle.mb_cell.specs.CellView.{CellView}
+use Rattle.mb_msg.specs.Limits.{most_entries}
+use Rattle.mb_msg.specs.declared.journal_mode.JournalMode.{JournalMode}
 use Rattle.mb_msg.specs.declared.actor_plan.ActorPlan.{ActorPlan}
 use Rattle.mb_msg.specs.declared.mailbox_type.MailboxType.{MailboxType}
 use Rattle.mb_queue.specs.Passes.{SendPassView, TakePassView}
@@ -18,13 +20,13 @@ use Rattle.mb_build.proofs.NumberLemmas.{after-run}
 use Rattle.mb_build.proofs.PlannedLemmas.{all-planned}
 
 -- who the actors of these plans are
-abbrev pub who_of : ℕ → List ActorPlan → List Identity
-who_of limit plans = identities (length plans + 1) limit (map (λ a. a.parent) plans) (map (λ a. a.strategy) plans)
+abbrev pub who_of : JournalMode → ℕ → List ActorPlan → List Identity
+who_of mode limit plans = identities (length plans + 1) mode limit (map (λ a. a.parent) plans) (map (λ a. a.strategy) plans)
 
-pub length-who : (limit : ℕ) (plans : List ActorPlan) → length (who_of limit plans) ≡ length plans + 1
-length-who limit plans =
+pub length-who : (mode : JournalMode) (limit : ℕ) (plans : List ActorPlan) → length (who_of mode limit plans) ≡ length plans + 1
+length-who mode limit plans =
     let parents = length-map plans (λ (a : ActorPlan). a.parent) in let strategies = length-map plans (λ (a : ActorPlan). a.strategy) in
-    let others = length-planned (length plans + 1) limit (map (λ a. a.parent) plans) 1 (map (λ a. a.parent) plans) (map (λ a. a.strategy) plans)
+    let others = length-planned (length plans + 1) mode limit (map (λ a. a.parent) plans) 1 (map (λ a. a.parent) plans) (map (λ a. a.strategy) plans)
     (strategies ∙ sym parents) in
     omega (arith, others, parents)
 
@@ -33,24 +35,24 @@ whose-unstarted [] = refl
 whose-unstarted (who ∷ whos) = ap (λ l. who ∷ l) (whose-unstarted whos)
 
 -- the cells of these plans
-pub record AreOfPlans (limit : ℕ) (plans : List ActorPlan) (cells : List CellView) : Type 0 where
-  pub who : whose cells ≡ who_of limit plans
+pub record AreOfPlans (mode : JournalMode) (limit : ℕ) (plans : List ActorPlan) (cells : List CellView) : Type 0 where
+  pub who : whose cells ≡ who_of mode limit plans
   pub unused : cells ≡ map unstarted (whose cells)
   pub count : length cells ≡ length plans + 1
 
-pub cells-of : (limit : ℕ) (plans : List ActorPlan) (cells : List CellView) → cells ≡ map unstarted (who_of limit plans) → AreOfPlans limit plans cells
-cells-of limit plans cells are =
-    let who : whose cells ≡ who_of limit plans = ap whose are ∙ whose-unstarted (who_of limit plans) in record {
+pub cells-of : (mode : JournalMode) (limit : ℕ) (plans : List ActorPlan) (cells : List CellView) → cells ≡ map unstarted (who_of mode limit plans) → AreOfPlans mode limit plans cells
+cells-of mode limit plans cells are =
+    let who : whose cells ≡ who_of mode limit plans = ap whose are ∙ whose-unstarted (who_of mode limit plans) in record {
       who = who;
       unused = are ∙ ap (map unstarted) (sym who);
-      count = ap length are ∙ length-map (who_of limit plans) unstarted ∙ length-who limit plans;
+      count = ap length are ∙ length-map (who_of mode limit plans) unstarted ∙ length-who mode limit plans;
     }
 
-pub planned-cells : (limit : ℕ) (plans : List ActorPlan) (cells : List CellView) → AreOfPlans limit plans cells → bad_parents 1 plans ≡ []
-    → limit < 2 ^ 32 → ArePlanned (length cells) 0 (whose cells)
-planned-cells limit plans cells are none bound =
+pub planned-cells : (mode : JournalMode) (limit : ℕ) (plans : List ActorPlan) (cells : List CellView) → AreOfPlans mode limit plans cells → bad_parents 1 plans ≡ []
+    → limit ≤ most_entries → ArePlanned (length cells) 0 (whose cells)
+planned-cells mode limit plans cells are none bound =
     subst (λ n. ArePlanned n 0 (whose cells)) (sym are.count)
-    (subst (ArePlanned (length plans + 1) 0) (sym are.who) (all-planned limit plans none bound))
+    (subst (ArePlanned (length plans + 1) 0) (sym are.who) (all-planned mode limit plans none bound))
 
 -- the rows of the senders outside
 pub rows-outside : (kinds : List MailboxType) (count actors outside : ℕ) (guardian : TakePassView) (takes : List TakePassView) (rows left : List (List SendPassView))

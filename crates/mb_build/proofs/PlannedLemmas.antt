@@ -1,10 +1,12 @@
 -- Plans that were found right.
-use Rattle.std.proofs.Common.{◌≡◌, ◌≤◌, ◌<◌, ◌^◌, ◌==◌, ℕ, ◌+◌, Bool, true, false, if◌then◌else◌, List, [], ◌∷◌, ◌++◌, length, map, refl, arith}
+use Rattle.std.proofs.Common.{◌≡◌, ◌≤◌, ◌<◌, ◌==◌, ℕ, ◌+◌, Bool, true, false, if◌then◌else◌, List, [], ◌∷◌, ◌++◌, length, map, refl, arith}
 use Rattle.std.specs.Prelude.{All, nat_lt}
 use Rattle.std.proofs.lemmas.Bool.Decides.{nat_tests}
 use Rattle.std.proofs.lemmas.List.{length-map}
 use Rattle.std.proofs.lemmas.List.Elements.{All-cons, All-nil}
+use Rattle.mb_msg.specs.Limits.{most_entries}
 use Rattle.mb_msg.specs.declared.id.ActorId.{ActorId}
+use Rattle.mb_msg.specs.declared.journal_mode.JournalMode.{JournalMode}
 use Rattle.mb_msg.specs.declared.actor_plan.ActorPlan.{ActorPlan}
 use Rattle.mb_msg.specs.declared.mailbox_type.MailboxType.{MailboxType}
 use Rattle.mb_queue.specs.Made.{IsMakeable}
@@ -57,11 +59,11 @@ below : (p number : ℕ) → nat_lt p number ≡ true → p < number
 below p number is = grind (arith, nat_tests)
 
 -- the actors of a plan
-planned-all : (actors limit : ℕ) (all : List ActorId) (number : ℕ) (plans : List ActorPlan) → bad_parents number plans ≡ [] → 0 < number
-    → number + length plans ≤ actors → 1 + length all ≤ actors → limit < 2 ^ 32
-    → ArePlanned actors number (planned_from actors limit all number (map (λ a. a.parent) plans) (map (λ a. a.strategy) plans))
-planned-all actors limit all number [] none lt le few bound = tt
-planned-all actors limit all number (a ∷ plans) none lt le few bound =
+planned-all : (actors : ℕ) (mode : JournalMode) (limit : ℕ) (all : List ActorId) (number : ℕ) (plans : List ActorPlan) → bad_parents number plans ≡ [] → 0 < number
+    → number + length plans ≤ actors → 1 + length all ≤ actors → limit ≤ most_entries
+    → ArePlanned actors number (planned_from actors mode limit all number (map (λ a. a.parent) plans) (map (λ a. a.strategy) plans))
+planned-all actors mode limit all number [] none lt le few bound = tt
+planned-all actors mode limit all number (a ∷ plans) none lt le few bound =
     let both = no-reason (nat_lt a.parent.0 number) _ (bad_parents (number + 1) plans) none in
     let parent : a.parent.0 < number = below a.parent.0 number both.0 in (
       record {
@@ -72,13 +74,13 @@ planned-all actors limit all number (a ∷ plans) none lt le few bound =
         prepared = children-there actors 1 number all few;
         within_limit = bound;
       },
-      planned-all actors limit all (number + 1) plans both.1 (omega arith) (omega (arith, le)) few bound,
+      planned-all actors mode limit all (number + 1) plans both.1 (omega arith) (omega (arith, le)) few bound,
     )
 
 -- the guardian and the actors of a plan
-pub all-planned : (limit : ℕ) (plans : List ActorPlan) → bad_parents 1 plans ≡ [] → limit < 2 ^ 32 → ArePlanned (length plans + 1) 0
-    (identities (length plans + 1) limit (map (λ a. a.parent) plans) (map (λ a. a.strategy) plans))
-all-planned limit plans none bound =
+pub all-planned : (mode : JournalMode) (limit : ℕ) (plans : List ActorPlan) → bad_parents 1 plans ≡ [] → limit ≤ most_entries → ArePlanned (length plans + 1) 0
+    (identities (length plans + 1) mode limit (map (λ a. a.parent) plans) (map (λ a. a.strategy) plans))
+all-planned mode limit plans none bound =
     let many = length-map plans (λ (a : ActorPlan). a.parent) in
     let few : 1 + length (map (λ (a : ActorPlan). a.parent) plans) ≤ length plans + 1 = omega (arith, many) in (
       record {
@@ -89,5 +91,5 @@ all-planned limit plans none bound =
         prepared = children-there (length plans + 1) 1 0 (map (λ a. a.parent) plans) few;
         within_limit = bound;
       },
-      planned-all (length plans + 1) limit (map (λ a. a.parent) plans) 1 plans none (omega arith) (omega arith) few bound,
+      planned-all (length plans + 1) mode limit (map (λ a. a.parent) plans) 1 plans none (omega arith) (omega arith) few bound,
     )

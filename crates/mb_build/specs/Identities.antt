@@ -1,6 +1,9 @@
 -- Who the actors of a plan are (`akka.actor.ActorContext`: parent and children; that children are planned is this project's own profile).
-use Rattle.std.specs.Prelude.{◌≡◌, ℕ, ◌+◌, ◌<◌, ◌^◌, ◌==◌, if◌then◌else◌, List, [], ◌∷◌, IfSome, Some, None, negsuc, false}
+use Rattle.std.specs.Prelude.{◌≡◌, ℕ, ◌+◌, ◌<◌, ◌≤◌, ◌==◌, if◌then◌else◌, List, [], ◌∷◌, IfSome, Some, None, negsuc, false}
+use Rattle.mb_msg.specs.JournalMode.{keeps_all}
+use Rattle.mb_msg.specs.Limits.{most_entries}
 use Rattle.mb_msg.specs.declared.id.ActorId.{ActorId}
+use Rattle.mb_msg.specs.declared.journal_mode.JournalMode.{JournalMode}
 use Rattle.mb_msg.specs.declared.strategy.Strategy.{Strategy}
 use Rattle.mb_journal.specs.Identity.{Identity, is_guardian}
 use Rattle.mb_ghost.specs.Seen.{Each}
@@ -16,8 +19,8 @@ children_from number parent (p ∷ parents) =
     if p.0 == parent then id number ∷ children_from (number + 1) parent parents else children_from (number + 1) parent parents
 
 -- The guardian of so many actors. It has no rows of a strategy, so the default decider decides.
-abbrev pub guardian : ℕ → ℕ → List ActorId → Identity
-guardian actors limit parents = record {
+abbrev pub guardian : ℕ → JournalMode → ℕ → List ActorId → Identity
+guardian actors mode limit parents = record {
   this = id 0;
   parent = None;
   actors = actors;
@@ -26,11 +29,12 @@ guardian actors limit parents = record {
   retries = negsuc 0;
   all_for_one = false;
   limit = limit;
+  is_kept = keeps_all mode;
 }
 
 -- The actor of this number, parent and strategy.
-abbrev pub planned : ℕ → ℕ → List ActorId → ℕ → ActorId → Strategy → Identity
-planned actors limit parents number parent strategy = record {
+abbrev pub planned : ℕ → JournalMode → ℕ → List ActorId → ℕ → ActorId → Strategy → Identity
+planned actors mode limit parents number parent strategy = record {
   this = id number;
   parent = Some parent;
   actors = actors;
@@ -39,27 +43,28 @@ planned actors limit parents number parent strategy = record {
   retries = strategy.retries;
   all_for_one = strategy.all_for_one;
   limit = limit;
+  is_kept = keeps_all mode;
 }
 
 -- The actors of these parents and strategies, numbered on from this one.
-abbrev pub planned_from : ℕ → ℕ → List ActorId → ℕ → List ActorId → List Strategy → List Identity
-planned_from actors limit all number (p ∷ parents) (s ∷ strategies) =
-    planned actors limit all number p s ∷ planned_from actors limit all (number + 1) parents strategies
-planned_from actors limit all number _ _ = []
+abbrev pub planned_from : ℕ → JournalMode → ℕ → List ActorId → ℕ → List ActorId → List Strategy → List Identity
+planned_from actors mode limit all number (p ∷ parents) (s ∷ strategies) =
+    planned actors mode limit all number p s ∷ planned_from actors mode limit all (number + 1) parents strategies
+planned_from actors mode limit all number _ _ = []
 
 -- The guardian and all actors.
-abbrev pub identities : ℕ → ℕ → List ActorId → List Strategy → List Identity
-identities actors limit parents strategies = guardian actors limit parents ∷ planned_from actors limit parents 1 parents strategies
+abbrev pub identities : ℕ → JournalMode → ℕ → List ActorId → List Strategy → List Identity
+identities actors mode limit parents strategies = guardian actors mode limit parents ∷ planned_from actors mode limit parents 1 parents strategies
 
--- The actor of this number among so many: number 0 is the guardian, the parent and the children are among them, and the limit of the journal is a
--- number of 32 bits.
+-- The actor of this number among so many: number 0 is the guardian, the parent and the children are among them, and the limit of the journal is
+-- one that a plan may have.
 pub record IsPlanned (actors number : ℕ) (who : Identity) : Type 0 where
   pub this : who.this ≡ id number
   pub actors_are : who.actors ≡ actors
   pub guardian_is : is_guardian who ≡ (number == 0)
   pub parent : IfSome who.parent (λ p. p.0 < actors)
   pub prepared : Each (λ (x : ActorId). x.0 < actors) who.prepared
-  pub within_limit : who.limit < 2 ^ 32
+  pub within_limit : who.limit ≤ most_entries
 
 -- Each of these is an actor of its number; they are numbered on from this one.
 abbrev pub ArePlanned : ℕ → ℕ → List Identity → Type 0

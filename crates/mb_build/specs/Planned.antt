@@ -5,12 +5,11 @@ use Rattle.mb_home.specs.Directory.{DirectoryEntry}
 use Rattle.mb_msg.specs.declared.actor_plan.ActorPlan.{ActorPlan}
 use Rattle.mb_msg.specs.declared.plan.Plan.{Plan}
 use Rattle.mb_queue.specs.Made.{bound_of, discipline_of}
-use Rattle.mb_msg.specs.declared.mailbox_type.MailboxType.{MailboxType}
 use Rattle.mb_build.specs.Identities.{identities}
 
 -- The actors of this plan, the guardian first.
 abbrev pub actors_in : Plan → List Identity
-actors_in plan = identities (length plan.actors.items + 1) plan.journal_limit (map (λ a. a.parent) plan.actors.items)
+actors_in plan = identities (length plan.actors.items + 1) plan.journal plan.journal_limit (map (λ a. a.parent) plan.actors.items)
     (map (λ a. a.strategy) plan.actors.items)
 
 -- The actor has the mailbox of its plan: its queue has the discipline of that mailbox, and its bound.

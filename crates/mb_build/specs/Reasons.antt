@@ -1,6 +1,6 @@
 -- Why no system can be built from a plan (this project's own profile).
 use Rattle.std.specs.Prelude.{ℕ, ◌+◌, ◌==◌, Bool, true, ◌&&◌, if◌then◌else◌, nat_le, nat_lt, List, [], ◌∷◌, ◌++◌, length}
-use Rattle.mb_msg.specs.Limits.{most_actors, most_outside_senders}
+use Rattle.mb_msg.specs.Limits.{most_actors, most_outside_senders, most_entries}
 use Rattle.mb_msg.specs.declared.actor_plan.ActorPlan.{ActorPlan}
 use Rattle.mb_msg.specs.declared.mailbox_type.MailboxType.{MailboxType}
 use Rattle.mb_msg.specs.declared.mailbox_type.MailboxType.TheVariants.{Unbounded, Bounded, Priority, Control}
@@ -29,10 +29,10 @@ abbrev pub bad_bounds : ℕ → List ActorPlan → List PlanError
 bad_bounds id [] = []
 bad_bounds id (a ∷ actors) = unless (may_be_bound a.mailbox) (Capacity (record { 0 = id })) ++ bad_bounds (id + 1) actors
 
--- There are at most 16 senders outside and 1 to 16 workers, and each journal may have an entry.
+-- There are at most 16 senders outside and 1 to 16 workers, and each journal may have an entry, and no more than 2^56.
 abbrev pub bad_numbers : Plan → List PlanError
 bad_numbers plan = unless (nat_le plan.senders most_outside_senders) Senders
-    ++ (unless (nat_le 1 plan.workers && nat_le plan.workers 16) Workers ++ unless (nat_le 1 plan.journal_limit) JournalLimit)
+    ++ (unless (nat_le 1 plan.workers && nat_le plan.workers 16) Workers ++ unless (nat_le 1 plan.journal_limit && nat_le plan.journal_limit most_entries) JournalLimit)
 
 -- All reasons for which no system can be built from this plan with so many actors, in the order in which they count: the plan has at most 63 actors
 -- beside the guardian; as many are handed in; and each parent, each bound and each number is right.

@@ -1,5 +1,6 @@
 //! Making the actors' cells.
-ghost use Rattle.std.specs.Prelude.{◌≡◌, ◌+◌, ◌++◌, ◌<◌, [], ◌∷◌, IfOk, length, map, vec_capacity};
+ghost use Rattle.std.specs.Prelude.{◌≡◌, ◌+◌, ◌++◌, ◌<◌, ◌≤◌, [], ◌∷◌, IfOk, length, map, vec_capacity};
+ghost use Rattle.mb_msg.specs.Limits.{most_entries};
 ghost use Rattle.mb_build.specs.BehavesAsPlanned.{BehaveAsPlanned, BehavesAsPlanned};
 ghost use Rattle.mb_build.specs.Identities.{children_from, guardian as guardian_of, identities, planned, planned_from};
 ghost use Rattle.mb_build.specs.Unstarted.{unstarted};
@@ -7,7 +8,7 @@ ghost use Rattle.mb_build.specs.Unstarted.{unstarted};
 use crate::planned::parents_of;
 use mb_actor::{Actor, Behaviours};
 use mb_cell::Cell;
-use mb_msg::{ActorId, ActorPlan, Strategy};
+use mb_msg::{ActorId, ActorPlan, JournalMode, Strategy};
 use std::alloc::{AllocError, Global};
 
 /// The guardian's number.
@@ -19,17 +20,26 @@ pub(crate) fn cells<A: Actor, K: Behaviours>(
     alloc: Global,
     plans: Vec<ActorPlan>,
     actors: Vec<A>,
-    journal_limit: u32,
+    journal: JournalMode,
+    journal_limit: u64,
 ) -> Result<Vec<Cell<A, K>>, AllocError>
-    requires within_limit { length plans.items < 64 }
+    requires within_limit { (length plans.items < 64) × (journal_limit ≤ most_entries) }
     requires same_count { length actors.items ≡ length plans.items }
     requires behaved { BehaveAsPlanned A.content A.after A.gives K.after K.gives 1 actors.items }
     ensures { IfOk result (λ cells. cells.items ≡ map unstarted
-        (identities (length plans.items + 1) journal_limit (map (λ a. a.parent) plans.items) (map (λ a. a.strategy) plans.items))) }
+        (identities (length plans.items + 1) journal journal_limit (map (λ a. a.parent) plans.items) (map (λ a. a.strategy) plans.items))) }
 {
     let parents = parents_of(alloc, &plans)?;
-    let mut cells = first_cell(alloc, &parents, journal_limit)?;
-    add_cells(alloc, &mut cells, plans, actors, &parents, journal_limit)?;
+    let mut cells = first_cell(alloc, &parents, journal, journal_limit)?;
+    add_cells(
+        alloc,
+        &mut cells,
+        plans,
+        actors,
+        &parents,
+        journal,
+        journal_limit,
+    )?;
     Ok(cells)
 }
 
@@ -37,14 +47,15 @@ pub(crate) fn cells<A: Actor, K: Behaviours>(
 fn first_cell<A: Actor, K: Behaviours>(
     alloc: Global,
     parents: &[ActorId],
-    journal_limit: u32,
+    journal: JournalMode,
+    journal_limit: u64,
 ) -> Result<Vec<Cell<A, K>>, AllocError>
-    requires { length parents.now < 64 }
-    ensures first { IfOk result (λ cells. cells.items ≡ unstarted (guardian_of (length parents.now + 1) journal_limit parents.now) ∷ []) }
+    requires within_limit { (length parents.now < 64) × (journal_limit ≤ most_entries) }
+    ensures first { IfOk result (λ cells. cells.items ≡ unstarted (guardian_of (length parents.now + 1) journal journal_limit parents.now) ∷ []) }
     ensures room { IfOk result (λ cells. vec_capacity cells ≡ length parents.now + 1) }
 {
     let mut cells = Vec::with_capacity(alloc, parents.len() + 1)?;
-    cells.push_reserved(guardian(alloc, parents, journal_limit)?);
+    cells.push_reserved(guardian(alloc, parents, journal, journal_limit)?);
     Ok(cells)
 }
 
@@ -55,13 +66,14 @@ fn add_cells<A: Actor, K: Behaviours>(
     plans: Vec<ActorPlan>,
     actors: Vec<A>,
     parents: &[ActorId],
-    journal_limit: u32,
+    journal: JournalMode,
+    journal_limit: u64,
 ) -> Result<(), AllocError>
-    requires within_limit { (length cells.old.items ≡ 1) × (length parents.now < 64) }
+    requires within_limit { (length cells.old.items ≡ 1) × (length parents.now < 64) × (journal_limit ≤ most_entries) }
     requires room { vec_capacity cells.old ≡ length parents.now + 1 }
     requires same_count { (length plans.items ≡ length parents.now) × (length actors.items ≡ length parents.now) }
     requires behaved { BehaveAsPlanned A.content A.after A.gives K.after K.gives 1 actors.items }
-    ensures { IfOk result (λ _. cells.new.items ≡ cells.old.items ++ map unstarted (planned_from (length parents.now + 1) journal_limit parents.now 1
+    ensures { IfOk result (λ _. cells.new.items ≡ cells.old.items ++ map unstarted (planned_from (length parents.now + 1) journal journal_limit parents.now 1
         (map (λ a. a.parent) plans.items) (map (λ a. a.strategy) plans.items))) }
 {
     let mut plans = plans.into_iter();
@@ -69,7 +81,7 @@ fn add_cells<A: Actor, K: Behaviours>(
         let Some(plan) = plans.next() else {
             unreachable!();
         };
-        add_cell(alloc, cells, plan, actor, parents, journal_limit)?;
+        add_cell(alloc, cells, plan, actor, parents, journal, journal_limit)?;
     }
     Ok(())
 }
@@ -81,14 +93,15 @@ fn add_cell<A: Actor, K: Behaviours>(
     plan: ActorPlan,
     actor: A,
     parents: &[ActorId],
-    journal_limit: u32,
+    journal: JournalMode,
+    journal_limit: u64,
 ) -> Result<(), AllocError>
-    requires within_limit { (length cells.old.items < 64) × (length parents.now < 64) }
+    requires within_limit { (length cells.old.items < 64) × (length parents.now < 64) × (journal_limit ≤ most_entries) }
     requires room { length cells.old.items < vec_capacity cells.old }
     requires behaved { BehavesAsPlanned A.content A.after A.gives (K.after (length cells.old.items)) (K.gives (length cells.old.items)) actor }
     ensures room { IfOk result (λ _. vec_capacity cells.new ≡ vec_capacity cells.old) }
     ensures cell { IfOk result (λ _. cells.new.items ≡ cells.old.items
-        ++ unstarted (planned (length parents.now + 1) journal_limit parents.now (length cells.old.items) plan.parent plan.strategy) ∷ []) }
+        ++ unstarted (planned (length parents.now + 1) journal journal_limit parents.now (length cells.old.items) plan.parent plan.strategy) ∷ []) }
 {
     let this = ActorId(cells.len() as u16);
     let prepared = children(alloc, this, parents)?;
@@ -100,8 +113,9 @@ fn add_cell<A: Actor, K: Behaviours>(
         Some(actor),
         prepared,
         plan.strategy,
+        journal,
         journal_limit,
-    ));
+    )?);
     Ok(())
 }
 
@@ -109,10 +123,11 @@ fn add_cell<A: Actor, K: Behaviours>(
 fn guardian<A: Actor, K: Behaviours>(
     alloc: Global,
     parents: &[ActorId],
-    journal_limit: u32,
+    journal: JournalMode,
+    journal_limit: u64,
 ) -> Result<Cell<A, K>, AllocError>
-    requires { length parents.now < 64 }
-    ensures { IfOk result (λ cell. cell ≡ unstarted (guardian_of (length parents.now + 1) journal_limit parents.now)) }
+    requires within_limit { (length parents.now < 64) × (journal_limit ≤ most_entries) }
+    ensures { IfOk result (λ cell. cell ≡ unstarted (guardian_of (length parents.now + 1) journal journal_limit parents.now)) }
 {
     let prepared = children(alloc, GUARDIAN, parents)?;
     let strategy = Strategy {
@@ -120,7 +135,7 @@ fn guardian<A: Actor, K: Behaviours>(
         retries: -1,
         all_for_one: false,
     };
-    Ok(Cell::new(
+    Cell::new(
         alloc,
         GUARDIAN,
         parents.len() as u32 + 1,
@@ -128,8 +143,9 @@ fn guardian<A: Actor, K: Behaviours>(
         None,
         prepared,
         strategy,
+        journal,
         journal_limit,
-    ))
+    )
 }
 
 /// The children of this actor, in order.

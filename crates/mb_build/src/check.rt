@@ -3,7 +3,7 @@ ghost use Rattle.std.specs.Prelude.{◌≡◌, ◌<◌, [], ◌∷◌, List, len
 ghost use Rattle.mb_build.specs.Reasons.{bad_bounds, bad_numbers, bad_parents, may_be_bound, reasons};
 ghost use Rattle.mb_build.specs.declared.check.PlanError.{PlanError};
 
-use mb_msg::limits::{ACTORS, OUTSIDE_SENDERS};
+use mb_msg::limits::{ACTORS, ENTRIES, OUTSIDE_SENDERS};
 use mb_msg::{ActorId, ActorPlan, MailboxType, Plan};
 
 /// How many workers a plan has at most.
@@ -27,7 +27,7 @@ pub enum PlanError {
     Senders,
     /// It has no worker, or more than 16.
     Workers,
-    /// No journal may have an entry.
+    /// No journal may have an entry, or each more than 2^56.
     JournalLimit,
 }
 
@@ -104,7 +104,7 @@ fn check_numbers(plan: &Plan) -> Result<(), PlanError>
     if plan.workers == 0 || plan.workers > WORKERS {
         return Err(PlanError::Workers);
     }
-    if plan.journal_limit == 0 {
+    if plan.journal_limit == 0 || plan.journal_limit > ENTRIES {
         return Err(PlanError::JournalLimit);
     }
     Ok(())

@@ -3,6 +3,7 @@ ghost use Rattle.std.specs.Prelude.{◌≡◌, ℕ, ◌+◌, ◌++◌, ◌<◌, 
 ghost use Rattle.std.specs.Global.{Box as Owned};
 ghost use Rattle.std.specs.Vec.Iter.{into_iter_items};
 ghost use Rattle.mb_home.specs.Contents.{Contents};
+ghost use Rattle.mb_msg.specs.Limits.{most_entries};
 ghost use Rattle.mb_msg.specs.declared.mailbox_type.MailboxType.{MailboxType};
 ghost use Rattle.mb_build.specs.BehavesAsPlanned.{BehaveAsPlanned};
 ghost use Rattle.mb_build.specs.NewHomes.{directory_of, AreAtFirst, AreFresh, AreNewHomes};
@@ -19,7 +20,7 @@ use crate::queues::{Queues, make_queues};
 use mb_actor::{Actor, Behaviours};
 use mb_cell::Cell;
 use mb_home::{EntrySnapshot, Home};
-use mb_msg::{ActorId, ActorPlan};
+use mb_msg::{ActorId, ActorPlan, JournalMode};
 use mb_queue::{SendPass, TakePass};
 use std::alloc::{AllocError, Global};
 use std::snapshot::Snapshot;
@@ -41,19 +42,21 @@ pub fn make_homes<A: Actor, K: Behaviours>(
     plans: Vec<ActorPlan>,
     actors: Vec<A>,
     senders: u32,
-    journal_limit: u32,
+    journal: JournalMode,
+    journal_limit: u64,
 ) -> Result<NewHomes<A, K>, AllocError>
     requires within_limit { (length plans.items < 64) × (senders ≤ 16) }
+    requires within_journal { journal_limit ≤ most_entries }
     requires right { (bad_parents 1 plans.items ≡ []) × (bad_bounds 1 plans.items ≡ []) }
     requires same_count { length actors.items ≡ length plans.items }
     requires behaved { BehaveAsPlanned A.content A.after A.gives K.after K.gives 1 actors.items }
     ensures { IfOk result (λ housed. (kinds : List MailboxType) × AreKindsOf plans.items kinds
-        × AreNewHomes K.gives (identities (length plans.items + 1) journal_limit (map (λ a. a.parent) plans.items) (map (λ a. a.strategy) plans.items))
+        × AreNewHomes K.gives (identities (length plans.items + 1) journal journal_limit (map (λ a. a.parent) plans.items) (map (λ a. a.strategy) plans.items))
         kinds senders housed.homes.items (map (λ row. row.items) housed.outside.items)) }
 {
     let kinds = kinds_of(alloc, &plans)?;
     let queues = make_queues(alloc, kinds, senders)?;
-    let cells = cells(alloc, plans, actors, journal_limit)?;
+    let cells = cells(alloc, plans, actors, journal, journal_limit)?;
     let directory = make_directory(alloc, &cells, &queues.takes)?;
     let housed = homes(alloc, cells, queues, &directory)?;
     Ok(housed)

@@ -14,6 +14,7 @@ no_cell = record {
     retries = pos 0;
     all_for_one = false;
     limit = 0;
+    is_kept = false;
   };
   journal = [];
   acts = [];

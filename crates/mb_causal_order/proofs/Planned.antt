@@ -4,6 +4,7 @@ use Rattle.std.proofs.lemmas.Bool.{cases_lt}
 use Rattle.std.proofs.lemmas.List.{get_or_append_left, get_or_push, length-map, length_push}
 use Rattle.mb_msg.specs.declared.actor_plan.ActorPlan.{ActorPlan}
 use Rattle.mb_msg.specs.declared.id.ActorId.{ActorId}
+use Rattle.mb_msg.specs.declared.journal_mode.JournalMode.{JournalMode}
 use Rattle.mb_msg.specs.declared.plan.Plan.{Plan}
 use Rattle.mb_build.specs.Identities.{guardian, planned, planned_from}
 use Rattle.mb_build.specs.Planned.{actors_in}
@@ -13,17 +14,17 @@ use Rattle.mb_journal.specs.Identity.{Identity}
 use Rattle.mb_causal_order.specs.Replayed.{IsReplayed}
 
 -- the actor of a place behind the guardian
-planned-at : (actors limit : ℕ) (all : List ActorId) (number : ℕ) (plans : List ActorPlan) (place at : ℕ) (p : ActorPlan) → place < length plans →
+planned-at : (actors : ℕ) (mode : JournalMode) (limit : ℕ) (all : List ActorId) (number : ℕ) (plans : List ActorPlan) (place at : ℕ) (p : ActorPlan) → place < length plans →
     p ≡ get_or plans place p → number + place ≡ at →
-    slice_get (planned_from actors limit all number (map (λ (a : ActorPlan). a.parent) plans) (map (λ (a : ActorPlan). a.strategy) plans)) place
-    ≡ Some (planned actors limit all at p.parent p.strategy)
-planned-at actors limit all number [] place at p within is sum = absurd (omega (arith, within))
-planned-at actors limit all number (q ∷ plans) zero at p within is sum =
+    slice_get (planned_from actors mode limit all number (map (λ (a : ActorPlan). a.parent) plans) (map (λ (a : ActorPlan). a.strategy) plans)) place
+    ≡ Some (planned actors mode limit all at p.parent p.strategy)
+planned-at actors mode limit all number [] place at p within is sum = absurd (omega (arith, within))
+planned-at actors mode limit all number (q ∷ plans) zero at p within is sum =
     let same : number ≡ at = omega (arith, sum) in
-    ap (λ (x : ActorPlan). Some (planned actors limit all number x.parent x.strategy)) (sym is)
-    ∙ ap (λ n. Some (planned actors limit all n p.parent p.strategy)) same
-planned-at actors limit all number (q ∷ plans) (suc place) at p within is sum =
-    planned-at actors limit all (number + 1) plans place at p (omega (arith, within)) is (omega (arith, sum))
+    ap (λ (x : ActorPlan). Some (planned actors mode limit all number x.parent x.strategy)) (sym is)
+    ∙ ap (λ n. Some (planned actors mode limit all n p.parent p.strategy)) same
+planned-at actors mode limit all number (q ∷ plans) (suc place) at p within is sum =
+    planned-at actors mode limit all (number + 1) plans place at p (omega (arith, within)) is (omega (arith, sum))
 
 -- the cell of an actor of the plan, to which nothing has come
 fresh : (who : List Identity) (a : ℕ) (one : Identity) (c : CellView) → slice_get who a ≡ Some one → c ≡ unstarted one →
@@ -40,13 +41,13 @@ module _ (plan : Plan) (parents : List ActorId) (are : parents ≡ map (λ (a : 
 
   -- the guardian's cell
   pub first : (cells : List CellView) (c : CellView) → cells ≡ c ∷ [] →
-      c ≡ unstarted (guardian (length parents + 1) plan.journal_limit parents) → (a : ℕ) (d : CellView) → a < length cells →
+      c ≡ unstarted (guardian (length parents + 1) plan.journal plan.journal_limit parents) → (a : ℕ) (d : CellView) → a < length cells →
       IsReplayed (slice_get (actors_in plan) a) [] (get_or cells a d)
   first cells c one is a d within =
       let none : a ≡ 0 = (let n = ap length one in omega (arith, within, n)) in
-      let own : c ≡ unstarted (guardian (length plan.actors.items + 1) plan.journal_limit (map (λ (x : ActorPlan). x.parent) plan.actors.items)) =
-      is ∙ (ap (λ n. unstarted (guardian (n + 1) plan.journal_limit parents)) count
-      ∙ ap (λ l. unstarted (guardian (length plan.actors.items + 1) plan.journal_limit l)) are) in
+      let own : c ≡ unstarted (guardian (length plan.actors.items + 1) plan.journal plan.journal_limit (map (λ (x : ActorPlan). x.parent) plan.actors.items)) =
+      is ∙ (ap (λ n. unstarted (guardian (n + 1) plan.journal plan.journal_limit parents)) count
+      ∙ ap (λ l. unstarted (guardian (length plan.actors.items + 1) plan.journal plan.journal_limit l)) are) in
       subst (λ (l : List CellView). IsReplayed (slice_get (actors_in plan) a) [] (get_or l a d)) (sym one)
       (subst (λ (n : ℕ). IsReplayed (slice_get (actors_in plan) n) [] (get_or (c ∷ []) n d)) (sym none)
       (fresh (actors_in plan) 0 _ c refl own))
@@ -54,23 +55,23 @@ module _ (plan : Plan) (parents : List ActorId) (are : parents ≡ map (λ (a : 
   -- one cell more
   pub more : (cells new : List CellView) (c : CellView) (place number : ℕ) (p : ActorPlan) → length cells ≡ place + 1 → place < length plan.actors.items →
       p ≡ get_or plan.actors.items place p → new ≡ cells ++ c ∷ [] → number ≡ place + 1 →
-      c ≡ unstarted (planned (length parents + 1) plan.journal_limit parents number p.parent p.strategy) →
+      c ≡ unstarted (planned (length parents + 1) plan.journal plan.journal_limit parents number p.parent p.strategy) →
       ((a : ℕ) (d : CellView) → a < length cells → IsReplayed (slice_get (actors_in plan) a) [] (get_or cells a d)) →
       (a : ℕ) (d : CellView) → a < length new → IsReplayed (slice_get (actors_in plan) a) [] (get_or new a d)
   more cells new c place number p as_many inside is_p pushed by_number is each a d within =
       subst (λ (l : List CellView). IsReplayed (slice_get (actors_in plan) a) [] (get_or l a d)) (sym pushed) (by_place (cases_lt a (length cells)))
     where
-      own : c ≡ unstarted (planned (length plan.actors.items + 1) plan.journal_limit (map (λ (x : ActorPlan). x.parent) plan.actors.items) number p.parent
+      own : c ≡ unstarted (planned (length plan.actors.items + 1) plan.journal plan.journal_limit (map (λ (x : ActorPlan). x.parent) plan.actors.items) number p.parent
           p.strategy)
       own =
-          is ∙ (ap (λ n. unstarted (planned (n + 1) plan.journal_limit parents number p.parent p.strategy)) count
-          ∙ ap (λ l. unstarted (planned (length plan.actors.items + 1) plan.journal_limit l number p.parent p.strategy)) are)
+          is ∙ (ap (λ n. unstarted (planned (n + 1) plan.journal plan.journal_limit parents number p.parent p.strategy)) count
+          ∙ ap (λ l. unstarted (planned (length plan.actors.items + 1) plan.journal plan.journal_limit l number p.parent p.strategy)) are)
 
       there : slice_get (actors_in plan) (suc place)
-          ≡ Some (planned (length plan.actors.items + 1) plan.journal_limit (map (λ (x : ActorPlan). x.parent) plan.actors.items) number p.parent
+          ≡ Some (planned (length plan.actors.items + 1) plan.journal plan.journal_limit (map (λ (x : ActorPlan). x.parent) plan.actors.items) number p.parent
           p.strategy)
       there =
-          planned-at (length plan.actors.items + 1) plan.journal_limit (map (λ (x : ActorPlan). x.parent) plan.actors.items) 1 plan.actors.items place
+          planned-at (length plan.actors.items + 1) plan.journal plan.journal_limit (map (λ (x : ActorPlan). x.parent) plan.actors.items) 1 plan.actors.items place
           number p inside is_p (omega (arith, by_number))
 
       by_place : (a < length cells) ⊎ (length cells ≤ a) → IsReplayed (slice_get (actors_in plan) a) [] (get_or (cells ++ c ∷ []) a d)

@@ -38,7 +38,9 @@ impl<'a> JournalActor<'a> {
         ensures unspawned { out.new.unspawned ≡ out.old.unspawned }
     {
         for index in self.next..self.journal.len() {
-            let entry = self.journal.get(index);
+            let Some(entry) = self.journal.entry(index) else {
+                return Answer::Handled;
+            };
             if let Some(answer) = answer_of(entry.arrival) {
                 self.next = index + 1;
                 ask_all(entry.effects, out);
@@ -74,7 +76,9 @@ impl<'a> Actor for JournalActor<'a> {
     fn stop(&mut self, out: &mut Outbox, _: CallPermit) {
         let entries = self.journal.len();
         if entries > 0 {
-            ask_all(self.journal.get(entries - 1).effects, out);
+            if let Some(entry) = self.journal.entry(entries - 1) {
+                ask_all(entry.effects, out);
+            }
         }
     }
 

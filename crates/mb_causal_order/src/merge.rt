@@ -15,13 +15,14 @@ ghost use Rattle.mb_causal_order.specs.declared.place.Place.{Place};
 use crate::place::Place;
 use crate::replay::Replay;
 use mb_journal::Received;
+use mb_msg::limits::ENTRIES;
 use mb_msg::{Envelope, Plan, SenderOrder, SysMsg};
 use mb_report::ActorReport;
 use std::alloc::{AllocError, Global};
 
 /// One order of the entries of all journals in which each journal's own order is kept and what caused an entry stands before it; of the
 /// actors whose next entry may come next, the one of the lowest number goes first. `sends` is what senders outside the actors were to
-/// send. `None` where no such order is found.
+/// send. `None` where no such order is found: so where a journal keeps no entries, or the plan is none that a system is built from.
 ///
 /// The only error: memory was refused.
 pub fn merged_order(
@@ -34,6 +35,9 @@ pub fn merged_order(
     ensures { IfOk result (λ found. IfSome found (λ order. IsMerged (actors_in plan.now) sends.now actors.now (reverse order.items))) }
 {
     if plan.actors.len() >= 64 || actors.len() != plan.actors.len() + 1 {
+        return Ok(None);
+    }
+    if plan.journal_limit > ENTRIES {
         return Ok(None);
     }
     let mut replay = Replay::new(alloc, plan, sends, actors)?;
@@ -87,10 +91,9 @@ fn is_ready(actors: &[ActorReport], number: usize, replay: &Replay<'_>) -> bool
 {
     let journal = &actors[number].journal;
     let index = replay.entries(number);
-    if index >= journal.len() {
+    let Some(entry) = journal.entry(index) else {
         return false;
-    }
-    let entry = journal.get(index);
+    };
     if !replay.is_sent(number, entry.arrival) {
         return false;
     }
@@ -173,10 +176,9 @@ fn take(
 {
     let journal = &actors[number].journal;
     let index = replay.entries(number);
-    if index >= journal.len() {
+    let Some(entry) = journal.entry(index) else {
         return Ok(false);
-    }
-    let entry = journal.get(index);
+    };
     if !replay.apply(number, &entry)? {
         return Ok(false);
     }

@@ -1,16 +1,17 @@
 //! The cells of the actors of a plan, in which their journals are replayed.
-ghost use Rattle.std.specs.Prelude.{◌≡◌, ◌+◌, ◌<◌, ℕ, [], IfOk, length, map, negsuc, false, slice_get, get_or, Some};
+ghost use Rattle.std.specs.Prelude.{◌≡◌, ◌+◌, ◌<◌, ◌≤◌, ℕ, [], IfOk, length, map, negsuc, false, slice_get, get_or, Some};
 ghost use Rattle.mb_build.specs.Identities.{children_from, guardian as guardian_of, planned};
 ghost use Rattle.mb_build.specs.Planned.{actors_in};
 ghost use Rattle.mb_build.specs.Unstarted.{unstarted};
 ghost use Rattle.mb_cell.specs.CellView.{CellView};
+ghost use Rattle.mb_msg.specs.Limits.{most_entries};
 ghost use Rattle.mb_causal_order.specs.Replayed.{IsReplayed};
 
 use crate::journal_actor::JournalActor;
 use crate::replayed_cell::ReplayedCell;
 use mb_cell::Cell;
 use mb_journal::Journal;
-use mb_msg::{ActorId, ActorPlan, Plan, Strategy};
+use mb_msg::{ActorId, ActorPlan, JournalMode, Plan, Strategy};
 use mb_report::ActorReport;
 use std::alloc::{AllocError, Global};
 
@@ -25,13 +26,14 @@ pub(crate) fn planned_cells<'a>(
 ) -> Result<Vec<ReplayedCell<'a>>, AllocError>
     requires few { length plan.now.actors.items < 64 }
     requires as_many { length actors.now ≡ length plan.now.actors.items + 1 }
+    requires limit { plan.now.journal_limit ≤ most_entries }
     ensures as_many { IfOk result (λ cells. length cells.items ≡ length actors.now) }
     ensures unstarted { IfOk result (λ cells. (a : ℕ) (d : CellView) → a < length cells.items →
         IsReplayed (slice_get (actors_in plan.now) a) [] (get_or cells.items a d)) }
 {
     let parents = parents_of(alloc, &plan.actors)?;
     let mut cells = Vec::new(alloc);
-    cells.push(guardian(alloc, &parents, plan.journal_limit)?)?;
+    cells.push(guardian(alloc, &parents, plan.journal, plan.journal_limit)?)?;
     for index in 0..plan.actors.len() {
         let journal = &actors[index + 1].journal;
         let actor = &plan.actors[index];
@@ -40,6 +42,7 @@ pub(crate) fn planned_cells<'a>(
             &parents,
             index as u16 + 1,
             actor,
+            plan.journal,
             plan.journal_limit,
             journal,
         )?)?;
@@ -62,10 +65,12 @@ fn parents_of(alloc: Global, plans: &[ActorPlan]) -> Result<Vec<ActorId>, AllocE
 fn guardian<'a>(
     alloc: Global,
     parents: &[ActorId],
-    journal_limit: u32,
+    mode: JournalMode,
+    journal_limit: u64,
 ) -> Result<ReplayedCell<'a>, AllocError>
-    requires { length parents.now < 64 }
-    ensures { IfOk result (λ cell. cell ≡ unstarted (guardian_of (length parents.now + 1) journal_limit parents.now)) }
+    requires few { length parents.now < 64 }
+    requires limit { journal_limit ≤ most_entries }
+    ensures { IfOk result (λ cell. cell ≡ unstarted (guardian_of (length parents.now + 1) mode journal_limit parents.now)) }
 {
     let prepared = children(alloc, GUARDIAN, parents)?;
     let strategy = Strategy {
@@ -81,8 +86,9 @@ fn guardian<'a>(
         None,
         prepared,
         strategy,
+        mode,
         journal_limit,
-    );
+    )?;
     Ok(ReplayedCell::new(cell, 0))
 }
 
@@ -92,11 +98,13 @@ fn cell_of<'a>(
     parents: &[ActorId],
     number: u16,
     plan: &ActorPlan,
-    journal_limit: u32,
+    mode: JournalMode,
+    journal_limit: u64,
     journal: &'a Journal,
 ) -> Result<ReplayedCell<'a>, AllocError>
-    requires { length parents.now < 64 }
-    ensures { IfOk result (λ cell. cell ≡ unstarted (planned (length parents.now + 1) journal_limit parents.now number plan.now.parent plan.now.strategy)) }
+    requires few { length parents.now < 64 }
+    requires limit { journal_limit ≤ most_entries }
+    ensures { IfOk result (λ cell. cell ≡ unstarted (planned (length parents.now + 1) mode journal_limit parents.now number plan.now.parent plan.now.strategy)) }
 {
     let this = ActorId(number);
     let prepared = children(alloc, this, parents)?;
@@ -109,8 +117,9 @@ fn cell_of<'a>(
         Some(JournalActor::new(journal)),
         prepared,
         strategy,
+        mode,
         journal_limit,
-    );
+    )?;
     Ok(ReplayedCell::new(cell, number))
 }
 

@@ -1,5 +1,6 @@
 //! The journals given to cells once more: what the entries so far sent, and what of it came.
 ghost use Rattle.std.specs.Prelude.{◌≡◌, ◌+◌, ◌<◌, ◌≤◌, ◌==◌, ◌&&◌, true, ℕ, Bool, List, [], ◌∷◌, IfOk, IsTrue, OnOk, count_by, length, get_or, set, if◌then◌else◌, slice_get, Some};
+ghost use Rattle.mb_msg.specs.Limits.{most_entries};
 ghost use Rattle.mb_msg.specs.declared.system.SysMsg.{SysMsg as Message};
 ghost use Rattle.mb_actor.specs.declared.effect.Effect.{Effect};
 ghost use Rattle.mb_journal.specs.Aside.{next_number};
@@ -38,6 +39,7 @@ impl<'a> Replay<'a> {
     ) -> Result<Self, AllocError>
         requires few { length plan.now.actors.items < 64 }
         requires as_many { length actors.now ≡ length plan.now.actors.items + 1 }
+        requires limit { plan.now.journal_limit ≤ most_entries }
         ensures as_many { IfOk result (λ replay. length replay.cells.items ≡ length actors.now) }
         ensures unstarted { IfOk result (λ replay. (a : ℕ) (d : CellView) → a < length replay.cells.items →
             IsReplayed (slice_get (actors_in plan.now) a) [] (get_or replay.cells.items a d)) }

@@ -206,7 +206,9 @@ fn is_newest(journal: &Journal, entry: &EntryRef<'_>) -> bool
     if entries == 0 {
         return false;
     }
-    let newest = journal.get(entries - 1);
+    let Some(newest) = journal.entry(entries - 1) else {
+        return false;
+    };
     is_same_arrival(newest.arrival, entry.arrival)
         && are_same_effects(newest.effects, entry.effects)
 }

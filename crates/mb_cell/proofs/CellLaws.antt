@@ -18,6 +18,7 @@ use Rattle.mb_journal.specs.Life.{phase}
 use Rattle.mb_journal.specs.JournalView.{JournalView}
 use Rattle.mb_journal.specs.Phase.{phase_is}
 use Rattle.mb_journal.specs.Suspension.{count, count_after, marks}
+use Rattle.mb_journal.proofs.ChildrenOnce.{children-few}
 use Rattle.mb_journal.proofs.LawfulLemmas.{calls-silent}
 use Rattle.mb_journal.proofs.SizeLemmas.{sizes}
 use Rattle.mb_cell.specs.Agrees.{Agrees, FollowsBehaviour}
@@ -33,18 +34,19 @@ abbrev pub longer : JournalView → Entry → JournalView
 longer old e = record old { entries = e ∷ old.entries; is_ready = false }
 
 -- what holds of an entry more holds of the journal that was added to
-pub at-log : (P : ℕ → List Entry → Type 0) (old new : JournalView) (e : Entry) → new ≡ longer old e → P old.limit (e ∷ old.entries) → P new.limit new.entries
-at-log P old new e added here = subst (λ (j : JournalView). P j.limit j.entries) (sym added) here
+pub at-log : (P : ℕ → Bool → List Entry → Type 0) (old new : JournalView) (e : Entry) → new ≡ longer old e → P old.limit old.is_kept (e ∷ old.entries) →
+    P new.limit new.is_kept new.entries
+at-log P old new e added here = subst (λ (j : JournalView). P j.limit j.is_kept j.entries) (sym added) here
 
 -- the cell, as contracts see it, with an entry more and its acts
 pub seen-added : (place : ActorIdentity) (old new : JournalView) (e : Entry) (old_acts new_acts : List Act) (now : CellView) → new ≡ longer old e →
-    (let seen : CellView = record { who = identity_of place old.limit; journal = old.entries; acts = old_acts; is_ready = old.is_ready } in seen ≡ now) →
-    new_acts ≡ acts (identity_of place old.limit) old.entries e →
-    (let seen : CellView = record { who = identity_of place new.limit; journal = new.entries; acts = new_acts; is_ready = new.is_ready } in
+    (let seen : CellView = record { who = identity_of place old.limit old.is_kept; journal = old.entries; acts = old_acts; is_ready = old.is_ready } in seen ≡ now) →
+    new_acts ≡ acts (identity_of place old.limit old.is_kept) old.entries e →
+    (let seen : CellView = record { who = identity_of place new.limit new.is_kept; journal = new.entries; acts = new_acts; is_ready = new.is_ready } in
     seen ≡ with_entry now e)
 seen-added place old new e old_acts new_acts now added view_is acts_are =
     (λ i. record {
-      who = identity_of place (added i).limit;
+      who = identity_of place (added i).limit (added i).is_kept;
       journal = (added i).entries;
       acts = acts_are i;
       is_ready = (added i).is_ready;
@@ -93,10 +95,10 @@ abbrev pub Kept : {A : Type 0} (place : ActorIdentity) (log : JournalView) (afte
     (tray : OutboxView) (unsent : ℕ) (actor : Option A) (own_after : A → List Message → ℤ) (own_gives : A → Moment → Reply → Type 0) (content : A → ℤ)
     (made : A → List Call) → Type 0
 Kept place log after gives cell_state tray unsent actor own_after own_gives content made =
-    Agrees (identity_of place log.limit) log.entries gives cell_state tray
+    Agrees (identity_of place log.limit log.is_kept) log.entries gives cell_state tray
     × (log.is_ready ≡ true → cell_state.is_ready ≡ true)
-    × MatchOption actor (is_guardian (identity_of place log.limit) ≡ true)
-    (λ a. FollowsBehaviour (identity_of place log.limit) log.entries after gives (own_after a) (own_gives a) (content a) (made a))
+    × MatchOption actor (is_guardian (identity_of place log.limit log.is_kept) ≡ true)
+    (λ a. FollowsBehaviour (identity_of place log.limit log.is_kept) log.entries after gives (own_after a) (own_gives a) (content a) (made a))
     × IsUnsent unsent log.entries
 
 not_ready : (old new : JournalView) (e : Entry) (P : Type 0) → new ≡ longer old e → new.is_ready ≡ true → P
@@ -105,20 +107,20 @@ not_ready old new e P added ready = let no : new.is_ready ≡ false = ap (λ (j 
 pub kept-silent : {A : Type 0} (place : ActorIdentity) (old new : JournalView) (e : Entry) (after : List Message → ℤ) (gives : Moment → Reply → Type 0)
     (cell_state new_cell_state : CellState) (tray new_tray : OutboxView) (unsent : ℕ) (actor : Option A) (own_after : A → List Message → ℤ)
     (own_gives : A → Moment → Reply → Type 0) (content : A → ℤ) (made : A → List Call) → new ≡ longer old e →
-    Agrees (identity_of place old.limit) (e ∷ old.entries) gives new_cell_state new_tray →
-    call_of (identity_of place old.limit) old.entries e ≡ None →
-    (is_guardian (identity_of place old.limit) ≡ false →
-    messages (identity_of place old.limit) (e ∷ old.entries) ≡ messages (identity_of place old.limit) old.entries) →
+    Agrees (identity_of place old.limit old.is_kept) (e ∷ old.entries) gives new_cell_state new_tray →
+    call_of (identity_of place old.limit old.is_kept) old.entries e ≡ None →
+    (is_guardian (identity_of place old.limit old.is_kept) ≡ false →
+    messages (identity_of place old.limit old.is_kept) (e ∷ old.entries) ≡ messages (identity_of place old.limit old.is_kept) old.entries) →
     Kept place old after gives cell_state tray unsent actor own_after own_gives content made → unsent ≡ 0 →
     Kept place new after gives new_cell_state new_tray unsent actor own_after own_gives content made
 kept-silent place old new e after gives cell_state new_cell_state tray new_tray unsent actor own_after own_gives content made added agrees silent same kept none = (
-  at-log (λ limit journal. Agrees (identity_of place limit) journal gives new_cell_state new_tray) old new e added agrees,
+  at-log (λ limit is_kept journal. Agrees (identity_of place limit is_kept) journal gives new_cell_state new_tray) old new e added agrees,
   not_ready old new e (new_cell_state.is_ready ≡ true) added,
   match-on actor _ _ _ _ (λ guardian. guardian)
       (λ a plays.
       at-log
-      (λ limit journal. FollowsBehaviour (identity_of place limit) journal after gives (own_after a) (own_gives a) (content a) (made a)) old new e added
-      (plays-on (identity_of place old.limit) old.entries e after gives (own_after a) (own_gives a) (content a) (made a) silent
+      (λ limit is_kept journal. FollowsBehaviour (identity_of place limit is_kept) journal after gives (own_after a) (own_gives a) (content a) (made a)) old new e added
+      (plays-on (identity_of place old.limit old.is_kept) old.entries e after gives (own_after a) (own_gives a) (content a) (made a) silent
       (same plays.no_guardian) plays))
       kept.2,
   is-unsent-none unsent new.entries none,
@@ -127,10 +129,10 @@ kept-silent place old new e after gives cell_state new_cell_state tray new_tray 
 -- a system message was taken
 pub taken-system : (place : ActorIdentity) (old new : JournalView) (number : ℕ) (m : SysMsg) (outcome : Outcome) (old_acts new_acts : List Act) (now : CellView) →
     new ≡ longer old (System number m outcome) →
-    (let seen : CellView = record { who = identity_of place old.limit; journal = old.entries; acts = old_acts; is_ready = old.is_ready } in seen ≡ now) →
-    new_acts ≡ acts (identity_of place old.limit) old.entries (System number m outcome) →
+    (let seen : CellView = record { who = identity_of place old.limit old.is_kept; journal = old.entries; acts = old_acts; is_ready = old.is_ready } in seen ≡ now) →
+    new_acts ≡ acts (identity_of place old.limit old.is_kept) old.entries (System number m outcome) →
     TakesSystem now
-    (record { who = identity_of place new.limit; journal = new.entries; acts = new_acts; is_ready = new.is_ready }) number m
+    (record { who = identity_of place new.limit new.is_kept; journal = new.entries; acts = new_acts; is_ready = new.is_ready }) number m
 taken-system place old new number m outcome old_acts new_acts now added view_is acts_are = record {
   outcome = outcome;
   adds = seen-added place old new (System number m outcome) old_acts new_acts now added view_is acts_are;
@@ -143,15 +145,15 @@ length-added old new e added within = subst (λ (j : JournalView). length j.entr
 
 pub kept-called : (place : ActorIdentity) (old new : JournalView) (e : Entry) (after : List Message → ℤ) (gives : Moment → Reply → Type 0) (new_cell_state : CellState)
     (new_tray : OutboxView) (own_after : List Message → ℤ) (own_gives : Moment → Reply → Type 0) (content : ℤ) (made : List Call) →
-    new ≡ longer old e → Agrees (identity_of place old.limit) (e ∷ old.entries) gives new_cell_state new_tray →
-    FollowsBehaviour (identity_of place old.limit) (e ∷ old.entries) after gives own_after own_gives content made →
-    Agrees (identity_of place new.limit) new.entries gives new_cell_state new_tray
+    new ≡ longer old e → Agrees (identity_of place old.limit old.is_kept) (e ∷ old.entries) gives new_cell_state new_tray →
+    FollowsBehaviour (identity_of place old.limit old.is_kept) (e ∷ old.entries) after gives own_after own_gives content made →
+    Agrees (identity_of place new.limit new.is_kept) new.entries gives new_cell_state new_tray
     × (new.is_ready ≡ true → new_cell_state.is_ready ≡ true)
-    × FollowsBehaviour (identity_of place new.limit) new.entries after gives own_after own_gives content made
+    × FollowsBehaviour (identity_of place new.limit new.is_kept) new.entries after gives own_after own_gives content made
 kept-called place old new e after gives new_cell_state new_tray own_after own_gives content made added agrees plays = (
-  at-log (λ limit journal. Agrees (identity_of place limit) journal gives new_cell_state new_tray) old new e added agrees,
+  at-log (λ limit is_kept journal. Agrees (identity_of place limit is_kept) journal gives new_cell_state new_tray) old new e added agrees,
   not_ready old new e (new_cell_state.is_ready ≡ true) added,
-  at-log (λ limit journal. FollowsBehaviour (identity_of place limit) journal after gives own_after own_gives content made) old new e added plays,
+  at-log (λ limit is_kept journal. FollowsBehaviour (identity_of place limit is_kept) journal after gives own_after own_gives content made) old new e added plays,
 )
 
 -- what holds of the cell's fields where the actor is there
@@ -180,15 +182,15 @@ within-forgotten mid new within forgot = subst (λ (j : JournalView). length j.e
 -- an envelope was taken
 pub taken-envelope : (place : ActorIdentity) (old new : JournalView) (e : Entry) (envelope : Envelope) (reading : ℕ) (old_acts new_acts : List Act) (now : CellView) →
     IsOf envelope reading e → IsLonger old new e →
-    (let seen : CellView = record { who = identity_of place old.limit; journal = old.entries; acts = old_acts; is_ready = old.is_ready } in seen ≡ now) →
-    new_acts ≡ acts (identity_of place old.limit) old.entries e →
+    (let seen : CellView = record { who = identity_of place old.limit old.is_kept; journal = old.entries; acts = old_acts; is_ready = old.is_ready } in seen ≡ now) →
+    new_acts ≡ acts (identity_of place old.limit old.is_kept) old.entries e →
     TakesEnvelope now
-    (record { who = identity_of place new.limit; journal = new.entries; acts = new_acts; is_ready = new.is_ready }) envelope reading
+    (record { who = identity_of place new.limit new.is_kept; journal = new.entries; acts = new_acts; is_ready = new.is_ready }) envelope reading
 taken-envelope place old new e envelope reading old_acts new_acts now of_it added view_is acts_are = record {
   entry = e;
   of_it = of_it;
   adds = (λ i. record {
-    who = identity_of place (added i).limit;
+    who = identity_of place (added i).limit (added i).is_kept;
     journal = (added i).entries;
     acts = acts_are i;
     is_ready = new.is_ready;
@@ -197,14 +199,11 @@ taken-envelope place old new e envelope reading old_acts new_acts now of_it adde
 }
 
 -- the lists are short enough to make room for
-times-le : (p n : ℕ) → p ≤ 64 → (16 + p) * n ≤ 80 * n
-times-le p n few = grind arith
-
 pub record AreShort (cell_state : CellState) : Type 0 where
-  pub children : length cell_state.children < 2 ^ 44
-  pub watchers : length cell_state.watchers < 2 ^ 44
-  pub watching : length cell_state.watching < 2 ^ 44
-  pub fanout : cell_state.fanout < 2 ^ 44
+  pub children : length cell_state.children < 2 ^ 60
+  pub watchers : length cell_state.watchers < 2 ^ 61
+  pub watching : length cell_state.watching < 2 ^ 61
+  pub fanout : cell_state.fanout < 2 ^ 60
 
 pub lists-short : (who : Identity) (journal : List Entry) (gives : Moment → Reply → Type 0) (cell_state : CellState) (tray : OutboxView) →
     Agrees who journal gives cell_state tray → AreShort cell_state
@@ -212,9 +211,8 @@ lists-short who journal gives cell_state tray kept =
     let few = sizes who gives journal kept.lawful.entries in
     let within = kept.lawful.within_limit in
     let small = kept.small_limit in
-    let times = times-le (length who.prepared) (length journal) kept.few_prepared in
     let prepared = kept.few_prepared in
-    let by_children = few.children in
+    let by_children = children-few who gives journal kept.lawful in
     let by_watchers = few.watchers in
     let by_watching = few.watching in
     let same_fanout = kept.fanout in

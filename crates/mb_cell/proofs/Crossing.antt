@@ -8,7 +8,7 @@ use Rattle.std.proofs.marker.PhantomData.TheSendSync as phantom
 use Rattle.mb_actor.specs.declared.actor.Actor as actor
 use Rattle.mb_actor.specs.declared.behaviours.Behaviours as behaviours
 use Rattle.mb_actor.proofs.Crossing.{called_send, outbox_send}
-use Rattle.mb_journal.proofs.journal.Journal.TheSendSync as journal
+use Rattle.mb_journal.proofs.Crossing.{journal_send}
 use Rattle.mb_supervision.proofs.identity.ActorIdentity.TheSendSync as place
 use Rattle.mb_supervision.proofs.Crossing.{cell_state_send}
 use Rattle.mb_cell.specs.contracts.cell.Cell as cell
@@ -20,6 +20,6 @@ module _ (A K : RattleType) (gA : actor.Ghosts A.Denot) (gK : behaviours.Ghosts 
     place.the_send,
     (
       search (sendable, std_crosses, option.the_send, called) depth 20,
-      (journal.the_send, (cell_state_send, (outbox_send, (search sendable, (search (sendable, phantom.the_send) depth 20, tt))))),
+      (journal_send, (cell_state_send, (outbox_send, (search sendable, (search (sendable, phantom.the_send) depth 20, tt))))),
     ),
   ))

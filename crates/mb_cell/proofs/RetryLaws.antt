@@ -95,7 +95,7 @@ counted-few (pos n) times = by (nat_lt 0 n)
     by false = omega arith
 
 pub retries-small : (who : Identity) (journal : List Entry) (gives : Moment → Reply → Type 0) (cell_state : CellState) (tray : OutboxView) →
-    Agrees who journal gives cell_state tray → (y : ActorId) → retry_count_of cell_state.retries y < 2 ^ 60
+    Agrees who journal gives cell_state tray → (y : ActorId) → retry_count_of cell_state.retries y < 2 ^ 63
 retries-small who journal gives cell_state tray kept y =
     let few = requests-few who gives y kept.few_prepared journal kept.lawful.entries kept.lawful.within_limit in
     let counted = counted-few who.retries (times_in (requests who journal) y) in

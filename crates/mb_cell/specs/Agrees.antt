@@ -1,6 +1,6 @@
 -- What ties a cell's fields, which are changed in place, to its journal.
-use Rattle.std.specs.Prelude.{◌≡◌, ℕ, ◌^◌, ◌<◌, ◌≤◌, ℤ, Bool, false, List, [], length}
-use Rattle.mb_msg.specs.Limits.{most_actors}
+use Rattle.std.specs.Prelude.{◌≡◌, ℕ, ◌≤◌, ℤ, Bool, false, List, [], length}
+use Rattle.mb_msg.specs.Limits.{most_actors, most_entries}
 use Rattle.mb_msg.specs.declared.id.ActorId.{ActorId}
 use Rattle.mb_actor.specs.Behaviour.{Moment, Reply, AllowsSame}
 use Rattle.mb_actor.specs.OutboxView.{OutboxView}
@@ -55,7 +55,7 @@ pub record Agrees (who : Identity) (journal : List Entry) (gives : Moment → Re
   pub booked : cell_state ≡ cell_state_at who journal cell_state.retries cell_state.acts cell_state.fanout cell_state.is_ready
   pub outbox : tray ≡ record { effects = []; actors = who.actors; unspawned = unspawned who journal }
   pub fresh : phase who journal ≡ Fresh → IsNotStarted who journal
-  pub small_limit : who.limit < 2 ^ 32
+  pub small_limit : who.limit ≤ most_entries
   pub few_prepared : length who.prepared ≤ most_actors
   pub fanout : cell_state.fanout ≡ length who.prepared
   pub counted : (y : ActorId) → retry_count_of cell_state.retries y ≡ retry_count who journal y

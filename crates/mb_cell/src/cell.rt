@@ -1,8 +1,9 @@
 //! The cell: what it holds and what it shows.
 ghost use Rattle.std.specs.Prelude.{◌≡◌, ◌≢◌, ◌↔◌, ◌<◌, ◌≤◌, [], ◌∷◌, ◌++◌, length, map, option_to_list, true, false};
-ghost use Rattle.std.specs.Prelude.{IsTrue, IsSome, IsOk, IsErrOf, OnOk, OnErr, IfNone, IfSome, MatchOption, not, is_some, filter, if◌then◌else◌};
+ghost use Rattle.std.specs.Prelude.{IsTrue, IsSome, IsOk, IsErrOf, OnOk, OnErr, IfOk, IfNone, IfSome, MatchOption, not, is_some, filter, if◌then◌else◌};
 ghost use Rattle.std.specs.List.{All};
-ghost use Rattle.mb_msg.specs.Limits.{most_actors};
+ghost use Rattle.mb_msg.specs.JournalMode.{keeps_all};
+ghost use Rattle.mb_msg.specs.Limits.{most_actors, most_entries};
 ghost use Rattle.mb_actor.specs.Behaviour.{AllowsSame};
 ghost use Rattle.mb_actor.specs.OutboxView.{is_tell};
 ghost use Rattle.mb_journal.specs.Acts.{stop_acts};
@@ -37,10 +38,10 @@ mod watch;
 
 use mb_actor::{Actor, Behaviours, Effect, Outbox, Phase, RecordedActor};
 use mb_journal::{Journal, ReadyError};
-use mb_msg::{ActorId, Body, Strategy, SysMsg};
+use mb_msg::{ActorId, Body, JournalMode, Strategy, SysMsg};
 use mb_supervision::{Act, ActorIdentity, CellState};
 use mb_syslist::Node;
-use std::alloc::Global;
+use std::alloc::{AllocError, Global};
 use std::marker::{Model, PhantomData};
 
 /// An actor with its journal, or the guardian, which has no actor.
@@ -85,17 +86,17 @@ impl<A: Actor, K: Behaviours> Model for Cell<A, K> {
     ghost use Rattle.mb_supervision.specs.ActorIdentity.{identity_of};
 
     ghost view = { λ c. record {
-      who = identity_of c.place c.journal.limit;
+      who = identity_of c.place c.journal.limit c.journal.is_kept;
       journal = c.journal.entries;
       acts = unsent_acts c.unsent c.journal.entries ++ c.cell_state.acts;
       is_ready = c.journal.is_ready;
     } };
 
     ghost invariant = { λ c.
-        Agrees (identity_of c.place c.journal.limit) c.journal.entries (K.gives c.place.this.0) c.cell_state c.outbox
+        Agrees (identity_of c.place c.journal.limit c.journal.is_kept) c.journal.entries (K.gives c.place.this.0) c.cell_state c.outbox
         × (c.journal.is_ready ≡ true → c.cell_state.is_ready ≡ true)
-        × MatchOption c.actor (is_guardian (identity_of c.place c.journal.limit) ≡ true)
-        (λ a. FollowsBehaviour (identity_of c.place c.journal.limit) c.journal.entries (K.after c.place.this.0) (K.gives c.place.this.0)
+        × MatchOption c.actor (is_guardian (identity_of c.place c.journal.limit c.journal.is_kept) ≡ true)
+        (λ a. FollowsBehaviour (identity_of c.place c.journal.limit c.journal.is_kept) c.journal.entries (K.after c.place.this.0) (K.gives c.place.this.0)
         (A.after a.actor) (A.gives a.actor) (A.content a.actor) a.calls)
         × IsUnsent c.unsent c.journal.entries };
 }
@@ -103,7 +104,10 @@ impl<A: Actor, K: Behaviours> Model for Cell<A, K> {
 impl<A: Actor, K: Behaviours> Cell<A, K> {
     /// The cell of an actor that is not started yet, or of the guardian, which alone has no parent and no actor.
     /// `actors` is how many actors there are, `prepared` are the children that it may start, in order, and its journal
-    /// may have `journal_limit` entries. This takes no memory.
+    /// may have `journal_limit` entries.
+    ///
+    /// With a journal that keeps its entries this takes no memory. One that counts them takes all its memory here. The only error:
+    /// memory was refused. What was handed in is dropped then.
     pub fn new(
         alloc: Global,
         this: ActorId,
@@ -112,15 +116,17 @@ impl<A: Actor, K: Behaviours> Cell<A, K> {
         actor: Option<A>,
         prepared: Vec<ActorId>,
         strategy: Strategy,
-        journal_limit: u32,
-    ) -> Self
+        journal_mode: JournalMode,
+        journal_limit: u64,
+    ) -> Result<Self, AllocError>
         requires guardian { is_some actor ≡ is_some parent }
         requires within_limit { length prepared.items ≤ most_actors }
         requires numbered { All (λ x. x.0 < most_actors) prepared.items }
+        requires within_journal { journal_limit ≤ most_entries }
         requires unused { IfSome actor (λ a. A.content a ≡ A.after a []) }
         requires behaves { IfSome actor (λ a. A.after a ≡ K.after this.0) }
         requires allows { IfSome actor (λ a. AllowsSame (A.gives a) (K.gives this.0)) }
-        ensures fresh { result ≡ record {
+        ensures fresh { IfOk result (λ cell. cell ≡ record {
           who = record {
             this = this;
             parent = parent;
@@ -130,13 +136,16 @@ impl<A: Actor, K: Behaviours> Cell<A, K> {
             retries = strategy.retries;
             all_for_one = strategy.all_for_one;
             limit = journal_limit;
+            is_kept = keeps_all journal_mode;
           };
           journal = [];
           acts = [];
           is_ready = false;
-        } }
-        ensures lawful { IsLawful result.who (K.gives this.0) result.journal }
+        }) }
+        ensures lawful { IfOk result (λ cell. IsLawful cell.who (K.gives this.0) cell.journal) }
+        ensures never_short { keeps_all journal_mode ≡ true → IsOk result }
     {
+        let journal = Journal::new(alloc, journal_mode, journal_limit)?;
         let outbox = Outbox::new(actors, &prepared);
         let cell_state = CellState::new(alloc, prepared.len());
         let place = ActorIdentity {
@@ -146,9 +155,8 @@ impl<A: Actor, K: Behaviours> Cell<A, K> {
             prepared,
             strategy,
         };
-        let journal = Journal::new(alloc, journal_limit);
         let Some(actor) = actor else {
-            return Cell {
+            return Ok(Cell {
                 place,
                 actor: None,
                 outbox,
@@ -156,9 +164,9 @@ impl<A: Actor, K: Behaviours> Cell<A, K> {
                 journal,
                 cell_state,
                 behaviours: PhantomData,
-            };
+            });
         };
-        Cell {
+        Ok(Cell {
             place,
             actor: Some(RecordedActor::new(actor)),
             outbox,
@@ -166,7 +174,7 @@ impl<A: Actor, K: Behaviours> Cell<A, K> {
             journal,
             cell_state,
             behaviours: PhantomData,
-        }
+        })
     }
 
     /// Whether there is room for one message. It is one comparison, and takes no memory.
@@ -249,6 +257,7 @@ impl<A: Actor, K: Behaviours> Cell<A, K> {
           entries = self.now.journal;
           limit = self.now.who.limit;
           is_ready = self.now.is_ready;
+          is_kept = self.now.who.is_kept;
         } }
         ensures lawful { IsLawful self.now.who (K.gives self.now.who.this.0) self.now.journal }
     {

@@ -9,10 +9,10 @@ use crate::seen::{Given, are_aside, is_act, is_entry, is_numbered, is_standing};
 use crate::words::{body_of, system_of};
 use mb_actor::{Actor, Behaviours, Phase};
 use mb_cell::Cell;
-use mb_journal::ReadyError;
-use mb_msg::{ActorId, Body, Envelope, SenderId, Strategy, SysMsg};
+use mb_journal::{Journal, ReadyError};
+use mb_msg::{ActorId, Body, Envelope, JournalMode, SenderId, Strategy, SysMsg};
 use mb_status::Status;
-use std::alloc::Global;
+use std::alloc::{AllocError, Global};
 use std::marker::Model;
 use std::process::Abort;
 
@@ -52,8 +52,9 @@ impl<A: Actor, K: Behaviours> CellDriver<A, K> {
         actor: A,
         prepared: Vec<ActorId>,
         strategy: Strategy,
+        mode: JournalMode,
         limit: u32,
-    ) -> Self
+    ) -> Result<Self, AllocError>
         requires within_limit { length prepared.items ≤ most_actors }
         requires numbered { All (λ x. x.0 < most_actors) prepared.items }
         requires unused { A.content actor ≡ A.after actor [] }
@@ -68,15 +69,16 @@ impl<A: Actor, K: Behaviours> CellDriver<A, K> {
             Some(actor),
             prepared,
             strategy,
-            limit,
-        );
-        CellDriver {
+            mode,
+            limit as u64,
+        )?;
+        Ok(CellDriver {
             cell,
             next: 0,
             this,
             is_guardian: false,
             was_refused: false,
-        }
+        })
     }
 
     #[tactic(auto, unfolding(mb_journal::specs::Aside::next_number))]
@@ -84,24 +86,40 @@ impl<A: Actor, K: Behaviours> CellDriver<A, K> {
         alloc: Global,
         prepared: Vec<ActorId>,
         strategy: Strategy,
+        mode: JournalMode,
         limit: u32,
-    ) -> Self
+    ) -> Result<Self, AllocError>
         requires within_limit { length prepared.items ≤ most_actors }
         requires numbered { All (λ x. x.0 < most_actors) prepared.items }
     {
-        let cell = Cell::new(alloc, ActorId(0), 64, None, None, prepared, strategy, limit);
-        CellDriver {
+        let cell = Cell::new(
+            alloc,
+            ActorId(0),
+            64,
+            None,
+            None,
+            prepared,
+            strategy,
+            mode,
+            limit as u64,
+        )?;
+        Ok(CellDriver {
             cell,
             next: 0,
             this: 0,
             is_guardian: true,
             was_refused: false,
-        }
+        })
     }
 
     /// Whether nothing came to the cell yet: its actor is not started, and suspended once.
     pub(crate) fn is_fresh(&self) -> bool {
         matches!(self.cell.phase(), Phase::Fresh) && self.cell.count() == 1
+    }
+
+    /// The journal so far.
+    pub(crate) fn journal(&self) -> &Journal {
+        self.cell.journal()
     }
 
     /// Whether a `ready` was refused memory so far.

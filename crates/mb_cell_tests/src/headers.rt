@@ -8,7 +8,7 @@ use crate::cell_driver::CellDriver;
 use crate::scripted_actor::{ADD, Asked, Counting, ScriptedActor};
 use crate::words::{actor, asked_of, cause_of, first_word, number};
 use mb_msg::limits::ACTORS;
-use mb_msg::{ActorId, Cause, Directive, Pattern, Strategy};
+use mb_msg::{ActorId, Cause, Directive, JournalMode, Pattern, Strategy};
 use std::alloc::{AllocError, Global};
 use std::process::Abort;
 
@@ -20,16 +20,17 @@ pub(crate) fn cast<R: Abort>(
     rt: &R,
     alloc: Global,
     head: &str,
+    mode: JournalMode,
 ) -> Result<CellDriver<ScriptedActor, Counting>, AllocError> {
     let limit = number(part(head, "limit ")).unwrap_or(1000);
     let place = place_of(rt, head);
     let strategy = strategy_of(rt, alloc, head)?;
     let prepared = children_of(alloc, part(head, "children "))?;
     let Some((this, parent)) = place else {
-        return Ok(CellDriver::of_guardian(alloc, prepared, strategy, limit));
+        return CellDriver::of_guardian(alloc, prepared, strategy, mode, limit);
     };
     let player = scripted_actor_of(rt, head);
-    Ok(CellDriver::of(alloc, this, parent, player, prepared, strategy, limit))
+    CellDriver::of(alloc, this, parent, player, prepared, strategy, mode, limit)
 }
 
 /// The part of a head that begins with this name; empty where there is none.

@@ -1,6 +1,7 @@
 //! Memory that is refused: `tools/refuse_each_allocation cell` runs this with each allocation refused in turn.
 
-use crate::tables::play;
+use crate::tables::{Played, play};
+use mb_msg::JournalMode;
 use std::alloc::{AllocError, Global};
 use std::process::Abort;
 use std::test::Fail;
@@ -64,26 +65,25 @@ died 2 | none | - | ending 1 42
 died 3 | none | close, 0: died 1, 4: died 1 | ended 0 42
 ";
 
-/// Runs the table, again where memory was refused other than to a `ready`, which is retried at once: how many cases it
-/// has, and whether a `ready` was refused.
-fn play_at_last<R: Abort>(rt: &R, alloc: Global) -> Result<(u32, bool), AllocError> {
-    match play(rt, alloc, STORY) {
-        Err(_) => play(rt, alloc, STORY),
+/// Runs the table, again where memory was refused other than to a `ready`, which is retried at once.
+fn play_at_last<R: Abort>(rt: &R, alloc: Global) -> Result<Played, AllocError> {
+    match play(rt, alloc, STORY, JournalMode::Kept) {
+        Err(_) => play(rt, alloc, STORY, JournalMode::Kept),
         played => played,
     }
 }
 
 #[test]
 fn a_refused_ready_can_be_made_again(rt: HostRuntime) -> Result<(), Fail> {
-    let (cases, _) = play_at_last(&rt, rt.alloc())?;
-    assert!(rt; cases == 53);
+    let played = play_at_last(&rt, rt.alloc())?;
+    assert!(rt; played.cases == 53);
     Ok(())
 }
 
 /// Fails where a `ready` is refused, and so shows that the test above meets that.
 #[test]
 fn no_ready_is_refused(rt: HostRuntime) -> Result<(), Fail> {
-    let (_, was_refused) = play_at_last(&rt, rt.alloc())?;
-    assert!(rt; !was_refused);
+    let played = play_at_last(&rt, rt.alloc())?;
+    assert!(rt; !played.was_refused);
     Ok(())
 }

@@ -14,13 +14,16 @@ pub(crate) enum Given {
     Refused,
 }
 
-/// Whether the newest entry is of what was given, with this outcome, and its effects behind a `: `.
+/// Whether the newest entry is of what was given, with this outcome, and its effects behind a `: `. Of a journal that keeps no entries it is
+/// only seen whether it is full.
 pub(crate) fn is_entry(journal: &Journal, given: Given, text: &str) -> bool {
-    let entries = journal.len();
     let (outcome, effects) = text.split_once(": ").unwrap_or((text, ""));
-    match arrival_of(given, outcome) {
-        Some(arrival) if entries > 0 => {
-            let newest = journal.get(entries - 1);
+    if !journal.is_kept() {
+        return matches!(given, Given::Refused) == (text == "journal full");
+    }
+    let newest = journal.entry(journal.len().wrapping_sub(1));
+    match (arrival_of(given, outcome), newest) {
+        (Some(arrival), Some(newest)) => {
             newest.arrival == arrival && are_effects(newest.effects, effects)
         }
         _ => matches!(given, Given::Refused) && text == "journal full",

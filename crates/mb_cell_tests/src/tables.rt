@@ -4,12 +4,25 @@
 use crate::cell_driver::CellDriver;
 use crate::headers::cast;
 use mb_actor::{Actor, Behaviours};
+use mb_msg::JournalMode;
 use std::alloc::{AllocError, Global};
 use std::process::Abort;
 use std::test::Fail;
 
+/// What came of a table: how many cases it has, whether a `ready` was refused memory, and how many entries the journal has at the end, how
+/// many of them of envelopes and of restarts.
+#[derive(Clone, Copy, PartialEq, Eq)]
+pub(crate) struct Played {
+    pub(crate) cases: u32,
+    pub(crate) was_refused: bool,
+    pub(crate) entries: usize,
+    pub(crate) envelopes: usize,
+    pub(crate) restarts: usize,
+}
+
 /// Checks each case of each table, and that there are `count` cases. Tables are separated by empty lines. A case is a
-/// line with bars, a head is a line that begins with `actor` or `guardian`, and all other lines are comments.
+/// line with bars, a head is a line that begins with `actor` or `guardian`, and all other lines are comments. Each table is played with a
+/// journal that keeps its entries and with one that counts them, which has to count the same.
 pub(crate) fn each_case<R: Abort>(
     rt: &R,
     alloc: Global,
@@ -18,8 +31,10 @@ pub(crate) fn each_case<R: Abort>(
 ) -> Result<(), Fail> {
     let mut found: u32 = 0;
     for story in stories.split("\n\n") {
-        let (cases, _) = play(rt, alloc, story)?;
-        found = found.wrapping_add(cases);
+        let kept = play(rt, alloc, story, JournalMode::Kept)?;
+        let counted = play(rt, alloc, story, JournalMode::Counted)?;
+        assert!(rt; counted == kept);
+        found = found.wrapping_add(kept.cases);
     }
     assert!(rt; found == count);
     Ok(())
@@ -37,14 +52,15 @@ pub(crate) fn each_text<R: Abort>(
     Ok(())
 }
 
-/// Checks each case of one table, and answers how many it has, and whether a `ready` was refused.
+/// Checks each case of one table, with a journal of this mode.
 pub(crate) fn play<R: Abort>(
     rt: &R,
     alloc: Global,
     story: &str,
-) -> Result<(u32, bool), AllocError> {
+    mode: JournalMode,
+) -> Result<Played, AllocError> {
     let head = head_of(story);
-    let mut stage = cast(rt, alloc, head)?;
+    let mut stage = cast(rt, alloc, head, mode)?;
     Ok(go_through(rt, &mut stage, head, story))
 }
 
@@ -57,14 +73,13 @@ fn head_of(story: &str) -> &str {
     ""
 }
 
-/// Runs the cases of a table on a cell to which nothing came yet: how many there are, and whether a `ready` was
-/// refused.
+/// Runs the cases of a table on a cell to which nothing came yet.
 fn go_through<R: Abort, A: Actor, K: Behaviours>(
     rt: &R,
     stage: &mut CellDriver<A, K>,
     head: &str,
     story: &str,
-) -> (u32, bool) {
+) -> Played {
     assert!(rt; stage.is_fresh());
     let mut count: u32 = 0;
     for case in story.lines() {
@@ -73,7 +88,14 @@ fn go_through<R: Abort, A: Actor, K: Behaviours>(
             see_same(rt, stage.other_than(rt, case), case, head);
         }
     }
-    (count, stage.was_refused())
+    let journal = stage.journal();
+    Played {
+        cases: count,
+        was_refused: stage.was_refused(),
+        entries: journal.len(),
+        envelopes: journal.envelopes(),
+        restarts: journal.restarts(),
+    }
 }
 
 /// Checks that nothing else came of a case.

@@ -93,8 +93,11 @@ impl Sources {
     }
 }
 
-/// Keeps the parent of each actor that was spawned.
+/// Keeps the parent of each actor that was spawned. A journal without entries tells of none.
 fn note_spawns(parents: &mut Vec<u32>, id: u32, journal: &Journal) {
+    if !journal.is_kept() {
+        return;
+    }
     for index in 0..journal.len() {
         for effect in journal.get(index).effects {
             note_spawn(parents, id, *effect);

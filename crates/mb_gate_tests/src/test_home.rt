@@ -30,6 +30,7 @@ impl MailboxState for TestHome {
       retries = pos 0;
       all_for_one = false;
       limit = 0;
+      is_kept = false;
     } };
 
     ghost facts = { λ desk. record {

@@ -1,6 +1,7 @@
 -- Carrying out the acts of a lawful entry leads from the mailbox that the journal said before to the one that it says with that entry.
-use Rattle.std.proofs.Common.{◌≡◌, ℕ, ◌<◌, ◌≤◌, ◌^◌, Bool, true, false, List, [], ◌∷◌, ◌++◌, map, refl, sym, ap, ◌∙◌, subst, arith}
+use Rattle.std.proofs.Common.{◌≡◌, ℕ, ◌<◌, ◌≤◌, Bool, true, false, List, [], ◌∷◌, ◌++◌, map, refl, sym, ap, ◌∙◌, subst, arith}
 use Rattle.std.specs.Prelude.{not, nat_lt, ◌&&◌, ◌||◌, if◌then◌else◌, is_some, Option, None}
+use Rattle.mb_msg.specs.Limits.{most_entries}
 use Rattle.mb_status.specs.Mailbox.{Mailbox, most_suspensions, idle}
 use Rattle.mb_msg.specs.declared.id.ActorId.{ActorId}
 use Rattle.mb_msg.specs.declared.supervision.Cause.{Cause}
@@ -537,7 +538,7 @@ entry-not_ended who gives before (System number m SetAside) due = due.not_ended
 -- carrying out the acts of an entry leads from the mailbox before it to the mailbox with it
 pub acts-lead : (who : Identity) (gives : Moment → Reply → Type 0) (before : List Entry) (e : Entry) (m : Mailbox) →
     IsLawful who gives (e ∷ before) →
-    who.limit < 2 ^ 32 → idle m ≡ mailbox_at who before → Leads m (acts who before e) (mailbox_at who (e ∷ before))
+    who.limit ≤ most_entries → idle m ≡ mailbox_at who before → Leads m (acts who before e) (mailbox_at who (e ∷ before))
 unfolding AreLawful
 acts-lead who gives before e m lawful small same =
     let not_ended : closed who before ≡ false = entry-not_ended who gives before e lawful.entries.0 in

@@ -1,5 +1,6 @@
 -- How a message's acts change the mailbox, in the forms of the calls.
-use Rattle.std.proofs.Common.{◌≡◌, ℕ, ◌<◌, ◌^◌, [], sym, ap, subst}
+use Rattle.std.proofs.Common.{◌≡◌, ℕ, ◌≤◌, [], sym, ap, subst}
+use Rattle.mb_msg.specs.Limits.{most_entries}
 use Rattle.mb_status.specs.Mailbox.{Mailbox, idle}
 use Rattle.mb_msg.specs.declared.envelope.Envelope.{Envelope}
 use Rattle.mb_msg.specs.declared.system.SysMsg.{SysMsg}
@@ -15,7 +16,7 @@ use Rattle.mb_home.specs.Contents.{Contents}
 use Rattle.mb_home.specs.AgreesWithJournal.{AgreesWithJournal}
 use Rattle.mb_home.proofs.FoldLaw.{acts-lead}
 
-entry-leads : (old new : CellView) (gives : Moment → Reply → Type 0) (e : Entry) → old.who.limit < 2 ^ 32 →
+entry-leads : (old new : CellView) (gives : Moment → Reply → Type 0) (e : Entry) → old.who.limit ≤ most_entries →
     new ≡ record (with_entry old e) { is_ready = new.is_ready } →
     IsLawful new.who gives new.journal → (m : Mailbox) → idle m ≡ mailbox_at old.who old.journal → Leads m new.acts (mailbox_at new.who new.journal)
 entry-leads old new gives e small adds lawful m same =

@@ -1,7 +1,8 @@
 -- The status word that a journal says.
-use Rattle.std.proofs.Common.{◌≡◌, ℕ, ◌*◌, ◌<◌, ◌≤◌, ◌^◌, ◌==◌, ◌/◌, ◌%◌, false, List, arith}
+use Rattle.std.proofs.Common.{◌≡◌, ℕ, ◌*◌, ◌≤◌, ◌==◌, ◌/◌, ◌%◌, false, List, arith}
 use Rattle.std.specs.Prelude.{IsTrue}
 use Rattle.std.proofs.lemmas.Bool.Decides.{nat_tests}
+use Rattle.mb_msg.specs.Limits.{most_entries}
 use Rattle.mb_status.specs.Mailbox.{is_valid, mailbox_of, most_suspensions}
 use Rattle.mb_actor.specs.Behaviour.{Moment, Reply}
 use Rattle.mb_journal.specs.Entry.{Entry}
@@ -13,7 +14,7 @@ use Rattle.mb_cell.proofs.OpenLaws.{count-few}
 use Rattle.mb_home.proofs.FoldLaw.{count-closed}
 
 -- a lawful journal suspends no more often than a mailbox counts
-pub count_within : (who : Identity) (gives : Moment → Reply → Type 0) (journal : List Entry) → IsLawful who gives journal → who.limit < 2 ^ 32 →
+pub count_within : (who : Identity) (gives : Moment → Reply → Type 0) (journal : List Entry) → IsLawful who gives journal → who.limit ≤ most_entries →
     count who journal ≤ most_suspensions
 count_within who gives journal lawful small = omega (arith, count-few who journal, lawful.within_limit, small)
 

@@ -1,6 +1,7 @@
 -- When what is kept beside a cell agrees with its journal.
 use Rattle.std.specs.Prelude.{◌≡◌, ℕ, ◌+◌, ◌%◌, ◌^◌, ◌<◌, ◌≤◌, true, false, if◌then◌else◌, List, [], ◌∷◌, ◌++◌, All, length, map, drop, slice_get}
 use Rattle.std.specs.Prelude.{Some}
+use Rattle.mb_msg.specs.Limits.{most_entries}
 use Rattle.mb_msg.specs.declared.dead_letter.DeadLetter.{DeadLetter}
 use Rattle.mb_msg.specs.declared.dead_letter.Why.{Why}
 use Rattle.mb_msg.specs.declared.dead_letter.Why.TheVariants as why
@@ -26,7 +27,7 @@ use Rattle.mb_home.specs.Directory.{DirectoryEntry, queues_of, IsBounded}
 pub record IsOwn (h : Contents) : Type 0 where
   pub enrolled : slice_get h.directory h.cell.who.this.0 ≡ Some (record { who = h.cell.who; queue = h.take.queue; discipline = h.take.discipline })
   pub all_there : h.cell.who.actors ≡ length h.directory
-  pub within_limit : h.cell.who.limit < 2 ^ 32
+  pub within_limit : h.cell.who.limit ≤ most_entries
   pub not_zero : is_guardian h.cell.who ≡ false → 0 < h.cell.who.this.0
   pub queues : map (λ (p : SendPassView). p.queue) h.sends ≡ drop 1 (queues_of h.directory)
   pub by : All (λ (p : SendPassView). p.by ≡ h.cell.who.this.0) h.sends

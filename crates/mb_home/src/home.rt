@@ -1,5 +1,6 @@
 //! The home of an actor, and how it begins and ends.
-ghost use Rattle.std.specs.Prelude.{◌≡◌, ◌+◌, ◌%◌, ◌^◌, ◌<◌, [], All, map};
+ghost use Rattle.std.specs.Prelude.{◌≡◌, ◌+◌, ◌%◌, ◌^◌, ◌≤◌, [], All, map};
+ghost use Rattle.mb_msg.specs.Limits.{most_entries};
 ghost use Rattle.mb_queue.specs.Passes.{SendPassView};
 ghost use Rattle.mb_home.specs.AgreesWithJournal.{IsOwn, AgreesWithJournal};
 ghost use Rattle.mb_home.specs.Steps.{HasNoBacklog, at_first};
@@ -57,7 +58,8 @@ impl<A: Actor, K: Behaviours> Drop for Home<A, K> {
 }
 
 impl<A: Actor, K: Behaviours> Model for Home<A, K> {
-    ghost use Rattle.std.specs.Prelude.{◌≡◌, ◌-◌, ◌^◌, ◌<◌, ◌≤◌, map, true, vec_len, vec_capacity};
+    ghost use Rattle.std.specs.Prelude.{◌≡◌, ◌-◌, ◌≤◌, map, true, vec_len, vec_capacity};
+    ghost use Rattle.mb_msg.specs.Limits.{most_entries};
     ghost use Rattle.mb_home.specs.Contents.{Contents};
     ghost use Rattle.mb_home.specs.Steps.{most_tells};
 
@@ -77,7 +79,7 @@ impl<A: Actor, K: Behaviours> Model for Home<A, K> {
       directory = map (λ n. record { who = n.cell.value.who; queue = n.take.value.queue; discipline = n.take.value.discipline }) h.directory.value.items;
     } };
 
-    ghost invariant = { λ h. (h.id ≡ h.cell.who.this) × (h.cell.who.limit < 2 ^ 32)
+    ghost invariant = { λ h. (h.id ≡ h.cell.who.this) × (h.cell.who.limit ≤ most_entries)
         × (h.cell.is_ready ≡ true → most_tells ≤ vec_capacity h.dead - vec_len h.dead) };
 }
 
@@ -122,7 +124,7 @@ impl<A: Actor, K: Behaviours> Home<A, K> {
         ensures settled { AgreesWithJournal (K.gives cell.who.this.0) [] result }
         ensures no_backlog { HasNoBacklog result }
     {
-        // Its contract shows that the journal is lawful, and that its limit is a number of 32 bits.
+        // Its contract shows that the journal is lawful.
         let _ = cell.journal();
         Self::unused(alloc, id, cell, take, sends, directory)
     }
@@ -137,7 +139,7 @@ impl<A: Actor, K: Behaviours> Home<A, K> {
         directory: &Vec<EntrySnapshot<A, K>>,
     ) -> Self
         requires number { id ≡ cell.who.this }
-        requires within_limit { cell.who.limit < 2 ^ 32 }
+        requires within_limit { cell.who.limit ≤ most_entries }
         ensures { result ≡ at_first cell take sends.items result.room
             (map (λ n. record { who = n.cell.value.who; queue = n.take.value.queue; discipline = n.take.value.discipline }) directory.now.items) }
     {

@@ -1,5 +1,5 @@
 -- In a lawful journal each child stands at most as often as it was prepared.
-use Rattle.std.proofs.Common.{◌≡◌, ℕ, ◌+◌, ◌≤◌, Bool, true, false, cond, not, List, [], ◌∷◌, ◌++◌, filter, refl, sym, ap, subst, ◌∙◌, arith}
+use Rattle.std.proofs.Common.{◌≡◌, ℕ, ◌+◌, ◌<◌, ◌≤◌, Bool, true, false, cond, not, List, [], ◌∷◌, ◌++◌, filter, length, suc, refl, sym, ap, subst, ◌∙◌, arith}
 use Rattle.std.specs.Prelude.{◌&&◌, ◌||◌, if◌then◌else◌, Option, Some, None}
 use Rattle.std.specs.List.{list_all}
 use Rattle.std.proofs.lemmas.List.Sums.{sum_by-cons, sum_by-append}
@@ -23,7 +23,7 @@ use Rattle.mb_journal.specs.Lawful.{AreLawful, IsLawful, IsLawfulEntry, IsGiven,
 use Rattle.mb_journal.specs.Life.{children, spawned, has_start, is_create, is_start}
 use Rattle.mb_journal.specs.Newest.{times_in}
 use Rattle.mb_journal.proofs.ChildrenLaw.{children-step}
-use Rattle.mb_journal.proofs.Kept.{same-is, times-has}
+use Rattle.mb_journal.proofs.Kept.{same-is, self-same, times-has}
 
 -- ---- how often an actor is in a list
 
@@ -212,3 +212,40 @@ children-within who gives journal x lawful = by_kind (is_guardian who) refl
     by_kind : (b : Bool) → is_guardian who ≡ b → times_in (children who journal) x ≤ times_in who.prepared x
     by_kind true guards = below (has_start journal) _ _ (guardian-within who guards x journal)
     by_kind false an_actor = let within = actor-within who gives an_actor x journal lawful.entries in omega (arith, within)
+
+-- ---- how many children there are
+
+-- the list without one place of this actor
+abbrev IsLess : ActorId → List ActorId → List ActorId → Type 0
+IsLess x list left = ((z : ActorId) → times_in list z ≡ cond (is_same z x) 1 0 + times_in left z) × (length list ≡ suc (length left))
+
+one-less : (x : ActorId) (list : List ActorId) → 0 < times_in list x → (left : List ActorId) × IsLess x list left
+one-less x [] there = absurd (omega (arith, there))
+one-less x (y ∷ list) there = step (is_same x y) refl (one-less x list)
+  where
+    step : (b : Bool) → is_same x y ≡ b → (0 < times_in list x → (left : List ActorId) × IsLess x list left) →
+        (left : List ActorId) × IsLess x (y ∷ list) left
+    step true same less =
+        (list, ((λ z. times-cons z y list ∙ ap {B = ℕ} (λ w. cond (is_same z w) 1 0 + times_in list z) (sym (same-is x y same))), refl))
+    step false other less =
+        let more = times-cons x y list in
+        let none = ap {B = ℕ} (λ b. cond b 1 0) other in
+        let rest = less (omega (arith, more, none, there)) in (
+          y ∷ rest.0,
+          ((λ z. omega (arith, times-cons z y list, rest.1.0 z, times-cons z y rest.0)), ap suc rest.1.1),
+        )
+
+-- where each is at most as often in a list as in another, it is no longer
+times-length : (list all : List ActorId) → ((z : ActorId) → times_in list z ≤ times_in all z) → length list ≤ length all
+times-length [] all within = omega arith
+times-length (x ∷ list) all within =
+    let here = times-cons x x list in
+    let own = ap {B = ℕ} (λ b. cond b 1 0) (self-same x) in
+    let less = one-less x all (omega (arith, within x, here, own)) in
+    let rest = times-length list less.0 (λ z. omega (arith, within z, times-cons z x list, less.1.0 z)) in
+    omega (arith, rest, less.1.1)
+
+-- there are no more children than were prepared
+pub children-few : (who : Identity) (gives : Moment → Reply → Type 0) (journal : List Entry) → IsLawful who gives journal →
+    length (children who journal) ≤ length who.prepared
+children-few who gives journal lawful = times-length (children who journal) who.prepared (λ z. children-within who gives journal z lawful)

@@ -50,6 +50,7 @@ supervising rows retries all_for_one = record {
   retries = retries;
   all_for_one = all_for_one;
   limit = 100;
+  is_kept = true;
 }
 
 abbrev an_actor : List (Pattern × Directive) → Identity
@@ -126,6 +127,7 @@ the_guardian = record {
   retries = no_limit;
   all_for_one = false;
   limit = 100;
+  is_kept = true;
 }
 
 -- what the actor was given to handle

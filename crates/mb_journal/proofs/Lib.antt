@@ -2,9 +2,11 @@ pub mod AsideLaw
 pub mod ChildrenLaw
 pub mod ChildrenOnce
 pub mod CountLemmas
+mod CountedLemmas
 pub mod Counting
 pub mod CreateLemmas
 pub mod CreateSteps
+pub mod Crossing
 pub mod DiedSteps
 pub mod DueLaw
 pub mod EntryCounts

@@ -5,6 +5,7 @@ use Rattle.std.proofs.lemmas.List.{get_or_append_left, get_or-map, length-append
 use Rattle.std.proofs.lemmas.List.Elements.{All-get_or, All-head, All-push, All-tail, All-weaker}
 use Rattle.mb_actor.specs.declared.effect.Effect.{Effect}
 use Rattle.mb_journal.specs.JournalView.{entry_with}
+use Rattle.mb_journal.specs.KeptEntriesView.{KeptEntriesView}
 use Rattle.mb_journal.specs.Rows.{WholeRow, needs, whole}
 use Rattle.mb_journal.specs.Stored.{listed, StandInOrder, start_of}
 use Rattle.mb_journal.specs.declared.entry.Received.{Received}
@@ -16,6 +17,16 @@ use Rattle.mb_journal.proofs.StoredLemmas.{length-entries, range-of-row, entry-o
 pub length-rows : (wide : List Received) (rows : List Row) (effects : List Effect) →
     length (reverse (listed 0 (map (whole wide) rows) effects)) ≡ length rows
 length-rows wide rows effects = length-entries (map (whole wide) rows) effects ∙ length-map rows (whole wide)
+
+-- where there is room for another entry, there is a place for another row
+pub place-left : (wide : List Received) (rows : List Row) (effects : List Effect) (places : ℕ) (now : KeptEntriesView) →
+    (let seen : KeptEntriesView = record { entries = reverse (listed 0 (map (whole wide) rows) effects); places = places } in seen ≡ now) →
+    length now.entries < now.places → length rows < places
+place-left wide rows effects places now view_is room =
+    let same = length-rows wide rows effects in
+    let entries = ap (λ (k : KeptEntriesView). length k.entries) view_is in
+    let all = ap (λ (k : KeptEntriesView). k.places) view_is in
+    omega (arith, same, entries, all, room)
 
 -- what a row says stays the same
 whole-longer : (wide more : List Received) (r : Row) → needs r ≤ length wide → whole (wide ++ more) r ≡ whole wide r

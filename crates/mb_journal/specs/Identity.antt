@@ -6,8 +6,8 @@ use Rattle.mb_msg.specs.declared.strategy.Pattern.{Pattern}
 
 -- its number; its parent, which the guardian alone does not have (Akka's `ActorContext.parent`); how many actors there are;
 -- the children that it may start, in order; its supervision strategy, how often a child may be restarted, and whether a
--- directive is for all children (Akka's `OneForOneStrategy` and `AllForOneStrategy` with `maxNrOfRetries`); and how many
--- entries its journal may have
+-- directive is for all children (Akka's `OneForOneStrategy` and `AllForOneStrategy` with `maxNrOfRetries`); how many
+-- entries its journal may have; and whether its journal keeps them, so that they can be read
 pub record Identity : Type 0 where
   pub this : ActorId
   pub parent : Option ActorId
@@ -17,6 +17,7 @@ pub record Identity : Type 0 where
   pub retries : ℤ
   pub all_for_one : Bool
   pub limit : ℕ
+  pub is_kept : Bool
 
 -- the actor is the guardian (Akka's user guardian), which is above all others and is not an object of the user's
 abbrev pub is_guardian : Identity → Bool

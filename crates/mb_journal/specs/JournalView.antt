@@ -8,11 +8,13 @@ use Rattle.mb_journal.specs.declared.entry.Received.{Received}
 use Rattle.mb_journal.specs.declared.entry.Received.TheVariants as arrival
 use Rattle.mb_journal.specs.declared.entry.EntryRef.{EntryRef}
 
--- the entries, the newest first; how many there may be; and whether there is room for one more with all its effects
+-- the entries, the newest first; how many there may be; whether there is room for one more with all its effects; and whether
+-- they are kept, so that they can be read, or stand in proofs alone
 pub record JournalView : Type 0 where
   pub entries : List Entry
   pub limit : ℕ
   pub is_ready : Bool
+  pub is_kept : Bool
 
 -- an entry, of what came and its effects
 abbrev pub entry_with : Received → List Effect → Entry

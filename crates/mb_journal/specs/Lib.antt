@@ -2,15 +2,18 @@ pub mod Accepted
 pub mod ActorList
 pub mod Acts
 pub mod Aside
+pub mod CountedEntries
 pub mod Counts
 pub mod Effects
 pub mod Entry
+pub mod EntryList
 pub mod Failure
 pub mod Events
 pub mod Fates
 pub mod Identity
 pub mod Incarnation
 pub mod JournalView
+pub mod KeptEntriesView
 pub mod Lawful
 pub mod Life
 pub mod Members
@@ -23,6 +26,7 @@ pub mod Remaining
 pub mod Retries
 pub mod Rows
 pub mod Run
+pub mod Store
 pub mod Stored
 pub mod Supervision
 pub mod Suspension

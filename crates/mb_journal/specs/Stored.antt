@@ -1,12 +1,11 @@
 -- How the rows of a journal keep its entries: one after another, and all their effects in one list beside them.
-use Rattle.std.specs.Prelude.{◌≡◌, ℕ, zero, suc, ◌+◌, ◌-◌, ◌*◌, ◌≤◌, List, [], ◌∷◌, All, length, map, reverse, slice_range, vec_len, vec_capacity}
+use Rattle.std.specs.Prelude.{◌≡◌, ℕ, zero, suc, ◌+◌, ◌-◌, ◌*◌, ◌≤◌, List, [], ◌∷◌, All, length, map, slice_range, vec_len, vec_capacity}
 use Rattle.mb_msg.specs.Limits.{most_effects}
 use Rattle.mb_actor.specs.declared.effect.Effect.{Effect}
 use Rattle.mb_journal.specs.Entry.{Entry}
-use Rattle.mb_journal.specs.Counts.{AreCountsOf}
 use Rattle.mb_journal.specs.JournalView.{entry_with}
 use Rattle.mb_journal.specs.Rows.{WholeRow, needs, whole}
-use Rattle.mb_journal.specs.declared.journal.Journal.TheInside.{Inside}
+use Rattle.mb_journal.specs.declared.kept_entries.KeptEntries.TheInside.{Inside}
 
 -- the entries of rows, the earliest first, each with its effects; those of the first begin at this index
 unfoldable pub listed : ℕ → List WholeRow → List Effect → List Entry
@@ -28,16 +27,11 @@ start_of from (row ∷ rows) (suc i) = start_of row.end rows i
 abbrev pub rows_of : Inside → List WholeRow
 rows_of j = map (whole j.wide.items) j.rows.items
 
--- what holds of the rows and effects of a journal at rest: the effects of the rows are those of the list, what they say is there, and there are
--- no more rows than there may be; up to the number of places, which is within the limit and no less than that of the entries that are prepared, there
--- is room for a row, wide or not, and all the effects of a call; and the counts are those of the entries
+-- what holds of the rows and effects of kept entries at rest: the effects of the rows are those of the list, and what they say is there; and up to
+-- the number of places there is room for a row, wide or not, and all the effects of a call
 pub record IsStored (j : Inside) : Type 0 where
   pub in_order : StandInOrder 0 (rows_of j) (length j.effects.items)
   pub there : All (λ row. needs row ≤ length j.wide.items) j.rows.items
-  pub within : vec_len j.rows ≤ j.limit
-  pub prepared_within : j.prepared ≤ j.places
-  pub places_within : j.places ≤ j.limit
   pub row_room : j.places ≤ vec_capacity j.rows
   pub wide_room : vec_len j.wide + (j.places - vec_len j.rows) ≤ vec_capacity j.wide
   pub effect_room : vec_len j.effects + most_effects * (j.places - vec_len j.rows) ≤ vec_capacity j.effects
-  pub counted : AreCountsOf (reverse (listed 0 (rows_of j) j.effects.items)) j.counts

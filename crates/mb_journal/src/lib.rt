@@ -10,15 +10,19 @@
 //! and a take gave none, what the receiver took, and what each sender was answered. Nothing here runs.
 #![tactic(auto)]
 
+mod counted_entries;
 mod counts;
+mod entries;
 mod entry;
 mod error;
 mod failed_by;
 mod journal;
+mod kept_entries;
 mod laws;
 mod query_laws;
 mod row;
 mod sent_envelope;
+mod store;
 
 pub use entry::{EntryRef, Received};
 pub use error::ReadyError;

@@ -116,12 +116,12 @@ module _ (h : RunState) (new : Contents) (ready : Bool) (room : ℕ)
 
 -- a count of system messages fits
 pub systems-fit : (gives : ℕ → Moment → Reply → Type 0) (origin : Origin (Box Contents)) (seen : List Observation) (h : RunState) (pending : List Act)
-    (turn : Turn) → IsRunning gives origin pending seen h → CountsRun h turn → turn.system < 2 ^ 32
+    (turn : Turn) → IsRunning gives origin pending seen h → CountsRun h turn → turn.system < 2 ^ 60
 systems-fit gives origin seen h pending turn r t =
     omega (arith, t.system, systems-few h.home.cell.journal, r.settled.lawful.within_limit, r.settled.is_own.within_limit)
 
 -- and so does a count of envelopes
 pub envelopes-fit : (gives : ℕ → Moment → Reply → Type 0) (origin : Origin (Box Contents)) (seen : List Observation) (h : RunState) (pending : List Act)
-    (turn : Turn) → IsRunning gives origin pending seen h → CountsRun h turn → turn.envelopes < 2 ^ 32
+    (turn : Turn) → IsRunning gives origin pending seen h → CountsRun h turn → turn.envelopes < 2 ^ 60
 envelopes-fit gives origin seen h pending turn r t =
     omega (arith, blocks-few h.home.cell.who h.before h.home.cell.journal turn.envelopes t.blocks, r.settled.lawful.within_limit, r.settled.is_own.within_limit)

@@ -3,6 +3,7 @@ use Rattle.std.proofs.Common.{◌≡◌, ◌≤◌, ◌==◌, if◌then◌else�
 use Rattle.std.proofs.Common.{arith}
 use Rattle.std.specs.Prelude.{IsTrue, not, nat_lt, nat_le, ◌&&◌}
 use Rattle.std.proofs.lemmas.Bool.Decides.{nat_tests}
+use Rattle.mb_msg.specs.Limits.{most_entries}
 use Rattle.mb_status.specs.Mailbox.{Mailbox, word_of, mailbox_of, idle, should_process, is_valid, is_possible, most_suspensions}
 use Rattle.mb_actor.specs.Behaviour.{Moment, Reply}
 use Rattle.mb_journal.specs.Entry.{Entry}
@@ -63,7 +64,7 @@ module _ (m : Mailbox) (who : Identity) (journal : List Entry) (same : idle m �
       }
 
   -- it was suspended, and its word is not open
-  pub shut-reading : (gives : Moment → Reply → Type 0) → IsLawful who gives journal → who.limit < 2 ^ 32 → m.closed ≡ false →
+  pub shut-reading : (gives : Moment → Reply → Type 0) → IsLawful who gives journal → who.limit ≤ most_entries → m.closed ≡ false →
       should_process m ≡ false → IsShut who journal (word_of m)
   shut-reading gives lawful small open_yet t =
       let few : m.count ≤ most_suspensions = let n = count_within who gives journal lawful small in omega (arith, n, count-same) in

@@ -1,3 +1,4 @@
+pub mod JournalMode
 pub mod Limits
 pub mod Payload
 pub mod Sender

@@ -1,5 +1,6 @@
 //! The plan of a system.
 use crate::actor_plan::ActorPlan;
+use crate::journal_mode::JournalMode;
 use crate::pool_kind::PoolKind;
 
 /// What a system is built from. Actor n + 1 is built from `actors[n]`: number 0 is the guardian.
@@ -13,8 +14,10 @@ pub struct Plan {
     pub pool: PoolKind,
     /// How many senders outside the actors there are, up to 16.
     pub senders: u32,
-    /// How many entries the journal of each actor may have, at least 1.
-    pub journal_limit: u32,
+    /// What the journal of each actor keeps.
+    pub journal: JournalMode,
+    /// How many entries the journal of each actor may have, from 1 to 2^56.
+    pub journal_limit: u64,
     /// The actors beside the guardian, at most 63.
     pub actors: Vec<ActorPlan>,
 }

@@ -9,7 +9,7 @@ use mb_actor::Answer;
 use mb_actor::Phase::{self, Broken, Ended, Live};
 use mb_journal::Journal;
 use mb_msg::Why::{self, Closed, Full};
-use mb_msg::{ActorId, Body, DeadLetter, Envelope, SenderId, SysMsg};
+use mb_msg::{ActorId, Body, DeadLetter, Envelope, JournalMode, SenderId, SysMsg};
 use mb_report::{ActorReport, Report, SenderReport};
 use mb_testkit::{ADD, COUNTER, Order, PLAIN, TestCase, is_right, plan_of, sends_of, stop, tell};
 use std::alloc::{AllocError, Global};
@@ -238,7 +238,7 @@ fn sender(alloc: Global, sent: u64) -> SenderReport {
 
 /// An actor that was started by the system message of this number, and did nothing else.
 fn started(alloc: Global, number: u64, answer: Option<Answer>) -> Result<ActorReport, AllocError> {
-    let mut journal = Journal::new(alloc, 100);
+    let mut journal = Journal::new(alloc, JournalMode::Kept, 100)?;
     apply(&mut journal, number, SysMsg::Create, answer)?;
     Ok(ActorReport {
         phase: Live,

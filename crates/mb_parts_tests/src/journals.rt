@@ -1,11 +1,13 @@
-//! Tests of journals, which are read back entry by entry and keep to their limit, and of strategies, which decide by
-//! their first row that matches.
+//! Tests of journals, which are read back entry by entry or count their entries, and keep to their limit, and of strategies, which
+//! decide by their first row that matches.
 ghost use Rattle.std.specs.Prelude.{◌≡◌, ◌≤◌, true, length};
 
 use crate::seen::see_nth;
 use mb_actor::{Answer, Effect};
 use mb_journal::{EntryRef, Journal, ReadyError, Received};
-use mb_msg::{ActorId, Body, Cause, Directive, Envelope, Pattern, SenderId, Strategy, SysMsg};
+use mb_msg::{
+    ActorId, Body, Cause, Directive, Envelope, JournalMode, Pattern, SenderId, Strategy, SysMsg,
+};
 use std::alloc::{AllocError, Global};
 use std::process::Abort;
 use std::test::Fail;
@@ -225,9 +227,17 @@ fn push(rt: &impl Abort, journal: &mut Journal, told: &Told) {
     }
 }
 
+/// A new journal. Where memory is refused for it, the same call again succeeds.
+fn new_journal(rt: &impl Abort, alloc: Global, mode: JournalMode, limit: u64) -> Journal {
+    match Journal::new(alloc, mode, limit) {
+        Ok(journal) => journal,
+        Err(_) => Journal::new(alloc, mode, limit).expect(rt, "there is memory again"),
+    }
+}
+
 /// A journal with these entries.
-fn journal_of(rt: &impl Abort, alloc: Global, entries: &[Told]) -> Journal {
-    let mut journal = Journal::new(alloc, 100);
+fn journal_of(rt: &impl Abort, alloc: Global, mode: JournalMode, entries: &[Told]) -> Journal {
+    let mut journal = new_journal(rt, alloc, mode, 100);
     assert!(rt; journal.is_empty() && !journal.is_full());
     for told in entries {
         push(rt, &mut journal, told);
@@ -237,22 +247,23 @@ fn journal_of(rt: &impl Abort, alloc: Global, entries: &[Told]) -> Journal {
 
 /// Whether the entry of this number is as it was added.
 fn is_read_back(journal: &Journal, index: usize, told: &Told) -> bool {
-    if index >= journal.len() {
-        return false;
-    }
     let (arrival, effects) = *told;
-    let entry = journal.get(index);
+    let Some(entry) = journal.entry(index) else {
+        return false;
+    };
     entry.arrival == arrival && entry.effects == effects
 }
 
 #[test]
 fn entries_are_read_back(rt: HostRuntime) {
-    are_read_back(&rt, &journal_of(&rt, rt.alloc(), ENTRIES), ENTRIES);
+    let journal = journal_of(&rt, rt.alloc(), JournalMode::Kept, ENTRIES);
+    are_read_back(&rt, &journal, ENTRIES);
 }
 
 #[test]
 fn entries_with_great_numbers_are_read_back(rt: HostRuntime) {
-    are_read_back(&rt, &journal_of(&rt, rt.alloc(), GREAT), GREAT);
+    let journal = journal_of(&rt, rt.alloc(), JournalMode::Kept, GREAT);
+    are_read_back(&rt, &journal, GREAT);
 }
 
 /// Checks that the journal has these entries, and no others.
@@ -265,8 +276,10 @@ fn are_read_back(rt: &impl Abort, journal: &Journal, entries: &[Told]) {
 
 #[test]
 fn the_limit_is_kept(rt: HostRuntime) {
-    is_full_after(&rt, &mut Journal::new(rt.alloc(), 1), 1);
-    is_full_after(&rt, &mut Journal::new(rt.alloc(), 2), 2);
+    for mode in [JournalMode::Kept, JournalMode::Counted] {
+        is_full_after(&rt, &mut new_journal(&rt, rt.alloc(), mode, 1), 1);
+        is_full_after(&rt, &mut new_journal(&rt, rt.alloc(), mode, 2), 2);
+    }
 }
 
 /// Checks that a new journal has room for this many entries, and no more.
@@ -281,13 +294,28 @@ fn is_full_after(rt: &impl Abort, journal: &mut Journal, entries: u64) {
 
 #[test]
 fn a_long_journal_keeps_its_entries(rt: HostRuntime) {
-    let mut journal = Journal::new(rt.alloc(), 4_294_967_295);
+    let mut journal = new_journal(&rt, rt.alloc(), JournalMode::Kept, 4_294_967_295);
     for number in 0..200 {
         handle(&rt, &mut journal, add(number, 5), TOLD);
     }
     assert!(rt; journal.len() == 200);
     for index in 0..journal.len() {
-        tells_of(&rt, &journal.get(index), index as u64);
+        let entry = journal.entry(index).expect(&rt, "an entry");
+        tells_of(&rt, &entry, index as u64);
+    }
+}
+
+/// Both journals of these entries have the same counts; one has the entries too.
+#[test]
+fn a_journal_that_counts_its_entries_has_their_counts(rt: HostRuntime) {
+    for entries in [ENTRIES, GREAT] {
+        let kept = journal_of(&rt, rt.alloc(), JournalMode::Kept, entries);
+        let counted = journal_of(&rt, rt.alloc(), JournalMode::Counted, entries);
+        assert!(rt; kept.is_kept() && !counted.is_kept());
+        assert!(rt; kept.entry(0).is_some() && counted.entry(0).is_none());
+        assert!(rt; counted.len() == kept.len());
+        assert!(rt; counted.envelopes() == kept.envelopes());
+        assert!(rt; counted.restarts() == kept.restarts());
     }
 }
 

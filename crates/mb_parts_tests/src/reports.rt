@@ -3,7 +3,7 @@ ghost use Rattle.std.specs.Prelude.{◌≡◌, ◌+◌, IfSome, length};
 
 use mb_actor::{Answer, Phase};
 use mb_journal::Journal;
-use mb_msg::{ActorId, Body, Cause, DeadLetter, Envelope, SenderId, SysMsg, Why};
+use mb_msg::{ActorId, Body, Cause, DeadLetter, Envelope, JournalMode, SenderId, SysMsg, Why};
 use mb_report::{ActorReport, Report, SenderReport, report_text};
 use std::alloc::{AllocError, Global};
 use std::test::Fail;
@@ -31,9 +31,14 @@ fn quiet(alloc: Global, phase: Phase, state: Option<i64>, journal: Journal) -> A
     }
 }
 
+/// A journal without entries.
+fn empty(alloc: Global) -> Option<Journal> {
+    Journal::new(alloc, JournalMode::Kept, 9).ok()
+}
+
 /// A journal with two envelopes, of which one was dropped, and one restart.
 fn journal_of_one_restart(alloc: Global) -> Option<Journal> {
-    let mut journal = Journal::new(alloc, 9);
+    let mut journal = empty(alloc)?;
     start_and_fail(&mut journal)?;
     restart(&mut journal)?;
     Some(journal)
@@ -73,7 +78,7 @@ fn ended(alloc: Global) -> Option<ActorReport> {
 
 /// A broken actor, to which two envelopes are left.
 fn broken(alloc: Global) -> Option<ActorReport> {
-    let mut actor = quiet(alloc, Phase::Broken, Some(7), Journal::new(alloc, 9));
+    let mut actor = quiet(alloc, Phase::Broken, Some(7), empty(alloc)?);
     actor.count = 3;
     actor.left.push(envelope(2, 5)).ok()?;
     actor.left.push(envelope(2, 6)).ok()?;
@@ -86,7 +91,7 @@ fn actors(alloc: Global) -> Option<Vec<ActorReport>>
 {
     let first = ended(alloc)?;
     let second = broken(alloc)?;
-    let guardian = quiet(alloc, Phase::Live, None, Journal::new(alloc, 9));
+    let guardian = quiet(alloc, Phase::Live, None, empty(alloc)?);
     vec![in alloc; guardian, first, second].ok()
 }
 

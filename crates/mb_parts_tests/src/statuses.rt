@@ -84,4 +84,4 @@ fn first_words(rt: HostRuntime) {
 }
 
 /// Words, and whether they are a status.
-const WORDS: &[(u64, bool)] = &[(3, false), ((1 << 34) + 4, false), (1 << 34, true)];
+const WORDS: &[(u64, bool)] = &[(3, false), ((1 << 62) + 4, false), (1 << 62, true)];

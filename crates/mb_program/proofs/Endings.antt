@@ -2,6 +2,7 @@
 use Rattle.std.proofs.Common.{◌≡◌, ℕ, Bool, true, false, ◌||◌, List, take, Option, Some, None, IfSome, refl, sym, subst, inl, ap, ◌∙◌}
 use Rattle.std.proofs.Common.{inr, Result, Ok, Err, IfOk, IfErr, String, string_bytes}
 use Rattle.std.specs.declared.alloc.Global.{Global}
+use Rattle.mb_msg.specs.declared.journal_mode.JournalMode.{JournalMode}
 use Rattle.mb_scenario.specs.declared.read_error.ReadError.{ReadError}
 use Rattle.mb_scenario.specs.declared.read_error.ReadError.TheVariants.{NoMemory, NotToml, BadScenario}
 use Rattle.mb_streams.specs.ProgramError.{error_line, exit_status}
@@ -21,17 +22,17 @@ use Rattle.mb_program.proofs.Refusals.{read_not_refused}
 
 -- what a run with another status than 0 promises, of its result, its arguments, what the reader has and whether it failed, the
 -- writer, and what was said
-abbrev pub HasFailed : (W : Type 0) → (W → Option (List ℕ)) → ℕ → ℕ → Option (List ℕ) → Bool → Watching W → Watching W →
+abbrev pub HasFailed : JournalMode → (W : Type 0) → (W → Option (List ℕ)) → ℕ → ℕ → Option (List ℕ) → Bool → Watching W → Watching W →
     Option (List ℕ) → Option (List ℕ) → Bool → Type 0
-HasFailed W contents result arguments known read_failed old new said_old said_new errors_failed =
+HasFailed journal W contents result arguments known read_failed old new said_old said_new errors_failed =
     (failure : ProgramError) × (result ≡ exit_status failure) × IsMet arguments known (read_failed || new.failed) failure
-    × IsCutShort contents known old new × IsLineSaid said_old said_new errors_failed (error_line failure)
+    × IsCutShort journal contents known old new × IsLineSaid said_old said_new errors_failed (error_line failure)
 
 -- what has a report is not refused
-answered_not_refused : (A : Type 0) → (known : Option (List ℕ)) (report : List ℕ) → IsAnswer known report →
+answered_not_refused : (journal : JournalMode) (A : Type 0) → (known : Option (List ℕ)) (report : List ℕ) → IsAnswer journal known report →
     IfSome known (λ input. (failure : ProgramError) → IsAtFault (take most_read input) failure → A)
-answered_not_refused A None report answer = tt
-answered_not_refused A (Some input) report answer = λ failure refused.
+answered_not_refused journal A None report answer = tt
+answered_not_refused journal A (Some input) report answer = λ failure refused.
     let read : answer.0 ≡ take most_read input = answer.1 in
     absurd (read_not_refused answer.0 answer.2.0 failure answer.2.1 (subst (λ (t : List ℕ). IsRefused t failure) (sym read) refused.0)
     refused.1)
@@ -87,11 +88,11 @@ or_true true b e = refl
 or_true false b e = e
 
 -- a run that failed before anything was written
-failed_before : (W : Type 0) → (contents : W → Option (List ℕ)) → (failure : ProgramError) (result arguments : ℕ) (known : Option (List ℕ)) (read_failed : Bool)
+failed_before : (journal : JournalMode) (W : Type 0) → (contents : W → Option (List ℕ)) → (failure : ProgramError) (result arguments : ℕ) (known : Option (List ℕ)) (read_failed : Bool)
     (old new : Watching W) (said_old said_new : Option (List ℕ)) (errors_failed : Bool) → old.failed ≡ false → new ≡ old →
     IsMet arguments known read_failed failure → IsRefusal failure result said_old said_new errors_failed →
-    HasFailed W contents result arguments known read_failed old new said_old said_new errors_failed
-failed_before W contents failure result arguments known read_failed old new said_old said_new errors_failed none unwritten met refusal = (
+    HasFailed journal W contents result arguments known read_failed old new said_old said_new errors_failed
+failed_before journal W contents failure result arguments known read_failed old new said_old said_new errors_failed none unwritten met refusal = (
   refusal.0,
   refusal.2,
   subst (λ (b : Bool). IsMet arguments known b refusal.0) (sym (or_false read_failed new.failed (ap (λ (w : Watching W). w.failed) unwritten ∙ none)))
@@ -101,12 +102,12 @@ failed_before W contents failure result arguments known read_failed old new said
 )
 
 -- a run whose report could not be written
-failed_writing : (W : Type 0) → (contents : W → Option (List ℕ)) → (result arguments : ℕ) (known : Option (List ℕ)) (read_failed : Bool)
+failed_writing : (journal : JournalMode) (W : Type 0) → (contents : W → Option (List ℕ)) → (result arguments : ℕ) (known : Option (List ℕ)) (read_failed : Bool)
     (old new : Watching W) (said_old said_new : Option (List ℕ)) (errors_failed : Bool) (report : List ℕ) → arguments ≡ 0 → new.failed ≡ true →
-    IsAnswer known report → AppendsBeginning (contents old.stream) (contents new.stream) report →
+    IsAnswer journal known report → AppendsBeginning (contents old.stream) (contents new.stream) report →
     IsRefusal Os result said_old said_new errors_failed →
-    HasFailed W contents result arguments known read_failed old new said_old said_new errors_failed
-failed_writing W contents result arguments known read_failed old new said_old said_new errors_failed report none failed answer part refusal = (
+    HasFailed journal W contents result arguments known read_failed old new said_old said_new errors_failed
+failed_writing journal W contents result arguments known read_failed old new said_old said_new errors_failed report none failed answer part refusal = (
   refusal.0,
   refusal.2,
   subst (λ (f : ProgramError). IsMet arguments known (read_failed || new.failed) f) (sym refusal.1) (none, or_true read_failed new.failed failed),
@@ -115,10 +116,10 @@ failed_writing W contents result arguments known read_failed old new said_old sa
 )
 
 -- what was answered to the input, and what came of handing it out
-module _ {W E : Type 0} (contents : W → Option (List ℕ)) (said : E → Option (List ℕ)) (arguments : ℕ) (known : Option (List ℕ))
+module _ {W E : Type 0} (journal : JournalMode) (contents : W → Option (List ℕ)) (said : E → Option (List ℕ)) (arguments : ℕ) (known : Option (List ℕ))
     (read_failed : Bool) (status : ℕ) (old new : Watching W) (errors_old errors_new : Watching E) where
   abbrev IsAnswered : Result (String Global) ProgramError → Type 0
-  IsAnswered outcome = IfOk outcome (λ report. (arguments ≡ 0) × (read_failed ≡ false) × IsAnswer known (string_bytes report))
+  IsAnswered outcome = IfOk outcome (λ report. (arguments ≡ 0) × (read_failed ≡ false) × IsAnswer journal known (string_bytes report))
 
   abbrev IsWritten : Result (String Global) ProgramError → Type 0
   IsWritten outcome = IfOk outcome (λ report. IsHandedOut contents said (string_bytes report) status old new errors_old errors_new)
@@ -130,7 +131,7 @@ module _ {W E : Type 0} (contents : W → Option (List ℕ)) (said : E → Optio
   IsTold outcome = IfErr outcome (λ failure. IsRefusal failure status (said errors_old.stream) (said errors_new.stream) errors_new.failed)
 
   pub ended-reported : (outcome : Result (String Global) ProgramError) → IsAnswered outcome → IsWritten outcome → IsTold outcome → status ≡ 0
-      → HasReported known (contents old.stream) (contents new.stream)
+      → HasReported journal known (contents old.stream) (contents new.stream)
   ended-reported (Ok report) answer (whole zero working written same) told is = (string_bytes report, answer.2, written)
   ended-reported (Ok report) answer (a_beginning failed part refusal) told is = absurd (refused_not_zero Os status _ _ _ refusal is)
   ended-reported (Err failure) answer written told is = absurd (refused_not_zero failure status _ _ _ told is)
@@ -148,12 +149,12 @@ module _ {W E : Type 0} (contents : W → Option (List ℕ)) (said : E → Optio
 
   pub ended-failed : (outcome : Result (String Global) ProgramError) → old.failed ≡ false → IsAnswered outcome
       → IfErr outcome (IsMet arguments known read_failed) → IsWritten outcome → IsUnwritten outcome → IsTold outcome → (status ≡ 0 → ⊥)
-      → HasFailed W contents status arguments known read_failed old new (said errors_old.stream) (said errors_new.stream) errors_new.failed
+      → HasFailed journal W contents status arguments known read_failed old new (said errors_old.stream) (said errors_new.stream) errors_new.failed
   ended-failed (Ok report) none answer met (whole zero working written same) unwritten told other = absurd (other zero)
   ended-failed (Ok report) none answer met (a_beginning failed part refusal) unwritten told other =
-      failed_writing W contents status arguments known read_failed old new _ _ _ (string_bytes report) answer.0 failed answer.2 part refusal
+      failed_writing journal W contents status arguments known read_failed old new _ _ _ (string_bytes report) answer.0 failed answer.2 part refusal
   ended-failed (Err failure) none answer met written unwritten told other =
-      failed_before W contents failure status arguments known read_failed old new _ _ _ none unwritten met told
+      failed_before journal W contents failure status arguments known read_failed old new _ _ _ none unwritten met told
 
   unwritten-anyway : (known : Option (List ℕ)) → new ≡ old
       → IfSome known (λ input. (failure : ProgramError) → IsAtFault (take most_read input) failure → new ≡ old)
@@ -162,7 +163,7 @@ module _ {W E : Type 0} (contents : W → Option (List ℕ)) (said : E → Optio
 
   pub ended-silent : (outcome : Result (String Global) ProgramError) → IsAnswered outcome → IsUnwritten outcome
       → IfSome known (λ input. (failure : ProgramError) → IsAtFault (take most_read input) failure → new ≡ old)
-  ended-silent (Ok report) answer unwritten = answered_not_refused (new ≡ old) known (string_bytes report) answer.2
+  ended-silent (Ok report) answer unwritten = answered_not_refused journal (new ≡ old) known (string_bytes report) answer.2
   ended-silent (Err failure) answer unwritten = unwritten-anyway known unwritten
 
   -- with arguments

@@ -1,5 +1,5 @@
 -- A scenario that was read can be run.
-use Rattle.std.proofs.Common.{◌≡◌, ℕ, ◌+◌, ◌<◌, ◌≤◌, ◌==◌, ◌&&◌, Bool, true, false, List, [], ◌∷◌, ◌++◌, length, map, max, refl, sym, ap, ◌∙◌, subst, arith}
+use Rattle.std.proofs.Common.{◌≡◌, ℕ, ◌+◌, ◌<◌, ◌≤◌, ◌^◌, ◌==◌, ◌&&◌, Bool, true, false, List, [], ◌∷◌, ◌++◌, length, map, max, refl, sym, ap, ◌∙◌, subst, arith}
 use Rattle.std.proofs.Common.{codes, None}
 use Rattle.std.specs.Prelude.{◌||◌, All, nat_le, nat_lt}
 use Rattle.std.specs.List.{list_any}
@@ -13,6 +13,7 @@ use Rattle.mb_msg.specs.declared.id.ActorId.{ActorId}
 use Rattle.mb_msg.specs.declared.actor_plan.ActorPlan.{ActorPlan}
 use Rattle.mb_msg.specs.declared.mailbox_type.MailboxType.{MailboxType}
 use Rattle.mb_msg.specs.declared.mailbox_type.MailboxType.TheVariants.{Unbounded, Bounded, Priority, Control}
+use Rattle.mb_msg.specs.Limits.{most_entries}
 use Rattle.mb_msg.specs.declared.plan.Plan.{Plan}
 use Rattle.mb_build.specs.Numbers.{numbers}
 use Rattle.mb_build.specs.Reasons.{bad_bounds, bad_numbers, bad_parents, may_be_bound, reasons, unless}
@@ -87,11 +88,11 @@ no-bounds id (a ∷ actors) are =
     (ruled-out (may_be_bound a.mailbox) (Capacity (record { 0 = id })) (bound a.mailbox are.0.1)) (no-bounds (id + 1) actors are.1)
 
 no-reasons : (plan : Plan) (actors : ℕ) → length plan.actors.items ≤ 63 → length plan.actors.items ≡ actors
-    → AreActorData 1 (map actor_data plan.actors.items) → plan.senders ≤ 16 → 1 ≤ plan.workers → plan.workers ≤ 16 → 1 ≤ plan.journal_limit
+    → AreActorData 1 (map actor_data plan.actors.items) → plan.senders ≤ 16 → 1 ≤ plan.workers → plan.workers ≤ 16 → 1 ≤ plan.journal_limit → plan.journal_limit ≤ 2 ^ 56
     → reasons plan actors ≡ []
-no-reasons plan actors few as_many are senders least most limit =
+no-reasons plan actors few as_many are senders least most limit most_limit =
     let all = plan.actors.items in
-    let others = unless (nat_le 1 plan.workers && nat_le plan.workers 16) Workers ++ unless (nat_le 1 plan.journal_limit) JournalLimit in
+    let others = unless (nat_le 1 plan.workers && nat_le plan.workers 16) Workers ++ unless (nat_le 1 plan.journal_limit && nat_le plan.journal_limit most_entries) JournalLimit in
     none-of (unless (nat_lt (length all) 64) Actors)
     (unless (length all == actors) Boxes ++ (bad_parents 1 all ++ (bad_bounds 1 all ++ bad_numbers plan)))
     (ruled-out (nat_lt (length all) 64) Actors (below (length all) 64 (omega (arith, few))))
@@ -100,9 +101,9 @@ no-reasons plan actors few as_many are senders least most limit =
     (none-of (bad_parents 1 all) (bad_bounds 1 all ++ bad_numbers plan) (no-parents 1 all are)
     (none-of (bad_bounds 1 all) (bad_numbers plan) (no-bounds 1 all are)
     (none-of (unless (nat_le plan.senders 16) Senders) others (ruled-out (nat_le plan.senders 16) Senders (at-most plan.senders 16 senders))
-    (none-of (unless (nat_le 1 plan.workers && nat_le plan.workers 16) Workers) (unless (nat_le 1 plan.journal_limit) JournalLimit)
+    (none-of (unless (nat_le 1 plan.workers && nat_le plan.workers 16) Workers) (unless (nat_le 1 plan.journal_limit && nat_le plan.journal_limit most_entries) JournalLimit)
     (ruled-out (nat_le 1 plan.workers && nat_le plan.workers 16) Workers (within 1 plan.workers 16 least most))
-    (ruled-out (nat_le 1 plan.journal_limit) JournalLimit (at-most 1 plan.journal_limit limit)))))))
+    (ruled-out (nat_le 1 plan.journal_limit && nat_le plan.journal_limit most_entries) JournalLimit (within 1 plan.journal_limit most_entries limit most_limit)))))))
 
 -- ---- what is sent
 
@@ -141,13 +142,15 @@ of-document top plan none planned =
     let few = is.within_limit in
     let most_senders = right.0 in
     let most_workers = is.workers in
-    let least_limit = is.limit in
+    let least_limit = is.limit.0 in
+    let most_limit = is.limit.1 in
     let from : All (λ (s : SenderOrder). s.from < plan.senders) (sends_in top) =
     subst (λ n. All (λ (s : SenderOrder). s.from < n) (sends_in top)) (sym senders) right.1 in
     let count = length (scenario_of top).scripts in
     let next : 1 + item_count items ≡ count + 1 = omega (arith, scripts) in (
       no-reasons plan count (omega (arith, few, many)) (omega (arith, many, scripts)) (subst (AreActorData 1) (sym actors) is.actors)
-          (omega (arith, senders, most_senders)) (omega (arith, workers)) (omega (arith, workers, most_workers)) (omega (arith, limit, least_limit)),
+          (omega (arith, senders, most_senders)) (omega (arith, workers)) (omega (arith, workers, most_workers)) (omega (arith, limit, least_limit))
+          (omega (arith, limit, most_limit)),
       length-lists plan.senders (sends_in top) ∙ many-from plan.senders (sends_in top) from,
       for-nobody count plan.senders (sends_in top) from
           ∙ sendable count (sends_in top) (subst (λ n. All (IsSendData n) (sends_in top)) next is.sends),

@@ -1,10 +1,13 @@
 -- What the program answers to its input (this project's own profile).
-use Rattle.std.specs.Prelude.{◌≡◌, ℕ, ◌<◌, Bool, false, IsTrue, List, Option}
+use Rattle.std.specs.Prelude.{◌≡◌, ℕ, ◌<◌, All, Bool, false, IsTrue, List, Option}
 use Rattle.std.specs.Io.KnownBytes.{Appends}
 use Rattle.mb_scenario.specs.Plans.{ScenarioData}
 use Rattle.mb_scenario.specs.Reading.{IsReadAs, Refuses}
 use Rattle.mb_scenario.specs.declared.read_error.ReadError.TheVariants.{NoMemory, NotToml, BadScenario}
+use Rattle.mb_msg.specs.JournalMode.{keeps_all}
+use Rattle.mb_msg.specs.declared.journal_mode.JournalMode.{JournalMode}
 use Rattle.mb_report.specs.Lines.{report_text_of}
+use Rattle.mb_report.specs.declared.report.ActorReport.{ActorReport}
 use Rattle.mb_report.specs.declared.report.Report.{Report}
 use Rattle.mb_streams.specs.declared.fault.RunFault.{RunFault}
 use Rattle.mb_streams.specs.ProgramError.{exit_status}
@@ -15,15 +18,16 @@ use Rattle.mb_streams.specs.declared.program_error.ProgramError.{ProgramError}
 use Rattle.mb_streams.specs.declared.program_error.ProgramError.TheVariants.{Os, Arguments, Run, Input}
 use Rattle.mb_program.specs.Scenario.{EndsIn, IsOfScenario}
 
--- These bytes are the text of the report of a run of the scenario.
-pub record IsTextOfRun (scenario : ScenarioData) (bytes : List ℕ) : Type 0 where
+-- These bytes are the text of the report of a run of the scenario, whose journals keep their entries where the mode says so.
+pub record IsTextOfRun (journal : JournalMode) (scenario : ScenarioData) (bytes : List ℕ) : Type 0 where
   pub report : Report
   pub ran : IsOfScenario scenario report
+  pub keeps : All (λ (a : ActorReport). a.journal.is_kept ≡ keeps_all journal) report.actors.items
   pub text : bytes ≡ report_text_of scenario.names report
 
--- The text is a scenario, and this is the report of a run of it.
-abbrev pub IsReport : List ℕ → List ℕ → Type 0
-IsReport text report = (scenario : ScenarioData) × IsReadAs text scenario × IsTextOfRun scenario report
+-- The text is a scenario, and this is the report of a run of it with such journals.
+abbrev pub IsReport : JournalMode → List ℕ → List ℕ → Type 0
+IsReport journal text report = (scenario : ScenarioData) × IsReadAs text scenario × IsTextOfRun journal scenario report
 
 -- The text is a scenario, and a run of it ended in this fault.
 abbrev pub HasNoReport : List ℕ → RunFault → Type 0
@@ -41,12 +45,12 @@ abbrev pub IsAtFault : List ℕ → ProgramError → Type 0
 IsAtFault text failure = IsRefused text failure × (exit_status failure ≡ 2)
 
 -- The report is that of what was read.
-abbrev pub IsAnswer : Option (List ℕ) → List ℕ → Type 0
-IsAnswer known report = (text : List ℕ) × IsRead known text × IsReport text report
+abbrev pub IsAnswer : JournalMode → Option (List ℕ) → List ℕ → Type 0
+IsAnswer journal known report = (text : List ℕ) × IsRead known text × IsReport journal text report
 
 -- The whole report of what was read was written.
-abbrev pub HasReported : Option (List ℕ) → Option (List ℕ) → Option (List ℕ) → Type 0
-HasReported known old new = (report : List ℕ) × IsAnswer known report × Appends old new report
+abbrev pub HasReported : JournalMode → Option (List ℕ) → Option (List ℕ) → Option (List ℕ) → Type 0
+HasReported journal known old new = (report : List ℕ) × IsAnswer journal known report × Appends old new report
 
 -- What was read is refused for this reason.
 abbrev pub IsRefusedOf : Option (List ℕ) → ProgramError → Type 0
@@ -65,7 +69,7 @@ IsMet arguments known failed (Input (BadScenario place reason)) =
 
 -- What a run that failed has done with its writer: it did not call it; or it wrote a beginning of the report of what was read, and then writing
 -- failed.
-pub data IsCutShort {W : Type 0} (contents : W → Option (List ℕ)) (known : Option (List ℕ)) (old new : Watching W) : Type 0 where
-  nothing : new ≡ old → IsCutShort contents known old new
-  a_beginning : (report : List ℕ) → IsTrue new.failed → IsAnswer known report →
-      AppendsBeginning (contents old.stream) (contents new.stream) report → IsCutShort contents known old new
+pub data IsCutShort {W : Type 0} (journal : JournalMode) (contents : W → Option (List ℕ)) (known : Option (List ℕ)) (old new : Watching W) : Type 0 where
+  nothing : new ≡ old → IsCutShort journal contents known old new
+  a_beginning : (report : List ℕ) → IsTrue new.failed → IsAnswer journal known report →
+      AppendsBeginning (contents old.stream) (contents new.stream) report → IsCutShort journal contents known old new

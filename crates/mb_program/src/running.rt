@@ -1,6 +1,7 @@
 //! A run, from the plan and its actors to the report.
 ghost use Rattle.std.specs.Prelude.{◌≡◌, ◌+◌, [], All, IfErr, IfOk, IfSome, is_some, length};
 ghost use Rattle.mb_dispatch.specs.Runs.{turns_in};
+ghost use Rattle.heddleorange.specs.Kept.{KeepsAsPlanned};
 ghost use Rattle.heddleorange.specs.NoReport.{IsErrorOfRun, IsRight};
 ghost use Rattle.heddleorange.specs.Orders.{lists_of};
 ghost use Rattle.heddleorange.specs.RunHeadline.{RunHeadline};
@@ -43,6 +44,7 @@ pub fn run<A: Actor + Send, R: Threads + Wait + Sync>(
         (lists_of plan.senders sends.now) run.report) }
     ensures headline { IfOk result (λ run. RunHeadline plan (lists_of plan.senders sends.now) run.report) }
     ensures lines { IfOk result (λ run. length run.report.actors.items ≡ length actors.items + 1) }
+    ensures kept { IfOk result (λ run. KeepsAsPlanned plan run.report) }
     ensures turns { IfOk result (λ run. is_some run.turns ≡ is_quiet) }
     ensures covers { IfOk result (λ run. IfSome run.turns (λ turns. CoverJournals run.report (turns_in turns))) }
     ensures fault { IfErr result (IsErrorOfRun (gives_at actors.items A.gives) plan (length actors.items) (lists_of plan.senders sends.now)) }

@@ -1,10 +1,12 @@
 //! A scenario, from its text to what its run came to.
-ghost use Rattle.std.specs.Prelude.{IfErr, IfOk, map, string_bytes};
+ghost use Rattle.std.specs.Prelude.{◌≡◌, All, IfErr, IfOk, map, string_bytes};
+ghost use Rattle.mb_msg.specs.JournalMode.{keeps_all};
 ghost use Rattle.mb_program.specs.Answer.{IsRefused};
 ghost use Rattle.mb_program.specs.RunOf.{IsRunOf};
 
 use crate::fault::fault_of;
 use crate::running::{FinishedRun, run};
+use mb_msg::JournalMode;
 use mb_scenario::{Scenario, read};
 use mb_streams::ProgramError;
 use std::alloc::Global;
@@ -20,22 +22,25 @@ pub struct ScenarioRun {
     pub run: FinishedRun,
 }
 
-/// Reads the text of a scenario and runs it. Its errors are those of reading the text and of running it.
+/// Reads the text of a scenario and runs it, with journals that keep this. Its errors are those of reading the text and of running it.
 pub fn run_scenario<R: Threads + Wait + Sync>(
     rt: &R,
     alloc: Global,
     text: &[u8],
+    journal: JournalMode,
 ) -> Result<ScenarioRun, ProgramError>
     ensures run_of { IfOk result (λ ran. IsRunOf text.now (map string_bytes ran.names.items) ran.run) }
+    ensures kept { IfOk result (λ ran. All (λ a. a.journal.is_kept ≡ keeps_all journal) ran.run.report.actors.items) }
     ensures refused { IfErr result (IsRefused text.now) }
 {
     let Scenario {
-        plan,
+        mut plan,
         names,
         scripts,
         sends,
         quiet,
     } = read(alloc, text)?;
+    plan.journal = journal;
     match run(rt, alloc, plan, scripts, &sends, quiet) {
         Ok(run) => Ok(ScenarioRun { names, run }),
         Err(failed) => Err(ProgramError::Run(fault_of(&failed.error))),

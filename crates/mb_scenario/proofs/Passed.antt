@@ -239,7 +239,8 @@ pub record IsPassed (top : Members) : Type 0 where
       "actor") top)))
   pub sends : All (IsSendData (1 + item_count (items_in (get_member (codes "actor") top)))) (sends_in top)
   pub workers : workers_in top ≤ 16
-  pub limit : 1 ≤ number_or 4294967295 (get_member (codes "journal_limit") top)
+  pub limit : (1 ≤ number_or 4294967295 (get_member (codes "journal_limit") top))
+      × (number_or 4294967295 (get_member (codes "journal_limit") top) ≤ 4294967295)
 
 few-tables : (a : ContextData) (ms : Members) (o : Option Data) → key_reason a ms (optional (codes "actor") Always (Tables 63)) o ≡ None
     → item_count (items_in o) ≤ 63
@@ -283,8 +284,8 @@ passed top none =
           (sends-data actor_entries (omega (arith, few, many)) 0 sends (each-none (send_check actor_entries) 0 sends p4.0));
       workers = (number-within a top (codes "workers") 0 16 1 (omega arith) (omega arith) (omega arith) (get_member (codes "workers") top)
           (key-none [] a top k1 q1.0)).1;
-      limit = (number-within a top (codes "journal_limit") 1 4294967295 4294967295 (omega arith) (omega arith) (omega arith)
-          (get_member (codes "journal_limit") top) (key-none [] a top k4 q4.0)).0;
+      limit = number-within a top (codes "journal_limit") 1 4294967295 4294967295 (omega arith) (omega arith) (omega arith)
+          (get_member (codes "journal_limit") top) (key-none [] a top k4 q4.0);
     }
 
 -- all that is sent is from one of its senders, of whom there are 16 at most

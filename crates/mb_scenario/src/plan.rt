@@ -11,7 +11,7 @@ ghost use Rattle.mb_scenario.specs.View.{plan_data};
 use crate::actors::actors_of;
 use crate::fields::number_or;
 use crate::sends::senders_of;
-use mb_msg::{Plan, PoolKind, SenderOrder};
+use mb_msg::{JournalMode, Plan, PoolKind, SenderOrder};
 use mb_schema::{ActorEntry, is_text, items_at, text_or, value_at};
 use std::alloc::{AllocError, Global};
 use toml::Table;
@@ -33,7 +33,8 @@ pub(crate) fn plan_of(
         workers: workers_in(top).max(1),
         pool: pool_of(text_or(b"shared", value_at(top, "pool"))),
         senders: senders_of(sends),
-        journal_limit: number_or(4_294_967_295, value_at(top, "journal_limit")),
+        journal: JournalMode::Kept,
+        journal_limit: u64::from(number_or(4_294_967_295, value_at(top, "journal_limit"))),
         actors,
     })
 }

@@ -112,6 +112,7 @@ module _ (after : ℕ → List Message → ℤ) (gives : ℕ → Moment → Repl
       count_is = shows.count_is ∙ ap (count who) back;
       aside_is = shows.aside_is ∙ ap (aside who) back;
       state_is = shows.state_is ∙ ap (λ (j : List Entry). if is_guardian who then None else Some (after who.this.0 (messages who j))) back;
+      kept_is = shows.kept_is;
     }
 
     -- how many that were set aside are dead

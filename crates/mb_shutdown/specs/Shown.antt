@@ -19,6 +19,7 @@ pub record ShowsCell (after : ℕ → List Message → ℤ) (end : CellView × L
   pub count_is : a.count ≡ count end.0.who end.0.journal
   pub state_is : a.state ≡ (if is_guardian end.0.who then None else Some (after end.0.who.this.0 (messages end.0.who end.0.journal)))
   pub journal_is : a.journal.entries ≡ end.0.journal
+  pub kept_is : a.journal.is_kept ≡ end.0.who.is_kept
   pub aside_is : a.aside.items ≡ aside end.0.who end.0.journal
   pub cleaned_is : a.cleaned.items ≡ end.1
   pub left_is : a.left.items ≡ left

@@ -8,6 +8,7 @@ use Rattle.std.proofs.lemmas.List.Elements.{All-cons, All-nil}
 use Rattle.mb_msg.specs.Limits.{most_actors}
 use Rattle.mb_actor.specs.Behaviour.{Moment, Reply}
 use Rattle.mb_journal.specs.Identity.{Identity}
+use Rattle.mb_msg.specs.declared.journal_mode.JournalMode.{JournalMode}
 use Rattle.mb_msg.specs.declared.actor_plan.ActorPlan.{ActorPlan}
 use Rattle.mb_msg.specs.declared.mailbox_type.MailboxType.{MailboxType}
 use Rattle.mb_queue.specs.Passes.{SendPassView, TakePassView}
@@ -47,21 +48,21 @@ known-all kinds outside guardian takes rows (who ∷ whos) count made many is fe
     known-first kinds outside guardian takes rows who whos made (omega (arith, many)) few
 
 -- there is a home for the guardian and for each planned actor
-pub housed-many : (gives : ℕ → Moment → Reply → Type 0) (limit : ℕ) (plans : List ActorPlan) (kinds : List MailboxType) (senders : ℕ)
-    (homes : List (Box Contents)) (outside : List (List SendPassView)) → AreNewHomes gives (who_of limit plans) kinds senders homes outside
+pub housed-many : (gives : ℕ → Moment → Reply → Type 0) (mode : JournalMode) (limit : ℕ) (plans : List ActorPlan) (kinds : List MailboxType) (senders : ℕ)
+    (homes : List (Box Contents)) (outside : List (List SendPassView)) → AreNewHomes gives (who_of mode limit plans) kinds senders homes outside
     → length homes ≡ length plans + 1
-housed-many gives limit plans kinds senders homes outside housed =
-    let whos = who_of limit plans in let all_takes = housed.guardian ∷ housed.takes in
-    as-many-homes (directory_of whos all_takes) housed.takes 0 whos all_takes homes housed.first ∙ length-who limit plans
+housed-many gives mode limit plans kinds senders homes outside housed =
+    let whos = who_of mode limit plans in let all_takes = housed.guardian ∷ housed.takes in
+    as-many-homes (directory_of whos all_takes) housed.takes 0 whos all_takes homes housed.first ∙ length-who mode limit plans
 
 -- what the gates are that begin with such homes
-pub founded : (gives : ℕ → Moment → Reply → Type 0) (limit : ℕ) (plans : List ActorPlan) (kinds : List MailboxType) (senders : ℕ)
+pub founded : (gives : ℕ → Moment → Reply → Type 0) (mode : JournalMode) (limit : ℕ) (plans : List ActorPlan) (kinds : List MailboxType) (senders : ℕ)
     (homes : List (Box Contents)) (outside : List (List SendPassView)) (gates : Gates (Box Contents)) → length plans < 64 → AreKindsOf plans kinds
-    → AreNewHomes gives (who_of limit plans) kinds senders homes outside → slice_get homes 0 ≡ Some (first_home gates)
+    → AreNewHomes gives (who_of mode limit plans) kinds senders homes outside → slice_get homes 0 ≡ Some (first_home gates)
     → actors_of gates ≡ length homes → AreNewGates gates (length plans) senders outside
-founded gives limit plans kinds senders homes outside gates few queues housed first actors =
-    let whos = who_of limit plans in let all_takes = housed.guardian ∷ housed.takes in
-    let who : length whos ≡ length plans + 1 = length-who limit plans in
+founded gives mode limit plans kinds senders homes outside gates few queues housed first actors =
+    let whos = who_of mode limit plans in let all_takes = housed.guardian ∷ housed.takes in
+    let who : length whos ≡ length plans + 1 = length-who mode limit plans in
     let takes : length housed.takes ≡ length kinds = as-many kinds 1 (sender_numbers (length whos) senders) housed.takes housed.made.empty in
     let planned : length kinds ≡ length plans = length-queues plans kinds queues in
     let both : length all_takes ≡ length whos = omega (arith, who, takes, planned) in

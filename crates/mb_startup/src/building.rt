@@ -64,6 +64,7 @@ fn assemble<A: Actor, K: Behaviours, R: Wait>(
         workers,
         pool,
         senders,
+        journal,
         journal_limit,
         actors: plans,
     } = plan;
@@ -71,7 +72,7 @@ fn assemble<A: Actor, K: Behaviours, R: Wait>(
         gates,
         pass,
         outside,
-    } = found(alloc, plans, actors, senders, journal_limit)?;
+    } = found(alloc, plans, actors, senders, journal, journal_limit)?;
     let (pool, ends, feeds) = Pool::new(alloc, &gates, pool, workers as usize, senders as usize)?;
     let EndsAndSenders {
         ends,

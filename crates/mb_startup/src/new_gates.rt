@@ -1,6 +1,7 @@
 //! Making the gates of a new system.
 ghost use Rattle.std.specs.Prelude.{◌≡◌, ◌+◌, ◌<◌, ◌≤◌, [], List, IfOk, Some, length, map, slice_get};
 ghost use Rattle.std.specs.Global.{Box};
+ghost use Rattle.mb_msg.specs.Limits.{most_entries};
 ghost use Rattle.mb_msg.specs.declared.mailbox_type.MailboxType.{MailboxType};
 ghost use Rattle.mb_gate.specs.Accessors.{actors_of, first_home, gates_id, pass_view, pass_id};
 ghost use Rattle.mb_gate.specs.View.{alone};
@@ -16,7 +17,7 @@ use mb_actor::{Actor, Behaviours};
 use mb_build::{NewHomes, make_homes};
 use mb_gate::{Gates, Pass};
 use mb_home::BoxedHome;
-use mb_msg::ActorPlan;
+use mb_msg::{ActorPlan, JournalMode};
 use mb_queue::SendPass;
 use std::alloc::{AllocError, Global};
 
@@ -36,20 +37,29 @@ pub(crate) fn found<A: Actor, K: Behaviours>(
     plans: Vec<ActorPlan>,
     actors: Vec<A>,
     senders: u32,
-    journal_limit: u32,
+    journal: JournalMode,
+    journal_limit: u64,
 ) -> Result<NewGates<A, K>, AllocError>
     requires within_limit { (length plans.items < 64) × (senders ≤ 16) }
+    requires within_journal { journal_limit ≤ most_entries }
     requires right { (bad_parents 1 plans.items ≡ []) × (bad_bounds 1 plans.items ≡ []) }
     requires same_count { length actors.items ≡ length plans.items }
     requires behaved { BehaveAsPlanned A.content A.after A.gives K.after K.gives 1 actors.items }
     ensures homes_made { IfOk result (λ founded. (kinds : List MailboxType) × (homes : List (Box Contents)) × AreKindsOf plans.items kinds
-        × AreNewHomes K.gives (identities (length plans.items + 1) journal_limit (map (λ a. a.parent) plans.items) (map (λ a. a.strategy) plans.items))
+        × AreNewHomes K.gives (identities (length plans.items + 1) journal journal_limit (map (λ a. a.parent) plans.items) (map (λ a. a.strategy) plans.items))
         kinds senders homes (map (λ row. row.items) founded.outside.items)
         × (slice_get homes 0 ≡ Some (first_home founded.gates)) × (actors_of founded.gates ≡ length homes)) }
     ensures new_gates { IfOk result (λ founded. AreNewGates founded.gates (length plans.items) senders (map (λ row. row.items) founded.outside.items)) }
     ensures pass { IfOk result (λ founded. (pass_id founded.pass ≡ gates_id founded.gates) × (pass_view founded.pass ≡ alone)) }
 {
-    let NewHomes { homes, outside } = make_homes(alloc, plans, actors, senders, journal_limit)?;
+    let NewHomes { homes, outside } = make_homes(
+        alloc,
+        plans,
+        actors,
+        senders,
+        journal,
+        journal_limit,
+    )?;
     match Gates::new(alloc, homes) {
         Ok((gates, pass)) => Ok(NewGates {
             gates,

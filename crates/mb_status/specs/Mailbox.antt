@@ -11,7 +11,7 @@ pub record Mailbox : Type 0 where
 
 -- the most suspensions that a mailbox counts (this project's own limit)
 abbrev pub most_suspensions : ℕ
-most_suspensions = 4294967296
+most_suspensions = 1152921504606846976
 
 -- a possible mailbox: a closed one is neither scheduled nor suspended, and no count is past the limit
 abbrev pub is_possible : Mailbox → Bool

@@ -17,7 +17,7 @@ const SUSPENSION: u64 = 4;
 const COUNT_AT: u32 = 2;
 
 /// The most suspensions that a mailbox counts (this project's own profile).
-pub const MOST_SUSPENSIONS: u64 = 1 << 32;
+pub const MOST_SUSPENSIONS: u64 = 1 << 60;
 
 /// The status of a mailbox: a word that is 1 if the mailbox is closed, else four times its suspend count,
 /// and 2 more if it is scheduled.

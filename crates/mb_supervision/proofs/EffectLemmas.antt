@@ -147,6 +147,6 @@ pub watched-fit : (effects watching capacity : ℕ) → effects ≤ 16 → watch
 watched-fit effects watching capacity few enough = omega arith
 
 pub acts-below : (children watchers watching fanout n m k : ℕ) → n ≡ children → m ≡ watchers → k ≡ watching →
-    children < 2 ^ 44 → watchers < 2 ^ 44 → watching < 2 ^ 44 → fanout < 2 ^ 44 →
-    2 * n + m + k + fanout + 40 < 2 ^ 48
+    children < 2 ^ 60 → watchers < 2 ^ 61 → watching < 2 ^ 61 → fanout < 2 ^ 60 →
+    2 * n + m + k + fanout + 40 < 2 ^ 63
 acts-below children watchers watching fanout n m k a b c few_children few_watchers few_watched small = omega arith

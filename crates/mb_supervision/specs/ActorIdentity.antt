@@ -1,11 +1,11 @@
 -- Who the actor of a cell is.
-use Rattle.std.specs.Prelude.{ℕ}
+use Rattle.std.specs.Prelude.{ℕ, Bool, false}
 use Rattle.mb_journal.specs.Identity.{Identity}
 use Rattle.mb_supervision.specs.declared.identity.ActorIdentity.{ActorIdentity}
 
--- the identity of an actor whose journal may have `limit` entries
-abbrev pub identity_of : ActorIdentity → ℕ → Identity
-identity_of place limit = record {
+-- the identity of an actor whose journal may have `limit` entries, and whether it keeps them
+abbrev pub identity_of : ActorIdentity → ℕ → Bool → Identity
+identity_of place limit is_kept = record {
   this = place.this;
   parent = place.parent;
   actors = place.actors;
@@ -14,4 +14,9 @@ identity_of place limit = record {
   retries = place.strategy.retries;
   all_for_one = place.strategy.all_for_one;
   limit = limit;
+  is_kept = is_kept;
 }
+
+-- the same with no word on the journal, on which no change of a cell's state depends
+abbrev pub identity_at : ActorIdentity → Identity
+identity_at place = identity_of place 0 false

@@ -55,7 +55,7 @@ impl ActQueue {
     /// It answers `AllocError` if memory was refused. Nothing has changed then.
     #[inline(always)]
     pub(crate) fn make_room(&mut self, most: usize) -> Result<(), AllocError>
-        requires below_bound { most < 2 ^ 48 }
+        requires below_bound { most < 2 ^ 63 }
         ensures room { OnOk result (most ≤ self.new.room) }
         ensures same { self.new.acts ≡ self.old.acts }
         ensures err { OnErr result (self.new ≡ self.old) }

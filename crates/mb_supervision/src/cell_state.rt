@@ -103,10 +103,10 @@ impl CellState {
     ///
     /// It answers `AllocError` if memory was refused. Nothing has changed then.
     pub fn make_room(&mut self) -> Result<(), AllocError>
-        requires few_children { length self.old.children < 2 ^ 44 }
-        requires few_watchers { length self.old.watchers < 2 ^ 44 }
-        requires few_watched { length self.old.watching < 2 ^ 44 }
-        requires small_fanout { self.old.fanout < 2 ^ 44 }
+        requires few_children { length self.old.children < 2 ^ 60 }
+        requires few_watchers { length self.old.watchers < 2 ^ 61 }
+        requires few_watched { length self.old.watching < 2 ^ 61 }
+        requires small_fanout { self.old.fanout < 2 ^ 60 }
         ensures ok { OnOk result (self.new ≡ record self.old { is_ready = true }) }
         ensures err { OnErr result (self.new ≡ self.old) }
         ensures again { IsTrue self.old.is_ready → IsOk result }

@@ -3,7 +3,7 @@
 ghost use Rattle.std.specs.Prelude.{◌≡◌, ◌+◌, ◌≤◌, ◌<◌, [], ◌∷◌, ◌++◌, length};
 ghost use Rattle.mb_journal.specs.Acts.{end_acts, to_each};
 ghost use Rattle.mb_journal.specs.ActorList.{without};
-ghost use Rattle.mb_supervision.specs.ActorIdentity.{identity_of};
+ghost use Rattle.mb_supervision.specs.ActorIdentity.{identity_at};
 
 use crate::act_queue::ActQueue;
 use crate::effects::carry_out_last;
@@ -21,7 +21,7 @@ pub(crate) fn end(
     acts: &mut ActQueue,
 )
     requires room { length effects.now + length watchers.now + 2 ≤ acts.old.room }
-    ensures acts { acts.new.acts ≡ acts.old.acts ++ end_acts (identity_of place.now 0) watchers.now effects.now }
+    ensures acts { acts.new.acts ≡ acts.old.acts ++ end_acts (identity_at place.now) watchers.now effects.now }
 {
     carry_out_last(effects, acts);
     acts.push(Task::CloseSelf);

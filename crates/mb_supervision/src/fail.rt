@@ -4,7 +4,7 @@ ghost use Rattle.std.specs.Prelude.{◌≡◌, ◌+◌, ◌≤◌, ◌<◌, ◌^
 ghost use Rattle.mb_actor.specs.ActorList.{has as holds};
 ghost use Rattle.mb_journal.specs.Acts.{fail_acts, report, to_each};
 ghost use Rattle.mb_journal.specs.Failure.{is_nobody};
-ghost use Rattle.mb_supervision.specs.ActorIdentity.{identity_of};
+ghost use Rattle.mb_supervision.specs.ActorIdentity.{identity_at};
 
 use crate::act_queue::ActQueue;
 use crate::actor_list::has;
@@ -29,7 +29,7 @@ pub(crate) fn fail(
     requires below_bound { count.old < 2 ^ 60 }
     ensures count { count.new ≡ (if is_nobody failed.old then count.old + 1 else count.old) }
     ensures failed { failed.new ≡ (if is_nobody failed.old then by else failed.old) }
-    ensures acts { acts.new.acts ≡ acts.old.acts ++ fail_acts (identity_of place.now 0) failed.old children.now cause except.now }
+    ensures acts { acts.new.acts ≡ acts.old.acts ++ fail_acts (identity_at place.now) failed.old children.now cause except.now }
 {
     let FailedBy::Nobody = *failed else {
         return;
@@ -57,7 +57,7 @@ fn suspend_all_but(except: &[ActorId], children: &[ActorId], acts: &mut ActQueue
 /// Tells the parent; the guardian, which has none, is told to end.
 fn report_failure(place: &ActorIdentity, cause: Cause, acts: &mut ActQueue)
     requires room { 0 < acts.old.room }
-    ensures acts { acts.new.acts ≡ acts.old.acts ++ report (identity_of place.now 0) cause ∷ [] }
+    ensures acts { acts.new.acts ≡ acts.old.acts ++ report (identity_at place.now) cause ∷ [] }
 {
     match place.parent {
         Some(parent) => acts.push(Task::Sys(parent, SysMsg::Failed(place.this, cause))),

@@ -12,7 +12,7 @@ use mb_msg::ActorId;
 /// permitted. The requests are counted where there is a limit to keep to.
 pub(crate) fn ask(limit: i64, children: &[ActorId], counts: &mut Vec<(ActorId, u64)>) -> bool
     requires room { vec_len counts.old + length children.now ≤ vec_capacity counts.old }
-    requires few { (y : ActorId) → retry_count_of counts.old.items y < 2 ^ 60 }
+    requires few { (y : ActorId) → retry_count_of counts.old.items y < 2 ^ 63 }
     ensures all { result ≡ list_all (λ (y : ActorId). permits limit (retry_count_of counts.old.items y + 1)) children.now }
     ensures counted { (λ (x : ActorId). retry_count_of counts.new.items x) ≡ counted_more limit
         (through_refusal (λ (y : ActorId). permits limit (retry_count_of counts.old.items y + 1)) children.now)
@@ -78,7 +78,7 @@ fn count_of(child: ActorId, counts: &[(ActorId, u64)]) -> u64
 /// Counts one request more for each of these children.
 fn count_requests(children: &[ActorId], counts: &mut Vec<(ActorId, u64)>)
     requires room { vec_len counts.old + length children.now ≤ vec_capacity counts.old }
-    requires few { (y : ActorId) → retry_count_of counts.old.items y < 2 ^ 60 }
+    requires few { (y : ActorId) → retry_count_of counts.old.items y < 2 ^ 63 }
     ensures { (y : ActorId) → retry_count_of counts.new.items y ≡ retry_count_of counts.old.items y + times_in children.now y }
 {
     for child in children {

@@ -1,5 +1,5 @@
 //! Checks of each actor of a report, by code that shares nothing with the program's: its state, its phase and its
-//! system messages agree with its journal, and each envelope was begun at an open status word.
+//! system messages agree with its journal, which is kept, and each envelope was begun at an open status word.
 use crate::ids::{Ids, NOBODY};
 use crate::test_actor::ADD;
 use mb_actor::{Answer, Effect, Phase};
@@ -61,7 +61,10 @@ fn state_of(journal: &Journal, is_guardian: bool) -> Option<i64> {
     }
     let mut sum: i64 = 0;
     for place in 0..journal.len() {
-        match journal.get(place).arrival {
+        let Some(entry) = journal.entry(place) else {
+            break;
+        };
+        match entry.arrival {
             Received::Handled { envelope, .. } => sum = sum.saturating_add(value_of(envelope.body)),
             Received::System {
                 answer: Some(_),
@@ -96,7 +99,9 @@ fn phase_of(journal: &Journal, first: Ids, is_guardian: bool) -> Phase {
         children: NOBODY,
     };
     for place in 0..journal.len() {
-        let record = journal.get(place);
+        let Some(record) = journal.entry(place) else {
+            break;
+        };
         if let Received::System {
             answer,
             message,
@@ -147,7 +152,10 @@ impl Life {
 /// Whether each envelope was begun at an open status word: neither suspended nor closed.
 fn were_all_open(journal: &Journal) -> bool {
     for place in 0..journal.len() {
-        if let Received::Handled { reading, .. } = journal.get(place).arrival {
+        let Some(entry) = journal.entry(place) else {
+            break;
+        };
+        if let Received::Handled { reading, .. } = entry.arrival {
             if reading & !SCHEDULED != 0 {
                 return false;
             }
@@ -172,7 +180,10 @@ fn are_system_messages_right(alloc: Global, actor: &ActorReport) -> Result<bool,
     let mut came: u64 = 0;
     let mut aside = Vec::new(alloc);
     for place in 0..actor.journal.len() {
-        match actor.journal.get(place).arrival {
+        let Some(entry) = actor.journal.entry(place) else {
+            break;
+        };
+        match entry.arrival {
             Received::SetAside { number, message } => {
                 if number != came {
                     return Ok(false);

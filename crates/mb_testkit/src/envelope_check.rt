@@ -120,7 +120,8 @@ fn fates_of(alloc: Global, actor: &ActorReport) -> Result<Vec<Envelope>, AllocEr
 
 fn push_fates_of(fates: &mut Vec<Envelope>, actor: &ActorReport) -> Result<(), AllocError> {
     for place in 0..actor.journal.len() {
-        if let Some(envelope) = envelope_of(actor.journal.get(place).arrival) {
+        let entry = actor.journal.entry(place);
+        if let Some(envelope) = entry.and_then(|entry| envelope_of(entry.arrival)) {
             fates.push(envelope)?;
         }
     }

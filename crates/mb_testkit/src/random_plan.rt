@@ -4,7 +4,8 @@ use crate::random_actor::GREATEST;
 use crate::test_actor::ADD;
 use crate::{control, kill, poison, stop, tell};
 use mb_msg::{
-    ActorPlan, Directive, MailboxType, Order, Pattern, Plan, PoolKind, RankRow, Strategy,
+    ActorPlan, Directive, JournalMode, MailboxType, Order, Pattern, Plan, PoolKind, RankRow,
+    Strategy,
 };
 use std::alloc::{AllocError, Global};
 
@@ -25,6 +26,7 @@ pub fn plan_by_chance(alloc: Global, seed: u64, pool: PoolKind) -> Result<Plan, 
         workers: dice.number_between(1, 4),
         pool,
         senders: dice.number_between(1, 4),
+        journal: JournalMode::Kept,
         journal_limit: 100_000,
         actors,
     })

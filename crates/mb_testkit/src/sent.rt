@@ -56,7 +56,9 @@ impl Sent {
     fn send_by(&mut self, this: ActorId, journal: &Journal) -> Result<(), AllocError> {
         let mut watched = NOBODY;
         for place in 0..journal.len() {
-            let record = journal.get(place);
+            let Some(record) = journal.entry(place) else {
+                break;
+            };
             if let Some(who) = ended(&record) {
                 if watched.has(who) {
                     self.send(this, Body::Terminated(who))?;

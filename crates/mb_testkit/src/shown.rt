@@ -19,12 +19,14 @@ pub fn add(text: &mut String, between: &str, more: &str) -> Result<(), AllocErro
     text.push_str(more)
 }
 
-/// The entries of a journal, in order.
+/// The entries of a journal, in order; none of a journal that keeps none.
 pub fn journal_text(alloc: Global, journal: &Journal) -> Result<String, AllocError> {
     let mut text = String::new(alloc);
     for place in 0..journal.len() {
-        let one = arrival_text(alloc, journal.get(place).arrival)?;
-        add(&mut text, ", ", one.as_str())?;
+        if let Some(entry) = journal.entry(place) {
+            let one = arrival_text(alloc, entry.arrival)?;
+            add(&mut text, ", ", one.as_str())?;
+        }
     }
     Ok(text)
 }

@@ -1,7 +1,7 @@
 //! What is played: who acts, and what is sent.
 use crate::orders::same_sends;
 use crate::test_actor::{TestActorPlan, TestMailbox};
-use mb_msg::{ActorId, ActorPlan, MailboxType, Order, Plan, PoolKind, Strategy};
+use mb_msg::{ActorId, ActorPlan, JournalMode, MailboxType, Order, Plan, PoolKind, Strategy};
 use mb_report::{Report, report_text};
 use std::alloc::{AllocError, Global};
 
@@ -16,8 +16,10 @@ pub struct TestCase<'a> {
     pub senders: u32,
     /// How many envelopes a run handles at most.
     pub throughput: u32,
+    /// What a journal keeps.
+    pub journal: JournalMode,
     /// How many entries a journal may have.
-    pub journal_limit: u32,
+    pub journal_limit: u64,
     /// The actors, from number 1 on.
     pub parts: &'a [TestActorPlan],
     /// What each sender sends, in order.
@@ -30,6 +32,7 @@ pub const PLAIN: TestCase<'static> = TestCase {
     pool: PoolKind::Shared,
     senders: 1,
     throughput: 5,
+    journal: JournalMode::Kept,
     journal_limit: 100,
     parts: &[],
     sends: &[],
@@ -46,6 +49,7 @@ pub fn plan_of(alloc: Global, story: &TestCase<'_>) -> Result<Plan, AllocError> 
         workers: story.workers,
         pool: story.pool,
         senders: story.senders,
+        journal: story.journal,
         journal_limit: story.journal_limit,
         actors,
     })

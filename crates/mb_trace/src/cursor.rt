@@ -1,5 +1,5 @@
 //! How far an actor's journal was gone through.
-ghost use Rattle.std.specs.Prelude.{ℕ, ◌≡◌, ◌+◌, ◌*◌, ◌≤◌, List, IfOk, OnErr, drop, length, option_map, slice_get, is_some, if◌then◌else◌};
+ghost use Rattle.std.specs.Prelude.{ℕ, ◌≡◌, ◌+◌, ◌*◌, ◌≤◌, List, IfOk, IsTrue, OnErr, drop, length, option_map, slice_get, is_some, if◌then◌else◌};
 ghost use Rattle.mb_journal.specs.Entry.{Entry};
 ghost use Rattle.mb_journal.specs.Identity.{Identity};
 ghost use Rattle.mb_trace.specs.Cursors.{IsAt};
@@ -40,6 +40,7 @@ impl JournalCursor {
         rules: &Rules<'_, '_>,
         journal: &'a Journal,
     ) -> Result<Option<TraceStep<'a>>, AllocError>
+        requires kept { IsTrue journal.now.is_kept }
         requires few { self.old.life.suspended ≤ 1 + 3 * self.old.next }
         ensures at { (who : Identity) → AreRulesOf who rules.now → IsAt who (script_read rules.now.script) journal.now.entries self.old
             → IsAt who (script_read rules.now.script) journal.now.entries self.new }

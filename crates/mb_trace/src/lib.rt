@@ -1,6 +1,6 @@
 //! The trace of a run: what came to each actor and what became of it, entry by entry.
 //!
-//! The journals of a report have all entries, each actor's own in order. Of a quiet run the turns give one order of all of them. Of a
+//! The journals of a report, where they keep their entries, have all of them, each actor's own in order. Of a quiet run the turns give one order of all of them. Of a
 //! run on threads they are shown in one order that agrees with what caused what, or actor by actor where none is found.
 #![tactic(auto)]
 
@@ -14,6 +14,7 @@ mod entry_kind;
 mod entry_line;
 mod error;
 mod filter;
+mod kept;
 mod laws;
 mod life;
 mod on_threads;
@@ -35,6 +36,7 @@ mod words;
 pub use coverage::cover_journals;
 pub use error::TraceError;
 pub use filter::{EntryKinds, Filter};
+pub use kept::keeps_entries;
 pub use laws::{
     actor_by_actor_has_each_entry_once, merged_order_has_each_entry_once,
     turns_have_each_entry_once,

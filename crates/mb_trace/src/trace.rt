@@ -1,10 +1,12 @@
 //! What a trace is made of.
+ghost use Rattle.std.specs.Prelude.{◌≡◌, All, true};
+
 use mb_msg::{ActorId, Plan, SenderOrder};
 use mb_report::Report;
 use mb_script::Script;
 
-/// A run, and what is needed to tell of it in the words of its scenario. The actor n + 1 has the name, the plan and the script at the
-/// place n.
+/// A run whose journals keep their entries, and what is needed to tell of it in the words of its scenario. The actor n + 1 has the
+/// name, the plan and the script at the place n.
 #[derive(Clone, Copy)]
 pub struct Trace<'a> {
     /// The names of the actors beside the guardian.
@@ -19,6 +21,8 @@ pub struct Trace<'a> {
     pub report: &'a Report,
     /// The turns, in order, where the run was quiet. A run on threads has none.
     pub turns: Option<&'a [TurnLength]>,
+    /// The journals of the report keep their entries.
+    pub ghost kept: { All (λ actor. actor.journal.is_kept ≡ true) report.now.actors.items },
 }
 
 /// How long a turn was, which is one run of a mailbox.

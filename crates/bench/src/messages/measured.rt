@@ -14,8 +14,8 @@ use crate::status::open;
 use mb_actor::{Actor, Behaviours};
 use mb_cell::Cell;
 use mb_journal::ReadyError;
-use mb_msg::{ActorId, Body, Envelope, SenderId, Strategy, SysMsg, limits};
-use std::alloc::AllocGlobal;
+use mb_msg::{ActorId, Body, Envelope, JournalMode, SenderId, Strategy, SysMsg, limits};
+use std::alloc::{AllocError, AllocGlobal};
 use std::rt::Files;
 use std::time::{Clock, Duration};
 
@@ -26,6 +26,9 @@ const GUARDIAN: ActorId = ActorId(0);
 
 /// How many actors there are, the guardian among them.
 const ACTORS: u32 = 2;
+
+/// How many entries the journal may have.
+const JOURNAL_LIMIT: u64 = 4_294_967_295;
 
 const SENDER: SenderId = SenderId(limits::ACTORS);
 
@@ -44,13 +47,14 @@ pub struct Measured {
     pub memory: Option<Memory>,
 }
 
-/// Starts the actor, gives it `count` messages, and measures handling them.
+/// Starts the actor, whose journal has this mode, gives it `count` messages, and measures handling them.
 ///
 /// The errors are `NoMemory`, and `JournalFull` where the messages and the start are more than 2^32 - 1 entries: then
 /// the answer is never `Ok`.
 pub fn measure<R: Clock + Files + AllocGlobal, A: Actor, K: Behaviours>(
     rt: &R,
     actor: A,
+    mode: JournalMode,
     count: u32,
 ) -> Result<Measured, ReadyError>
     requires unused { A.content actor ≡ A.after actor [] }
@@ -62,7 +66,9 @@ pub fn measure<R: Clock + Files + AllocGlobal, A: Actor, K: Behaviours>(
     ensures room { OnOk result (count + 1 ≤ 4294967295) }
     ensures full { IsErrOf result ReadyError.JournalFull → 4294967295 < count + 1 }
 {
-    let mut cell = cell_of::<R, A, K>(rt, actor);
+    let Ok(mut cell) = cell_of::<R, A, K>(rt, actor, mode) else {
+        return Err(ReadyError::NoMemory);
+    };
     measure_in(rt, &mut cell, count)
 }
 
@@ -127,14 +133,18 @@ fn state_of<A: Actor, K: Behaviours>(cell: &Cell<A, K>) -> i64
 }
 
 /// The cell of the actor, to which nothing came yet.
-fn cell_of<R: AllocGlobal, A: Actor, K: Behaviours>(rt: &R, actor: A) -> Cell<A, K>
+fn cell_of<R: AllocGlobal, A: Actor, K: Behaviours>(
+    rt: &R,
+    actor: A,
+    mode: JournalMode,
+) -> Result<Cell<A, K>, AllocError>
     requires unused { A.content actor ≡ A.after actor [] }
     requires behaves { A.after actor ≡ K.after 1 }
     requires allows { AllowsSame (A.gives actor) (K.gives 1) }
-    ensures new { result ≡ new_cell result.who }
-    ensures an_actor { is_guardian result.who ≡ false }
-    ensures first_actor { result.who.this ≡ record { 0 = 1 } }
-    ensures limit { result.who.limit ≡ 4294967295 }
+    ensures new { IfOk result (λ cell. cell ≡ new_cell cell.who) }
+    ensures an_actor { IfOk result (λ cell. is_guardian cell.who ≡ false) }
+    ensures first_actor { IfOk result (λ cell. cell.who.this ≡ record { 0 = 1 }) }
+    ensures limit { IfOk result (λ cell. cell.who.limit ≡ 4294967295) }
 {
     let strategy = Strategy {
         rows: Vec::new(rt.alloc()),
@@ -149,7 +159,8 @@ fn cell_of<R: AllocGlobal, A: Actor, K: Behaviours>(rt: &R, actor: A) -> Cell<A,
         Some(actor),
         Vec::new(rt.alloc()),
         strategy,
-        u32::MAX,
+        mode,
+        JOURNAL_LIMIT,
     )
 }
 

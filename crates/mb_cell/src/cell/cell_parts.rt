@@ -22,7 +22,12 @@ pub struct CellParts {
 impl<A: Actor, K: Behaviours> Cell<A, K> {
     /// The journal and what is set aside. The actor is dropped. This takes no memory.
     pub fn into_parts(self) -> CellParts
-        ensures journal { result.journal ≡ record { entries = self.journal; limit = self.who.limit; is_ready = self.is_ready } }
+        ensures journal { result.journal ≡ record {
+          entries = self.journal;
+          limit = self.who.limit;
+          is_ready = self.is_ready;
+          is_kept = self.who.is_kept;
+        } }
         ensures lawful { IsLawful self.who (K.gives self.who.this.0) self.journal }
         ensures aside { result.aside.items ≡ aside_of self.who self.journal }
         ensures unapplied { result.aside.items ≡ (if closed self.who self.journal then []

@@ -9,7 +9,7 @@ ghost use Rattle.mb_journal.specs.Entry.Entry.{Handled};
 ghost use Rattle.mb_journal.specs.Entry.Outcome.{Applied};
 ghost use Rattle.mb_journal.specs.Incarnation.{body_messages};
 ghost use Rattle.mb_journal.specs.Lawful.{IsExpected, IsLawful, envelope_call};
-ghost use Rattle.mb_supervision.specs.ActorIdentity.{identity_of};
+ghost use Rattle.mb_supervision.specs.ActorIdentity.{identity_at};
 ghost use Rattle.mb_supervision.specs.Rows.{handled};
 ghost use Rattle.mb_cell.specs.MayHandle.{MayHandle};
 ghost use Rattle.mb_cell.specs.CellView.{TakesEnvelope};
@@ -74,7 +74,7 @@ fn handle(
     ensures handled { record cell_state.new {
       acts = stop_acts (drop (length outbox.now.effects - result) outbox.now.effects) ++ cell_state.new.acts;
       is_ready = false;
-    } ≡ handled (identity_of place.now 0) envelope.body (Some answer) outbox.now.effects cell_state.old }
+    } ≡ handled (identity_at place.now) envelope.body (Some answer) outbox.now.effects cell_state.old }
     ensures added { journal.new ≡ record journal.old {
       entries = Handled envelope reading (Applied (Some answer) outbox.now.effects) ∷ journal.old.entries;
       is_ready = journal.new.is_ready;

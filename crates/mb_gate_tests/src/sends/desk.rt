@@ -59,6 +59,7 @@ impl MailboxState for OpenHome {
       retries = pos 0;
       all_for_one = false;
       limit = 0;
+      is_kept = false;
     } };
 
     ghost facts = { λ desk. record {

@@ -31,7 +31,7 @@ What another owes stays.
 Schedule: neither closed nor scheduled, and then nothing is owed by the one that holds.
 0           | 1 add terminate, 1 sent, 1 unsent, 1 sent             | 1 schedule               | 2 1 - terminate 1 - -
 4           | 0 sent                                                | 1 schedule               | 6 1 - - 1 g -
-17179869184 |                                                       | 0 schedule               | 17179869186 0 - - 0 - -
+4611686018427387904 |                                                       | 0 schedule               | 4611686018427387906 0 - - 0 - -
 1           |                                                       | 1 schedule               | no
 0           | 0 schedule                                            | 1 schedule               | no
 0           | 0 schedule                                            | 0 schedule               | no
@@ -52,13 +52,13 @@ Idle: by the holder, who then owes both looks; what it did not apply goes in fro
 0           | 0 schedule                                            | 1 idle                   | no
 0           | 0 schedule, 0 idle                                    | 0 idle                   | no
 0           | 0 schedule, 0 close                                   | 1 idle                   | no
-Suspend: by the holder, up to 2^32 times; a closed mailbox stays as it is. What is owed stays.
+Suspend: by the holder, up to 2^60 times; a closed mailbox stays as it is. What is owed stays.
 0           | 0 schedule                                            | 0 suspend                | 6 0 - - 0 - -
 4           | 0 schedule, 1 add terminate, 1 sent                   | 0 suspend                | 10 1 - terminate 0 - sg
 0           | 0 schedule, 0 close                                   | 0 suspend                | 1 0 - - 0 - -
 0           | 0 schedule, 0 close, 0 end                            | 0 suspend                | 1 0 - gone 0 - -
-17179869180 | 0 schedule                                            | 0 suspend                | 17179869186 0 - - 0 - -
-17179869184 | 0 schedule                                            | 0 suspend                | no
+4611686018427387900 | 0 schedule                                            | 0 suspend                | 4611686018427387906 0 - - 0 - -
+4611686018427387904 | 0 schedule                                            | 0 suspend                | no
 0           |                                                       | 0 suspend                | no
 0           | 0 schedule                                            | 1 suspend                | no
 Resume: by the holder; a count of 0 and a closed mailbox stay as they are.

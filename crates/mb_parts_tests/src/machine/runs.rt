@@ -48,8 +48,11 @@ fn messages_are_a_list(rt: HostRuntime) {
 #[test]
 fn where_a_run_may_begin(rt: HostRuntime) {
     let alloc = rt.alloc();
-    let can = beginnings(alloc, &[0, 1, 4, 17179869184]);
-    let cannot = beginnings(alloc, &[2, 3, 5, 6, 17179869186, 17179869188]);
+    let can = beginnings(alloc, &[0, 1, 4, 4611686018427387904]);
+    let cannot = beginnings(
+        alloc,
+        &[2, 3, 5, 6, 4611686018427387906, 4611686018427387908],
+    );
     assert!(rt; matches!(can, Some(4)) && matches!(cannot, Some(0)));
     assert!(rt; matches!(is_run(alloc, &[0, 2], &[]), Some(false)));
 }

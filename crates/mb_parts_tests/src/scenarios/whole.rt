@@ -316,11 +316,11 @@ const SENT: [SenderOrder; 6] = [
 ];
 
 /// Whether the plan has these numbers beside its actors: the throughput, the workers, the senders, the journals' limit.
-fn has_numbers(plan: &Plan, numbers: [u32; 4], pool: PoolKind) -> bool {
+fn has_numbers(plan: &Plan, numbers: [u64; 4], pool: PoolKind) -> bool {
     let found = [
-        plan.throughput,
-        plan.workers,
-        plan.senders,
+        u64::from(plan.throughput),
+        u64::from(plan.workers),
+        u64::from(plan.senders),
         plan.journal_limit,
     ];
     found.as_slice() == numbers.as_slice() && plan.pool == pool

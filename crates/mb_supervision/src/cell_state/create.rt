@@ -1,7 +1,7 @@
 //! The rule of `Create` (`akka.actor.ActorCell.create`).
 ghost use Rattle.std.specs.Prelude.{◌≡◌, ◌+◌, ◌≤◌, ◌<◌, ◌^◌, [], IsTrue, Some, length};
 ghost use Rattle.mb_msg.specs.Limits.{most_effects};
-ghost use Rattle.mb_supervision.specs.ActorIdentity.{identity_of};
+ghost use Rattle.mb_supervision.specs.ActorIdentity.{identity_at};
 ghost use Rattle.mb_supervision.specs.Rows.{created, created_guardian};
 
 use crate::cell_state::CellState;
@@ -21,7 +21,7 @@ impl CellState {
         requires carried_out { self.old.acts ≡ [] }
         requires below_bound { self.old.count < 2 ^ 60 }
         requires within_limit { length effects.now ≤ most_effects }
-        ensures { self.new ≡ created (identity_of place.now 0) (Some answer) effects.now number self.old }
+        ensures { self.new ≡ created (identity_at place.now) (Some answer) effects.now number self.old }
     {
         forget(&mut self.aside, number);
         self.ready = false;
@@ -57,7 +57,7 @@ impl CellState {
         requires ready { IsTrue self.old.is_ready }
         requires carried_out { self.old.acts ≡ [] }
         requires within_limit { length place.now.prepared.items ≤ self.old.fanout }
-        ensures { self.new ≡ created_guardian (identity_of place.now 0) number self.old }
+        ensures { self.new ≡ created_guardian (identity_at place.now) number self.old }
     {
         forget(&mut self.aside, number);
         self.ready = false;

@@ -1,7 +1,7 @@
 //! The rules of `Died` (`DeathWatch.watchedActorTerminated`, `FaultHandling.handleChildTerminated`).
 ghost use Rattle.std.specs.Prelude.{◌≡◌, ◌+◌, ◌≤◌, [], IsTrue, length};
 ghost use Rattle.mb_msg.specs.Limits.{most_effects};
-ghost use Rattle.mb_supervision.specs.ActorIdentity.{identity_of};
+ghost use Rattle.mb_supervision.specs.ActorIdentity.{identity_at};
 ghost use Rattle.mb_supervision.specs.Rows.{told_of_death, ended};
 
 use crate::actor_list::{has, join, leave};
@@ -19,7 +19,7 @@ impl CellState {
     pub fn died(&mut self, place: &ActorIdentity, id: ActorId, number: u64)
         requires ready { IsTrue self.old.is_ready }
         requires carried_out { self.old.acts ≡ [] }
-        ensures { self.new ≡ told_of_death (identity_of place.now 0) id number self.old }
+        ensures { self.new ≡ told_of_death (identity_at place.now) id number self.old }
     {
         forget(&mut self.aside, number);
         self.ready = false;
@@ -36,7 +36,7 @@ impl CellState {
         requires ready { IsTrue self.old.is_ready }
         requires carried_out { self.old.acts ≡ [] }
         requires within_limit { length effects.now ≤ most_effects }
-        ensures { self.new ≡ ended (identity_of place.now 0) effects.now (told_of_death (identity_of place.now 0) id number self.old) }
+        ensures { self.new ≡ ended (identity_at place.now) effects.now (told_of_death (identity_at place.now) id number self.old) }
     {
         self.ready = false;
         if has(&self.watching, id) {

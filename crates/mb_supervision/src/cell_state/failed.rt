@@ -4,7 +4,7 @@ ghost use Rattle.std.specs.List.{flat_map};
 ghost use Rattle.mb_msg.specs.declared.id.ActorId.{ActorId};
 ghost use Rattle.mb_journal.specs.Acts.{restart_for};
 ghost use Rattle.mb_journal.specs.Supervision.{directive_of as decided};
-ghost use Rattle.mb_supervision.specs.ActorIdentity.{identity_of};
+ghost use Rattle.mb_supervision.specs.ActorIdentity.{identity_at};
 ghost use Rattle.mb_supervision.specs.RetryCounts.{retry_count_of};
 ghost use Rattle.mb_supervision.specs.Rows.{counted_now, supervised};
 
@@ -25,9 +25,9 @@ impl CellState {
         requires ready { IsTrue self.old.is_ready }
         requires carried_out { self.old.acts ≡ [] }
         requires below_bound { self.old.count < 2 ^ 60 }
-        requires few_requests { (y : ActorId) → retry_count_of self.old.retries y < 2 ^ 60 }
-        ensures state { self.new ≡ supervised (identity_of place.now 0) child cause number self.new.retries self.old }
-        ensures counted { (λ (y : ActorId). retry_count_of self.new.retries y) ≡ counted_now (identity_of place.now 0) self.old child cause }
+        requires few_requests { (y : ActorId) → retry_count_of self.old.retries y < 2 ^ 63 }
+        ensures state { self.new ≡ supervised (identity_at place.now) child cause number self.new.retries self.old }
+        ensures counted { (λ (y : ActorId). retry_count_of self.new.retries y) ≡ counted_now (identity_at place.now) self.old child cause }
     {
         forget(&mut self.aside, number);
         self.ready = false;
@@ -68,7 +68,7 @@ fn meant_by<'a>(all_for_one: bool, children: &'a [ActorId], one: &'a [ActorId]) 
 
 /// The directive for a child that failed for this cause; the guardian always decides by the default.
 fn directive_of(place: &ActorIdentity, cause: Cause) -> Directive
-    ensures { result ≡ decided (identity_of place.now 0) cause }
+    ensures { result ≡ decided (identity_at place.now) cause }
 {
     match place.parent {
         Some(_) => place.strategy.decide(cause),

@@ -8,7 +8,7 @@ ghost use Rattle.mb_actor.specs.declared.effect.Effect.{Effect};
 ghost use Rattle.mb_journal.specs.Acts.{stop_acts};
 ghost use Rattle.mb_journal.specs.Failure.{failure_of as cause_of};
 ghost use Rattle.mb_journal.specs.Identity.{Identity};
-ghost use Rattle.mb_supervision.specs.ActorIdentity.{identity_of};
+ghost use Rattle.mb_supervision.specs.ActorIdentity.{identity_at};
 ghost use Rattle.mb_supervision.specs.CellStateRecord.{CellState as Shown};
 ghost use Rattle.mb_supervision.specs.Rows.{due_told, handled, failing_if, with_effects, poisoned, discard};
 
@@ -36,7 +36,7 @@ impl CellState {
         requires carried_out { self.old.acts ≡ [] }
         requires below_bound { self.old.count < 2 ^ 60 }
         requires within_limit { length effects.now ≤ most_effects }
-        ensures { self.new ≡ handled (identity_of place.now 0) body answer effects.now self.old }
+        ensures { self.new ≡ handled (identity_at place.now) body answer effects.now self.old }
     {
         forget_told_end(body, &mut self.due);
         self.handle_all(place, failure_of(body, answer), effects);
@@ -62,8 +62,8 @@ impl CellState {
         requires carried_out { self.old.acts ≡ [] }
         requires below_bound { self.old.count < 2 ^ 60 }
         requires within_limit { length effects.now ≤ most_effects }
-        ensures { self.new ≡ failing_if (identity_of place.now 0) cause
-            (with_effects (identity_of place.now 0) effects.now (record self.old { acts = []; is_ready = false })) }
+        ensures { self.new ≡ failing_if (identity_at place.now) cause
+            (with_effects (identity_at place.now) effects.now (record self.old { acts = []; is_ready = false })) }
     {
         self.ready = false;
         carry_out(
@@ -93,7 +93,7 @@ impl CellState {
     pub fn poison(&mut self, place: &ActorIdentity)
         requires ready { IsTrue self.old.is_ready }
         requires carried_out { self.old.acts ≡ [] }
-        ensures { self.new ≡ poisoned (identity_of place.now 0) self.old }
+        ensures { self.new ≡ poisoned (identity_at place.now) self.old }
     {
         self.ready = false;
         self.acts.push(Task::Sys(place.this, SysMsg::Terminate));

@@ -1,7 +1,7 @@
 //! The rule of a restart (`FaultHandling.faultRecreate`).
 ghost use Rattle.std.specs.Prelude.{◌≡◌, ◌+◌, ◌≤◌, ◌<◌, ◌^◌, [], IsTrue, Some, length};
 ghost use Rattle.mb_msg.specs.Limits.{most_effects};
-ghost use Rattle.mb_supervision.specs.ActorIdentity.{identity_of};
+ghost use Rattle.mb_supervision.specs.ActorIdentity.{identity_at};
 ghost use Rattle.mb_supervision.specs.Rows.{recreated};
 
 use crate::cell_state::CellState;
@@ -29,7 +29,7 @@ impl CellState {
         requires carried_out { self.old.acts ≡ [] }
         requires below_bound { self.old.count < 2 ^ 60 }
         requires within_limit { length effects.now ≤ most_effects }
-        ensures { self.new ≡ recreated (identity_of place.now 0) cause (Some answer) effects.now number self.old }
+        ensures { self.new ≡ recreated (identity_at place.now) cause (Some answer) effects.now number self.old }
     {
         forget(&mut self.aside, number);
         self.ready = false;

@@ -1,7 +1,7 @@
 //! The rules of `Terminate` (`FaultHandling.terminate`).
 ghost use Rattle.std.specs.Prelude.{◌≡◌, ◌+◌, ◌≤◌, ◌<◌, ◌^◌, [], IsTrue, length};
 ghost use Rattle.mb_msg.specs.Limits.{most_effects};
-ghost use Rattle.mb_supervision.specs.ActorIdentity.{identity_of};
+ghost use Rattle.mb_supervision.specs.ActorIdentity.{identity_at};
 ghost use Rattle.mb_supervision.specs.Rows.{ending, ended_at_once};
 
 use crate::cell_state::CellState;
@@ -19,7 +19,7 @@ impl CellState {
         requires ready { IsTrue self.old.is_ready }
         requires carried_out { self.old.acts ≡ [] }
         requires below_bound { self.old.count < 2 ^ 60 }
-        ensures { self.new ≡ ending (identity_of place.now 0) number self.old }
+        ensures { self.new ≡ ending (identity_at place.now) number self.old }
     {
         forget(&mut self.aside, number);
         self.ready = false;
@@ -40,7 +40,7 @@ impl CellState {
         requires ready { IsTrue self.old.is_ready }
         requires carried_out { self.old.acts ≡ [] }
         requires within_limit { length effects.now ≤ most_effects }
-        ensures { self.new ≡ ended_at_once (identity_of place.now 0) effects.now number self.old }
+        ensures { self.new ≡ ended_at_once (identity_at place.now) effects.now number self.old }
     {
         forget(&mut self.aside, number);
         self.ready = false;

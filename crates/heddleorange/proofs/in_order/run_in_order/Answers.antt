@@ -1,12 +1,15 @@
 use Rattle.std.proofs.Common.{◌≡◌, ◌+◌, length}
-use Rattle.heddleorange.specs.Ledger.{AddsUp}
+use Rattle.heddleorange.specs.Kept.{KeepsAsPlanned}
+use Rattle.heddleorange.specs.Ledger.{AddsUp, AddsUpByCounts}
 use Rattle.heddleorange.specs.NoReport.{IsRight}
 use Rattle.heddleorange.specs.Orders.{lists_of}
 use Rattle.heddleorange.specs.RunHeadline.{RunHeadline}
 use Rattle.heddleorange.specs.States.{ShowsStates}
 use Rattle.heddleorange.specs.WholeRun.{IsReportOfRun, after_at, gives_at}
+use Rattle.heddleorange.proofs.ByCounts.{counts-of}
 use Rattle.heddleorange.proofs.Chosen.{behave}
 use Rattle.heddleorange.proofs.FromStory.{all-lines, all-states}
+use Rattle.heddleorange.proofs.Kept.{kept-of}
 use Rattle.heddleorange.proofs.Ledger.{ledger-of}
 use Rattle.heddleorange.proofs.RunHeadline.{headline-of}
 use Rattle.heddleorange.proofs.QuietReport.{from-report, report_of, right-too, to-report}
@@ -69,3 +72,20 @@ returns-clause-stretches g c = c.run_planned_in_order.ensures.stretches
 
 pub returns-clause-covers : goal.returns-clause-covers
 returns-clause-covers g c = c.run_planned_in_order.ensures.covers
+
+pub returns-clause-counts : goal.returns-clause-counts
+returns-clause-counts g c =
+    let actors = c.args.actors.items in let plan = c.args.plan in let orders = lists_of plan.senders c.args.sends.now in
+    let result = c.run_planned_in_order.result in let gives = gives_at actors g.A.Actor.gives in let after = after_at actors g.A.Actor.after in
+    from-report AddsUpByCounts result
+    (counts-of after gives plan (length actors) orders (report_of result)
+    (to-report (IsReportOfRun after gives plan orders) result c.run_planned_in_order.ensures.story)
+    (right-too (IsRight plan (length actors) orders) result c.run_planned_in_order.ensures.right))
+
+pub returns-clause-kept : goal.returns-clause-kept
+returns-clause-kept g c =
+    let actors = c.args.actors.items in let plan = c.args.plan in let orders = lists_of plan.senders c.args.sends.now in
+    let result = c.run_planned_in_order.result in let gives = gives_at actors g.A.Actor.gives in let after = after_at actors g.A.Actor.after in
+    from-report (KeepsAsPlanned plan) result
+    (kept-of after gives plan orders (report_of result)
+    (to-report (IsReportOfRun after gives plan orders) result c.run_planned_in_order.ensures.story))

@@ -1,7 +1,9 @@
 use Rattle.std.proofs.Common.{length}
 use Rattle.heddleorange.specs.WholeRun.{after_at, gives_at}
+use Rattle.heddleorange.proofs.ByCounts.{counts-of}
 use Rattle.heddleorange.proofs.Chosen.{behave}
 use Rattle.heddleorange.proofs.FromStory.{all-lines, all-states}
+use Rattle.heddleorange.proofs.Kept.{kept-of}
 use Rattle.heddleorange.proofs.Ledger.{ledger-of}
 use Rattle.heddleorange.proofs.RunHeadline.{headline-of}
 use Rattle.heddleorange.proofs.Sent.{orders_of}
@@ -39,3 +41,13 @@ returns-clause-right g c = c.run_planned_on_threads.ensures.right
 
 pub returns-clause-refused : goal.returns-clause-refused
 returns-clause-refused g c = c.run_planned_on_threads.ensures.refused
+
+pub returns-clause-counts : goal.returns-clause-counts
+returns-clause-counts g c =
+    counts-of (after_at c.args.actors.items g.A.Actor.after) (gives_at c.args.actors.items g.A.Actor.gives) c.args.plan (length c.args.actors.items)
+    (orders_of c.args.sends.now) c.run_planned_on_threads.result c.run_planned_on_threads.ensures.story c.run_planned_on_threads.ensures.right
+
+pub returns-clause-kept : goal.returns-clause-kept
+returns-clause-kept g c =
+    kept-of (after_at c.args.actors.items g.A.Actor.after) (gives_at c.args.actors.items g.A.Actor.gives) c.args.plan (orders_of c.args.sends.now)
+    c.run_planned_on_threads.result c.run_planned_on_threads.ensures.story

@@ -32,8 +32,8 @@ returns-clause-cell g c =
     let parents = c.args.parents.now in let cells = c.args.cells.now.items in
     let place : c.len.result ≡ length cells = search rules in
     c.push_reserved.ensures.items
-    ∙ ap (λ x. cells ++ x ∷ []) (cell-is (length parents + 1) c.args.journal_limit parents c.len.result (length cells) c.args.plan.parent
-    c.args.plan.strategy c.in_ok-prepared.prepared.items c.new.result c.new.ensures.fresh c.in_ok-prepared.ensures place)
+    ∙ ap (λ x. cells ++ x ∷ []) (cell-is (length parents + 1) c.args.journal c.args.journal_limit parents c.len.result (length cells) c.args.plan.parent
+    c.args.plan.strategy c.in_ok-prepared.prepared.items c.in_ok-new.field-0 c.in_ok-new.ensures.fresh c.in_ok-prepared.ensures place)
 
 pub returns-in_err-prepared-clause-room : goal.returns-in_err-prepared-clause-room
 returns-in_err-prepared-clause-room g c = IfOk-from_err c.from_residual.result _ c.from_residual.ensures.0

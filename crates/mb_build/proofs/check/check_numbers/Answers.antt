@@ -1,6 +1,7 @@
 use Rattle.std.proofs.Common.{◌≡◌, ◌&&◌, ◌∙◌, true, false, ap, arith}
 use Rattle.std.specs.Prelude.{nat_le}
 use Rattle.std.proofs.lemmas.Bool.Decides.{nat_tests}
+use Rattle.mb_msg.specs.Limits.{most_entries}
 use Rattle.mb_build.specs.Reasons.{unless}
 use Rattle.mb_build.specs.declared.check.PlanError.TheVariants.{JournalLimit, Senders, Workers}
 use Rattle.mb_build.proofs.ReasonLemmas.{is_first, is_none_here, second_fails}
@@ -27,5 +28,5 @@ returns-then-plan-eq0 c =
     ] in (
       _,
       is_none_here (nat_le plan.senders 16) Senders _ good
-          ∙ is_first (nat_le 1 plan.workers && nat_le plan.workers 16) Workers (unless (nat_le 1 plan.journal_limit) JournalLimit) bad,
+          ∙ is_first (nat_le 1 plan.workers && nat_le plan.workers 16) Workers (unless (nat_le 1 plan.journal_limit && nat_le plan.journal_limit most_entries) JournalLimit) bad,
     )

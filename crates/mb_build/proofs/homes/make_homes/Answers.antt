@@ -23,7 +23,7 @@ pub make_directory-requires : goal.make_directory-requires
 make_directory-requires g c =
     let plans = c.args.plans.items in let kinds = c.in_ok-kinds.kinds.items in let takes = c.in_ok-queues.queues.takes.items in
     let numbers = sender_numbers (length kinds + 1) c.args.senders in
-    let are = cells-of c.args.journal_limit plans c.in_ok-cells.cells.items c.in_ok-cells.ensures in
+    let are = cells-of c.args.journal c.args.journal_limit plans c.in_ok-cells.cells.items c.in_ok-cells.ensures in
     let all = all-made kinds numbers takes _ c.in_ok-queues.ensures in
     let cells : length c.deref-2.result.now ≡ length plans + 1 = ap length c.deref-2.ensures.value ∙ are.count in
     let as_many : length c.deref-3.result.now ≡ length takes = ap length c.deref-3.ensures.value in
@@ -35,12 +35,12 @@ pub homes-requires : goal.homes-requires
 homes-requires g c =
     let plans = c.args.plans.items in let kinds = c.in_ok-kinds.kinds.items in let cells = c.in_ok-cells.cells.items in
     let takes = c.in_ok-queues.queues.takes.items in let rows = map (λ row. row.items) c.in_ok-queues.queues.senders.items in
-    let are = cells-of c.args.journal_limit plans cells c.in_ok-cells.ensures in
+    let are = cells-of c.args.journal c.args.journal_limit plans cells c.in_ok-cells.ensures in
     let many = length-queues plans kinds (subst (λ l. AreKindsOf l kinds) c.deref.ensures.value c.in_ok-kinds.ensures) in
     let few = c.requires.within_limit.0 in let whole = are.count in
     let count : length cells ≡ length kinds + 1 = omega (arith, whole, many) in record {
       within_limit = omega (arith, whole, few);
-      cells = (are.unused, planned-cells c.args.journal_limit plans cells are c.requires.right.0 c.ranges.journal_limit.fits);
+      cells = (are.unused, planned-cells c.args.journal c.args.journal_limit plans cells are c.requires.right.0 c.requires.within_journal);
       made = (
         kinds,
         c.args.senders,
@@ -54,14 +54,14 @@ homes-requires g c =
 pub returns : goal.returns
 returns g c =
     let plans = c.args.plans.items in let kinds = c.in_ok-kinds.kinds.items in let cells = c.in_ok-cells.cells.items in
-    let rows = map (λ row. row.items) c.in_ok-queues.queues.senders.items in let limit = c.args.journal_limit in
+    let rows = map (λ row. row.items) c.in_ok-queues.queues.senders.items in let mode = c.args.journal in let limit = c.args.journal_limit in
     let queues = subst (λ l. AreKindsOf l kinds) c.deref.ensures.value c.in_ok-kinds.ensures in
     let all = all-made kinds (sender_numbers (length kinds + 1) c.args.senders) c.in_ok-queues.queues.takes.items rows c.in_ok-queues.ensures in
     let guardian = all.0 in let takes = all.1 in
-    let are = cells-of limit plans cells c.in_ok-cells.ensures in
-    let many = length-queues plans kinds queues in let whole = are.count in let who = length-who limit plans in
+    let are = cells-of mode limit plans cells c.in_ok-cells.ensures in
+    let many = length-queues plans kinds queues in let whole = are.count in let who = length-who mode limit plans in
     let count : length cells ≡ length kinds + 1 = omega (arith, whole, many) in
-    let actors : length kinds + 1 ≡ length (who_of limit plans) = omega (arith, who, many) in
+    let actors : length kinds + 1 ≡ length (who_of mode limit plans) = omega (arith, who, many) in
     let housed = c.in_ok-housed.housed in (
       kinds,
       queues,

@@ -8,5 +8,5 @@ returns c = λ yes who sends accounted ready.
     taken-accounted who sends c.args.actors.now c.args.order.now.items _ c.args.replay.now.cells.items c.apply.new.self.cells.items
     c.args.replay.now.outstanding.rows.items c.apply.new.self.outstanding.rows.items c.args.number c.index-actors-number.result _
     c.entries-index.result accounted ready c.index-actors-number.is c.entries-index.ensures
-    (ap (λ (x : ActorReport). slice_get (reverse x.journal.entries) c.entries-index.result) c.index-actors-number.is ∙ c.get-entry.ensures)
+    (ap (λ (x : ActorReport). slice_get (reverse x.journal.entries) c.entries-index.result) c.index-actors-number.is ∙ c.in-Some.ensures.read)
     (c.in_ok-apply.ensures c.if-not-branch.false) c.in_ok-push.ensures.items

@@ -4,12 +4,12 @@ use Rattle.mb_msg.specs.declared.id.ActorId.{ActorId}
 use Rattle.mb_build.proofs.CellLemmas.{children-below, children-few}
 use Rattle.mb_causal_order.proofs.planned_cells.guardian.Goals as goal
 
-pub new-cell-requires-clause-within_limit : goal.new-cell-requires-clause-within_limit
-new-cell-requires-clause-within_limit c =
-    let few = c.requires in let some = children-few 1 0 c.args.parents.now in let is = ap length c.in_ok-prepared.ensures in
+pub new-requires-2-clause-within_limit : goal.new-requires-2-clause-within_limit
+new-requires-2-clause-within_limit c =
+    let few = c.requires.few in let some = children-few 1 0 c.args.parents.now in let is = ap length c.in_ok-prepared.ensures in
     omega (arith, few, some, is)
 
-pub new-cell-requires-clause-numbered : goal.new-cell-requires-clause-numbered
-new-cell-requires-clause-numbered c =
-    let few = c.requires in
+pub new-requires-2-clause-numbered : goal.new-requires-2-clause-numbered
+new-requires-2-clause-numbered c =
+    let few = c.requires.few in
     subst (All (λ (x : ActorId). x.0 < 64)) (sym c.in_ok-prepared.ensures) (children-below 64 1 0 c.args.parents.now (omega (arith, few)))

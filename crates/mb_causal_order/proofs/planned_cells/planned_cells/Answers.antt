@@ -34,8 +34,8 @@ returns-clause-unstarted c = c.loop-index.invariant.each
 
 -- ---- the guardian's cell
 
-pub guardian-requires : goal.guardian-requires
-guardian-requires c =
+pub guardian-requires-clause-few : goal.guardian-requires-clause-few
+guardian-requires-clause-few c =
     let are = c.deref-2.ensures.value ∙ (c.in_ok-parents.ensures ∙ ap (map (λ a. a.parent)) c.deref.ensures.value) in
     let n = count c.args.plan.now c.deref-2.result.now are in let few = c.requires.few in omega (arith, n, few)
 
@@ -60,8 +60,8 @@ overflow_cast-index c = let n = c.len-index-end.ensures in let test = c.loop-ind
 pub overflow_add-index : goal.overflow_add-index
 overflow_add-index c = let n = c.len-index-end.ensures in let test = c.loop-index-test.true in let few = c.requires.few in omega (arith, n, test, few)
 
-pub cell_of-requires : goal.cell_of-requires
-cell_of-requires c =
+pub cell_of-requires-clause-few : goal.cell_of-requires-clause-few
+cell_of-requires-clause-few c =
     let are = c.deref-in-loop-index.ensures.value ∙ (c.in_ok-parents.ensures ∙ ap (map (λ a. a.parent)) c.deref.ensures.value) in
     let n = count c.args.plan.now c.deref-in-loop-index.result.now are in let few = c.requires.few in omega (arith, n, few)
 

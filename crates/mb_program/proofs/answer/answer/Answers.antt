@@ -21,6 +21,7 @@ returns-clause-report g c =
       record {
         report = report;
         ran = of.ran;
+        keeps = c.in_ok-names.ensures.kept;
         text = c.in_ok-report_text.ensures ∙ ap (λ (l : List (String Global)). report_text_of (map string_bytes l) report) c.deref.ensures.value
             ∙ ap (λ names. report_text_of names report) of.named;
       },

@@ -126,3 +126,19 @@ returns-clause-covers g c = tt
 
 pub returns-clause-fault : goal.returns-clause-fault
 returns-clause-fault g c = tt
+
+pub returns-then-is_quiet-clause-kept : goal.returns-then-is_quiet-clause-kept
+returns-then-is_quiet-clause-kept g c = c.in_ok-report.ensures.kept
+
+pub returns-in_err-report-clause-kept : goal.returns-in_err-report-clause-kept
+returns-in_err-report-clause-kept g c = IfOk-from_err c.from_residual.result _ c.from_residual.ensures.0
+
+pub returns-in_default-clause-kept : goal.returns-in_default-clause-kept
+returns-in_default-clause-kept g c = tt
+
+pub returns-in_err-report-2-clause-kept : goal.returns-in_err-report-2-clause-kept
+returns-in_err-report-2-clause-kept g c =
+    IfOk-from_err c.from_residual-in_err-report-2.result _ c.from_residual-in_err-report-2.ensures.0
+
+pub returns-clause-kept : goal.returns-clause-kept
+returns-clause-kept g c = c.in_ok-report-2.ensures.kept

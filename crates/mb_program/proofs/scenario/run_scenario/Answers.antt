@@ -15,52 +15,52 @@ run-requires-clause-unused g c κs within = all-unused c.args.text.now (scenario
 
 pub run-requires-clause-right : goal.run-requires-clause-right
 run-requires-clause-right g c κs within =
-    let read = c.in_ok-plan.field-0 in
-    subst (λ (l : List SenderOrder). IsRight read.plan (length read.scripts.items) (lists_of read.plan.senders l)) (sym c.deref.ensures.value)
-    (can-run c.args.text.now (scenario_data read) read.plan c.in_ok-plan.ensures.read refl)
+    let read = c.in_ok-plan.field-0 in let plan = record read.plan { journal = c.args.journal } in
+    subst (λ (l : List SenderOrder). IsRight plan (length read.scripts.items) (lists_of plan.senders l)) (sym c.deref.ensures.value)
+    (can-run c.args.text.now (scenario_data read) plan c.in_ok-plan.ensures.read refl)
 
 pub fault_of-requires : goal.fault_of-requires
 fault_of-requires g c =
-    let read = c.in_ok-plan.field-0 in
-    let right = can-run c.args.text.now (scenario_data read) read.plan c.in_ok-plan.ensures.read refl in
-    fault-of-run (gives_by_scripts (scenario_data read).scripts) read.plan (length read.scripts.items) _ c.in-Err.failed
-    (subst (λ (l : List SenderOrder). IsRight read.plan (length read.scripts.items) (lists_of read.plan.senders l)) (sym c.deref.ensures.value) right)
+    let read = c.in_ok-plan.field-0 in let plan = record read.plan { journal = c.args.journal } in
+    let right = can-run c.args.text.now (scenario_data read) plan c.in_ok-plan.ensures.read refl in
+    fault-of-run (gives_by_scripts (scenario_data read).scripts) plan (length read.scripts.items) _ c.in-Err.failed
+    (subst (λ (l : List SenderOrder). IsRight plan (length read.scripts.items) (lists_of plan.senders l)) (sym c.deref.ensures.value) right)
     c.in-Err.ensures.fault
 
 pub returns-in-Err-clause-refused : goal.returns-in-Err-clause-refused
 returns-in-Err-clause-refused g c =
-    let read = c.in_ok-plan.field-0 in let scenario = scenario_data read in (
+    let read = c.in_ok-plan.field-0 in let plan = record read.plan { journal = c.args.journal } in let scenario = scenario_data read in (
       scenario,
       c.in_ok-plan.ensures.read,
       record {
-        plan = read.plan;
+        plan = plan;
         planned = refl;
         failed = c.in-Err.failed;
-        of_run = subst (λ (l : List SenderOrder). IsErrorOfRun (gives_by_scripts scenario.scripts) read.plan (length read.scripts.items)
-            (lists_of read.plan.senders l) c.in-Err.failed) c.deref.ensures.value c.in-Err.ensures.fault;
+        of_run = subst (λ (l : List SenderOrder). IsErrorOfRun (gives_by_scripts scenario.scripts) plan (length read.scripts.items)
+            (lists_of plan.senders l) c.in-Err.failed) c.deref.ensures.value c.in-Err.ensures.fault;
         told = c.fault_of.ensures;
       },
     )
 
 pub returns-in-Ok-clause-run_of : goal.returns-in-Ok-clause-run_of
 returns-in-Ok-clause-run_of g c =
-    let read = c.in_ok-plan.field-0 in
+    let read = c.in_ok-plan.field-0 in let plan = record read.plan { journal = c.args.journal } in
     let scenario = scenario_data read in
     let run = c.in-Ok.run' in
     let names = map string_bytes read.names.items in
     let many = c.in-Ok.ensures.lines in
     let same = as-many-names c.args.text.now scenario names c.in_ok-plan.ensures.read refl in
-    let ran : IsReportOfRun (after_by_scripts scenario.scripts) (gives_by_scripts scenario.scripts) read.plan
-    (lists_of read.plan.senders scenario.sends) run.report =
-    subst (λ (l : List SenderOrder). IsReportOfRun (after_by_scripts scenario.scripts) (gives_by_scripts scenario.scripts) read.plan
-    (lists_of read.plan.senders l) run.report) c.deref.ensures.value c.in-Ok.ensures.ran in
-    let headline : RunHeadline read.plan (lists_of read.plan.senders scenario.sends) run.report =
-    subst (λ (l : List SenderOrder). RunHeadline read.plan (lists_of read.plan.senders l) run.report) c.deref.ensures.value c.in-Ok.ensures.headline in
+    let ran : IsReportOfRun (after_by_scripts scenario.scripts) (gives_by_scripts scenario.scripts) plan
+    (lists_of plan.senders scenario.sends) run.report =
+    subst (λ (l : List SenderOrder). IsReportOfRun (after_by_scripts scenario.scripts) (gives_by_scripts scenario.scripts) plan
+    (lists_of plan.senders l) run.report) c.deref.ensures.value c.in-Ok.ensures.ran in
+    let headline : RunHeadline plan (lists_of plan.senders scenario.sends) run.report =
+    subst (λ (l : List SenderOrder). RunHeadline plan (lists_of plan.senders l) run.report) c.deref.ensures.value c.in-Ok.ensures.headline in
     record {
       scenario = scenario;
       read = c.in_ok-plan.ensures.read;
       named = refl;
-      ran = record { plan = read.plan; planned = refl; ran = ran; headline = headline };
+      ran = record { plan = plan; planned = refl; ran = ran; headline = headline };
       same_count = omega (arith, many, same);
       quiet = c.in-Ok.ensures.turns;
       covers = c.in-Ok.ensures.covers;

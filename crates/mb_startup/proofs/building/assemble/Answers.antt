@@ -20,6 +20,7 @@ pub found-requires : goal.found-requires
 found-requires g c =
     let right = right-plan c.args.plan (length c.args.actors.items) c.requires.right in record {
       within_limit = (right.within_limit, right.senders);
+      within_journal = right.limit.1;
       right = (right.parents, right.bounds);
       same_count = sym right.as_many;
       behaved = c.requires.behaved;

@@ -5,7 +5,7 @@ use Rattle.mb_startup.proofs.new_gates.found.Goals as goal
 pub new-requires : goal.new-requires
 new-requires g c =
     let housed = c.in_ok-homes.ensures in let homes = c.in_ok-homes.field-0.homes in let length_is = homes.ok.0 in
-    let many = housed-many _ c.args.journal_limit c.args.plans.items housed.0 c.args.senders homes.items _ housed.2 in
+    let many = housed-many _ c.args.journal c.args.journal_limit c.args.plans.items housed.0 c.args.senders homes.items _ housed.2 in
     let few = c.requires.within_limit.0 in record {
       not_empty = omega (arith, many, length_is);
       within_limit = omega (arith, many, length_is, few);
@@ -20,11 +20,14 @@ returns-in-Ok-clause-homes_made g c =
 pub returns-in-Ok-clause-new_gates : goal.returns-in-Ok-clause-new_gates
 returns-in-Ok-clause-new_gates g c =
     let housed = c.in_ok-homes.ensures in let homes = c.in_ok-homes.field-0.homes in
-    founded _ c.args.journal_limit c.args.plans.items housed.0 c.args.senders homes.items _ _ c.requires.within_limit.0 housed.1 housed.2
+    founded _ c.args.journal c.args.journal_limit c.args.plans.items housed.0 c.args.senders homes.items _ _ c.requires.within_limit.0 housed.1 housed.2
     c.in-Ok.ensures.first (c.in-Ok.ensures.ok.0 ∙ homes.ok.0)
 
 pub make_homes-requires-clause-within_limit : goal.make_homes-requires-clause-within_limit
 make_homes-requires-clause-within_limit g c = c.requires.within_limit
+
+pub make_homes-requires-clause-within_journal : goal.make_homes-requires-clause-within_journal
+make_homes-requires-clause-within_journal g c = c.requires.within_journal
 
 pub make_homes-requires-clause-right : goal.make_homes-requires-clause-right
 make_homes-requires-clause-right g c = c.requires.right

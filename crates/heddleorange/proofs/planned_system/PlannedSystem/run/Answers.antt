@@ -11,6 +11,8 @@ returns-then-workers-eq1 g c = record {
   lines = c.run_here.ensures.lines;
   headline = c.run_here.ensures.headline;
   ledger = c.run_here.ensures.ledger;
+  counts = c.run_here.ensures.counts;
+  kept = c.run_here.ensures.kept;
   conserved = λ worth holdings notice conserve.
       conserved-of g.A.Actor.after g.A.Actor.gives worth holdings c.args.self.actors.items c.args.self.plan (orders_of c.args.sends.now) c.run_here.result
       notice conserve c.run_here.ensures.story c.run_here.ensures.right;
@@ -25,6 +27,8 @@ returns-else-workers-eq1 g c = record {
   lines = c.run_on_threads.ensures.lines;
   headline = c.run_on_threads.ensures.headline;
   ledger = c.run_on_threads.ensures.ledger;
+  counts = c.run_on_threads.ensures.counts;
+  kept = c.run_on_threads.ensures.kept;
   conserved = λ worth holdings notice conserve.
       conserved-of g.A.Actor.after g.A.Actor.gives worth holdings c.args.self.actors.items c.args.self.plan (orders_of c.args.sends.now) c.run_on_threads.result
       notice conserve c.run_on_threads.ensures.story c.run_on_threads.ensures.right;

@@ -23,3 +23,9 @@ returns-clause-ledger g c = c.run_here.ensures.ledger
 
 pub returns-clause-headline : goal.returns-clause-headline
 returns-clause-headline g c = c.run_here.ensures.headline
+
+pub returns-clause-counts : goal.returns-clause-counts
+returns-clause-counts g c = c.run_here.ensures.counts
+
+pub returns-clause-kept : goal.returns-clause-kept
+returns-clause-kept g c = c.run_here.ensures.kept

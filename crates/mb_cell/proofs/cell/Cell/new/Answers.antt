@@ -27,10 +27,10 @@ pub invariant_of-result : goal.invariant_of-result
 invariant_of-result g c = (
   agrees-new
       (record { this = c.args.this; parent = c.args.parent; actors = c.args.actors; prepared = c.args.prepared; strategy = c.args.strategy })
-      c.new-journal.result c.args.journal_limit _ c.new-cell_state.result c.new-outbox.result c.new-journal.ensures
+      c.in_ok-journal.journal c.args.journal_limit _ _ c.new-cell_state.result c.new-outbox.result c.in_ok-journal.ensures.made
       (first _ _ c.new-cell_state.ensures) (let same = ap (λ (b : CellState). b.fanout) c.new-cell_state.ensures in omega arith) c.new-outbox.ensures
-      (omega arith) c.requires.within_limit,
-  (λ ready. let no : c.new-journal.result.is_ready ≡ false = ap (λ j. j.is_ready) c.new-journal.ensures in cc),
+      c.requires.within_journal c.requires.within_limit,
+  (λ ready. let no : c.in_ok-journal.journal.is_ready ≡ false = ap (λ j. j.is_ready) c.in_ok-journal.ensures.made in cc),
   no_parent c.args.actor c.args.parent c.in_default.not-Some c.requires.guardian,
   is-unsent-none 0 _ refl,
 )
@@ -39,20 +39,20 @@ pub returns-in_default-clause-lawful : goal.returns-in_default-clause-lawful
 returns-in_default-clause-lawful g c = (invariant_of-result g c).0.lawful
 
 -- the actor as it was handed in, of which no call was made
-handed : (g : given.Over) (c : goal.After-new g) → c.new.result.actor ≡ c.in-Some.actor
-handed g c = ap (λ (a : RecordedActor (g.row.A.Denot)). a.actor) c.new.ensures
+handed : (g : given.Over) (c : goal.After-new-2 g) → c.new-2.result.actor ≡ c.in-Some.actor
+handed g c = ap (λ (a : RecordedActor (g.row.A.Denot)). a.actor) c.new-2.ensures
 
 pub invariant_of-result-2 : goal.invariant_of-result-2
 invariant_of-result-2 g c = (
   agrees-new
       (record { this = c.args.this; parent = c.args.parent; actors = c.args.actors; prepared = c.args.prepared; strategy = c.args.strategy })
-      c.new-journal.result c.args.journal_limit _ c.new-cell_state.result c.new-outbox.result c.new-journal.ensures
+      c.in_ok-journal.journal c.args.journal_limit _ _ c.new-cell_state.result c.new-outbox.result c.in_ok-journal.ensures.made
       (first _ _ c.new-cell_state.ensures) (let same = ap (λ (b : CellState). b.fanout) c.new-cell_state.ensures in omega arith) c.new-outbox.ensures
-      (omega arith) c.requires.within_limit,
-  (λ ready. let no : c.new-journal.result.is_ready ≡ false = ap (λ j. j.is_ready) c.new-journal.ensures in cc),
+      c.requires.within_journal c.requires.within_limit,
+  (λ ready. let no : c.in_ok-journal.journal.is_ready ≡ false = ap (λ j. j.is_ready) c.in_ok-journal.ensures.made in cc),
   plays-new
       (record { this = c.args.this; parent = c.args.parent; actors = c.args.actors; prepared = c.args.prepared; strategy = c.args.strategy })
-      c.new-journal.result c.args.journal_limit _ _ _ _ _ _ c.new-journal.ensures
+      c.in_ok-journal.journal c.args.journal_limit _ _ _ _ _ _ _ c.in_ok-journal.ensures.made
       (a_parent c.args.actor c.in-Some.actor c.args.parent c.in-Some.is c.requires.guardian)
       (ap g.A.Actor.after (handed g c)
       ∙ of_it c.args.actor c.in-Some.actor (λ a. g.A.Actor.after a ≡ g.K.Behaviours.after c.args.this.0) c.in-Some.is c.requires.behaves)
@@ -60,7 +60,7 @@ invariant_of-result-2 g c = (
       (of_it c.args.actor c.in-Some.actor (λ a. AllowsSame (g.A.Actor.gives a) (g.K.Behaviours.gives c.args.this.0)) c.in-Some.is c.requires.allows))
       (subst (λ a. g.A.Actor.content a ≡ g.A.Actor.after a []) (sym (handed g c))
       (of_it c.args.actor c.in-Some.actor (λ a. g.A.Actor.content a ≡ g.A.Actor.after a []) c.in-Some.is c.requires.unused))
-      (ap (λ (a : RecordedActor (g.row.A.Denot)). a.calls) c.new.ensures),
+      (ap (λ (a : RecordedActor (g.row.A.Denot)). a.calls) c.new-2.ensures),
   is-unsent-none 0 _ refl,
 )
 

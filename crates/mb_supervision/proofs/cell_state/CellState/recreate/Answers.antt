@@ -4,7 +4,7 @@ use Rattle.mb_actor.specs.OutboxView.{spawns_of}
 use Rattle.mb_actor.specs.declared.answer.Answer.{Answer}
 use Rattle.mb_journal.specs.Entry.{is_failed}
 use Rattle.mb_supervision.specs.ActQueueView.{ActQueueView}
-use Rattle.mb_supervision.specs.ActorIdentity.{identity_of}
+use Rattle.mb_supervision.specs.ActorIdentity.{identity_at}
 use Rattle.mb_supervision.specs.CellState.{cell_state_of_fields}
 use Rattle.mb_supervision.specs.CellStateRecord.{CellState}
 use Rattle.mb_supervision.specs.Rows.{recreated}
@@ -89,7 +89,7 @@ invariant_of-self-2 c =
 pub returns-in_default : goal.returns-in_default
 returns-in_default c =
     let b = c.self.inside in
-    let who = identity_of c.args.place.now 0 in
+    let who = identity_at c.args.place.now in
     let none = ap (λ (s : CellState). s.acts) c.self.view_is ∙ c.requires.carried_out in
     let kept = first-ones c.len-survivors.result c.deref.result.now b.children.items (spawns_of c.args.effects.now)
     (c.deref.ensures.value ∙ c.carry_out.ensures.children) (c.len-survivors.ensures ∙ b.children.ok.0) in
@@ -102,7 +102,7 @@ returns-in_default c =
 pub returns : goal.returns
 returns c =
     let b = c.self.inside in
-    let who = identity_of c.args.place.now 0 in
+    let who = identity_at c.args.place.now in
     let none = ap (λ (s : CellState). s.acts) c.self.view_is ∙ c.requires.carried_out in
     let kept = first-ones c.len-survivors.result c.deref-3.result.now b.children.items (spawns_of c.args.effects.now)
     (c.deref-3.ensures.value ∙ c.carry_out.ensures.children) (c.len-survivors.ensures ∙ b.children.ok.0) in

@@ -1,7 +1,7 @@
 use Rattle.std.proofs.Common.{rules, refl, ◌≡◌, ◌+◌, ◌*◌, ◌<◌, ◌≤◌, ◌^◌, true, length, ap, subst, sym, ◌∙◌, w64, to_z, of_z}
 use Rattle.std.specs.Prelude.{if◌then◌else◌, ◌∷◌, [], vec_capacity, vec_len}
 use Rattle.mb_msg.specs.declared.id.ActorId.{ActorId}
-use Rattle.mb_supervision.specs.ActorIdentity.{identity_of}
+use Rattle.mb_supervision.specs.ActorIdentity.{identity_at}
 use Rattle.mb_supervision.specs.CellState.{HasRoom, cell_state_of_fields}
 use Rattle.mb_supervision.specs.CellStateRecord.{CellState}
 use Rattle.mb_supervision.specs.RetryCounts.{retry_count_of}
@@ -15,7 +15,7 @@ use Rattle.mb_supervision.proofs.cell_state.CellState.supervise.Goals as goal
 
 pub ask-requires-clause-few : goal.ask-requires-clause-few
 ask-requires-clause-few c =
-    subst (λ (b : CellState). (y : ActorId) → retry_count_of b.retries y < 2 ^ 60) (sym c.self.view_is) c.requires.few_requests
+    subst (λ (b : CellState). (y : ActorId) → retry_count_of b.retries y < 2 ^ 63) (sym c.self.view_is) c.requires.few_requests
 
 pub ask-requires-clause-room : goal.ask-requires-clause-room
 ask-requires-clause-room c =
@@ -102,7 +102,7 @@ fail-requires-clause-below_bound c = subst (λ (s : CellState). s.count < 2 ^ 60
 pub returns-in-Resume-clause-state : goal.returns-in-Resume-clause-state
 returns-in-Resume-clause-state c =
     let b = c.self.inside in
-    let who = identity_of c.args.place.now 0 in
+    let who = identity_at c.args.place.now in
     let none = ap (λ (s : CellState). s.acts) c.self.view_is ∙ c.requires.carried_out in
     by-resume who c.args.child c.args.cause (cell_state_of_fields b) c.args.number b.retries.items _ _ _ c.forget.ensures.items none
     c.in-Resume.ensures (ap (λ (q : ActQueueView). q.acts) c.push.ensures)
@@ -111,7 +111,7 @@ returns-in-Resume-clause-state c =
 pub returns-in-Stop-clause-state : goal.returns-in-Stop-clause-state
 returns-in-Stop-clause-state c =
     let b = c.self.inside in
-    let who = identity_of c.args.place.now 0 in
+    let who = identity_at c.args.place.now in
     let none = ap (λ (s : CellState). s.acts) c.self.view_is ∙ c.requires.carried_out in
     let meant = c.meant_by-meant.ensures ∙ ap (λ l. if c.args.place.now.strategy.all_for_one then l else c.args.child ∷ []) c.deref.ensures.value in
     by-stop who c.args.child c.args.cause (cell_state_of_fields b) c.args.number b.retries.items _ _ _ c.forget.ensures.items none _ meant
@@ -122,7 +122,7 @@ returns-in-Stop-clause-state c =
 pub returns-in-Escalate-clause-state : goal.returns-in-Escalate-clause-state
 returns-in-Escalate-clause-state c =
     let b = c.self.inside in
-    let who = identity_of c.args.place.now 0 in
+    let who = identity_at c.args.place.now in
     let none = ap (λ (s : CellState). s.acts) c.self.view_is ∙ c.requires.carried_out in
     by-escalation who c.args.child c.args.cause (cell_state_of_fields b) c.args.number b.retries.items _ _ _ c.forget.ensures.items none _ _ _
     c.deref-in-Escalate.ensures.value c.in-Escalate.ensures
@@ -131,23 +131,23 @@ returns-in-Escalate-clause-state c =
 
 pub returns-in-Resume-clause-counted : goal.returns-in-Resume-clause-counted
 returns-in-Resume-clause-counted c =
-    counted-none (identity_of c.args.place.now 0) c.args.child c.args.cause (cell_state_of_fields c.self.inside) _ c.in-Resume.ensures refl
-    ∙ ap (λ (s : CellState). counted_now (identity_of c.args.place.now 0) s c.args.child c.args.cause) c.self.view_is
+    counted-none (identity_at c.args.place.now) c.args.child c.args.cause (cell_state_of_fields c.self.inside) _ c.in-Resume.ensures refl
+    ∙ ap (λ (s : CellState). counted_now (identity_at c.args.place.now) s c.args.child c.args.cause) c.self.view_is
 
 pub returns-in-Stop-clause-counted : goal.returns-in-Stop-clause-counted
 returns-in-Stop-clause-counted c =
-    counted-none (identity_of c.args.place.now 0) c.args.child c.args.cause (cell_state_of_fields c.self.inside) _ c.in-Stop.ensures refl
-    ∙ ap (λ (s : CellState). counted_now (identity_of c.args.place.now 0) s c.args.child c.args.cause) c.self.view_is
+    counted-none (identity_at c.args.place.now) c.args.child c.args.cause (cell_state_of_fields c.self.inside) _ c.in-Stop.ensures refl
+    ∙ ap (λ (s : CellState). counted_now (identity_at c.args.place.now) s c.args.child c.args.cause) c.self.view_is
 
 pub returns-in-Escalate-clause-counted : goal.returns-in-Escalate-clause-counted
 returns-in-Escalate-clause-counted c =
-    counted-none (identity_of c.args.place.now 0) c.args.child c.args.cause (cell_state_of_fields c.self.inside) _ c.in-Escalate.ensures refl
-    ∙ ap (λ (s : CellState). counted_now (identity_of c.args.place.now 0) s c.args.child c.args.cause) c.self.view_is
+    counted-none (identity_at c.args.place.now) c.args.child c.args.cause (cell_state_of_fields c.self.inside) _ c.in-Escalate.ensures refl
+    ∙ ap (λ (s : CellState). counted_now (identity_at c.args.place.now) s c.args.child c.args.cause) c.self.view_is
 
 pub returns-then-ask-clause-state : goal.returns-then-ask-clause-state
 returns-then-ask-clause-state c =
     let b = c.self.inside in
-    let who = identity_of c.args.place.now 0 in
+    let who = identity_at c.args.place.now in
     let none = ap (λ (s : CellState). s.acts) c.self.view_is ∙ c.requires.carried_out in
     let meant = c.meant_by-meant.ensures ∙ ap (λ l. if c.args.place.now.strategy.all_for_one then l else c.args.child ∷ []) c.deref.ensures.value in
     by-restart who c.args.child c.args.cause (cell_state_of_fields b) c.args.number c.ask.new.counts.items _ _ _ c.forget.ensures.items none
@@ -157,16 +157,16 @@ returns-then-ask-clause-state c =
 
 pub returns-then-ask-clause-counted : goal.returns-then-ask-clause-counted
 returns-then-ask-clause-counted c =
-    counted-restart (identity_of c.args.place.now 0) (cell_state_of_fields c.self.inside) c.args.child c.args.cause
+    counted-restart (identity_at c.args.place.now) (cell_state_of_fields c.self.inside) c.args.child c.args.cause
     (to_z w64 (of_z w64 c.args.place.now.strategy.retries)) c.meant_by-meant.result.now _ (search rules) (sym c.in-Restart.ensures)
     (c.meant_by-meant.ensures ∙ ap (λ l. if c.args.place.now.strategy.all_for_one then l else c.args.child ∷ []) c.deref.ensures.value)
     c.ask.ensures.counted
-    ∙ ap (λ (b : CellState). counted_now (identity_of c.args.place.now 0) b c.args.child c.args.cause) c.self.view_is
+    ∙ ap (λ (b : CellState). counted_now (identity_at c.args.place.now) b c.args.child c.args.cause) c.self.view_is
 
 pub returns-else-ask-clause-state : goal.returns-else-ask-clause-state
 returns-else-ask-clause-state c =
     let b = c.self.inside in
-    let who = identity_of c.args.place.now 0 in
+    let who = identity_at c.args.place.now in
     let none = ap (λ (s : CellState). s.acts) c.self.view_is ∙ c.requires.carried_out in
     let meant = c.meant_by-meant.ensures ∙ ap (λ l. if c.args.place.now.strategy.all_for_one then l else c.args.child ∷ []) c.deref.ensures.value in
     by-refusal who c.args.child c.args.cause (cell_state_of_fields b) c.args.number c.ask.new.counts.items _ _ _ c.forget.ensures.items none
@@ -176,8 +176,8 @@ returns-else-ask-clause-state c =
 
 pub returns-else-ask-clause-counted : goal.returns-else-ask-clause-counted
 returns-else-ask-clause-counted c =
-    counted-restart (identity_of c.args.place.now 0) (cell_state_of_fields c.self.inside) c.args.child c.args.cause
+    counted-restart (identity_at c.args.place.now) (cell_state_of_fields c.self.inside) c.args.child c.args.cause
     (to_z w64 (of_z w64 c.args.place.now.strategy.retries)) c.meant_by-meant.result.now _ (search rules) (sym c.in-Restart.ensures)
     (c.meant_by-meant.ensures ∙ ap (λ l. if c.args.place.now.strategy.all_for_one then l else c.args.child ∷ []) c.deref.ensures.value)
     c.ask.ensures.counted
-    ∙ ap (λ (b : CellState). counted_now (identity_of c.args.place.now 0) b c.args.child c.args.cause) c.self.view_is
+    ∙ ap (λ (b : CellState). counted_now (identity_at c.args.place.now) b c.args.child c.args.cause) c.self.view_is

@@ -1,5 +1,7 @@
-use Rattle.std.proofs.Common.{◌≡◌, ℕ, List, length, set, slice_get, ◌<◌, ◌≤◌, ◌∙◌, sym, ap, subst, arith}
+use Rattle.std.proofs.Common.{◌≡◌, ℕ, List, length, set, slice_get, true, ◌<◌, ◌≤◌, ◌∙◌, sym, ap, subst, arith}
 use Rattle.std.specs.Prelude.{◌==◌, if◌then◌else◌, OnOk, OnErr, drop}
+use Rattle.std.proofs.lemmas.List.Elements.{All-get_or}
+use Rattle.mb_report.specs.declared.report.ActorReport.{ActorReport}
 use Rattle.mb_trace.specs.Actors.{who_in}
 use Rattle.mb_trace.specs.Cursors.{left_from, left_of}
 use Rattle.mb_trace.specs.Steps.{Step, steps_in}
@@ -21,6 +23,13 @@ returns-then-number-len-clause-left c =
     let past : length cursors ≤ c.args.actor.0 = omega (arith, c.if-number-len.true, c.len.ensures, c.self.invariant.as_many) in
     none-left c.args.self.now c.args.actor.0
     (ap (λ (l : List (List Step)). left_of l c.args.actor.0) (sym c.self.view_is) ∙ left-past c.self.inside.trace cursors c.args.actor.0 past)
+
+pub pass-requires-clause-kept : goal.pass-requires-clause-kept
+pass-requires-clause-kept c =
+    let trace = c.self.inside.trace in
+    let among : c.args.actor.0 < length trace.report.now.actors.items = omega (arith, c.if-number-len.false, c.len.ensures) in
+    subst (λ (a : ActorReport). a.journal.is_kept ≡ true) (sym c.index.ensures)
+    (All-get_or (λ (a : ActorReport). a.journal.is_kept ≡ true) trace.report.now.actors.items c.args.actor.0 c.index.result.now among trace.kept)
 
 pub invariant_of-self : goal.invariant_of-self
 invariant_of-self c =

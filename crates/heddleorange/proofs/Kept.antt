@@ -1,0 +1,52 @@
+-- What the journals of a report keep, from its story.
+use Rattle.std.proofs.Common.{◌≡◌, ℕ, zero, suc, ◌+◌, ℤ, List, [], ◌∷◌, refl, sym, ap, ◌∙◌, arith, Some}
+use Rattle.std.specs.Prelude.{Err, IfOk, Ok, OnOk, Result, slice_get}
+use Rattle.std.proofs.lemmas.Option.{none-some, same_Some}
+use Rattle.mb_actor.specs.Behaviour.{Moment, Reply}
+use Rattle.mb_actor.specs.declared.message.Message.{Message}
+use Rattle.mb_build.specs.Identities.{planned_from}
+use Rattle.mb_build.specs.Planned.{actors_in}
+use Rattle.mb_home.specs.Directory.{DirectoryEntry}
+use Rattle.mb_journal.specs.Identity.{Identity}
+use Rattle.mb_msg.specs.JournalMode.{keeps_all}
+use Rattle.mb_msg.specs.declared.id.ActorId.{ActorId}
+use Rattle.mb_msg.specs.declared.journal_mode.JournalMode.{JournalMode}
+use Rattle.mb_msg.specs.declared.order.Order.{Order}
+use Rattle.mb_msg.specs.declared.plan.Plan.{Plan}
+use Rattle.mb_msg.specs.declared.strategy.Strategy.{Strategy}
+use Rattle.mb_report.specs.declared.report.ActorReport.{ActorReport}
+use Rattle.mb_report.specs.declared.report.Report.{Report}
+use Rattle.mb_shutdown.proofs.Lists.{each-place, mapped-to, there, within}
+use Rattle.heddleorange.specs.Kept.{KeepsAsPlanned}
+use Rattle.heddleorange.specs.WholeRun.{IsReportOfRun}
+use Rattle.heddleorange.specs.declared.failed_run.FailedRun.{FailedRun}
+
+-- each actor's journal keeps what the plan says
+keeps-of : (actors : ℕ) (mode : JournalMode) (limit : ℕ) (all : List ActorId) (number : ℕ) (parents : List ActorId) (strategies : List Strategy) (place : ℕ)
+    (who : Identity) → slice_get (planned_from actors mode limit all number parents strategies) place ≡ Some who → who.is_kept ≡ keeps_all mode
+keeps-of actors mode limit all number [] [] place who is = absurd (none-some who is)
+keeps-of actors mode limit all number [] (s ∷ strategies) place who is = absurd (none-some who is)
+keeps-of actors mode limit all number (p ∷ parents) [] place who is = absurd (none-some who is)
+keeps-of actors mode limit all number (p ∷ parents) (s ∷ strategies) zero who is = ap (λ (w : Identity). w.is_kept) (sym (same_Some _ who is))
+keeps-of actors mode limit all number (p ∷ parents) (s ∷ strategies) (suc place) who is =
+    keeps-of actors mode limit all (number + 1) parents strategies place who is
+
+keeps-planned : (plan : Plan) (place : ℕ) (who : Identity) → slice_get (actors_in plan) place ≡ Some who → who.is_kept ≡ keeps_all plan.journal
+keeps-planned plan zero who is = ap (λ (w : Identity). w.is_kept) (sym (same_Some _ who is))
+keeps-planned plan (suc place) who is = keeps-of _ plan.journal plan.journal_limit _ 1 _ _ place who is
+
+keeps : (after : ℕ → List Message → ℤ) (gives : ℕ → Moment → Reply → Type 0) (plan : Plan) (orders : List (List Order)) (report : Report)
+    → IsReportOfRun after gives plan orders report → KeepsAsPlanned plan report
+keeps after gives plan orders report story =
+    each-place (λ (a : ActorReport). a.journal.is_kept ≡ keeps_all plan.journal) report.actors.items
+    (λ id a at.
+    (let lt = within report.actors.items id a at in let same = story.whole.same_count.0 in
+    let row = there story.directory id (omega (arith, lt, same)) in
+    (story.whole.actors id row.0 a row.1 at).0.kept_is
+    ∙ keeps-planned plan id row.0.who (mapped-to (λ (d : DirectoryEntry). d.who) story.directory (actors_in plan) id row.0 story.planned.who row.1)))
+
+-- and so of a call that gives the report
+pub kept-of : (after : ℕ → List Message → ℤ) (gives : ℕ → Moment → Reply → Type 0) (plan : Plan) (orders : List (List Order))
+    (result : Result Report FailedRun) → IfOk result (IsReportOfRun after gives plan orders) → IfOk result (KeepsAsPlanned plan)
+kept-of after gives plan orders (Ok report) story = keeps after gives plan orders report story
+kept-of after gives plan orders (Err error) story = story
