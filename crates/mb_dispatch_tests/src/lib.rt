@@ -9,6 +9,8 @@ mod broken_off;
 #[cfg(test)]
 mod by_hand;
 #[cfg(test)]
+mod call_order;
+#[cfg(test)]
 mod closing;
 #[cfg(test)]
 mod crowd;
