@@ -29,6 +29,12 @@ class Recorded(Script):
         return self.keep(None, super().stop())[1]
 
 
+class SentMessage(tuple):
+    """A system message that knows which entry sent it: its actor's number and its place; None of what comes from outside."""
+
+    cause = None
+
+
 class Traced(Cell):
     """A cell that tells the system of each of its entries."""
 
@@ -46,7 +52,9 @@ class Traced(Cell):
         before, waiting = self.standing(), len(self.aside)
         if self.script:
             self.script.called = None
+        self.system.current = self.number, self.entries
         apply()
+        self.system.current = None
         answer, effects = self.script and self.script.called or (None, [])
         if len(self.aside) > waiting:
             answer = "set aside"
@@ -57,6 +65,7 @@ class Traced(Cell):
         number = self.numbers_aside.pop(0) if from_aside else self.arrived
         self.arrived += not from_aside
         made = self.entry(self.system.system_came(number, message), lambda: super(Traced, self).apply_system(message))
+        self.system.causes.append(getattr(message, "cause", None))
         if made[3] == "set aside":
             self.numbers_aside.append(number)
         self.system.note(self, made)
@@ -65,19 +74,32 @@ class Traced(Cell):
         is_dropped = body[0] == "terminated" and body[1] not in self.due
         what = self.system.envelope_came(sent, body)
         made = self.entry(what, lambda: super(Traced, self).apply_envelope(sent, body))
+        self.system.causes.append(self.system.sent_at.get(sent))
         if is_dropped:
             made[3] = "dropped"
         self.system.note(self, made)
 
 
 class Trace(System):
-    """A run that keeps its lines."""
+    """A run that keeps its lines; all entries and dead letters in the order of time; and which entry caused which."""
 
     cell_type = Traced
 
     def __init__(self, top):
         self.lines, self.lost, self.owner = [], [], None
+        self.events, self.lost_now, self.causes, self.sent_at, self.current = [], [], [], {}, None
         super().__init__(top)
+
+    # What causes what.
+
+    def tell(self, to, body):
+        self.sent_at[self.by, self.sent[self.by]] = self.current
+        super().tell(to, body)
+
+    def send_system(self, to, message):
+        message = SentMessage(message)
+        message.cause = self.current
+        super().send_system(to, message)
 
     # Words.
 
@@ -121,6 +143,11 @@ class Trace(System):
 
     # Lines.
 
+    def happened(self, line):
+        """The entry of this line happened, and then what was lost by it."""
+        self.events += [line, *self.lost_now]
+        self.lost_now = []
+
     def run_mailbox(self, cell):
         self.owner = None
         super().run_mailbox(cell)
@@ -135,12 +162,14 @@ class Trace(System):
         changes += [] if after[2] is None else [f"state {after[2]}"]
         outcome = f"failed {answer}" if isinstance(answer, int) else answer or "handled"
         self.lines.append(f"  {what}: " + ", ".join([outcome, *changes]))
+        self.happened(self.lines[-1])
         self.lines += [f"    {self.effect_words(effect)}" for effect in effects]
 
     def lose(self, cell, envelope, why):
         super().lose(cell, envelope, why)
         sender = (1, cell.number) if why == "cleaned" else (0, envelope[0][0])
         self.lost.append((sender, self.dead_line(cell, envelope, why)))
+        (self.events if self.current is None else self.lost_now).append(self.lost[-1][1])
 
     def dead_line(self, cell, envelope, why):
         return f"dead {self.envelope_came(*envelope)} to {cell.name}: {why}"

@@ -9,6 +9,8 @@ sys.dont_write_bytecode = True
 from quiet_trace import Trace, trace_of
 from scenario_checks import fail_tool, scenario_of
 
+# The version of the form.
+VERSION = 1
 # The status of a mailbox while its actor is given an envelope: scheduled, and neither closed nor suspended.
 SCHEDULED = 2
 
@@ -19,7 +21,7 @@ def cause_parts(cause):
 
 
 def line_of(kind, **parts):
-    return json.dumps({"line": kind, **parts}, sort_keys=True, separators=(",", ":"), ensure_ascii=False)
+    return json.dumps({"line": kind, "version": VERSION, **parts}, sort_keys=True, separators=(",", ":"), ensure_ascii=False)
 
 
 class JsonTrace(Trace):
@@ -55,12 +57,14 @@ class JsonTrace(Trace):
         return {"sender": self.sender(by), "number": number, "message": self.body(body)}
 
     def note(self, cell, made):
-        _, _, came, answer, effects = made
+        _, (phase, suspended, state), came, answer, effects = made
         is_failure = isinstance(answer, int)
         status = SCHEDULED if "sender" in came and answer != "dropped" else None
-        parts = {"sender": None, **came, "actor": cell.name, "entry": cell.entries - 1, "status": status}
+        after = {"phase": phase, "suspended": suspended, "state": state}
+        parts = {"sender": None, **came, "actor": cell.name, "entry": cell.entries - 1, "status": status, "after": after}
         outcome = {"outcome": "failed" if is_failure else answer or "applied", "error": answer if is_failure else None}
         self.lines.append(line_of("entry", **parts, **outcome, effects=[self.effect(effect) for effect in effects]))
+        self.happened(self.lines[-1])
 
     def dead_line(self, cell, envelope, why):
         return line_of("dead letter", actor=cell.name, why=why, **self.envelope_came(*envelope))
@@ -70,6 +74,16 @@ class JsonTrace(Trace):
 
     def aside_line(self, cell, number, message):
         return line_of("set aside", actor=cell.name, **self.system_came(number, message))
+
+
+def events_of(top):
+    """The lines of the entries and of the dead letters of a quiet run in the order of time, those that senders outside the actors lost
+    before it by their numbers; and the causes of the entries, by their actors and places: each an actor's number and a place, or None."""
+    run = JsonTrace(top)
+    run.run()
+    first = next((place for place, line in enumerate(run.events) if '"line":"entry"' in line), len(run.events))
+    before = sorted(run.events[:first], key=lambda line: int(json.loads(line)["sender"].split()[1]))
+    return before + run.events[first:], run.causes
 
 
 if __name__ == "__main__":

@@ -13,22 +13,27 @@ NUMBER = re.compile(r"(?:(?P<sender>.+), number|system message) (?P<number>\d+)"
 
 class Page(html.parser.HTMLParser):
     """A page: whether each element is closed in order and refers to nothing outside, its report, and its journals, each with its rows and
-    their cells."""
+    their cells; and of the lines of entries, by their names, the line of the cause that each leads to."""
 
     def __init__(self, text):
         super().__init__()
         self.open, self.faults, self.report, self.rows = [], [], "", collections.defaultdict(list)
+        self.causes, self.line = {}, None
         self.feed(text)
         self.faults += [f"{name} is not closed" for name in self.open]
 
     def handle_starttag(self, name, keys):
         keys = dict(keys)
+        if name == "a" and keys["href"].startswith("#"):
+            self.causes[self.line] = keys.pop("href")[1:]
         self.faults += [f"{name} refers to {keys[key]}" for key in ("src", "href") if key in keys]
         if name == "details":
             self.owner = keys.get("data-actor")
             self.rows[self.owner] = []
         elif name == "tr" and "entry" in (keys.get("class") or "").split():
             self.rows[self.owner].append([])
+            self.line = keys["id"]
+            self.causes[self.line] = None
         elif name == "td":
             self.rows[self.owner][-1].append([""])
         elif name == "br":
@@ -46,7 +51,7 @@ class Page(html.parser.HTMLParser):
     def handle_data(self, data):
         if self.open and self.open[-1] == "pre":
             self.report += data
-        elif self.open and self.open[-1] == "td":
+        elif self.open and (self.open[-1] == "td" or self.open[-2:] == ["td", "a"]):
             self.rows[self.owner][-1][-1][-1] += data
 
     def journals(self):
@@ -61,12 +66,14 @@ class Page(html.parser.HTMLParser):
 
 
 def shown(owner, cells):
-    _, (message,), (number,), (outcome,), effects = cells
+    _, (message,), (number,), (outcome,), (phase,), (suspended,), (state,), effects = cells
     found = NUMBER.fullmatch(number)
     said = "" if outcome == "handled" else outcome
-    return Shown(owner, found["sender"], int(found["number"]), message, said, None, tuple(words for words in effects if words))
+    after = phase, int(suspended), None if state == "-" else int(state)
+    return Shown(owner, found["sender"], int(found["number"]), message, said, None, tuple(words for words in effects if words), after)
 
 
 def diagram_in(page):
-    """The text of the diagram of a page."""
-    return page[page.index("<svg") : page.index("</svg>") + len("</svg>\n")]
+    """The text of the diagram of a page, which comes behind the names that stay in sight."""
+    start = page.index("<svg xmlns")
+    return page[start : page.index("</svg>", start) + len("</svg>\n")]

@@ -11,10 +11,14 @@ GUARDIAN = "guardian"
 STRAIGHT, LOOP = re.compile(r"M(\d+),(\d+) H(\d+)"), re.compile(r"M(\d+),(\d+) h26 v12 H(\d+)")
 
 
+FRESH = "fresh", 1, None
+VALUE = re.compile(r"(?<= value )-?[0-9]+")
+
+
 class Shown(typing.NamedTuple):
     """An entry of the journal of its owner in the words of a diagram: who sent what came (None of a system message) and under which
-    number, the message, what came of it ("" where it was handled, or applied with no call), whether the actor was called, and the words
-    of each effect."""
+    number, the message, what came of it ("" where it was handled, or applied with no call), whether the actor was called, the words
+    of each effect, and the phase, the suspensions and the state (None where it has none) of the actor after it."""
 
     owner: str
     sender: str | None
@@ -23,20 +27,41 @@ class Shown(typing.NamedTuple):
     outcome: str
     is_called: bool | None
     effects: tuple
+    after: tuple
 
     def is_like(self, other):
-        """Whether the two differ in their numbers alone."""
-        return self._replace(number=0) == other._replace(number=0)
+        """Whether the two differ in their numbers, their values and what they change alone."""
+        return self.valueless() == other.valueless()
+
+    def valueless(self):
+        effects = tuple(VALUE.sub("", effect) for effect in self.effects)
+        return self._replace(number=0, message=VALUE.sub("", self.message), effects=effects, after=None)
+
+
+class Letter(typing.NamedTuple):
+    """A dead letter: to whom, from whom, the message, and why it is dead."""
+
+    owner: str
+    sender: str
+    message: str
+    why: str
+
+    def is_like(self, other):
+        """Whether the two differ in their numbers and values alone."""
+        return self._replace(message=VALUE.sub("", self.message)) == other._replace(message=VALUE.sub("", other.message))
 
 
 class Row(typing.NamedTuple):
-    """A row of a diagram: what kinds it is of, who receives and who sends it, how many it stands for, its words, its marks with the middle
-    of each and its texts with the beginning of each, and from where to where its arrow goes at which height."""
+    """A row of a diagram: whether it is one of dead letters, what kinds it is of, who receives and who sends it, how many it stands for,
+    the name of the line of its first entry in a page, its words, its marks with the middle of each and its texts with the beginning of
+    each, and from where to where its arrow goes at which height."""
 
+    is_dead: bool
     kinds: set
     owner: str
     sender: str | None
     times: int
+    line: str | None
     message: str
     outcome: str
     marks: dict
@@ -50,14 +75,21 @@ class Row(typing.NamedTuple):
 
 class Diagram(typing.NamedTuple):
     """The lanes by their names, the height at which each lane ends and whether a mark stands there, the actors of the row of those that
-    were created, the other rows, the dead letters, and all words with their places."""
+    were created, the other rows, and all words with their places."""
 
     lanes: dict
     ends: dict
     created: list
-    rows: list
-    letters: list
+    all_rows: list
     words: collections.Counter
+
+    @property
+    def rows(self):
+        return [row for row in self.all_rows if not row.is_dead]
+
+    @property
+    def letters(self):
+        return [row for row in self.all_rows if row.is_dead]
 
 
 # Reading.
@@ -81,8 +113,12 @@ def row_of(part):
     times = int(part.get("data-entries") or part.get("data-letters"))
     if words.get("label") != message + (f" × {times:,}" if times > 1 else ""):
         raise ValueError(f"the row {words.get('label')} stands for {times}")
-    outcome = words.get("bad") or words.get("note") or ""
-    return Row(set(part.get("class").split()[1:]), part.get("data-actor"), part.get("data-by"), times, message, outcome, marks_of(part), *spans_of(part))
+    outcome, is_dead = words.get("bad") or words.get("note") or "", bool(part.get("data-letters"))
+    start, end, height = spans_of(part)
+    if part.get("data-y") != str(height):
+        raise ValueError(f"the row {message} at {height} says that it is at {part.get('data-y')}")
+    kinds, owner, sender, line = set(part.get("class").split()[1:]), part.get("data-actor"), part.get("data-by"), part.get("data-entry")
+    return Row(is_dead, kinds, owner, sender, times, line, message, outcome, marks_of(part), start, end, height)
 
 
 def marks_of(part):
@@ -114,14 +150,14 @@ def diagram_of(picture):
     marked = [re.fullmatch(r"M(\d+),(\d+) h24", path.get("d")) for path in root.findall(".//{*}path") if path.get("class") == "end"]
     stops = {(int(mark[1]) + 12, int(mark[2])) for mark in marked}
     ends = {names[int(line[1])]: (int(line[2]), (int(line[1]), int(line[2])) in stops) for line in lines}
-    created, rows, letters = [], [], []
+    created, rows = [], []
     for part in (one for one in groups if one.get("class").startswith("row")):
         if part.find("{*}path").get("class") == "system-tip" or part.find("{*}path").get("marker-end") is None and not part.get("data-letters"):
             created.append((int(part.get("data-entries")), created_in(part, names)))
         else:
-            (letters if part.get("data-letters") else rows).append(row_of(part))
+            rows.append(row_of(part))
     words = collections.Counter((int(text.get("x")), "".join(text.itertext())) for text in root.findall(".//{*}text") if text.get("text-anchor") == "middle")
-    return Diagram(lanes, ends, created, rows, letters, words)
+    return Diagram(lanes, ends, created, rows, words)
 
 
 # The words of entries.
@@ -156,20 +192,47 @@ def outcome_words(line):
     return f"failed {line['error']}" if outcome == "failed" else "unhandled" if outcome == "unhandled" else ""
 
 
+def changed_words(before, after):
+    """What a diagram says of how an actor stands: the phase and the suspensions where they are others, and the state."""
+    words = [after[0]] if before[0] != after[0] else []
+    words += [f"suspended {after[1]}"] if before[1] != after[1] else []
+    return words + ([] if after[2] is None else [f"state {after[2]}"])
+
+
+def row_message(messages):
+    """The message of a row with these: if their values differ, the first and the last of them."""
+    if len(set(messages)) == 1:
+        return messages[0]
+    values = [VALUE.search(message)[0] for message in (messages[0], messages[-1])]
+    return VALUE.sub("", messages[0]).replace(" value ", " values ") + (", …, " if len(messages) > 2 else ", ").join(values)
+
+
 def effect_words(effect):
     return " ".join([effect["do"], effect["to"], *(f"{key} {effect[key]}" for key in ("kind", "value") if key in effect)])
 
 
+def entry_of(line):
+    """The entry of a line of JSON."""
+    is_called = line["outcome"] not in ("applied", "set aside", "dropped")
+    after = tuple(line["after"][key] for key in ("phase", "suspended", "state"))
+    effects = tuple(map(effect_words, line["effects"]))
+    return Shown(line["actor"], line["sender"], line["number"], message_words(line["message"]), outcome_words(line), is_called, effects, after)
+
+
+def letter_of(line):
+    """The dead letter of a line of JSON."""
+    return Letter(line["actor"], line["sender"], message_words(line["message"]), line["why"])
+
+
+def events_of(lines):
+    """The entries and the dead letters of lines of JSON, in their order."""
+    found = [json.loads(line) for line in lines]
+    return [entry_of(line) if line["line"] == "entry" else letter_of(line) for line in found if line["line"] in ("entry", "dead letter")]
+
+
 def entries_of(lines):
-    """The entries of lines of JSON, in order, and the dead letters: to whom, from whom, what, and why."""
-    found = [json.loads(line) for line in lines.splitlines()]
-    entries = [
-        Shown(line["actor"], line["sender"], line["number"], message_words(line["message"]), outcome_words(line),
-              line["outcome"] not in ("applied", "set aside", "dropped"), tuple(map(effect_words, line["effects"])))
-        for line in found if line["line"] == "entry"
-    ]  # fmt: skip
-    letters = [(line["actor"], line["sender"], message_words(line["message"]), line["why"]) for line in found if line["line"] == "dead letter"]
-    return entries, letters
+    """The entries of lines of JSON, in order."""
+    return [event for event in events_of(lines.splitlines()) if isinstance(event, Shown)]
 
 
 # Holding a diagram to entries.
@@ -185,21 +248,28 @@ def sender_of(entry, parents):
     return None if words[0] == "terminate" else parents.get(entry.owner)
 
 
+def is_about_failure(message):
+    """Whether a system message tells of a failure, or of what was decided of one."""
+    return message.split()[0] in ("failed", "restart") or message == "resume after its failure"
+
+
 def is_created(entry, parents):
     """Whether it stands in the row of those that the guardian created: it started, or is the guardian's own."""
     return entry.sender is None and entry.message == "create" and parents.get(entry.owner, GUARDIAN) == GUARDIAN and not entry.outcome.startswith("failed")
 
 
-def row_faults(row, entry, lanes, parents):
-    """Whether a row shows the entry."""
+def row_faults(row, entries, before, line, lanes, parents):
+    """Whether a row shows these entries, of an actor that stood so before them; in a page the first has this line."""
+    entry = entries[0]
     sender, is_system = sender_of(entry, parents), entry.sender is None
     is_failed = entry.outcome.startswith("failed") or entry.outcome in ("killed", "death pact")
-    kinds = {"system" if is_system else "user", *(["failure"] if is_failed or is_system and entry.message.split()[0] in ("failed", "restart") else [])}
+    kinds = {"system" if is_system else "user", *(["failure"] if is_failed or is_system and is_about_failure(entry.message) else [])}
     is_restart = is_system and entry.message.split()[0] in ("restart", "resume") and entry.is_called is not False
     sought = {
         "owner": (row.owner, entry.owner),
-        "message": (row.message, entry.message),
-        "outcome": (row.outcome, entry.outcome),
+        "message": (row.message, row_message([one.message for one in entries])),
+        "outcome": (row.outcome, ", ".join([*([entry.outcome] if entry.outcome else []), *changed_words(before, entries[-1].after)])),
+        "line": (row.line, line),
         "kinds": (row.kinds, kinds),
         "the arrow's end": (row.end, lanes.get(entry.owner)),
         "the arrow's start": (row.start, lanes.get(row.sender) if row.sender else row.end - 40),
@@ -224,57 +294,76 @@ def stray_faults(row):
 
 
 def taken(diagram, journals, parents):
-    """The entries in the order of the rows, each row with as many as it stands for from the journal of its actor; and what is wrong."""
+    """The entries and the dead letters in the order of the rows, each row with as many entries as it stands for from the journal of its
+    actor, and a list of the letters of each other row; and what is wrong."""
     left = {name: collections.deque(entries) for name, entries in journals.items()}
+    stands, places, numbers = collections.defaultdict(lambda: FRESH), collections.Counter(), {name: n for n, name in enumerate([GUARDIAN, *parents])}
     order, faults = [], []
+
+    def take(name):
+        entry = left[name].popleft()
+        stands[name], places[name] = entry.after, places[name] + 1
+        order.append(entry)
+        return entry
+
     for count, names in diagram.created:
         names = ([GUARDIAN] if len(names) < count else []) + names
         for name in names:
             if not left.get(name) or not is_created(left[name][0], parents):
                 return order, [f"{name} stands in the row of those that were created, but its journal does not begin with such an entry"]
-            order.append(left[name].popleft())
+            take(name)
         if len(names) != count:
             faults.append(f"the row of those that were created stands for {count}, but shows {names}")
-    for row in diagram.rows:
-        for number in range(row.times):
-            entry = left[row.owner].popleft() if left.get(row.owner) else None
-            if entry is None:
-                return order, faults + [f"{row}: the journal of {row.owner} has no more entries"]
-            if number > 0 and not entry.is_like(order[-1]):
-                return order, faults + [f"{row}: {entry} differs from {order[-1]}"]
-            faults += row_faults(row, entry, diagram.lanes, parents) if number == 0 else []
-            order.append(entry)
+    for row in diagram.all_rows:
+        if row.is_dead:
+            order.append(row)
+            continue
+        if len(left.get(row.owner, ())) < row.times:
+            return order, faults + [f"{row}: the journal of {row.owner} has no more entries"]
+        before, line = stands[row.owner], f"e{numbers[row.owner]}-{places[row.owner]}"
+        entries = [take(row.owner) for _ in range(row.times)]
+        if strange := [entry for entry in entries if not entry.is_like(entries[0])]:
+            return order, faults + [f"{row}: {strange[0]} differs from {entries[0]}"]
+        faults += row_faults(row, entries, before, line, diagram.lanes, parents)
     return order, faults + [f"{name}: no row shows {entries[0]}" for name, entries in left.items() if entries]
 
 
 def form_faults(diagram, parents, order):
     """Whether the rows stand one below another, one for those that were created, and none is like the one above it."""
-    heights = [row.height for row in diagram.rows + diagram.letters]
+    heights = [row.height for row in diagram.all_rows]
     if any(below <= above for above, below in zip(heights, heights[1:])):
         yield "the rows do not stand one below another"
     place = sum(count for count, _ in diagram.created)
-    first = {entry.owner: entry for entry in reversed(order)}
-    if len(diagram.created) > 1 or any(is_created(entry, parents) and first[entry.owner] is entry for entry in order[place:]):
+    entries = [event for event in order if isinstance(event, Shown)]
+    first = {entry.owner: entry for entry in reversed(entries)}
+    if len(diagram.created) > 1 or any(is_created(entry, parents) and first[entry.owner] is entry for entry in entries[place:]):
         yield "some that the guardian created stand in no common row"
-    for above, row in zip(diagram.rows, diagram.rows[1:]):
-        place += above.times
-        if above.sender == row.sender and order[place].is_like(order[place - 1]):
+    for above, row in zip(diagram.all_rows, diagram.all_rows[1:]):
+        place += 0 if above.is_dead else above.times
+        if not above.is_dead and not row.is_dead and above.sender == row.sender and entries[place].is_like(entries[place - 1]):
             yield f"{row} is like the one above it"
 
 
 def letter_faults(diagram, letters):
-    """Whether the dead letters are these, in order, and each arrow stops short of the receiver."""
-    shown = [(row.owner, row.sender, row.message, row.outcome) for row in diagram.letters for _ in range(row.times)]
-    if letters is not None and shown != letters:
-        yield f"dead letters {shown}, wanted {letters}"
-    for row in diagram.letters:
+    """Whether the rows of dead letters show these, where they are known, in order, and each arrow stops short of the receiver."""
+    wanted = collections.deque(letters or ())
+    for above, row in zip([None, *diagram.all_rows], diagram.all_rows):
+        if not row.is_dead:
+            continue
+        shown = [wanted.popleft() for _ in range(min(row.times, len(wanted)))]
+        if letters is not None and (len(shown) != row.times or not all(one.is_like(shown[0]) for one in shown)
+                                    or (row.owner, row.sender, row.message, row.outcome) != (*shown[0][:2], row_message([one.message for one in shown]), shown[0].why)):
+            yield f"{row} stands for {row.times} from {row.sender}, {row.outcome}, wanted {shown}"
         start, end = diagram.lanes.get(row.sender, -1), diagram.lanes.get(row.owner, -1)
         stops = start < row.end if start == end else min(start, end) < row.end < max(start, end)
         yield from stray_faults(row)
         if row.start != start or not stops or row.marks["cross"] != [(row.end, row.height)]:
             yield f"{row} goes from {row.start} to {row.end}, from the lane at {start} short of that at {end}"
-    if any(one == other for one, other in zip(shown, shown[1:])) and len(diagram.letters) == len(shown):
-        yield "dead letters that are alike have rows of their own"
+        same = above and above.is_dead and all(getattr(above, key) == getattr(row, key) for key in ("owner", "sender", "outcome"))
+        if same and VALUE.sub("", above.message) == VALUE.sub("", row.message) and " values " not in above.message + row.message:
+            yield f"{row} is like the one above it"
+    if wanted:
+        yield f"no row shows the dead letter {wanted[0]}"
 
 
 def foot_faults(diagram, report):
@@ -296,8 +385,8 @@ def foot_faults(diagram, report):
 
 
 def diagram_faults(picture, journals, letters, report, parents):
-    """The entries of these journals in the order of a picture's rows, and what is wrong with it. Where the dead letters are None, any
-    may be."""
+    """The entries of these journals and the rows of dead letters, in the order of a picture's rows, and what is wrong with it. Where the
+    dead letters are None, any may be."""
     try:
         diagram = diagram_of(picture)
     except (ValueError, TypeError, KeyError, AttributeError, xml.etree.ElementTree.ParseError) as error:
@@ -320,13 +409,17 @@ def parents_of(top):
     return {table["name"]: table.get("parent", GUARDIAN) for table in top.get("actor", [])}
 
 
-def picture_faults(picture, lines, report, top):
-    """Whether a picture shows these lines of JSON, entry by entry, in their order."""
-    entries, letters = entries_of(lines)
+def picture_faults(picture, events, report, top):
+    """Whether a picture shows these entries and dead letters, which are lines of JSON, in their order."""
+    events = events_of(events)
+    entries, letters = ([event for event in events if isinstance(event, kind)] for kind in (Shown, Letter))
     parents = parents_of(top)
     order, faults = diagram_faults(picture, journals_of(entries), letters, report, parents)
     if faults:
         return faults
     place = sum(count for count, _ in diagram_of(picture).created)
-    wanted = [entry for entry in entries if entry not in order[:place]]
-    return [] if order[place:] == wanted else ["the rows stand in another order than the entries"]
+    created, order = order[:place], order[place:]
+    wanted = [event for event in events if event not in created]
+    waiting = iter([event for event in wanted if isinstance(event, Letter)])
+    shown = [event for one in order for event in ([one] if isinstance(one, Shown) else [next(waiting) for _ in range(one.times)])]
+    return [] if shown == wanted else ["the rows stand in another order than what happened"]

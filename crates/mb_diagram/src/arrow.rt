@@ -1,11 +1,11 @@
-//! The rows of entries: an arrow from the sender to the receiver, with what came of the message.
+//! A row of entries: an arrow from the sender to the receiver, with what came of the message.
 use crate::geometry::Geometry;
 use crate::label::Label;
 use crate::lanes::Lanes;
-use crate::picture::Picture;
-use crate::rows::{Row, Rows, class_of};
+use crate::note::RowNote;
+use crate::rows::{Row, class_of};
 use crate::template::{write_numbers, write_value};
-use crate::words::{Name, Outcome};
+use crate::words::{EntryLine, Name};
 use std::io;
 use std::io::Write;
 
@@ -38,20 +38,6 @@ impl Way {
     }
 }
 
-/// All rows of entries.
-pub(crate) fn write_rows<W: Write>(
-    w: &mut W,
-    picture: &Picture<'_>,
-    rows: &Rows<'_>,
-    lanes: &Lanes,
-    geometry: &Geometry,
-) -> io::Result<()> {
-    for (index, row) in rows.rows.iter().enumerate() {
-        write_row(w, picture.names, row, way_of(row, index, lanes, geometry))?;
-    }
-    Ok(())
-}
-
 /// The way of the arrow of the row of this number.
 pub(crate) fn way_of(row: &Row<'_>, index: usize, lanes: &Lanes, geometry: &Geometry) -> Way {
     let to = geometry.x(lanes.position(u32::from(row.shown.actor.0)));
@@ -69,11 +55,17 @@ pub(crate) fn label_left(way: Way) -> u64 {
     way.left().saturating_add(room)
 }
 
-fn write_row<W: Write>(w: &mut W, names: &[String], row: &Row<'_>, way: Way) -> io::Result<()> {
+/// A row of entries.
+pub(crate) fn write_row<W: Write>(
+    w: &mut W,
+    names: &[String],
+    row: &Row<'_>,
+    way: Way,
+) -> io::Result<()> {
     write_start(w, names, row, way)?;
     write_arrow(w, row.is_user(), way)?;
     write_label(w, names, row, way)?;
-    write_outcome(w, Outcome::of(row.shown.entry.arrival), way)?;
+    write_note(w, row, way)?;
     w.write_all(b"</g>\n")
 }
 
@@ -92,20 +84,32 @@ fn write_start<W: Write>(w: &mut W, names: &[String], row: &Row<'_>, way: Way) -
     Ok(())
 }
 
-/// Who sent the message, and how many entries the row has.
+/// Who sent the message, how many entries the row has, which is the first, and the height.
 fn write_source<W: Write>(w: &mut W, names: &[String], row: &Row<'_>, way: Way) -> io::Result<()> {
-    match row.source {
-        Some(id) => {
-            let by = Name { names, id };
-            write!(w, " data-by=\"{by}\"")?;
-            write_numbers(w, " data-entries=\"$\">\n", &[row.times])
-        }
-        None => write_numbers(
-            w,
-            " data-entries=\"$\">\n<circle class=\"dot\" cx=\"$\" cy=\"$\" r=\"4\"/>\n",
-            &[row.times, way.from, way.y],
-        ),
+    let times = row.times;
+    let y = way.y;
+    let line = EntryLine::of(&row.shown);
+    if let Some(id) = row.source {
+        let by = Name { names, id };
+        write!(w, " data-by=\"{by}\"")?;
     }
+    write!(
+        w,
+        " data-entries=\"{times}\" data-entry=\"{line}\" data-y=\"{y}\">\n"
+    )?;
+    match row.source {
+        Some(_) => Ok(()),
+        None => write_dot(w, way),
+    }
+}
+
+/// The dot where an arrow begins that nobody is known to have sent.
+fn write_dot<W: Write>(w: &mut W, way: Way) -> io::Result<()> {
+    write_numbers(
+        w,
+        "<circle class=\"dot\" cx=\"$\" cy=\"$\" r=\"4\"/>\n",
+        &[way.from, way.y],
+    )
 }
 
 /// The arrow; a loop where an actor sends to itself.
@@ -156,23 +160,25 @@ fn write_bar<W: Write>(w: &mut W, way: Way) -> io::Result<()> {
     )
 }
 
-/// What came of it, at the receiver, on the side where no arrow comes: nothing where it was handled.
-fn write_outcome<W: Write>(w: &mut W, outcome: Outcome, way: Way) -> io::Result<()> {
-    match outcome {
-        Outcome::Plain => Ok(()),
-        Outcome::Failed(_) | Outcome::Killed | Outcome::DeathPact => {
-            write_cross(w, way.to, way.y)?;
-            write_beside(w, bad_of(way), outcome, way)
-        }
-        Outcome::Unhandled | Outcome::SetAside | Outcome::Dropped => {
-            write_beside(w, note_of(way), outcome, way)
-        }
+/// What came of it and how the receiver stands then, beside the receiver, on the side where no arrow comes.
+fn write_note<W: Write>(w: &mut W, row: &Row<'_>, way: Way) -> io::Result<()> {
+    let note = RowNote::of(row);
+    if note.is_empty() {
+        return Ok(());
     }
-}
-
-/// Writes it beside the receiver, with this beginning.
-fn write_beside<W: Write>(w: &mut W, start: &str, outcome: Outcome, way: Way) -> io::Result<()> {
-    write_value(w, start, &outcome_place(way), &outcome, "</text>\n")
+    let place = [note_x(way, row.is_restart()), note_y(way)];
+    if note.outcome.is_failure() {
+        write_cross(w, way.to, way.y)?;
+        write_value(w, bad_of(way), &place, &note.outcome, "")?;
+        return write_value(
+            w,
+            "<tspan class=\"after\">",
+            &[],
+            &note.change,
+            "</tspan></text>\n",
+        );
+    }
+    write_value(w, note_of(way), &place, &note, "</text>\n")
 }
 
 /// How a failure begins at this way.
@@ -189,16 +195,22 @@ fn note_of(way: Way) -> &'static str {
     }
 }
 
-/// Where it stands.
-fn outcome_place(way: Way) -> [u64; 2] {
+/// Where it begins, or where it ends if the arrow goes left: beside the lane, a loop or the bar of a restart.
+pub(crate) fn note_x(way: Way, is_restart: bool) -> u64 {
     if way.from == way.to {
-        return [way.to.saturating_add(32), way.y.saturating_add(8)];
+        return way.to.saturating_add(32);
     }
-    let y = way.y.saturating_add(5);
+    let gap = if is_restart { 36 } else { 10 };
     if way.goes_left() {
-        return [way.to.saturating_sub(10), y];
+        return way.to.saturating_sub(gap);
     }
-    [way.to.saturating_add(10), y]
+    way.to.saturating_add(gap)
+}
+
+/// At which height its foot is.
+fn note_y(way: Way) -> u64 {
+    let below = if way.from == way.to { 8 } else { 5 };
+    way.y.saturating_add(below)
 }
 
 /// A cross.

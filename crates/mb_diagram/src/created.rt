@@ -20,8 +20,8 @@ pub(crate) fn write_created<W: Write>(
     let y = geometry.created_y();
     write_numbers(
         w,
-        "<g class=\"row system\" data-actor=\"guardian\" data-entries=\"$\">\n<circle class=\"dot\" cx=\"$\" cy=\"$\" r=\"4\"/>\n",
-        &[rows.created.len() as u64, from, y],
+        "<g class=\"row system\" data-actor=\"guardian\" data-entries=\"$\" data-entry=\"e0-0\" data-y=\"$\">\n<circle class=\"dot\" cx=\"$\" cy=\"$\" r=\"4\"/>\n",
+        &[rows.created.len() as u64, y, from, y],
     )?;
     let farthest = write_tips(w, rows, lanes, geometry, from)?;
     write_numbers(

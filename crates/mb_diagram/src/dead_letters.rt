@@ -1,45 +1,22 @@
-//! The rows of dead letters: arrows that stop short of the receiver.
+//! A row of dead letters: an arrow that stops short of the receiver.
 use crate::arrow::{BAD, BAD_END, LABEL, Way, write_cross};
 use crate::geometry::Geometry;
 use crate::label::Label;
 use crate::lanes::Lanes;
-use crate::picture::Picture;
-use crate::rows::{LetterRow, Rows};
+use crate::rows::LetterRow;
 use crate::template::{write_numbers, write_value};
-use crate::words::{Name, why_word};
+use crate::widths::label_width;
+use crate::words::{EntryLine, Name, why_word};
 use std::io;
 use std::io::Write;
 
-/// All rows of dead letters, below a line: nothing where there is none.
-pub(crate) fn write_letters<W: Write>(
-    w: &mut W,
-    picture: &Picture<'_>,
-    rows: &Rows<'_>,
-    lanes: &Lanes,
-    geometry: &Geometry,
-) -> io::Result<()> {
-    if rows.letters.is_empty() {
-        return Ok(());
-    }
-    write_line(w, geometry)?;
-    for (index, row) in rows.letters.iter().enumerate() {
-        write_letter(
-            w,
-            picture.names,
-            row,
-            letter_way(row, index, lanes, geometry),
-        )?;
-    }
-    Ok(())
-}
-
-/// The way to the receiver of the dead letter of this number.
+/// The way to the receiver of the dead letters of the row of this number.
 pub(crate) fn letter_way(row: &LetterRow, index: usize, lanes: &Lanes, geometry: &Geometry) -> Way {
     let envelope = row.letter.envelope;
     Way {
         from: geometry.x(lanes.position(envelope.by.0)),
         to: geometry.x(lanes.position(u32::from(envelope.to.0))),
-        y: geometry.letter_y(index),
+        y: geometry.row_y(index),
     }
 }
 
@@ -48,30 +25,35 @@ pub(crate) fn letter_label_left(way: Way) -> u64 {
     way.from.min(stop_of(way)).saturating_add(12)
 }
 
-fn write_line<W: Write>(w: &mut W, geometry: &Geometry) -> io::Result<()> {
-    let y = geometry.letters_top();
-    write_numbers(
-        w,
-        "<path class=\"line\" d=\"M12,$ H$\"/>\n<text class=\"note\" x=\"12\" y=\"$\">dead letters</text>\n",
-        &[y, geometry.width().saturating_sub(12), y.saturating_add(14)],
-    )
-}
-
-fn write_letter<W: Write>(
+/// A row of dead letters, of which the entry that sent the first has this line in a page.
+pub(crate) fn write_letter<W: Write>(
     w: &mut W,
     names: &[String],
     row: &LetterRow,
     way: Way,
+    sent_by: Option<EntryLine>,
 ) -> io::Result<()> {
     let stop = stop_of(way);
     write_start(w, names, row)?;
+    if let Some(line) = sent_by {
+        write!(w, " data-entry=\"{line}\"")?;
+    }
     write_numbers(
         w,
-        " data-letters=\"$\"><path class=\"arrow\" d=\"M$,$ H$\"/>\n",
-        &[row.times, way.from, way.y, stop],
+        " data-letters=\"$\" data-y=\"$\"><path class=\"arrow\" d=\"M$,$ H$\"/>\n",
+        &[row.times, way.y, way.from, way.y, stop],
     )?;
     write_cross(w, stop, way.y)?;
     write_words(w, names, row, way, stop)
+}
+
+/// Where the words end that say why they are dead.
+pub(crate) fn why_end(row: &LetterRow, way: Way) -> u64 {
+    if way.goes_left() {
+        return stop_of(way);
+    }
+    let width = label_width(why_word(row.letter.why));
+    stop_of(way).saturating_add(10).saturating_add(width)
 }
 
 /// The beginning of a row: for whom the letters were, and by whom.

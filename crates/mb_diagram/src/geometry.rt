@@ -1,6 +1,7 @@
 //! Where things stand in a picture, in its units.
 use crate::lanes::Lanes;
 use crate::order::EntryOrder;
+use crate::room::Room;
 use crate::rows::Rows;
 
 /// The height of a row.
@@ -17,10 +18,8 @@ pub(crate) const FOOT: u64 = 72;
 pub(crate) const LEGEND: u64 = 126;
 /// With more rows than this the names stand at the foot again.
 const TALL: u64 = 24;
-/// The least room on the right, and that behind the longest message.
-const RIGHT: u64 = 220;
-
-const MARGIN: u64 = 12;
+/// The least room on the left of all words, and on the right.
+pub(crate) const MARGIN: u64 = 12;
 /// The least width, for the legend.
 const LEAST_WIDTH: u64 = 700;
 
@@ -35,9 +34,8 @@ pub(crate) struct Geometry {
     lanes: u64,
     created: u64,
     rows: u64,
-    letters: u64,
-    /// Where the longest message ends.
-    labels_end: u64,
+    /// Where the last words end.
+    words_end: u64,
 }
 
 impl Geometry {
@@ -45,19 +43,22 @@ impl Geometry {
         let spacing = spacing_of(lanes);
         Geometry {
             head: head_of(order),
-            left: left_of(lanes, spacing),
+            left: side_of(spacing),
             spacing,
             lanes: lanes.ids.len() as u64,
             created: if rows.created.is_empty() { 0 } else { 1 },
             rows: rows.rows.len() as u64,
-            letters: rows.letters.len() as u64,
-            labels_end: 0,
+            words_end: 0,
         }
     }
 
-    /// The same with room for messages up to here.
-    pub(crate) fn with_labels_to(self, labels_end: u64) -> Self {
-        Geometry { labels_end, ..self }
+    /// The same with room for all words.
+    pub(crate) fn with_room(self, room: Room) -> Self {
+        Geometry {
+            left: self.left.saturating_add(room.missing),
+            words_end: room.end.saturating_add(room.missing),
+            ..self
+        }
     }
 
     /// The middle of a lane.
@@ -100,33 +101,16 @@ impl Geometry {
             .saturating_add(self.created_y())
     }
 
-    /// The line above the dead letters.
-    pub(crate) fn letters_top(&self) -> u64 {
+    /// Where the lanes end.
+    pub(crate) fn lanes_end(&self) -> u64 {
         self.row_y(0)
             .saturating_add(self.rows.saturating_mul(ROW))
             .saturating_sub(8)
     }
 
-    /// The row of the dead letter of this number.
-    pub(crate) fn letter_y(&self, letter: usize) -> u64 {
-        self.letters_top()
-            .saturating_add(38)
-            .saturating_add((letter as u64).saturating_mul(ROW))
-    }
-
-    /// Where the lanes end.
-    pub(crate) fn lanes_end(&self) -> u64 {
-        if self.letters == 0 {
-            return self.letters_top();
-        }
-        self.letters_top()
-            .saturating_add(self.letters.saturating_mul(ROW))
-            .saturating_add(30)
-    }
-
     /// Whether the names stand at the foot again.
     pub(crate) fn is_tall(&self) -> bool {
-        self.rows.saturating_add(self.letters) > TALL
+        self.rows > TALL
     }
 
     /// Where the lines begin that say what became of each actor.
@@ -144,8 +128,8 @@ impl Geometry {
         self.spacing
             .saturating_mul(self.lanes.saturating_sub(1))
             .saturating_add(self.left)
-            .saturating_add(RIGHT)
-            .max(self.labels_end.saturating_add(MARGIN))
+            .saturating_add(side_of(self.spacing))
+            .max(self.words_end.saturating_add(MARGIN))
             .max(LEAST_WIDTH)
     }
 
@@ -167,11 +151,7 @@ fn spacing_of(lanes: &Lanes) -> u64 {
     lanes.widest.saturating_add(30).clamp(150, 500)
 }
 
-/// The middle of the first lane: left of an actor's is room for what came of a message.
-fn left_of(lanes: &Lanes, spacing: u64) -> u64 {
-    let half = spacing / 2 + 8;
-    if lanes.begins_with_actor() {
-        return half.max(140);
-    }
-    half
+/// The room beside the middle of the first lane, and of the last: half a box with a name, and a margin.
+fn side_of(spacing: u64) -> u64 {
+    spacing / 2 + 8
 }

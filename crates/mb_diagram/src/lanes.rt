@@ -1,6 +1,6 @@
 //! The lanes of a picture: a vertical line for each who sends or receives.
 use crate::picture::Picture;
-use crate::rows::Rows;
+use crate::rows::{DrawnRow, Rows};
 use crate::words::width_of;
 use mb_actor::Phase;
 use mb_msg::limits::{ACTORS, OUTSIDE_SENDERS};
@@ -57,14 +57,6 @@ impl Lanes {
     pub(crate) fn position(&self, id: u32) -> usize {
         self.ids.iter().position(|lane| *lane == id).unwrap_or(0)
     }
-
-    /// Whether the first lane is an actor's.
-    pub(crate) fn begins_with_actor(&self) -> bool {
-        match self.ids.first() {
-            Some(id) => *id < ACTORS,
-            None => false,
-        }
-    }
 }
 
 fn mark_rows(used: &mut Vec<bool>, rows: &Rows<'_>) {
@@ -73,14 +65,18 @@ fn mark_rows(used: &mut Vec<bool>, rows: &Rows<'_>) {
         mark(used, *id);
     }
     for row in &rows.rows {
-        mark(used, u32::from(row.shown.actor.0));
-        if let Some(source) = row.source {
-            mark(used, source);
+        match row {
+            DrawnRow::Entries(row) => {
+                mark(used, u32::from(row.shown.actor.0));
+                if let Some(source) = row.source {
+                    mark(used, source);
+                }
+            }
+            DrawnRow::Letters(row) => {
+                mark(used, row.letter.envelope.by.0);
+                mark(used, u32::from(row.letter.envelope.to.0));
+            }
         }
-    }
-    for row in &rows.letters {
-        mark(used, row.letter.envelope.by.0);
-        mark(used, u32::from(row.letter.envelope.to.0));
     }
 }
 
@@ -98,8 +94,10 @@ pub(crate) fn last_row(picture: &Picture<'_>, rows: &Rows<'_>, id: u32) -> Optio
     }
     let mut last = None;
     for (index, row) in rows.rows.iter().enumerate() {
-        if u32::from(row.shown.actor.0) == id {
-            last = Some(index);
+        if let DrawnRow::Entries(row) = row {
+            if u32::from(row.shown.actor.0) == id {
+                last = Some(index);
+            }
         }
     }
     last

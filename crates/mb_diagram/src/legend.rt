@@ -21,7 +21,7 @@ const TEXT: &str = "<path class=\"arrow\" d=\"M20,$ h50\" marker-end=\"url(#tip)
 <path class=\"end\" d=\"M393,$ h24\"/>
 <text class=\"note\" x=\"434\" y=\"$\">it ended</text>
 <text class=\"note\" x=\"386\" y=\"$\">× 1,000</text>
-<text class=\"note\" x=\"434\" y=\"$\">so many that differ in their numbers alone</text>
+<text class=\"note\" x=\"434\" y=\"$\">so many, alike but for numbers and values</text>
 ";
 
 /// How far below its beginning each of them stands.

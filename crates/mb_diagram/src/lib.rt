@@ -5,8 +5,10 @@
 
 mod alike;
 mod arrow;
+mod causes;
 mod created;
 mod dead_letters;
+mod drawing;
 mod escape;
 mod foot;
 mod geometry;
@@ -16,10 +18,14 @@ mod journal;
 mod label;
 mod lanes;
 mod legend;
+mod letter_order;
+mod note;
 mod order;
 mod picture;
 mod room;
 mod rows;
+mod script;
+mod sent;
 mod sources;
 mod style;
 mod svg;
@@ -29,5 +35,5 @@ mod words;
 
 pub use html::write_html;
 pub use order::EntryOrder;
-pub use picture::{Picture, ShownEntry};
+pub use picture::{Picture, PictureEntry};
 pub use svg::write_svg;

@@ -3,16 +3,23 @@ use crate::order::EntryOrder;
 use mb_journal::EntryRef;
 use mb_msg::{ActorId, DeadLetter};
 use mb_report::Report;
+use mb_trace::Standing;
 
-/// An entry of a journal that is shown.
+/// An entry of a journal in the order of a run.
 #[derive(Clone, Copy)]
-pub struct ShownEntry<'a> {
+pub struct PictureEntry<'a> {
     /// Whose journal has it.
     pub actor: ActorId,
     /// Its place in that journal, from 0.
     pub index: usize,
     /// The entry.
     pub entry: EntryRef<'a>,
+    /// How the actor stood before it.
+    pub before: Standing,
+    /// How the actor stands after it.
+    pub after: Standing,
+    /// Whether the picture shows it.
+    pub is_shown: bool,
 }
 
 /// What is drawn.
@@ -22,8 +29,8 @@ pub struct Picture<'a> {
     pub names: &'a [String],
     /// What the run came to.
     pub report: &'a Report,
-    /// The entries that are shown, from top to bottom.
-    pub entries: &'a [ShownEntry<'a>],
+    /// All entries of the run, from top to bottom, also those that are not shown.
+    pub entries: &'a [PictureEntry<'a>],
     /// In which order they are. A picture of a run on threads says it.
     pub order: EntryOrder,
     /// The dead letters that are shown.

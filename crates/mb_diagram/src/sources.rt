@@ -1,5 +1,5 @@
 //! Who sent a message.
-use crate::picture::ShownEntry;
+use crate::picture::PictureEntry;
 use mb_actor::Effect;
 use mb_journal::{Journal, Received};
 use mb_msg::limits::ACTORS;
@@ -29,7 +29,7 @@ impl Sources {
     }
 
     /// Who sent what came; `None` where that is not known, and for the first message of the guardian.
-    pub(crate) fn of(&self, shown: &ShownEntry<'_>) -> Option<u32> {
+    pub(crate) fn of(&self, shown: &PictureEntry<'_>) -> Option<u32> {
         match shown.entry.arrival {
             Received::Handled { envelope, .. } | Received::Dropped { envelope } => {
                 Some(envelope.by.0)
@@ -63,7 +63,7 @@ impl Sources {
     }
 
     /// Records the actors that this entry may stop.
-    pub(crate) fn note(&mut self, shown: &ShownEntry<'_>) {
+    pub(crate) fn note(&mut self, shown: &PictureEntry<'_>) {
         let actor = u32::from(shown.actor.0);
         if may_stop_children(shown.entry.arrival) {
             self.note_children(actor);

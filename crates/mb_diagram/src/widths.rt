@@ -10,13 +10,14 @@ pub(crate) fn label_width(words: &str) -> u64 {
     width_of(words, 8, 12)
 }
 
-/// So much for each letter, and so much for each of the widest.
+/// So much for each of the letters that scenarios have, and so much for each that may be wider.
 fn width_of(words: &str, letter: u64, widest: u64) -> u64 {
     let mut width: u64 = 0;
     for character in words.chars() {
         let room = match character {
             'm' | 'w' => widest,
-            _ => letter,
+            'a'..='z' | '0'..='9' | ' ' | '_' | '-' | ',' => letter,
+            _ => widest,
         };
         width = width.saturating_add(room);
     }

@@ -1,10 +1,12 @@
 //! What came to an actor and what it asked for, in the words of a scenario.
 use crate::escape::write_escaped;
+use crate::picture::PictureEntry;
 use crate::widths::name_width;
 use mb_actor::{Answer, Effect, Phase};
 use mb_journal::Received;
 use mb_msg::limits::ACTORS;
 use mb_msg::{ActorId, Body, Cause, SysMsg, Why};
+use mb_trace::Standing;
 use std::fmt;
 
 /// The name of a sender: of an actor, or of one outside.
@@ -27,6 +29,28 @@ impl fmt::Display for Name<'_> {
             Some(name) => write_escaped(f, name.as_str()),
             None => write_numbered(f, "actor", self.id),
         }
+    }
+}
+
+/// The name of an entry's line in a page.
+#[derive(Clone, Copy)]
+pub(crate) struct EntryLine {
+    actor: u16,
+    index: usize,
+}
+
+impl EntryLine {
+    pub(crate) fn of(entry: &PictureEntry<'_>) -> Self {
+        EntryLine {
+            actor: entry.actor.0,
+            index: entry.index,
+        }
+    }
+}
+
+impl fmt::Display for EntryLine {
+    fn fmt<W: fmt::Write>(&self, f: &mut fmt::Formatter<W>) -> fmt::Result {
+        write!(f, "e{}-{}", self.actor, self.index)
     }
 }
 
@@ -92,6 +116,55 @@ fn write_kind<W: fmt::Write>(
     value: i64,
 ) -> fmt::Result {
     write!(f, "{word}kind {kind} value {value}")
+}
+
+/// A kind, and the first and the last value of messages of that kind.
+#[derive(Clone, Copy)]
+pub(crate) struct Values {
+    word: &'static str,
+    kind: u32,
+    first: i64,
+    last: i64,
+    /// Whether there are others between them.
+    has_more: bool,
+}
+
+impl Values {
+    /// Those of so many messages, of which these are the first and the last; `None` where they have none.
+    pub(crate) fn of(first: Body, last: Body, times: u64) -> Option<Values> {
+        let (word, kind, first) = valued(first)?;
+        let (_, _, last) = valued(last)?;
+        Some(Values {
+            word,
+            kind,
+            first,
+            last,
+            has_more: times > 2,
+        })
+    }
+}
+
+/// The word, the kind and the value of a message that has one.
+fn valued(body: Body) -> Option<(&'static str, u32, i64)> {
+    match body {
+        Body::User { kind, value } => Some(("", kind, value)),
+        Body::Control { kind, value } => Some(("control ", kind, value)),
+        Body::PoisonPill | Body::Kill | Body::Terminated(_) => None,
+    }
+}
+
+impl fmt::Display for Values {
+    fn fmt<W: fmt::Write>(&self, f: &mut fmt::Formatter<W>) -> fmt::Result {
+        let between = if self.has_more { ", …, " } else { ", " };
+        let Values {
+            word,
+            kind,
+            first,
+            last,
+            ..
+        } = *self;
+        write!(f, "{word}kind {kind} values {first}{between}{last}")
+    }
 }
 
 fn write_system<W: fmt::Write>(
@@ -238,6 +311,47 @@ fn outcome_word(outcome: Outcome) -> &'static str {
         Outcome::DeathPact => "death pact",
         Outcome::SetAside => "set aside",
         Outcome::Dropped => "dropped",
+    }
+}
+
+/// What an entry, or some, changed of how their actor stands: the phase and the suspensions where they are others, and the state.
+#[derive(Clone, Copy)]
+pub(crate) struct Change {
+    pub(crate) before: Standing,
+    pub(crate) after: Standing,
+    /// What stands in front of it, if there is anything.
+    pub(crate) lead: &'static str,
+}
+
+impl Change {
+    /// Whether there is nothing to say.
+    pub(crate) fn is_empty(self) -> bool {
+        self.before.phase == self.after.phase
+            && self.before.suspended == self.after.suspended
+            && self.after.state.is_none()
+    }
+}
+
+impl fmt::Display for Change {
+    fn fmt<W: fmt::Write>(&self, f: &mut fmt::Formatter<W>) -> fmt::Result {
+        let Change {
+            before,
+            after,
+            lead,
+        } = *self;
+        let mut lead = lead;
+        if before.phase != after.phase {
+            write!(f, "{lead}{}", phase_word(after.phase))?;
+            lead = ", ";
+        }
+        if before.suspended != after.suspended {
+            write!(f, "{lead}suspended {}", after.suspended)?;
+            lead = ", ";
+        }
+        match after.state {
+            Some(state) => write!(f, "{lead}state {state}"),
+            None => Ok(()),
+        }
     }
 }
 

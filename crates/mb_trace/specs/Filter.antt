@@ -15,10 +15,11 @@ is_of_envelope (Handled envelope reading outcome) = true
 is_of_envelope (System number message outcome) = false
 is_of_envelope (Dropped envelope) = true
 
--- The message is about a failure: that of a child, or the one after which the actor is restarted.
+-- The message is about a failure: that of a child, or the one after which the actor is restarted or resumed.
 abbrev pub is_about_failure : SysMsg → Bool
 is_about_failure (system.Failed child cause) = true
 is_about_failure (system.Recreate cause) = true
+is_about_failure (system.Resume of_failure) = of_failure
 is_about_failure _ = false
 
 -- A message about a failure came.

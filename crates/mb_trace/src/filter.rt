@@ -18,7 +18,8 @@ pub enum EntryKinds {
     User,
     /// Those of system messages.
     System,
-    /// Those in which a call failed, and those that tell of a failure: `Failed` and `Recreate`.
+    /// Those in which a call failed, and those that tell of a failure or of what was decided of it: `Failed`, `Recreate`, and a `Resume`
+    /// of the actor's own failure.
     Failures,
 }
 
@@ -105,6 +106,7 @@ fn is_of_failure(message: SysMsg) -> bool
 {
     match message {
         SysMsg::Failed(_, _) | SysMsg::Recreate(_) => true,
+        SysMsg::Resume { of_failure } => of_failure,
         _ => false,
     }
 }

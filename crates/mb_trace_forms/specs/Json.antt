@@ -13,7 +13,7 @@ use Rattle.mb_trace_forms.specs.Order.{AreEntries}
 
 -- the line of an entry
 abbrev pub step_json : List (List ℕ) → Step → List ℕ
-step_json names s = line_text (entry_data names s.actor s.index s.entry)
+step_json names s = line_text (entry_data names s.actor s.index s.after s.entry)
 
 -- a line for each of these entries that the filter leaves, of which at most so many are shown
 abbrev pub entries_json : List (List ℕ) → Filter → ℕ → List Step → List ℕ

@@ -147,7 +147,14 @@ fn write_step<W: Write>(
 ) -> Result<(), TraceError>
     ensures { IsWritten (W.contents out.old) (W.contents out.new) result (step_json (map string_bytes names.now) (step_data step.now)) }
 {
-    let line = entry_line(alloc, names, step.actor, step.index, &step.entry)?;
+    let line = entry_line(
+        alloc,
+        names,
+        step.actor,
+        step.index,
+        step.after,
+        &step.entry,
+    )?;
     write_whole(out, line.as_bytes())?;
     Ok(())
 }

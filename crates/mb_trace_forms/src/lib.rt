@@ -4,6 +4,8 @@
 //! what caused what.
 #![tactic(auto)]
 
+mod copied_plan;
+mod format;
 mod json;
 mod json_ends;
 mod json_rest;
@@ -12,6 +14,9 @@ mod letters;
 mod order;
 mod picture;
 mod shown;
+mod traced_system;
 
+pub use format::{TraceFormat, write_trace};
 pub use json::write_json;
 pub use picture::{write_html, write_svg};
+pub use traced_system::TracedSystem;

@@ -1,10 +1,9 @@
 //! A trace as a picture.
 use crate::letters::letters_of;
 use crate::order::order_of;
-use crate::shown::Shown;
-use mb_diagram::Picture;
+use mb_diagram::{Picture, PictureEntry};
 use mb_report::report_text;
-use mb_trace::{Filter, Trace, TraceError, TurnLength};
+use mb_trace::{Filter, Trace, TraceError, TraceStep, TraceSteps, TurnLength};
 use std::alloc::{AllocError, Global};
 use std::io::Write;
 
@@ -64,35 +63,50 @@ fn report_of(alloc: Global, trace: &Trace<'_>) -> Result<String, AllocError> {
     report_text(alloc, trace.report, trace.names)
 }
 
-/// The entries that are shown, in this order.
+/// All entries in this order, each with whether the filter shows it.
 fn entries_of<'a>(
     alloc: Global,
     trace: &Trace<'a>,
-    filter: &Filter<'a>,
+    filter: &Filter<'_>,
     order: &[TurnLength],
-) -> Result<Vec<mb_diagram::ShownEntry<'a>>, AllocError> {
-    let mut shown = Shown::new(alloc, trace, filter)?;
+) -> Result<Vec<PictureEntry<'a>>, AllocError> {
+    let mut steps = TraceSteps::new(alloc, *trace)?;
     let mut entries = Vec::new(alloc);
+    let mut left = filter.limit;
     for part in order {
-        add_part(&mut entries, &mut shown, part)?;
+        left = add_part(&mut entries, &mut steps, filter, part, left)?;
     }
     Ok(entries)
 }
 
-/// Adds the entries of a part of the order that are shown.
+/// Adds the entries of a part of the order, of which so many at most are shown. The answer is how many more may be.
 fn add_part<'a>(
-    entries: &mut Vec<mb_diagram::ShownEntry<'a>>,
-    shown: &mut Shown<'a>,
+    entries: &mut Vec<PictureEntry<'a>>,
+    steps: &mut TraceSteps<'a>,
+    filter: &Filter<'_>,
     part: &TurnLength,
-) -> Result<(), AllocError> {
+    left: u64,
+) -> Result<u64, AllocError> {
+    let mut left = left;
     for _ in 0..part.entries {
-        if let Some(step) = shown.pass(part.actor)? {
-            entries.push(mb_diagram::ShownEntry {
-                actor: step.actor,
-                index: step.index,
-                entry: step.entry,
-            })?;
+        if let Some(step) = steps.next_of(part.actor)? {
+            let is_shown = left > 0 && filter.passes(&step);
+            if is_shown {
+                left -= 1;
+            }
+            entries.push(entry_of(&step, is_shown))?;
         }
     }
-    Ok(())
+    Ok(left)
+}
+
+fn entry_of<'a>(step: &TraceStep<'a>, is_shown: bool) -> PictureEntry<'a> {
+    PictureEntry {
+        actor: step.actor,
+        index: step.index,
+        entry: step.entry,
+        before: step.before,
+        after: step.after,
+        is_shown,
+    }
 }

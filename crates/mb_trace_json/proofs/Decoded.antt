@@ -22,6 +22,7 @@ use Rattle.mb_trace_json.specs.Effects.{effect_data, effects_data}
 use Rattle.mb_trace_json.specs.Entries.{answer_error, answer_text, entry_data}
 use Rattle.mb_trace_json.specs.Messages.{body_data, cause_error, cause_text, system_data}
 use Rattle.mb_trace_json.specs.Names.{name_data}
+use Rattle.mb_trace.specs.declared.standing.Standing.{Standing}
 use Rattle.mb_trace_json.specs.Telling.{IsKnown, IsKnownBody, IsKnownEffect, IsKnownEntry, IsKnownEnvelope, IsKnownMessage}
 
 -- ---- parts of a value
@@ -140,18 +141,18 @@ module _ (id : Data → ℕ) where
 
   abbrev envelope_from : Data → Envelope
   envelope_from d = record {
-    by = record { 0 = id (value_at 8 d) };
+    by = record { 0 = id (value_at 9 d) };
     to = record { 0 = id (value_at 0 d) };
-    number = natural_from (value_at 6 d);
-    body = body_from (value_at 5 d);
+    number = natural_from (value_at 7 d);
+    body = body_from (value_at 6 d);
   }
 
   abbrev pub entry_from : Data → Entry
   entry_from d =
-      cond (is_null (value_at 9 d))
-      (cond (is_null (value_at 8 d)) (System (natural_from (value_at 6 d)) (message_from (value_at 5 d)) (outcome_from (value_at 7 d) (value_at 3 d) (value_at 1 d)))
+      cond (is_null (value_at 10 d))
+      (cond (is_null (value_at 9 d)) (System (natural_from (value_at 7 d)) (message_from (value_at 6 d)) (outcome_from (value_at 8 d) (value_at 4 d) (value_at 2 d)))
       (Dropped (envelope_from d)))
-      (Handled (envelope_from d) (natural_from (value_at 9 d)) (outcome_from (value_at 7 d) (value_at 3 d) (value_at 1 d)))
+      (Handled (envelope_from d) (natural_from (value_at 10 d)) (outcome_from (value_at 8 d) (value_at 4 d) (value_at 2 d)))
 
   -- ---- it is what the value was made of
 
@@ -205,24 +206,25 @@ module _ (id : Data → ℕ) where
         let rest = effects-back effects (λ k d l. h (suc k) d (suc-le-suc l)) in
         λ i. one i ∷ rest i
 
-    pub entry-back : (actor place : ℕ) (e : Entry) → IsKnown names actor → IsKnownEntry names actor e → entry_from (entry_data names actor place e) ≡ e
-    entry-back actor place (Handled e reading (Applied a effects)) known h =
+    pub entry-back : (actor place : ℕ) (after : Standing) (e : Entry) → IsKnown names actor → IsKnownEntry names actor e
+        → entry_from (entry_data names actor place after e) ≡ e
+    entry-back actor place after (Handled e reading (Applied a effects)) known h =
         let by = back e.by.0 h.0.by in
         let to = back actor known ∙ sym h.0.to in
         let content = body-back e.body h.0.content in
         let outcome = outcome-back a (effects_data names effects) ∙ ap (Applied a) (effects-back effects h.1) in
         λ i. Handled (record { by = record { 0 = by i }; to = record { 0 = to i }; number = e.number; body = content i }) reading (outcome i)
-    entry-back actor place (Handled e reading SetAside) known h =
+    entry-back actor place after (Handled e reading SetAside) known h =
         let by = back e.by.0 h.0.by in
         let to = back actor known ∙ sym h.0.to in
         let content = body-back e.body h.0.content in
         λ i. Handled (record { by = record { 0 = by i }; to = record { 0 = to i }; number = e.number; body = content i }) reading SetAside
-    entry-back actor place (System n message (Applied a effects)) known h =
+    entry-back actor place after (System n message (Applied a effects)) known h =
         let content = message-back message h.0 in
         let outcome = outcome-back a (effects_data names effects) ∙ ap (Applied a) (effects-back effects h.1) in
         λ i. System n (content i) (outcome i)
-    entry-back actor place (System n message SetAside) known h = let content = message-back message h.0 in λ i. System n (content i) SetAside
-    entry-back actor place (Dropped e) known h =
+    entry-back actor place after (System n message SetAside) known h = let content = message-back message h.0 in λ i. System n (content i) SetAside
+    entry-back actor place after (Dropped e) known h =
         let by = back e.by.0 h.by in
         let to = back actor known ∙ sym h.to in
         let content = body-back e.body h.content in
@@ -230,16 +232,16 @@ module _ (id : Data → ℕ) where
 
 -- ---- whose journal it is of, and where it stands there
 
-pub actor-at : (names : List (List ℕ)) (actor place : ℕ) (e : Entry) → value_at 0 (entry_data names actor place e) ≡ name_data names actor
-actor-at names actor place (Handled e reading (Applied a effects)) = refl
-actor-at names actor place (Handled e reading SetAside) = refl
-actor-at names actor place (System n message (Applied a effects)) = refl
-actor-at names actor place (System n message SetAside) = refl
-actor-at names actor place (Dropped e) = refl
+pub actor-at : (names : List (List ℕ)) (actor place : ℕ) (after : Standing) (e : Entry) → value_at 0 (entry_data names actor place after e) ≡ name_data names actor
+actor-at names actor place after (Handled e reading (Applied a effects)) = refl
+actor-at names actor place after (Handled e reading SetAside) = refl
+actor-at names actor place after (System n message (Applied a effects)) = refl
+actor-at names actor place after (System n message SetAside) = refl
+actor-at names actor place after (Dropped e) = refl
 
-pub place-in : (names : List (List ℕ)) (actor place : ℕ) (e : Entry) → natural_from (value_at 2 (entry_data names actor place e)) ≡ place
-place-in names actor place (Handled e reading (Applied a effects)) = refl
-place-in names actor place (Handled e reading SetAside) = refl
-place-in names actor place (System n message (Applied a effects)) = refl
-place-in names actor place (System n message SetAside) = refl
-place-in names actor place (Dropped e) = refl
+pub place-in : (names : List (List ℕ)) (actor place : ℕ) (after : Standing) (e : Entry) → natural_from (value_at 3 (entry_data names actor place after e)) ≡ place
+place-in names actor place after (Handled e reading (Applied a effects)) = refl
+place-in names actor place after (Handled e reading SetAside) = refl
+place-in names actor place after (System n message (Applied a effects)) = refl
+place-in names actor place after (System n message SetAside) = refl
+place-in names actor place after (Dropped e) = refl

@@ -25,6 +25,9 @@ use Rattle.mb_trace_json.specs.Effects.{tell_data, ask_data, effect_data, effect
 use Rattle.mb_trace_json.specs.Entries.{answer_error, answer_text, entry_data, whole_data}
 use Rattle.mb_trace_json.specs.Messages.{about_data, body_data, cause_error, cause_text, plain_data, system_data, user_data}
 use Rattle.mb_trace_json.specs.Names.{name_data}
+use Rattle.mb_report.specs.Lines.{phase_text}
+use Rattle.mb_trace.specs.declared.standing.Standing.{Standing}
+use Rattle.mb_trace_json.specs.Standing.{standing_data, state_data, within_64_bits}
 use Rattle.mb_trace_json.specs.Rest.{aside_data, left_data, letter_data, why_text}
 
 -- no float, and not deeper than this
@@ -143,37 +146,48 @@ plain-effects names effects = let h = plain-items names effects in record { no_f
 higher : (d : Data) → IsPlain 1 d → IsPlain 2 d
 higher d h = record { no_float = h.no_float; shallow = omega (arith, h.shallow) }
 
-plain-whole : (names : List (List ℕ)) (actor place : ℕ) (message sender : Data) (n : ℕ) (outcome : List ℕ) (error : Data) (effects : List Effect)
-    (status : Data) → IsPlain 1 message → IsPlain 2 sender → IsPlain 2 error → IsPlain 2 status
-    → IsPlain 3 (whole_data names actor place message sender n outcome error (effects_data names effects) status)
-plain-whole names actor place message sender n outcome error effects status of_message of_sender of_error of_status =
-    of_members 2 _ (one_more 2 _ _ _ (text 2 _) (one_more 2 _ _ _ (plain-effects names effects) (one_more 2 _ _ _ (natural 2 place)
-    (one_more 2 _ _ _ of_error (one_more 2 _ _ _ (text 2 _) (one_more 2 _ _ _ (higher message of_message) (one_more 2 _ _ _ (natural 2 n)
-    (one_more 2 _ _ _ (text 2 outcome) (one_more 2 _ _ _ of_sender (one_more 2 _ _ _ of_status (no_more 2)))))))))))
+plain-state : (n : ℕ) (state : Option ℤ) → IsPlain n (state_data state)
+plain-state n None = nothing n
+plain-state n (Some state) = integer n state
 
-pub plain-entry : (names : List (List ℕ)) (actor place : ℕ) (e : Entry) → IsPlain 3 (entry_data names actor place e)
-plain-entry names actor place (Handled e reading (Applied a effects)) =
-    plain-whole names actor place _ _ _ (answer_text a) _ effects _ (plain-body names e.body) (text 2 _) (plain-answer_error 2 a) (natural 2 reading)
-plain-entry names actor place (Handled e reading SetAside) =
-    plain-whole names actor place _ _ _ _ _ [] _ (plain-body names e.body) (text 2 _) (nothing 2) (natural 2 reading)
-plain-entry names actor place (System n message (Applied a effects)) =
-    plain-whole names actor place _ _ _ (answer_text a) _ effects _ (plain-message names message) (nothing 2) (plain-answer_error 2 a) (nothing 2)
-plain-entry names actor place (System n message SetAside) =
-    plain-whole names actor place _ _ _ _ _ [] _ (plain-message names message) (nothing 2) (nothing 2) (nothing 2)
-plain-entry names actor place (Dropped e) =
-    plain-whole names actor place _ _ _ _ _ [] _ (plain-body names e.body) (text 2 _) (nothing 2) (nothing 2)
+plain-standing : (s : Standing) → IsPlain 1 (standing_data s)
+plain-standing s =
+    of_members 0 _ (one_more 0 _ _ _ (text 0 (phase_text s.phase)) (one_more 0 _ _ _ (plain-state 0 s.state)
+    (one_more 0 _ _ _ (natural 0 (within_64_bits s.suspended)) (no_more 0))))
+
+plain-whole : (names : List (List ℕ)) (actor place : ℕ) (after : Standing) (message sender : Data) (n : ℕ) (outcome : List ℕ) (error : Data) (effects : List Effect)
+    (status : Data) → IsPlain 1 message → IsPlain 2 sender → IsPlain 2 error → IsPlain 2 status
+    → IsPlain 3 (whole_data names actor place after message sender n outcome error (effects_data names effects) status)
+plain-whole names actor place after message sender n outcome error effects status of_message of_sender of_error of_status =
+    of_members 2 _ (one_more 2 _ _ _ (text 2 _) (one_more 2 _ _ _ (higher (standing_data after) (plain-standing after)) (one_more 2 _ _ _ (plain-effects names effects) (one_more 2 _ _ _ (natural 2 place)
+    (one_more 2 _ _ _ of_error (one_more 2 _ _ _ (text 2 _) (one_more 2 _ _ _ (higher message of_message) (one_more 2 _ _ _ (natural 2 n)
+    (one_more 2 _ _ _ (text 2 outcome) (one_more 2 _ _ _ of_sender (one_more 2 _ _ _ of_status
+    (one_more 2 _ _ _ (natural 2 1) (no_more 2)))))))))))))
+
+pub plain-entry : (names : List (List ℕ)) (actor place : ℕ) (after : Standing) (e : Entry) → IsPlain 3 (entry_data names actor place after e)
+plain-entry names actor place after (Handled e reading (Applied a effects)) =
+    plain-whole names actor place after _ _ _ (answer_text a) _ effects _ (plain-body names e.body) (text 2 _) (plain-answer_error 2 a) (natural 2 reading)
+plain-entry names actor place after (Handled e reading SetAside) =
+    plain-whole names actor place after _ _ _ _ _ [] _ (plain-body names e.body) (text 2 _) (nothing 2) (natural 2 reading)
+plain-entry names actor place after (System n message (Applied a effects)) =
+    plain-whole names actor place after _ _ _ (answer_text a) _ effects _ (plain-message names message) (nothing 2) (plain-answer_error 2 a) (nothing 2)
+plain-entry names actor place after (System n message SetAside) =
+    plain-whole names actor place after _ _ _ _ _ [] _ (plain-message names message) (nothing 2) (nothing 2) (nothing 2)
+plain-entry names actor place after (Dropped e) =
+    plain-whole names actor place after _ _ _ _ _ [] _ (plain-body names e.body) (text 2 _) (nothing 2) (nothing 2)
 
 pub plain-letter : (names : List (List ℕ)) (letter : DeadLetter) → IsPlain 2 (letter_data names letter)
 plain-letter names letter =
     of_members 1 _ (one_more 1 _ _ _ (text 1 _) (one_more 1 _ _ _ (text 1 _) (one_more 1 _ _ _ (plain-body names letter.envelope.body)
-    (one_more 1 _ _ _ (natural 1 _) (one_more 1 _ _ _ (text 1 _) (one_more 1 _ _ _ (text 1 (why_text letter.why)) (no_more 1)))))))
+    (one_more 1 _ _ _ (natural 1 _) (one_more 1 _ _ _ (text 1 _) (one_more 1 _ _ _ (natural 1 1)
+    (one_more 1 _ _ _ (text 1 (why_text letter.why)) (no_more 1))))))))
 
 pub plain-left : (names : List (List ℕ)) (e : Envelope) → IsPlain 2 (left_data names e)
 plain-left names e =
     of_members 1 _ (one_more 1 _ _ _ (text 1 _) (one_more 1 _ _ _ (text 1 _) (one_more 1 _ _ _ (plain-body names e.body)
-    (one_more 1 _ _ _ (natural 1 _) (one_more 1 _ _ _ (text 1 _) (no_more 1))))))
+    (one_more 1 _ _ _ (natural 1 _) (one_more 1 _ _ _ (text 1 _) (one_more 1 _ _ _ (natural 1 1) (no_more 1)))))))
 
 pub plain-aside : (names : List (List ℕ)) (actor n : ℕ) (message : SysMsg) → IsPlain 2 (aside_data names actor n message)
 plain-aside names actor n message =
     of_members 1 _ (one_more 1 _ _ _ (text 1 _) (one_more 1 _ _ _ (text 1 _) (one_more 1 _ _ _ (plain-message names message)
-    (one_more 1 _ _ _ (natural 1 n) (no_more 1)))))
+    (one_more 1 _ _ _ (natural 1 n) (one_more 1 _ _ _ (natural 1 1) (no_more 1))))))

@@ -10,6 +10,9 @@ use Rattle.mb_journal.specs.Entry.Outcome.{Applied, SetAside}
 use Rattle.mb_trace_json.specs.Effects.{effects_data}
 use Rattle.mb_trace_json.specs.Messages.{body_data, system_data}
 use Rattle.mb_trace_json.specs.Names.{name_data}
+use Rattle.mb_trace_json.specs.Standing.{standing_data}
+use Rattle.mb_trace_json.specs.Version.{version_data}
+use Rattle.mb_trace.specs.declared.standing.Standing.{Standing}
 
 -- What the actor answered; `applied` where it was not called.
 abbrev pub answer_text : Option Answer → List ℕ
@@ -25,11 +28,12 @@ answer_error (Some answer.Handled) = null
 answer_error (Some answer.Unhandled) = null
 answer_error (Some (answer.Failed n)) = number (unsigned n)
 
--- What every entry says: whose journal has it and where, the message, who sent it, its number, what came of it, the number of a failure,
--- the effects, and the status that was read before.
-abbrev pub whole_data : List (List ℕ) → ℕ → ℕ → Data → Data → ℕ → List ℕ → Data → Data → Data → Data
-whole_data names actor place message sender n outcome error effects status = object
+-- What every entry says: whose journal has it and where, how the actor stands after it, the message, who sent it, its number, what came of
+-- it, the number of a failure, the effects, the status that was read before, and the version of the form.
+abbrev pub whole_data : List (List ℕ) → ℕ → ℕ → Standing → Data → Data → ℕ → List ℕ → Data → Data → Data → Data
+whole_data names actor place after message sender n outcome error effects status = object
     (member (codes "actor") (name_data names actor)
+    (member (codes "after") (standing_data after)
     (member (codes "effects") effects
     (member (codes "entry") (number (unsigned place))
     (member (codes "error") error
@@ -38,17 +42,18 @@ whole_data names actor place message sender n outcome error effects status = obj
     (member (codes "number") (number (unsigned n))
     (member (codes "outcome") (string outcome)
     (member (codes "sender") sender
-    (member (codes "status") status no_members))))))))))
+    (member (codes "status") status
+    (member (codes "version") version_data no_members))))))))))))
 
--- The entry of this actor's journal, at this place there.
-abbrev pub entry_data : List (List ℕ) → ℕ → ℕ → Entry → Data
-entry_data names actor place (Handled e reading (Applied a effects)) = whole_data names actor place (body_data names e.body)
+-- The entry of this actor's journal, at this place there, after which the actor stands so.
+abbrev pub entry_data : List (List ℕ) → ℕ → ℕ → Standing → Entry → Data
+entry_data names actor place after (Handled e reading (Applied a effects)) = whole_data names actor place after (body_data names e.body)
     (name_data names e.by.0) e.number (answer_text a) (answer_error a) (effects_data names effects) (number (unsigned reading))
-entry_data names actor place (Handled e reading SetAside) = whole_data names actor place (body_data names e.body)
+entry_data names actor place after (Handled e reading SetAside) = whole_data names actor place after (body_data names e.body)
     (name_data names e.by.0) e.number (codes "set aside") null (effects_data names []) (number (unsigned reading))
-entry_data names actor place (System n message (Applied a effects)) = whole_data names actor place (system_data names message)
+entry_data names actor place after (System n message (Applied a effects)) = whole_data names actor place after (system_data names message)
     null n (answer_text a) (answer_error a) (effects_data names effects) null
-entry_data names actor place (System n message SetAside) = whole_data names actor place (system_data names message)
+entry_data names actor place after (System n message SetAside) = whole_data names actor place after (system_data names message)
     null n (codes "set aside") null (effects_data names []) null
-entry_data names actor place (Dropped e) = whole_data names actor place (body_data names e.body)
+entry_data names actor place after (Dropped e) = whole_data names actor place after (body_data names e.body)
     (name_data names e.by.0) e.number (codes "dropped") null (effects_data names []) null

@@ -4,4 +4,6 @@ pub mod Lines
 pub mod Messages
 pub mod Names
 pub mod Rest
+pub mod Standing
 pub mod Telling
+pub mod Version

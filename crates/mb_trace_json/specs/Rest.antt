@@ -8,6 +8,7 @@ use Rattle.mb_msg.specs.declared.envelope.Envelope.{Envelope}
 use Rattle.mb_msg.specs.declared.system.SysMsg.{SysMsg}
 use Rattle.mb_trace_json.specs.Messages.{body_data, system_data}
 use Rattle.mb_trace_json.specs.Names.{name_data}
+use Rattle.mb_trace_json.specs.Version.{version_data}
 
 -- Why an envelope is dead.
 abbrev pub why_text : Why → List ℕ
@@ -24,7 +25,8 @@ letter_data names letter = object
     (member (codes "message") (body_data names letter.envelope.body)
     (member (codes "number") (number (unsigned letter.envelope.number))
     (member (codes "sender") (name_data names letter.envelope.by.0)
-    (member (codes "why") (string (why_text letter.why)) no_members))))))
+    (member (codes "version") version_data
+    (member (codes "why") (string (why_text letter.why)) no_members)))))))
 
 -- An envelope that is left in its receiver's mailbox.
 abbrev pub left_data : List (List ℕ) → Envelope → Data
@@ -33,7 +35,8 @@ left_data names e = object
     (member (codes "line") (string (codes "left"))
     (member (codes "message") (body_data names e.body)
     (member (codes "number") (number (unsigned e.number))
-    (member (codes "sender") (name_data names e.by.0) no_members)))))
+    (member (codes "sender") (name_data names e.by.0)
+    (member (codes "version") version_data no_members))))))
 
 -- A system message that is set aside at the end, its number, and at which actor.
 abbrev pub aside_data : List (List ℕ) → ℕ → ℕ → SysMsg → Data
@@ -41,4 +44,5 @@ aside_data names actor n message = object
     (member (codes "actor") (name_data names actor)
     (member (codes "line") (string (codes "set aside"))
     (member (codes "message") (system_data names message)
-    (member (codes "number") (number (unsigned n)) no_members))))
+    (member (codes "number") (number (unsigned n))
+    (member (codes "version") version_data no_members)))))

@@ -11,17 +11,22 @@ ghost use Rattle.mb_trace_json.specs.Names.{name_data};
 use crate::effect::effects_value;
 use crate::message::{body_value, system_value};
 use crate::names::name_value;
+use crate::standing::standing_value;
+use crate::version::put_version;
 use mb_actor::{Answer, Effect};
 use mb_journal::{EntryRef, Received};
 use mb_msg::{ActorId, Envelope, SysMsg};
+use mb_trace::Standing;
 use serde_json::{Map, Value, put};
 use std::alloc::{AllocError, Global};
 
-/// Whose journal has an entry, and where: from 0.
+/// Whose journal has an entry, and how the actor stands after it.
 #[derive(Clone, Copy)]
 pub(crate) struct Place {
     pub(crate) actor: ActorId,
+    /// Where the entry stands in that journal, from 0.
     pub(crate) index: usize,
+    pub(crate) after: Standing,
 }
 
 /// An entry.
@@ -31,7 +36,7 @@ pub(crate) fn entry_value(
     place: Place,
     entry: &EntryRef<'_>,
 ) -> Result<Value, AllocError>
-    ensures { IfOk result (λ v. view v ≡ entry_data (map string_bytes names.now) place.actor.0 place.index (entry_of entry.now)) }
+    ensures { IfOk result (λ v. view v ≡ entry_data (map string_bytes names.now) place.actor.0 place.index place.after (entry_of entry.now)) }
 {
     match entry.arrival {
         Received::Handled {
@@ -146,7 +151,7 @@ fn whole_value(
     told: Told,
     effects: &[Effect],
 ) -> Result<Value, AllocError>
-    ensures { IfOk result (λ v. view v ≡ whole_data (map string_bytes names.now) place.actor.0 place.index (view came.message)
+    ensures { IfOk result (λ v. view v ≡ whole_data (map string_bytes names.now) place.actor.0 place.index place.after (view came.message)
         (view came.sender) came.number told.outcome.now (view told.error) (effects_data (map string_bytes names.now) effects.now)
         (view told.status)) }
 {
@@ -155,7 +160,10 @@ fn whole_value(
     put_came(alloc, &mut members, came)?;
     let effects = effects_value(alloc, names, effects)?;
     put(&mut members, alloc, "effects", effects)?;
+    let after = standing_value(alloc, place.after)?;
+    put(&mut members, alloc, "after", after)?;
     put_place(alloc, &mut members, names, place)?;
+    put_version(alloc, &mut members)?;
     Ok(Value::Object(members))
 }
 

@@ -10,5 +10,7 @@ mod line;
 mod message;
 mod names;
 mod rest;
+mod standing;
+mod version;
 
 pub use line::{dead_letter_line, entry_line, left_line, set_aside_line};

@@ -14,25 +14,28 @@ use crate::entry::{Place, entry_value};
 use crate::rest::{dead_letter_value, left_value, set_aside_value};
 use mb_journal::EntryRef;
 use mb_msg::{ActorId, DeadLetter, Envelope, SysMsg};
+use mb_trace::Standing;
 use serde_json::Value;
 use std::alloc::{AllocError, Global};
 
-/// The line of an entry of this actor's journal, at this place there, from 0. The actors beside the guardian have these names, from number 1
-/// on. The only error, here and of the other lines: memory was refused.
+/// The line of an entry of this actor's journal, at this place there, from 0, after which the actor stands so. The actors beside the
+/// guardian have these names, from number 1 on. The only error, here and of the other lines: memory was refused.
 pub fn entry_line(
     alloc: Global,
     names: &[String],
     actor: ActorId,
     place: usize,
+    after: Standing,
     entry: &EntryRef<'_>,
 ) -> Result<String, AllocError>
-    ensures text { IfOk result (λ line. string_bytes line ≡ line_text (entry_data (map string_bytes names.now) actor.0 place (entry_of entry.now))) }
-    ensures value { IfOk result (λ line. ReadsAs (string_bytes line) (entry_data (map string_bytes names.now) actor.0 place (entry_of entry.now))) }
-    ensures entry { TellsEntry (map string_bytes names.now) actor.0 place (entry_of entry.now) }
+    ensures text { IfOk result (λ line. string_bytes line ≡ line_text (entry_data (map string_bytes names.now) actor.0 place after (entry_of entry.now))) }
+    ensures value { IfOk result (λ line. ReadsAs (string_bytes line) (entry_data (map string_bytes names.now) actor.0 place after (entry_of entry.now))) }
+    ensures entry { TellsEntry (map string_bytes names.now) actor.0 place after (entry_of entry.now) }
 {
     let place = Place {
         actor,
         index: place,
+        after,
     };
     line_of(alloc, &entry_value(alloc, names, place, entry)?)
 }

@@ -6,9 +6,11 @@ ghost use Rattle.serde_json.specs.View.{view, members_view};
 ghost use Rattle.mb_trace_json.specs.Messages.{body_data};
 ghost use Rattle.mb_trace_json.specs.Names.{name_data};
 ghost use Rattle.mb_trace_json.specs.Rest.{why_text, letter_data, left_data, aside_data};
+ghost use Rattle.mb_trace_json.specs.Version.{version_data};
 
 use crate::message::{body_value, system_value};
 use crate::names::name_value;
+use crate::version::put_version;
 use mb_msg::{ActorId, DeadLetter, Envelope, SysMsg, Why};
 use serde_json::{Map, Value, put};
 use std::alloc::{AllocError, Global};
@@ -51,7 +53,8 @@ fn envelope_members(
         (member (codes "line") (string line.now)
         (member (codes "message") (body_data (map string_bytes names.now) envelope.body)
         (member (codes "number") (json_data.number (unsigned envelope.number))
-        (member (codes "sender") (name_data (map string_bytes names.now) envelope.by.0) no_members))))) }
+        (member (codes "sender") (name_data (map string_bytes names.now) envelope.by.0)
+        (member (codes "version") version_data no_members)))))) }
 {
     let message = body_value(alloc, names, envelope.body)?;
     let mut members = line_members(alloc, line, names, envelope.to, envelope.number, message)?;
@@ -88,7 +91,8 @@ fn line_members(
         member (codes "actor") (name_data (map string_bytes names.now) actor.0)
         (member (codes "line") (string line.now)
         (member (codes "message") (view message)
-        (member (codes "number") (json_data.number (unsigned number)) no_members)))) }
+        (member (codes "number") (json_data.number (unsigned number))
+        (member (codes "version") version_data no_members))))) }
 {
     let mut members = Map::new(alloc);
     put(&mut members, alloc, "number", Value::from(number))?;
@@ -97,6 +101,7 @@ fn line_members(
     put(&mut members, alloc, "line", line)?;
     let name = name_value(alloc, names, u32::from(actor.0))?;
     put(&mut members, alloc, "actor", name)?;
+    put_version(alloc, &mut members)?;
     Ok(members)
 }
 

@@ -1,8 +1,9 @@
 //! The JSON lines, each kind of entry, message and effect once.
-use crate::made::{envelope, names};
-use mb_actor::{Answer, Effect};
+use crate::made::{envelope, live, names};
+use mb_actor::{Answer, Effect, Phase};
 use mb_journal::{EntryRef, Received};
 use mb_msg::{ActorId, Body, Cause, DeadLetter, SysMsg, Why};
+use mb_trace::Standing;
 use mb_trace_json::{dead_letter_line, entry_line, left_line, set_aside_line};
 use std::alloc::AllocError;
 use std::test::Fail;
@@ -86,7 +87,7 @@ fn each_message_has_its_form(rt: HostRuntime) -> Result<(), Fail> {
             arrival: came,
             effects: &[],
         };
-        let line = entry_line(rt.alloc(), &names, ActorId(1), 7, &entry)?;
+        let line = entry_line(rt.alloc(), &names, ActorId(1), 7, live(Some(-8)), &entry)?;
         assert!(rt; line.as_str().contains(message), "{line}");
     }
     Ok(())
@@ -115,12 +116,18 @@ fn a_line_has_all_keys(rt: HostRuntime) -> Result<(), Fail> {
         arrival: handled(Body::Kill, Some(Answer::Failed(9))),
         effects: &effects,
     };
-    let line = entry_line(rt.alloc(), &names, ActorId(1), 7, &entry)?;
+    let line = entry_line(rt.alloc(), &names, ActorId(1), 7, live(Some(-8)), &entry)?;
     assert!(rt;
         line.as_str()
-            == "{\"actor\":\"a\",\"effects\":[{\"do\":\"tell\",\"kind\":1,\"to\":\"b\",\"value\":-1},{\"do\":\"control\",\"kind\":2,\"to\":\"guardian\",\"value\":0},{\"do\":\"watch\",\"to\":\"a\"},{\"do\":\"unwatch\",\"to\":\"a\"},{\"do\":\"stop\",\"to\":\"a\"},{\"do\":\"spawn\",\"to\":\"a\"}],\"entry\":7,\"error\":9,\"line\":\"entry\",\"message\":{\"what\":\"kill\"},\"number\":3,\"outcome\":\"failed\",\"sender\":\"outside 0\",\"status\":4}\n",
+            == "{\"actor\":\"a\",\"after\":{\"phase\":\"live\",\"state\":-8,\"suspended\":0},\"effects\":[{\"do\":\"tell\",\"kind\":1,\"to\":\"b\",\"value\":-1},{\"do\":\"control\",\"kind\":2,\"to\":\"guardian\",\"value\":0},{\"do\":\"watch\",\"to\":\"a\"},{\"do\":\"unwatch\",\"to\":\"a\"},{\"do\":\"stop\",\"to\":\"a\"},{\"do\":\"spawn\",\"to\":\"a\"}],\"entry\":7,\"error\":9,\"line\":\"entry\",\"message\":{\"what\":\"kill\"},\"number\":3,\"outcome\":\"failed\",\"sender\":\"outside 0\",\"status\":4,\"version\":1}\n",
         "{line}"
     );
+    // A count that does not fit 64 bits is written as the greatest that does.
+    let suspended = Standing {
+        phase: Phase::Ending,
+        suspended: u128::MAX,
+        state: None,
+    };
     let aside = EntryRef {
         arrival: Received::SetAside {
             number: 5,
@@ -128,10 +135,10 @@ fn a_line_has_all_keys(rt: HostRuntime) -> Result<(), Fail> {
         },
         effects: &[],
     };
-    let line = entry_line(rt.alloc(), &names, ActorId(0), 0, &aside)?;
+    let line = entry_line(rt.alloc(), &names, ActorId(0), 0, suspended, &aside)?;
     assert!(rt;
         line.as_str()
-            == "{\"actor\":\"guardian\",\"effects\":[],\"entry\":0,\"error\":null,\"line\":\"entry\",\"message\":{\"what\":\"create\"},\"number\":5,\"outcome\":\"set aside\",\"sender\":null,\"status\":null}\n",
+            == "{\"actor\":\"guardian\",\"after\":{\"phase\":\"ending\",\"state\":null,\"suspended\":18446744073709551615},\"effects\":[],\"entry\":0,\"error\":null,\"line\":\"entry\",\"message\":{\"what\":\"create\"},\"number\":5,\"outcome\":\"set aside\",\"sender\":null,\"status\":null,\"version\":1}\n",
         "{line}"
     );
     Ok(())
@@ -148,19 +155,19 @@ fn the_rest_has_its_lines(rt: HostRuntime) -> Result<(), Fail> {
     let line = dead_letter_line(rt.alloc(), &names, &letter)?;
     assert!(rt;
         line.as_str()
-            == "{\"actor\":\"b\",\"line\":\"dead letter\",\"message\":{\"what\":\"kill\"},\"number\":8,\"sender\":\"outside 0\",\"why\":\"no memory\"}\n",
+            == "{\"actor\":\"b\",\"line\":\"dead letter\",\"message\":{\"what\":\"kill\"},\"number\":8,\"sender\":\"outside 0\",\"version\":1,\"why\":\"no memory\"}\n",
         "{line}"
     );
     let line = left_line(rt.alloc(), &names, &kill)?;
     assert!(rt;
         line.as_str()
-            == "{\"actor\":\"b\",\"line\":\"left\",\"message\":{\"what\":\"kill\"},\"number\":8,\"sender\":\"outside 0\"}\n",
+            == "{\"actor\":\"b\",\"line\":\"left\",\"message\":{\"what\":\"kill\"},\"number\":8,\"sender\":\"outside 0\",\"version\":1}\n",
         "{line}"
     );
     let line = set_aside_line(rt.alloc(), &names, ActorId(3), 4, SysMsg::Terminate)?;
     assert!(rt;
         line.as_str()
-            == "{\"actor\":\"<\\\"c\\\" & 'd'>\",\"line\":\"set aside\",\"message\":{\"what\":\"terminate\"},\"number\":4}\n",
+            == "{\"actor\":\"<\\\"c\\\" & 'd'>\",\"line\":\"set aside\",\"message\":{\"what\":\"terminate\"},\"number\":4,\"version\":1}\n",
         "{line}"
     );
     Ok(())

@@ -2,10 +2,11 @@
 ghost use Rattle.std.specs.Prelude.{◌≡◌, ◌≤◌, IfSome, length};
 
 use mb_actor::{Answer, Effect, Phase};
-use mb_diagram::ShownEntry;
+use mb_diagram::PictureEntry;
 use mb_journal::Journal;
-use mb_msg::{ActorId, Body, Cause, DeadLetter, Envelope, SenderId, SysMsg, Why};
+use mb_msg::{ActorId, Body, Cause, DeadLetter, Envelope, JournalMode, SenderId, SysMsg, Why};
 use mb_report::{ActorReport, Report, SenderReport};
+use mb_trace::Standing;
 use std::alloc::Global;
 
 /// An envelope of the first sender outside, to this actor.
@@ -26,7 +27,7 @@ fn user(to: u16, number: u64) -> Envelope {
 fn started(alloc: Global, effects: &[Effect]) -> Option<Journal>
     requires { length effects.now ≤ 16 }
 {
-    let mut journal = Journal::new(alloc, 2_000);
+    let mut journal = Journal::new(alloc, JournalMode::Kept, 2_000).ok()?;
     journal.ready().ok()?;
     journal.push_system(0, SysMsg::Create, Some(Answer::Handled), effects);
     Some(journal)
@@ -140,21 +141,43 @@ fn senders(alloc: Global) -> Option<Vec<SenderReport>> {
     vec![in alloc; SenderReport { sent: 1_008, dead }].ok()
 }
 
-/// All entries, actor by actor.
-pub fn shown_entries(alloc: Global, report: &Report) -> Option<Vec<ShownEntry<'_>>> {
-    let mut shown_entries = Vec::new(alloc);
+/// How an actor stands that is live, with this state.
+pub fn live(state: Option<i64>) -> Standing {
+    Standing {
+        phase: Phase::Live,
+        suspended: 0,
+        state,
+    }
+}
+
+/// All entries, actor by actor. Each actor starts at its first entry, and has its number as its state.
+pub fn entries(alloc: Global, report: &Report) -> Option<Vec<PictureEntry<'_>>> {
+    let mut entries = Vec::new(alloc);
     for (id, actor) in report.actors.iter().enumerate() {
+        if !actor.journal.is_kept() {
+            return None;
+        }
+        let after = live(if id == 0 { None } else { Some(id as i64) });
+        let mut before = Standing {
+            phase: Phase::Fresh,
+            suspended: 1,
+            state: None,
+        };
         for index in 0..actor.journal.len() {
             let entry = actor.journal.get(index);
             let actor = ActorId(id as u16);
-            shown_entries
-                .push(ShownEntry {
+            entries
+                .push(PictureEntry {
                     actor,
                     index,
                     entry,
+                    before,
+                    after,
+                    is_shown: true,
                 })
                 .ok()?;
+            before = after;
         }
     }
-    Some(shown_entries)
+    Some(entries)
 }

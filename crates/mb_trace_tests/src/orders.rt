@@ -3,8 +3,8 @@ use mb_actor::{Answer, Effect, Phase};
 use mb_causal_order::{Place, merged_order};
 use mb_journal::Journal;
 use mb_msg::{
-    ActorId, ActorPlan, Body, Envelope, MailboxType, Order, OrderKind, Plan, PoolKind, SenderId,
-    SenderOrder, Strategy, SysMsg,
+    ActorId, ActorPlan, Body, Envelope, JournalMode, MailboxType, Order, OrderKind, Plan, PoolKind,
+    SenderId, SenderOrder, Strategy, SysMsg,
 };
 use mb_report::ActorReport;
 use std::alloc::{AllocError, Global};
@@ -20,9 +20,14 @@ pub enum Came<'a> {
     Envelope(Envelope, &'a [Effect]),
 }
 
-/// The report of an actor to which this came.
+/// The report of an actor to which this came, with a journal that keeps its entries.
 pub fn actor(alloc: Global, came: &[Came<'_>]) -> Option<ActorReport> {
-    let mut journal = Journal::new(alloc, 100);
+    actor_with(alloc, JournalMode::Kept, came)
+}
+
+/// The same with a journal of this mode.
+fn actor_with(alloc: Global, mode: JournalMode, came: &[Came<'_>]) -> Option<ActorReport> {
+    let mut journal = Journal::new(alloc, mode, 100).ok()?;
     let mut number = 0;
     for one in came {
         journal.ready().ok()?;
@@ -65,12 +70,13 @@ pub fn plan(alloc: Global) -> Option<Plan> {
         workers: 2,
         pool: PoolKind::Shared,
         senders: 1,
+        journal: JournalMode::Kept,
         journal_limit: 100,
         actors: vec![in alloc; child(alloc), child(alloc)].ok()?,
     })
 }
 
-fn child(alloc: Global) -> ActorPlan {
+pub fn child(alloc: Global) -> ActorPlan {
     ActorPlan {
         parent: ActorId(0),
         mailbox: MailboxType::Unbounded,
@@ -83,7 +89,7 @@ fn child(alloc: Global) -> ActorPlan {
 }
 
 /// An envelope with this number by that sender.
-fn envelope(by: u32, number: u64, to: u16, body: Body) -> Envelope {
+pub fn envelope(by: u32, number: u64, to: u16, body: Body) -> Envelope {
     Envelope {
         by: SenderId(by),
         to: ActorId(to),
@@ -158,6 +164,22 @@ fn an_answer_comes_after_what_it_answers(rt: HostRuntime) -> Result<(), Fail> {
     )?;
     let wanted = [(0, 0), (1, 0), (1, 1), (2, 0), (2, 1), (1, 2)];
     assert!(rt; is_order(&found, &wanted));
+    Ok(())
+}
+
+/// A journal that counts its entries has none to be ordered.
+#[test]
+fn there_is_no_order_of_entries_that_are_not_kept(rt: HostRuntime) -> Result<(), Fail> {
+    let alloc = rt.alloc();
+    let plan = plan(alloc).ok_or(AllocError)?;
+    for mode in [JournalMode::Kept, JournalMode::Counted] {
+        let came = [Came::System(SysMsg::Create)];
+        let guardian = actor_with(alloc, mode, &came).ok_or(AllocError)?;
+        let first = actor(alloc, &[]).ok_or(AllocError)?;
+        let second = actor(alloc, &[]).ok_or(AllocError)?;
+        let found = merged_order(alloc, &plan, &[], &[guardian, first, second])?;
+        assert!(rt; found.is_some() == (mode == JournalMode::Kept));
+    }
     Ok(())
 }
 

@@ -1,5 +1,5 @@
 //! What pictures have: each entry once, names escaped, repeated messages in one row.
-use crate::made::{letters, names, report, shown_entries};
+use crate::made::{entries, letters, names, report};
 use mb_diagram::{EntryOrder, Picture, write_html, write_svg};
 use std::alloc::{AllocError, Global};
 use std::test::Fail;
@@ -9,11 +9,11 @@ fn drawn(alloc: Global, is_page: bool, order: EntryOrder) -> Option<Vec<u8>> {
     let report = report(alloc)?;
     let names = names(alloc)?;
     let letters = letters(alloc)?;
-    let shown_entries = shown_entries(alloc, &report)?;
+    let entries = entries(alloc, &report)?;
     let picture = Picture {
         names: &names,
         report: &report,
-        entries: &shown_entries,
+        entries: &entries,
         order,
         letters: &letters,
     };
@@ -44,6 +44,10 @@ fn a_picture_has_each_entry_once(rt: HostRuntime) -> Result<(), Fail> {
         ("data-entries=\"1\"", 9),
         ("kind 1 value -5 × 1,000<", 1),
         ("data-letters=", 2),
+        (">state 1</text>", 1),
+        (">unhandled, state 1</text>", 1),
+        ("<tspan class=\"after\">, state 2</tspan>", 1),
+        (">live, suspended 0, state 2</text>", 1),
         ("data-letters=\"2\"", 1),
         ("<text class=\"bad\"", 4),
         ("<rect class=\"bar\"", 2),

@@ -2,7 +2,7 @@
 use crate::orders::{Came, actor, plan, user};
 use mb_msg::{ActorId, Plan, SysMsg};
 use mb_report::Report;
-use mb_trace::{EntryKinds, Filter, Trace, TurnLength, write_text};
+use mb_trace::{EntryKinds, Filter, Trace, TurnLength, keeps_entries, write_text};
 use std::alloc::{AllocError, Global};
 use std::test::Fail;
 
@@ -70,6 +70,9 @@ fn written<'a>(
     report: &'a Report,
     turns: Option<&'a [TurnLength]>,
 ) -> Option<Vec<u8>> {
+    if !keeps_entries(report) {
+        return None;
+    }
     let trace = Trace {
         names,
         plan,
