@@ -6,7 +6,7 @@ use mb_shutdown::UnfinishedActor;
 use std::alloc::Global;
 use std::fmt;
 
-/// A run that gave no report: why, and what is left of its actors.
+/// A run that gave no report: why, and what is left of its actors. Its text as an error is that of `error`.
 #[derive(Drop)]
 pub struct FailedRun {
     /// Why there is no report.
@@ -38,6 +38,15 @@ impl fmt::Debug for FailedRun {
             .finish_non_exhaustive()
     }
 }
+
+// the text of the error
+impl fmt::Display for FailedRun {
+    fn fmt<W: fmt::Write>(&self, f: &mut fmt::Formatter<W>) -> fmt::Result {
+        write!(f, "{}", self.error)
+    }
+}
+
+impl std::error::Error for FailedRun {}
 
 impl From<FailedRun> for Error {
     ghost from_gives = { λ failed error. error ≡ failed.error };

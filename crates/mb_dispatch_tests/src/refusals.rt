@@ -10,6 +10,7 @@ use mb_testkit::{
 use std::alloc::{AllocError, Global};
 use std::process::Abort;
 use std::sync::Wait;
+use std::test::Fail;
 use std::thread::Threads;
 
 /// A plan, the actors that are handed in for it, what each sender is to send, why there is no report, and how many entries the journal
@@ -235,4 +236,12 @@ fn a_run_on_one_thread_is_refused_for_its_first_reason(rt: HostRuntime) {
 #[test]
 fn a_run_on_threads_is_refused_for_its_first_reason(rt: HostRuntime) {
     all_are_refused(&rt, rt.alloc(), RunMode::OnThreads)
+}
+
+#[test]
+fn a_failed_run_is_shown_as_its_error(rt: HostRuntime) -> Result<(), Fail> {
+    let failed = FailedRun::without_actors(rt.alloc(), Error::NoMemory);
+    let text = format!(in rt.alloc(); "{failed}")?;
+    assert!(&rt; text.as_str() == "memory was refused");
+    Ok(())
 }
