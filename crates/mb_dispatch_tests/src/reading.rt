@@ -37,8 +37,10 @@ fn is_actor_read_right(report: &Report, id: ActorId, actor: &ActorReport) -> boo
 fn envelopes_in(journal: &Journal) -> usize {
     let mut count: usize = 0;
     for place in 0..journal.len() {
-        if is_of_envelope(journal.get(place).arrival) {
-            count = count.wrapping_add(1);
+        if let Some(entry) = journal.entry(place) {
+            if is_of_envelope(entry.arrival) {
+                count = count.wrapping_add(1);
+            }
         }
     }
     count
@@ -56,8 +58,9 @@ fn is_same_journal(one: &Journal, other: &Journal) -> bool {
         return false;
     }
     for place in 0..one.len() {
-        if !is_same_entry(&one.get(place), &other.get(place)) {
-            return false;
+        match (one.entry(place), other.entry(place)) {
+            (Some(left), Some(right)) if is_same_entry(&left, &right) => {}
+            _ => return false,
         }
     }
     true

@@ -1,12 +1,13 @@
 //! A thousand random plans, half of them with each pool, each run on this thread and on threads: what must be true of a run is
-//! true of each report.
+//! true of each report. A hundred more runs with counted journals end in the reports of kept ones.
 use crate::reading::is_read_right;
 use crate::whole_run::{RunMode, run_whole};
 use heddleorange::Error;
-use mb_msg::{Order, PoolKind};
+use mb_msg::{JournalMode, Order, PoolKind};
 use mb_report::Report;
 use mb_testkit::{
     actors_by_chance, is_right_of_these_alone, plan_by_chance, random_actors, sends_by_chance,
+    text_of,
 };
 use std::alloc::{AllocError, Global};
 use std::ops::Range;
@@ -32,21 +33,23 @@ fn try_seed<R: Threads + Wait + Sync>(
 ) -> Result<bool, Error> {
     let senders = plan_by_chance(alloc, seed, pool)?.senders;
     let sends = sends_by_chance(alloc, seed, senders, actors_by_chance(seed))?;
-    let report = report_of(rt, alloc, mode, seed, pool, &sends)?;
+    let report = report_of(rt, alloc, mode, JournalMode::Kept, seed, pool, &sends)?;
     Ok(is_right(alloc, seed, pool, &report, sends)?)
 }
 
-/// The report of the plan of this seed, each of whose senders sends its own of these.
+/// The report of the plan of this seed, each of whose senders sends its own of these, with journals of this mode.
 fn report_of<R: Threads + Wait + Sync>(
     rt: &R,
     alloc: Global,
     mode: RunMode,
+    journal: JournalMode,
     seed: u64,
     pool: PoolKind,
     sends: &[Vec<Order>],
 ) -> Result<Report, Error> {
     let actors = random_actors(alloc, seed, actors_by_chance(seed))?;
-    let plan = plan_by_chance(alloc, seed, pool)?;
+    let mut plan = plan_by_chance(alloc, seed, pool)?;
+    plan.journal = journal;
     Ok(run_whole(rt, alloc, mode, plan, actors, sends)?)
 }
 
@@ -67,6 +70,47 @@ fn try_all<R: Abort + Threads + Wait + Sync>(rt: &R, alloc: Global, mode: RunMod
     for seed in seeds_of(pool) {
         let is_right = try_seed(rt, alloc, mode, seed, pool);
         assert!(rt; matches!(is_right, Ok(true)), "the plan of seed {seed}");
+    }
+}
+
+/// Whether the plan of this seed has the same report with journals that count their entries as with such that keep them. On this thread
+/// nothing else could make a difference.
+fn is_same_if_counted<R: Threads + Wait + Sync>(
+    rt: &R,
+    alloc: Global,
+    seed: u64,
+) -> Result<bool, Error> {
+    let pool = PoolKind::Shared;
+    let senders = plan_by_chance(alloc, seed, pool)?.senders;
+    let sends = sends_by_chance(alloc, seed, senders, actors_by_chance(seed))?;
+    let kept = report_of(
+        rt,
+        alloc,
+        RunMode::Here,
+        JournalMode::Kept,
+        seed,
+        pool,
+        &sends,
+    )?;
+    let counted = report_of(
+        rt,
+        alloc,
+        RunMode::Here,
+        JournalMode::Counted,
+        seed,
+        pool,
+        &sends,
+    )?;
+    let count = counted.actors.len().saturating_sub(1);
+    let wanted = text_of(alloc, &kept, count);
+    Ok(wanted.is_some() && text_of(alloc, &counted, count) == wanted)
+}
+
+#[test]
+fn a_hundred_plans_have_the_same_report_with_counted_journals(rt: HostRuntime) {
+    for seed in 1_000..1_100 {
+        let is_same = is_same_if_counted(&rt, rt.alloc(), seed);
+        assert!(rt; matches!(is_same, Ok(true)), "the plan of seed {seed}");
     }
 }
 

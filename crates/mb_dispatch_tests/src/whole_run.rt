@@ -5,7 +5,7 @@ use crate::seen::see;
 use crate::shown::failed_text;
 use heddleorange::{FailedRun, run_here, run_on_threads};
 use mb_actor::Actor;
-use mb_msg::{Order, Plan};
+use mb_msg::{JournalMode, Order, Plan};
 use mb_report::Report;
 use mb_testkit::{TestCase, plan_and_sends, test_actors_of};
 use std::alloc::Global;
@@ -25,7 +25,8 @@ pub enum RunMode {
 /// A story, and the text of its report, or why there is no report.
 pub type Run = (TestCase<'static>, &'static str);
 
-/// Plays each of these stories, and checks that its report has this text, or that this is why there is no report.
+/// Plays each of these stories, with journals that keep their entries and with such that count them, and checks that its report has this
+/// text, or that this is why there is no report.
 pub fn play_whole<R: Abort + Threads + Wait + Sync>(
     rt: &R,
     alloc: Global,
@@ -34,6 +35,11 @@ pub fn play_whole<R: Abort + Threads + Wait + Sync>(
 ) {
     for (story, report) in runs {
         see(rt, &story_text(rt, alloc, mode, story), *report);
+        let counted = TestCase {
+            journal: JournalMode::Counted,
+            ..*story
+        };
+        see(rt, &story_text(rt, alloc, mode, &counted), *report);
     }
 }
 

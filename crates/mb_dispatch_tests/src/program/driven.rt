@@ -1,4 +1,5 @@
 //! Whole runs, from bytes to bytes.
+use mb_msg::JournalMode;
 use mb_program::{TrackedStream, run_program};
 use std::alloc::Global;
 use std::io::{Read, Write};
@@ -87,6 +88,7 @@ pub fn status_of<T: Threads + Wait + Sync, I: Read, O: Write, E: Write>(
         rt,
         alloc,
         arguments,
+        JournalMode::Counted,
         &mut TrackedStream::new(reader),
         &mut TrackedStream::new(writer),
         &mut TrackedStream::new(errors),
