@@ -1,15 +1,17 @@
 //! Running a scenario and showing its run.
-ghost use Rattle.std.specs.Prelude.{◌≡◌, false};
+ghost use Rattle.std.specs.Prelude.{◌≡◌, All, false, true};
 
 use crate::argument_error::ArgumentError;
-use crate::options::{Format, Options};
+use crate::details::details_of;
+use crate::options::Options;
 use crate::refusal::{Failure, no_memory, not_written};
 use crate::turn_lengths::turn_lengths;
+use mb_msg::JournalMode;
 use mb_program::{FinishedRun, TrackedStream, run_scenario};
 use mb_scenario::{Scenario, read};
 use mb_streams::read_input;
-use mb_trace::{Filter, Trace, TraceError, TurnLength, write_text};
-use mb_trace_forms::{write_html, write_json, write_svg};
+use mb_trace::{Filter, Trace, TraceError, TurnLength};
+use mb_trace_forms::{TraceFormat, write_trace};
 use std::alloc::Global;
 use std::io::{BufWriter, Read, Write};
 use std::sync::Wait;
@@ -26,7 +28,14 @@ pub(crate) fn show<T: Threads + Wait + Sync, R: Read, W: Write + Drop>(
     requires working { reader.old.failed ≡ false }
 {
     let text = read_input(alloc, reader)?;
-    let ran = run_scenario(rt, alloc, &text)?;
+    let ran = match run_scenario(rt, alloc, &text, JournalMode::Kept) {
+        Ok(ran) => ran,
+        Err(error) => {
+            // Without memory for more the fault itself is still told.
+            let details = details_of(alloc, &text, &error).unwrap_or(String::new(alloc));
+            return Err(Failure::Scenario { error, details });
+        }
+    };
     // The run has taken the scenario's plan and scripts: the text is read once more.
     let scenario = read(alloc, &text)?;
     show_run(alloc, &scenario, &ran.run, options, writer)
@@ -39,7 +48,9 @@ fn show_run<W: Write + Drop>(
     run: &FinishedRun,
     options: &Options,
     writer: W,
-) -> Result<(), Failure> {
+) -> Result<(), Failure>
+    requires kept { All (λ actor. actor.journal.is_kept ≡ true) run.now.report.actors.items }
+{
     let actors = numbers_of(alloc, &options.actors, &scenario.names)?;
     let lengths = match &run.turns {
         Some(turns) => Some(turn_lengths(alloc, turns.as_slice())?),
@@ -63,7 +74,9 @@ fn trace_of<'a>(
     scenario: &'a Scenario,
     run: &'a FinishedRun,
     turns: Option<&'a [TurnLength]>,
-) -> Trace<'a> {
+) -> Trace<'a>
+    requires kept { All (λ actor. actor.journal.is_kept ≡ true) run.now.report.actors.items }
+{
     Trace {
         names: scenario.names.as_slice(),
         plan: &scenario.plan,
@@ -79,28 +92,13 @@ fn write<W: Write + Drop>(
     alloc: Global,
     trace: &Trace<'_>,
     filter: &Filter<'_>,
-    format: Format,
+    format: TraceFormat,
     writer: W,
 ) -> Result<(), TraceError> {
     let mut out = BufWriter::new(alloc, writer)?;
-    write_form(alloc, trace, filter, format, &mut out)?;
+    write_trace(alloc, trace, filter, format, &mut out)?;
     out.flush()?;
     Ok(())
-}
-
-fn write_form<W: Write>(
-    alloc: Global,
-    trace: &Trace<'_>,
-    filter: &Filter<'_>,
-    format: Format,
-    out: &mut W,
-) -> Result<(), TraceError> {
-    match format {
-        Format::Text => write_text(alloc, trace, filter, out),
-        Format::Json => write_json(alloc, trace, filter, out),
-        Format::Svg => write_svg(alloc, trace, filter, out),
-        Format::Html => write_html(alloc, trace, filter, out),
-    }
 }
 
 /// The numbers of the actors with these names, of which each is one of the scenario's or the guardian's.

@@ -3,6 +3,7 @@
 
 mod answer;
 mod argument_error;
+mod details;
 mod options;
 mod refusal;
 mod running;

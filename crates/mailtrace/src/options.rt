@@ -1,26 +1,17 @@
 //! The arguments of the program.
-use crate::argument_error::ArgumentError;
 use crate::refusal::Failure;
+use clap::{Arg, ArgAction, ArgMatches};
 use mb_trace::EntryKinds;
-use std::alloc::Global;
-use std::env::Args;
-
-/// What the program is to do.
-#[derive(Drop)]
-pub(crate) enum Command {
-    /// Print how it is called.
-    Help,
-    /// Print which version it is.
-    Version,
-    /// Show the run of the scenario that the input is.
-    Show(Options),
-}
+use mb_trace_forms::TraceFormat;
+use std::alloc::{AllocError, Global};
 
 /// How a run is shown.
 #[derive(Drop)]
 pub(crate) struct Options {
+    /// The file that has the scenario; the standard input where none is named.
+    pub(crate) file: Option<String>,
     /// In which form.
-    pub(crate) format: Format,
+    pub(crate) format: TraceFormat,
     /// The names of the actors whose entries are shown; all where there is none.
     pub(crate) actors: Vec<String>,
     /// Which kinds of entries.
@@ -29,118 +20,100 @@ pub(crate) struct Options {
     pub(crate) limit: u64,
 }
 
-/// The forms of a trace.
-#[derive(Clone, Copy)]
-pub(crate) enum Format {
-    /// Lines of text.
-    Text,
-    /// Lines of JSON.
-    Json,
-    /// A sequence diagram.
-    Svg,
-    /// A page with the diagram and the journals.
-    Html,
+static FORMATS: [&str; 4] = ["text", "json", "svg", "html"];
+
+static KINDS: [&str; 3] = ["user", "system", "failures"];
+
+/// Reads the words, of which the first is the program's own path. Without matches the failure has clap's text: of `--help`, of `--version`,
+/// or of what is wrong.
+pub(crate) fn options_of(alloc: Global, words: &[String]) -> Result<Options, Failure> {
+    let matches = command(alloc)?.try_get_matches_from(words)?;
+    Ok(options_in(alloc, &matches)?)
 }
 
-/// What the next word is.
-#[derive(Clone, Copy)]
-enum Awaited {
-    /// The program's own path.
-    Path,
-    /// An option.
-    Option,
-    /// The form.
-    Format,
-    /// The name of an actor.
-    Actor,
-    /// The kind of entries.
-    Only,
-    /// How many entries.
-    Limit,
-    /// Nothing: the command is known.
-    Help,
-    /// The same.
-    Version,
+/// The command line of the program.
+fn command<'a>(alloc: Global) -> Result<clap::Command<'a>, AllocError> {
+    clap::Command::new(alloc, "mailtrace")
+        .version("0.4.0")
+        .about("Runs a scenario, and shows what came to each actor and what became of it")
+        .arg(Arg::new(alloc, "FILE").help("The scenario; the standard input, if no file is named"))?
+        .arg(format_argument(alloc)?)?
+        .arg(actor_argument(alloc))?
+        .arg(only_argument(alloc)?)?
+        .arg(limit_argument(alloc)?)
 }
 
-/// Reads the words, of which the first is the program's own path.
-pub(crate) fn command_of(alloc: Global, words: Args<Global>) -> Result<Command, Failure> {
-    let mut options = Options {
-        format: Format::Text,
-        actors: Vec::new(alloc),
-        only: EntryKinds::All,
-        limit: u64::MAX,
+fn format_argument<'a>(alloc: Global) -> Result<Arg<'a>, AllocError> {
+    Arg::new(alloc, "format")
+        .long("format")
+        .value_name("FORMAT")
+        .help(
+            "The form: lines of text, a line of JSON for each entry, a sequence diagram, or a page",
+        )
+        .value_parser(FORMATS.as_slice())
+        .default_value("text")
+        .overrides_with("format")
+}
+
+fn actor_argument<'a>(alloc: Global) -> Arg<'a> {
+    Arg::new(alloc, "actor")
+        .long("actor")
+        .value_name("NAME")
+        .help("Only the entries of this actor; may be given more than once")
+        .action(ArgAction::Append)
+}
+
+fn only_argument<'a>(alloc: Global) -> Result<Arg<'a>, AllocError> {
+    Arg::new(alloc, "only")
+        .long("only")
+        .value_name("KIND")
+        .help("Only entries of envelopes, of system messages, or of failures")
+        .value_parser(KINDS.as_slice())
+        .overrides_with("only")
+}
+
+fn limit_argument<'a>(alloc: Global) -> Result<Arg<'a>, AllocError> {
+    Arg::new(alloc, "limit")
+        .long("limit")
+        .value_name("N")
+        .help("At most so many entries")
+        .value_parser(clap::value_parser!(u64))
+        .overrides_with("limit")
+}
+
+/// What these matches say.
+fn options_in(alloc: Global, matches: &ArgMatches<'_>) -> Result<Options, AllocError> {
+    let file = match matches.get_str("FILE") {
+        Some(path) => Some(String::from_str(alloc, path)?),
+        None => None,
     };
-    let mut awaited = Awaited::Path;
-    for word in words {
-        awaited = take(&mut options, awaited, word)?;
+    let mut actors = Vec::new(alloc);
+    for name in matches.get_strs("actor").unwrap_or(&[]) {
+        actors.push(String::from_str(alloc, name)?)?;
     }
-    Ok(command_at_end(options, awaited)?)
+    Ok(Options {
+        file,
+        format: format_of(matches.get_str("format")),
+        actors,
+        only: only_of(matches.get_str("only")),
+        limit: matches.get_one::<u64>("limit").unwrap_or(u64::MAX),
+    })
 }
 
-/// The command, once no word is left and this is awaited.
-fn command_at_end(options: Options, awaited: Awaited) -> Result<Command, ArgumentError> {
-    match awaited {
-        Awaited::Path | Awaited::Option => Ok(Command::Show(options)),
-        Awaited::Help => Ok(Command::Help),
-        Awaited::Version => Ok(Command::Version),
-        Awaited::Format => Err(ArgumentError::NoWordAfter("--format")),
-        Awaited::Actor => Err(ArgumentError::NoWordAfter("--actor")),
-        Awaited::Only => Err(ArgumentError::NoWordAfter("--only")),
-        Awaited::Limit => Err(ArgumentError::NoWordAfter("--limit")),
-    }
-}
-
-/// Takes a word, and answers what the next one is.
-fn take(options: &mut Options, awaited: Awaited, word: String) -> Result<Awaited, Failure> {
-    match awaited {
-        Awaited::Path => {}
-        Awaited::Option => return Ok(option_of(word)?),
-        Awaited::Format => options.format = format_of(word)?,
-        Awaited::Actor => options.actors.push(word)?,
-        Awaited::Only => options.only = only_of(word)?,
-        Awaited::Limit => options.limit = limit_of(word)?,
-        Awaited::Help | Awaited::Version => {
-            return Err(Failure::Arguments(ArgumentError::UnknownOption(word)));
-        }
-    }
-    Ok(Awaited::Option)
-}
-
-fn option_of(word: String) -> Result<Awaited, ArgumentError> {
-    match word.as_str() {
-        "--format" => Ok(Awaited::Format),
-        "--actor" => Ok(Awaited::Actor),
-        "--only" => Ok(Awaited::Only),
-        "--limit" => Ok(Awaited::Limit),
-        "--help" => Ok(Awaited::Help),
-        "--version" => Ok(Awaited::Version),
-        _ => Err(ArgumentError::UnknownOption(word)),
+fn format_of(word: Option<&str>) -> TraceFormat {
+    match word {
+        Some("json") => TraceFormat::Json,
+        Some("svg") => TraceFormat::Svg,
+        Some("html") => TraceFormat::Html,
+        _ => TraceFormat::Text,
     }
 }
 
-fn format_of(word: String) -> Result<Format, ArgumentError> {
-    match word.as_str() {
-        "text" => Ok(Format::Text),
-        "json" => Ok(Format::Json),
-        "svg" => Ok(Format::Svg),
-        "html" => Ok(Format::Html),
-        _ => Err(ArgumentError::UnknownFormat(word)),
-    }
-}
-
-fn only_of(word: String) -> Result<EntryKinds, ArgumentError> {
-    match word.as_str() {
-        "user" => Ok(EntryKinds::User),
-        "system" => Ok(EntryKinds::System),
-        "failures" => Ok(EntryKinds::Failures),
-        _ => Err(ArgumentError::UnknownKind(word)),
-    }
-}
-
-fn limit_of(word: String) -> Result<u64, ArgumentError> {
-    match word.as_str().parse::<u64>() {
-        Ok(limit) => Ok(limit),
-        Err(_) => Err(ArgumentError::BadLimit(word)),
+fn only_of(word: Option<&str>) -> EntryKinds {
+    match word {
+        Some("user") => EntryKinds::User,
+        Some("system") => EntryKinds::System,
+        Some("failures") => EntryKinds::Failures,
+        _ => EntryKinds::All,
     }
 }

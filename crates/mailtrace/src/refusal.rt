@@ -1,9 +1,11 @@
 //! Printing why there is no trace, in the lines of `mailrun` under this program's name.
 use crate::argument_error::ArgumentError;
+use clap::error::ErrorKind;
 use mb_program::RunFault;
 use mb_scenario::ReadError;
 use mb_streams::ProgramError;
 use std::alloc::{AllocError, AllocFailed, Global};
+use std::io;
 use std::io::Write;
 
 /// Why the program ends without a trace.
@@ -11,8 +13,20 @@ use std::io::Write;
 pub(crate) enum Failure {
     /// There is no report either, for this reason.
     Program(ProgramError),
+    /// The same, with more to say of the scenario: lines, each with its end.
+    Scenario {
+        error: ProgramError,
+        details: String,
+    },
     /// The arguments are none that the program takes.
     Arguments(ArgumentError),
+    /// The words have no form that the program takes, or ask for its help or its version.
+    Words(clap::Error),
+    /// The file that has the scenario cannot be opened.
+    File {
+        path: String,
+        error: io::Error,
+    },
 }
 
 impl From<ProgramError> for Failure {
@@ -30,6 +44,12 @@ impl From<ReadError> for Failure {
 impl From<ArgumentError> for Failure {
     fn from(error: ArgumentError) -> Failure {
         Failure::Arguments(error)
+    }
+}
+
+impl From<clap::Error> for Failure {
+    fn from(error: clap::Error) -> Failure {
+        Failure::Words(error)
     }
 }
 
@@ -55,19 +75,47 @@ pub(crate) fn not_written() -> Failure {
     Failure::Program(ProgramError::Os)
 }
 
-/// Prints the line of a failure, as far as it can be written, and answers the exit status: 2 where what the program was given is wrong,
-/// else 1.
+/// Prints what a failure is, as far as it can be written, and answers the exit status: 2 where what the program was given is wrong, else 1.
 pub(crate) fn print_failure<E: Write>(alloc: Global, errors: &mut E, failure: &Failure) -> u8 {
     match failure {
         Failure::Program(error) => {
             print_line(alloc, errors, error);
             error.status()
         }
+        Failure::Scenario { error, details } => {
+            print_line(alloc, errors, error);
+            print(errors, details.as_str());
+            error.status()
+        }
         Failure::Arguments(error) => {
             print_made(errors, argument_line(alloc, error));
             2
         }
+        Failure::Words(error) => {
+            print_made(errors, words_text(alloc, error));
+            if error.kind() == ErrorKind::OutOfMemory {
+                1
+            } else {
+                2
+            }
+        }
+        Failure::File { path, error } => {
+            print_made(errors, file_line(alloc, path.as_str(), error));
+            1
+        }
     }
+}
+
+/// What clap says.
+fn words_text(alloc: Global, error: &clap::Error) -> Result<String, AllocError> {
+    if error.kind() == ErrorKind::OutOfMemory {
+        return Err(AllocError);
+    }
+    error.to_string(alloc)
+}
+
+fn file_line(alloc: Global, path: &str, error: &io::Error) -> Result<String, AllocError> {
+    format!(in alloc; "mailtrace: 2 Os {path:?}: {error}\n")
 }
 
 fn argument_line(alloc: Global, error: &ArgumentError) -> Result<String, AllocError> {

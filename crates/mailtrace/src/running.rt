@@ -3,38 +3,23 @@ ghost use Rattle.std.specs.Prelude.{◌≡◌, ◌≤◌, false};
 
 use crate::answer::show;
 use crate::argument_error::ArgumentError;
-use crate::options::{Command, command_of};
+use crate::options::{Options, options_of};
 use crate::refusal::{Failure, no_memory, not_written, print_failure};
 use mb_program::TrackedStream;
-use std::alloc::Global;
-use std::env;
+use std::alloc::{AllocError, Global};
 use std::env::Env;
 use std::io::{ErrorKind, Read, Write};
+use std::rt::Files;
 use std::sync::Wait;
 use std::thread::Threads;
-
-/// How the program is called.
-const HELP: &str =
-    "mailtrace [--format text|json|svg|html] [--actor NAME].. [--only user|system|failures] [--limit N] < SCENARIO
-
-Runs the scenario and shows what came to each actor and what became of it.
-
-  --format FORMAT  text (the default), json (a line for each entry), svg (a sequence diagram) or html (a page)
-  --actor NAME     only the entries of this actor; may be given more than once
-  --only KIND      only entries of envelopes (user), of system messages (system), or of failures (failures)
-  --limit N        at most so many entries
-  --help           this text
-  --version        the version
-";
-
-const VERSION: &str = "mailtrace 0.4.0\n";
+use std::{env, fs};
 
 /// The whole program: reads a scenario, runs it, and writes what came to each actor and what became of it. The answer is the exit
 /// status: 0 with the trace written, or where whoever reads it has closed it; 2 where the arguments are none that the program takes, or
 /// the input is no scenario; and 1 where the run failed, memory was refused, reading failed, or writing did. On a failure `errors` gets
 /// one line that says which, if it can be written.
 pub(crate) fn trace_program<
-    T: Threads + Wait + Sync + Env + AllocGlobal,
+    T: Threads + Wait + Sync + Env + Files + AllocGlobal,
     R: Read,
     W: Write + Drop,
     E: Write,
@@ -48,7 +33,7 @@ pub(crate) fn trace_program<
 }
 
 /// Does what the arguments say.
-fn answer<T: Threads + Wait + Sync + Env + AllocGlobal, R: Read, W: Write + Drop>(
+fn answer<T: Threads + Wait + Sync + Env + Files + AllocGlobal, R: Read, W: Write + Drop>(
     rt: &T,
     alloc: Global,
     reader: &mut TrackedStream<R>,
@@ -56,21 +41,67 @@ fn answer<T: Threads + Wait + Sync + Env + AllocGlobal, R: Read, W: Write + Drop
 ) -> Result<(), Failure>
     requires working { reader.old.failed ≡ false }
 {
-    match command(rt, alloc)? {
-        Command::Help => print(writer, HELP),
-        Command::Version => print(writer, VERSION),
-        Command::Show(options) => show(rt, alloc, reader, &options, writer),
+    let options = match options(rt, alloc) {
+        Ok(options) => options,
+        Err(failure) => return print_text(alloc, writer, failure),
+    };
+    show_scenario(rt, alloc, reader, &options, writer)
+}
+
+/// Prints the help or the version, if the words ask for it. Else the failure stays.
+fn print_text<W: Write + Drop>(alloc: Global, writer: W, failure: Failure) -> Result<(), Failure> {
+    match asked_text(alloc, &failure)? {
+        Some(text) => print(writer, text.as_str()),
+        None => Err(failure),
+    }
+}
+
+/// The help or the version, if the words ask for it.
+fn asked_text(alloc: Global, failure: &Failure) -> Result<Option<String>, AllocError> {
+    match failure {
+        Failure::Words(error) => {
+            if error.use_stderr() {
+                return Ok(None);
+            }
+            Ok(Some(error.to_string(alloc)?))
+        }
+        _ => Ok(None),
     }
 }
 
 /// What the arguments say. One that is not UTF-8 is none that the program takes.
-fn command<T: Env + AllocGlobal>(rt: &T, alloc: Global) -> Result<Command, Failure> {
+fn options<T: Env + AllocGlobal>(rt: &T, alloc: Global) -> Result<Options, Failure> {
     match env::args(rt) {
-        Ok(words) => command_of(alloc, words),
+        Ok(words) => {
+            let words: Vec<String> = words.collect(alloc)?;
+            options_of(alloc, &words)
+        }
         Err(error) => match error.kind() {
             ErrorKind::OutOfMemory => Err(no_memory()),
             _ => Err(Failure::Arguments(ArgumentError::NotUtf8)),
         },
+    }
+}
+
+/// Shows the run of the scenario that the file has which the options name, else of the one that the reader gives.
+fn show_scenario<T: Threads + Wait + Sync + Files, R: Read, W: Write + Drop>(
+    rt: &T,
+    alloc: Global,
+    reader: &mut TrackedStream<R>,
+    options: &Options,
+    writer: W,
+) -> Result<(), Failure>
+    requires working { reader.old.failed ≡ false }
+{
+    let Some(path) = &options.file else {
+        return show(rt, alloc, reader, options, writer);
+    };
+    match fs::open(rt, path.as_str()) {
+        Ok(file) => show(rt, alloc, &mut TrackedStream::new(file), options, writer),
+        Err(error) => Err(Failure::File {
+            path: path.clone()?,
+            error,
+        }),
     }
 }
 
