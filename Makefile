@@ -49,8 +49,9 @@ examples: proved
 # The gate: what the documents name, the pictures, the list of the wrong bodies, the API reference, the schema, the scenarios as they stand, every proof from
 # nothing, the must-fail edits, the tests, the program by two compilers, the program on all scenarios, whose outcomes were worked out by
 # hand, as a user runs it, and on worker threads, the commands of the documents, traces in each form, pages in a browser, where one is
-# there, what becomes of refused allocations, where a C compiler is there, random scenarios beside a second reader, also with kept journals, the journals of one worker
-# beside those of the quiet run, the system messages of random systems on threads, counted, and the library in a repository of its own.
+# there, what becomes of refused allocations, where a C compiler is there, random scenarios beside a second reader, also with kept journals, the
+# journals of one worker beside those of the quiet run, the system messages of random systems on threads, counted, and the library in a
+# repository of its own.
 test:
 	tools/documents --check
 	tools/draw_layers --check

@@ -10,7 +10,7 @@ use Rattle.mb_core.specs.declared.event.Step.TheVariants.{Read, Schedule, Idle, 
 use Rattle.mb_core.specs.declared.event.Step.TheVariants.{Taken, Count, Push, Take, SysAdd, SysRead, SysDrain, SysEnd}
 use Rattle.mb_core.specs.Actor.{MachineActor, nothing, debt_of, owing, has_work, at_start}
 
--- What a party still owes once it has read this status: nothing where a worker holds the actor or it is closed; no wake-up
+-- What a party still owes once it has read this status: nothing where the actor is scheduled or closed; no wake-up
 -- for envelopes where it is suspended; else what it owed as `sending` it owes as `message` (this project's own profile).
 abbrev pub after_reading : Mailbox → WakeObligation → WakeObligation
 after_reading m debt =

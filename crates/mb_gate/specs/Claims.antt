@@ -30,7 +30,7 @@ held_in v = held_or v.claim
 abbrev pub ClaimGoesOn : ℕ → View → Type 0
 ClaimGoesOn actor v = Each (GoesOn actor (held_in v).journal) v.log
 
--- The status word says that a worker holds the actor, or that its mailbox is closed.
+-- The status word says that there is a claim of the actor, or that its mailbox is closed.
 abbrev pub is_busy : ℕ → Bool
 is_busy word = word % 4 == 2 || word == 1
 

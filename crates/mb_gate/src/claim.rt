@@ -12,7 +12,7 @@ use atomic_table::Seat;
 use mb_msg::ActorId;
 use mb_status::Status;
 
-/// The one claim of an actor that a worker holds: its cell, and what is kept beside it. It has to be given back
+/// The one claim of an actor that is scheduled: its cell, and what is kept beside it. It has to be given back
 /// (`Gates::release`): nobody can drop it. One that is as it was taken may go into a run queue (`PooledClaim`).
 /// (This project's own profile: `akka.dispatch.Dispatcher.registerForExecution` hands the mailbox itself to an executor.)
 pub struct Claim<H> {

@@ -32,7 +32,7 @@ use std::snapshot::Snapshot;
 pub enum Tried<H> {
     /// The claim is the caller's.
     Got(Claim<H>),
-    /// A worker holds the actor already.
+    /// There is a claim of the actor already.
     Already,
     /// The actor's mailbox is closed.
     Closed,

@@ -60,7 +60,7 @@ fn has_messages<H: MailboxState>(
     waiting != 0
 }
 
-/// Whether the actor has to be given to a worker (`Mailbox.canBeScheduledForExecution`): no worker holds it, and it has system
+/// Whether the actor has to be given to a worker (`Mailbox.canBeScheduledForExecution`): there is no claim of it, and it has system
 /// work, or envelopes that it may handle. A hint says that it has, and saves reading that. If the answer is no, the pass owes
 /// the actor nothing. If it is yes, the pass read a status with which, together with the hint or what it read, the actor is
 /// due.

@@ -2,7 +2,7 @@
 use Rattle.std.specs.Prelude.{ℕ, ◌+◌, ◌-◌, ◌*◌, ◌/◌, ◌%◌, ◌==◌, nat_le, nat_lt, Bool, true, false, not, ◌&&◌, ◌||◌, if◌then◌else◌, Option}
 use Rattle.std.specs.Prelude.{Some, None}
 
--- A mailbox may be closed, which is for good, or scheduled, which says that a worker holds its actor;
+-- A mailbox may be closed, which is for good, or scheduled, which says that there is a claim of its actor;
 -- and it counts the suspensions that are not undone. A closed mailbox has neither of the other two.
 pub record Mailbox : Type 0 where
   pub closed : Bool

@@ -7,7 +7,7 @@ use std::marker::Model;
 /// Set for good when the mailbox is closed.
 const CLOSED: u64 = 1;
 
-/// Set while a worker holds the actor.
+/// Set while there is a claim of the actor.
 const SCHEDULED: u64 = 2;
 
 /// One suspension: the count is above the two bits.
@@ -94,7 +94,7 @@ impl Status {
         self.word == CLOSED
     }
 
-    /// Whether a worker holds the actor (`isScheduled`).
+    /// Whether there is a claim of the actor (`isScheduled`): with whoever scheduled it, in the pool, or with a worker.
     #[tactic(auto, using(crate::proofs::ScheduledBit::bit_rules))]
     pub fn scheduled(self) -> bool
         ensures { result ≡ self.scheduled }
