@@ -3,7 +3,7 @@ use mb_actor::{Answer, Effect};
 use mb_msg::{Envelope, SysMsg};
 
 /// What came to an actor and what became of it, without the effects. With the fields in this order it takes 56 bytes.
-#[derive(Clone, Copy, PartialEq, Eq)]
+#[derive(Clone, Copy, Debug, PartialEq, Eq)]
 pub enum Received {
     /// An envelope that was handled: what the actor answered, if it was called, and the status word that was read
     /// before.
