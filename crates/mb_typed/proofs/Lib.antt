@@ -1,0 +1,2 @@
+mod Decoding
+pub mod JoinedHalves

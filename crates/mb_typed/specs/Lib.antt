@@ -1,0 +1,4 @@
+pub mod Decoding
+pub mod Halves
+pub mod Sending
+pub mod TypedBehaviour
