@@ -70,12 +70,12 @@ none-counted : (limit : ℤ) (y : ActorId) → counts_of limit [] y ≡ 0
 none-counted (negsuc n) y = refl
 none-counted (pos n) y = if_same (nat_lt 0 n) 0
 
-pub agrees-new : (place : ActorIdentity) (log : JournalView) (limit : ℕ) (is_kept : Bool) (gives : Moment → Reply → Type 0) (cell_state : CellState) (tray : OutboxView) →
-    log ≡ record { entries = []; limit = limit; is_ready = false; is_kept = is_kept } → cell_state ≡ first_cell_state cell_state.fanout →
+pub agrees-new : (place : ActorIdentity) (log : JournalView) (limit : ℕ) (is_kept : Bool) (last : ℕ) (gives : Moment → Reply → Type 0) (cell_state : CellState) (tray : OutboxView) →
+    log ≡ record { entries = []; limit = limit; is_ready = false; is_kept = is_kept; last = last } → cell_state ≡ first_cell_state cell_state.fanout →
     cell_state.fanout ≡ length place.prepared.items →
     tray ≡ record { effects = []; actors = place.actors; unspawned = place.prepared.items } → limit ≤ most_entries →
     length place.prepared.items ≤ 64 → Agrees (identity_of place log.limit log.is_kept) log.entries gives cell_state tray
-agrees-new place log limit is_kept gives cell_state tray log_is is fanout_is tray_is small few =
+agrees-new place log limit is_kept last gives cell_state tray log_is is fanout_is tray_is small few =
     subst (λ (l : JournalView). Agrees (identity_of place l.limit l.is_kept) l.entries gives cell_state tray) (sym log_is) (record {
       lawful = lawful-none (identity_of place limit is_kept) gives;
       booked =
@@ -101,12 +101,12 @@ agrees-new place log limit is_kept gives cell_state tray log_is is fanout_is tra
           ∙ ap (λ l. counts_of (identity_of place limit is_kept).retries l y) (sym (requests-none (identity_of place limit is_kept))));
     })
 
-pub plays-new : (place : ActorIdentity) (log : JournalView) (limit : ℕ) (is_kept : Bool) (after : List Message → ℤ) (gives : Moment → Reply → Type 0) (own_after : List Message → ℤ)
+pub plays-new : (place : ActorIdentity) (log : JournalView) (limit : ℕ) (is_kept : Bool) (last : ℕ) (after : List Message → ℤ) (gives : Moment → Reply → Type 0) (own_after : List Message → ℤ)
     (own_gives : Moment → Reply → Type 0) (content : ℤ) (made : List Call) →
-    log ≡ record { entries = []; limit = limit; is_ready = false; is_kept = is_kept } → is_guardian (identity_of place limit is_kept) ≡ false → own_after ≡ after →
+    log ≡ record { entries = []; limit = limit; is_ready = false; is_kept = is_kept; last = last } → is_guardian (identity_of place limit is_kept) ≡ false → own_after ≡ after →
     AllowsSame own_gives gives → content ≡ own_after [] → made ≡ [] →
     FollowsBehaviour (identity_of place log.limit log.is_kept) log.entries after gives own_after own_gives content made
-plays-new place log limit is_kept after gives own_after own_gives content made log_is an_actor same_after same_gives content_is made_is =
+plays-new place log limit is_kept last after gives own_after own_gives content made log_is an_actor same_after same_gives content_is made_is =
     subst (λ (l : JournalView). FollowsBehaviour (identity_of place l.limit l.is_kept) l.entries after gives own_after own_gives content made) (sym log_is) (record {
       no_guardian = an_actor;
       same_after = same_after;

@@ -106,8 +106,8 @@ impl<A: Actor, K: Behaviours> Cell<A, K> {
     /// `actors` is how many actors there are, `prepared` are the children that it may start, in order, and its journal
     /// may have `journal_limit` entries.
     ///
-    /// With a journal that keeps its entries this takes no memory. One that counts them takes all its memory here. The only error:
-    /// memory was refused. What was handed in is dropped then.
+    /// With a journal that keeps all its entries this takes no memory. One that counts them, or keeps the newest, takes all its memory here.
+    /// The only error: memory was refused. What was handed in is dropped then.
     pub fn new(
         alloc: Global,
         this: ActorId,
@@ -258,6 +258,7 @@ impl<A: Actor, K: Behaviours> Cell<A, K> {
           limit = self.now.who.limit;
           is_ready = self.now.is_ready;
           is_kept = self.now.who.is_kept;
+          last = result.now.last;
         } }
         ensures lawful { IsLawful self.now.who (K.gives self.now.who.this.0) self.now.journal }
     {

@@ -18,7 +18,7 @@ pub(crate) enum Given {
 /// only seen whether it is full.
 pub(crate) fn is_entry(journal: &Journal, given: Given, text: &str) -> bool {
     let (outcome, effects) = text.split_once(": ").unwrap_or((text, ""));
-    if !journal.is_kept() {
+    if !journal.is_kept() && journal.last() == 0 {
         return matches!(given, Given::Refused) == (text == "journal full");
     }
     let newest = journal.entry(journal.len().wrapping_sub(1));

@@ -22,7 +22,7 @@ pub(crate) struct Played {
 
 /// Checks each case of each table, and that there are `count` cases. Tables are separated by empty lines. A case is a
 /// line with bars, a head is a line that begins with `actor` or `guardian`, and all other lines are comments. Each table is played with a
-/// journal that keeps its entries and with one that counts them, which has to count the same.
+/// journal that keeps its entries, and with one that counts them and one that keeps the newest, which have to count the same.
 pub(crate) fn each_case<R: Abort>(
     rt: &R,
     alloc: Global,
@@ -34,6 +34,8 @@ pub(crate) fn each_case<R: Abort>(
         let kept = play(rt, alloc, story, JournalMode::Kept)?;
         let counted = play(rt, alloc, story, JournalMode::Counted)?;
         assert!(rt; counted == kept);
+        let newest = play(rt, alloc, story, JournalMode::Last(2))?;
+        assert!(rt; newest == kept);
         found = found.wrapping_add(kept.cases);
     }
     assert!(rt; found == count);

@@ -66,6 +66,32 @@ fn is_same_journal(one: &Journal, other: &Journal) -> bool {
     true
 }
 
+/// Whether the journals of the first report have the newest entries of those of the second, which keep all: at least the last so many, and at
+/// most twice as many.
+pub fn has_newest(report: &Report, kept: &Report, last: usize) -> bool {
+    report.actors.len() == kept.actors.len()
+        && report.actors.iter().zip(&kept.actors).all(|(newest, all)| is_newest_of(
+            &newest.journal,
+            &all.journal,
+            last,
+        ))
+}
+
+fn is_newest_of(newest: &Journal, all: &Journal, last: usize) -> bool {
+    let first = newest.first_kept();
+    let count = newest.len().saturating_sub(first);
+    if newest.len() != all.len() || count < last.min(all.len()) || count > last.saturating_mul(2) {
+        return false;
+    }
+    for place in first..all.len() {
+        match (newest.entry(place), all.entry(place)) {
+            (Some(left), Some(right)) if is_same_entry(&left, &right) => {}
+            _ => return false,
+        }
+    }
+    true
+}
+
 fn is_same_entry(one: &EntryRef<'_>, other: &EntryRef<'_>) -> bool {
     one.arrival == other.arrival && one.effects == other.effects
 }

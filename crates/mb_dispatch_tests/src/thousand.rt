@@ -1,6 +1,6 @@
 //! A thousand random plans, half of them with each pool, each run on this thread and on threads: what must be true of a run is
-//! true of each report. A hundred more runs with counted journals end in the reports of kept ones.
-use crate::reading::is_read_right;
+//! true of each report. A hundred more runs with journals that do not keep all their entries end in the reports of kept ones.
+use crate::reading::{has_newest, is_read_right};
 use crate::whole_run::{RunMode, run_whole};
 use heddleorange::Error;
 use mb_msg::{JournalMode, Order, PoolKind};
@@ -73,43 +73,51 @@ fn try_all<R: Abort + Threads + Wait + Sync>(rt: &R, alloc: Global, mode: RunMod
     }
 }
 
-/// Whether the plan of this seed has the same report with journals that count their entries as with such that keep them. On this thread
-/// nothing else could make a difference.
-fn is_same_if_counted<R: Threads + Wait + Sync>(
+/// The report of the plan of this seed, run on this thread, with journals of this mode.
+fn report_here<R: Threads + Wait + Sync>(
     rt: &R,
     alloc: Global,
+    journal: JournalMode,
     seed: u64,
-) -> Result<bool, Error> {
+) -> Result<Report, Error> {
     let pool = PoolKind::Shared;
     let senders = plan_by_chance(alloc, seed, pool)?.senders;
     let sends = sends_by_chance(alloc, seed, senders, actors_by_chance(seed))?;
-    let kept = report_of(
-        rt,
-        alloc,
-        RunMode::Here,
-        JournalMode::Kept,
-        seed,
-        pool,
-        &sends,
-    )?;
-    let counted = report_of(
-        rt,
-        alloc,
-        RunMode::Here,
-        JournalMode::Counted,
-        seed,
-        pool,
-        &sends,
-    )?;
-    let count = counted.actors.len().saturating_sub(1);
+    report_of(rt, alloc, RunMode::Here, journal, seed, pool, &sends)
+}
+
+/// Whether the plan of this seed has the same report with journals of this mode as with such that keep all their entries, and at least
+/// `last` of the newest entries of each actor. On this thread nothing else could make a difference.
+fn is_same_with<R: Threads + Wait + Sync>(
+    rt: &R,
+    alloc: Global,
+    mode: JournalMode,
+    last: usize,
+    seed: u64,
+) -> Result<bool, Error> {
+    let kept = report_here(rt, alloc, JournalMode::Kept, seed)?;
+    let other = report_here(rt, alloc, mode, seed)?;
+    let count = other.actors.len().saturating_sub(1);
     let wanted = text_of(alloc, &kept, count);
-    Ok(wanted.is_some() && text_of(alloc, &counted, count) == wanted)
+    Ok(
+        wanted.is_some()
+            && text_of(alloc, &other, count) == wanted
+            && has_newest(&other, &kept, last),
+    )
 }
 
 #[test]
 fn a_hundred_plans_have_the_same_report_with_counted_journals(rt: HostRuntime) {
     for seed in 1_000..1_100 {
-        let is_same = is_same_if_counted(&rt, rt.alloc(), seed);
+        let is_same = is_same_with(&rt, rt.alloc(), JournalMode::Counted, 0, seed);
+        assert!(rt; matches!(is_same, Ok(true)), "the plan of seed {seed}");
+    }
+}
+
+#[test]
+fn a_hundred_plans_have_the_same_report_with_the_newest_entries(rt: HostRuntime) {
+    for seed in 1_000..1_100 {
+        let is_same = is_same_with(&rt, rt.alloc(), JournalMode::Last(3), 3, seed);
         assert!(rt; matches!(is_same, Ok(true)), "the plan of seed {seed}");
     }
 }

@@ -25,8 +25,8 @@ pub enum RunMode {
 /// A story, and the text of its report, or why there is no report.
 pub type Run = (TestCase<'static>, &'static str);
 
-/// Plays each of these stories, with journals that keep their entries and with such that count them, and checks that its report has this
-/// text, or that this is why there is no report.
+/// Plays each of these stories, with journals that keep their entries, that count them and that keep the newest, and checks that its report
+/// has this text, or that this is why there is no report.
 pub fn play_whole<R: Abort + Threads + Wait + Sync>(
     rt: &R,
     alloc: Global,
@@ -34,12 +34,14 @@ pub fn play_whole<R: Abort + Threads + Wait + Sync>(
     runs: &[Run],
 ) {
     for (story, report) in runs {
-        see(rt, &story_text(rt, alloc, mode, story), *report);
-        let counted = TestCase {
-            journal: JournalMode::Counted,
-            ..*story
-        };
-        see(rt, &story_text(rt, alloc, mode, &counted), *report);
+        for journal in [
+            JournalMode::Kept,
+            JournalMode::Counted,
+            JournalMode::Last(2),
+        ] {
+            let story = TestCase { journal, ..*story };
+            see(rt, &story_text(rt, alloc, mode, &story), *report);
+        }
     }
 }
 

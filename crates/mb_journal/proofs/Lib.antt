@@ -18,6 +18,7 @@ pub mod FailedSteps
 pub mod Fold
 pub mod FreshSteps
 pub mod Kept
+mod LastLemmas
 pub mod LawfulLemmas
 pub mod MembersLaw
 pub mod Naming

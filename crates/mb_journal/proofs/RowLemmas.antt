@@ -19,10 +19,11 @@ pub length-rows : (wide : List Received) (rows : List Row) (effects : List Effec
 length-rows wide rows effects = length-entries (map (whole wide) rows) effects ∙ length-map rows (whole wide)
 
 -- where there is room for another entry, there is a place for another row
-pub place-left : (wide : List Received) (rows : List Row) (effects : List Effect) (places : ℕ) (now : KeptEntriesView) →
-    (let seen : KeptEntriesView = record { entries = reverse (listed 0 (map (whole wide) rows) effects); places = places } in seen ≡ now) →
+pub place-left : (wide : List Received) (rows : List Row) (effects : List Effect) (places reserved : ℕ) (now : KeptEntriesView) →
+    (let seen : KeptEntriesView = record { entries = reverse (listed 0 (map (whole wide) rows) effects); places = places; reserved = reserved } in
+    seen ≡ now) →
     length now.entries < now.places → length rows < places
-place-left wide rows effects places now view_is room =
+place-left wide rows effects places reserved now view_is room =
     let same = length-rows wide rows effects in
     let entries = ap (λ (k : KeptEntriesView). length k.entries) view_is in
     let all = ap (λ (k : KeptEntriesView). k.places) view_is in

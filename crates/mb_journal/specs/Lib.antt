@@ -11,9 +11,12 @@ pub mod Failure
 pub mod Events
 pub mod Fates
 pub mod Identity
+pub mod GoneEntries
 pub mod Incarnation
 pub mod JournalView
 pub mod KeptEntriesView
+pub mod LastEntries
+pub mod LastEntriesInside
 pub mod Lawful
 pub mod Life
 pub mod Members

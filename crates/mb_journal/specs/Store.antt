@@ -1,26 +1,39 @@
 -- What a journal stores of its entries.
-use Rattle.std.specs.Prelude.{◌≡◌, ℕ, ◌≤◌, ⊤, Bool, true, false, List, length, nat_lt}
+use Rattle.std.specs.Prelude.{◌≡◌, ℕ, ◌≤◌, ⊤, Bool, true, false, if◌then◌else◌, List, length, nat_lt}
 use Rattle.mb_journal.specs.Counts.{AreCountsOf}
 use Rattle.mb_journal.specs.Entry.{Entry}
-use Rattle.mb_journal.specs.JournalView.{JournalView}
+use Rattle.mb_journal.specs.JournalView.{JournalView, first_of_last}
 use Rattle.mb_journal.specs.declared.journal.Journal.TheInside.{Inside}
 use Rattle.mb_journal.specs.declared.store.Store.{Store}
-use Rattle.mb_journal.specs.declared.store.Store.TheVariants.{Kept, Counted}
+use Rattle.mb_journal.specs.declared.store.Store.TheVariants.{Kept, Counted, Last}
 
 -- the entries, the newest first
 abbrev pub stored : Store → List Entry
 stored (Kept kept) = kept.entries
 stored (Counted entries) = entries
+stored (Last newest) = newest.value.entries
 
--- whether they are kept, so that they can be read
+-- whether all of them are kept, so that they can be read
 abbrev pub is_kept : Store → Bool
 is_kept (Kept kept) = true
 is_kept (Counted entries) = false
+is_kept (Last newest) = false
+
+-- how many of the newest are kept at least, if not all are
+abbrev pub last_of : Store → ℕ
+last_of (Kept kept) = 0
+last_of (Counted entries) = 0
+last_of (Last newest) = newest.value.last
+
+-- the index of the first entry that is kept
+abbrev pub first_of : Store → ℕ
+first_of store = if is_kept store then 0 else first_of_last (last_of store) (length (stored store))
 
 -- there is room for entries up to this number, each with all its effects
 abbrev pub HasRoom : ℕ → Store → Type 0
 HasRoom number (Kept kept) = number ≤ kept.places
 HasRoom number (Counted entries) = ⊤
+HasRoom number (Last newest) = ⊤
 
 -- what holds of a journal at rest: its length and counts are those of the entries; there are no more of them than there may be; and up to
 -- the number that is prepared, which is within the limit too, there is room
@@ -33,4 +46,4 @@ pub record AgreesWithStore (j : Inside) : Type 0 where
 
 -- a journal as contracts see it
 abbrev pub view_of : Inside → JournalView
-view_of j = record { entries = stored j.store; limit = j.limit; is_ready = nat_lt j.len j.prepared; is_kept = is_kept j.store }
+view_of j = record { entries = stored j.store; limit = j.limit; is_ready = nat_lt j.len j.prepared; is_kept = is_kept j.store; last = last_of j.store }

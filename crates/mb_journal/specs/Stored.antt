@@ -28,10 +28,14 @@ abbrev pub rows_of : Inside → List WholeRow
 rows_of j = map (whole j.wide.items) j.rows.items
 
 -- what holds of the rows and effects of kept entries at rest: the effects of the rows are those of the list, and what they say is there; and up to
--- the number of places there is room for a row, wide or not, and all the effects of a call
+-- the number of places there is room for a row, wide or not, and all the effects of a call; and so there is up to the number that is reserved,
+-- once the lists are empty
 pub record IsStored (j : Inside) : Type 0 where
   pub in_order : StandInOrder 0 (rows_of j) (length j.effects.items)
   pub there : All (λ row. needs row ≤ length j.wide.items) j.rows.items
   pub row_room : j.places ≤ vec_capacity j.rows
   pub wide_room : vec_len j.wide + (j.places - vec_len j.rows) ≤ vec_capacity j.wide
   pub effect_room : vec_len j.effects + most_effects * (j.places - vec_len j.rows) ≤ vec_capacity j.effects
+  pub reserved_rows : j.reserved ≤ vec_capacity j.rows
+  pub reserved_wide : j.reserved ≤ vec_capacity j.wide
+  pub reserved_effects : most_effects * j.reserved ≤ vec_capacity j.effects

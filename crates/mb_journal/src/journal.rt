@@ -1,13 +1,13 @@
 //! The journal and its operations.
-ghost use Rattle.std.specs.Prelude.{◌≡◌, ◌↔◌, ◌⊎◌, ◌-◌, ◌<◌, ◌≤◌, [], ◌∷◌, false, true};
+ghost use Rattle.std.specs.Prelude.{◌≡◌, ◌↔◌, ◌⊎◌, ◌+◌, ◌-◌, ◌*◌, ◌<◌, ◌≤◌, [], ◌∷◌, false, true};
 ghost use Rattle.std.specs.Prelude.{length, count_by, reverse, slice_get, Some, IsTrue, IfOk, IfErr, IfNone, IfSome, IsErrOf, IsOk, OnOk, OnErr};
-ghost use Rattle.mb_msg.specs.JournalMode.{keeps_all};
+ghost use Rattle.mb_msg.specs.JournalMode.{keeps_all, keeps_last};
 ghost use Rattle.mb_msg.specs.Limits.{most_effects};
 ghost use Rattle.mb_journal.specs.Counts.{tells_of_envelope, tells_of_restart};
 ghost use Rattle.mb_journal.specs.Entry.{newest_effects};
 ghost use Rattle.mb_journal.specs.Entry.Entry.{Handled, System, Dropped};
 ghost use Rattle.mb_journal.specs.Entry.Outcome.{Applied, SetAside};
-ghost use Rattle.mb_journal.specs.JournalView.{entry_of, entry_with};
+ghost use Rattle.mb_journal.specs.JournalView.{entry_of, entry_with, first_kept};
 
 use crate::counts::Counts;
 use crate::entry::{EntryRef, Received};
@@ -20,7 +20,8 @@ use std::marker::Model;
 
 /// What came to an actor and what became of that (this project's own profile: Akka keeps no journal).
 ///
-/// Its entries are kept, or they are counted and stand in proofs alone. What is said of an actor is said of its entries in either mode.
+/// Its entries are kept, or they are counted and stand in proofs alone, or the newest are kept. What is said of an actor is said of all its
+/// entries in each mode.
 ///
 /// `ready` makes room for an entry beforehand, so that adding one takes no memory. After an envelope that was handled, room for the next
 /// entry may be left. After any other entry none is counted on, since its actor's cell has to make room of its own then, too.
@@ -62,10 +63,16 @@ impl Model for Journal {
 impl Journal {
     /// An empty journal of this mode that may have `limit` entries.
     ///
-    /// A journal that keeps its entries takes no memory yet. One that counts them takes all its memory here. The only error: memory was
-    /// refused.
+    /// A journal that keeps all its entries takes no memory yet. One that counts them, or keeps the newest, takes all its memory here. The
+    /// only error: memory was refused.
     pub fn new(alloc: Global, mode: JournalMode, limit: u64) -> Result<Self, AllocError>
-        ensures made { IfOk result (λ journal. journal ≡ record { entries = []; limit = limit; is_ready = false; is_kept = keeps_all mode }) }
+        ensures made { IfOk result (λ journal. journal ≡ record {
+          entries = [];
+          limit = limit;
+          is_ready = false;
+          is_kept = keeps_all mode;
+          last = keeps_last mode;
+        }) }
         ensures never_short { keeps_all mode ≡ true → IsOk result }
     {
         Ok(Journal {
@@ -106,11 +113,28 @@ impl Journal {
         self.len == 0
     }
 
-    /// Whether its entries are kept, so that `get` can read them.
+    /// Whether all its entries are kept, so that `get` can read them.
     pub fn is_kept(&self) -> bool
         ensures { result ≡ self.now.is_kept }
     {
         self.store.is_kept()
+    }
+
+    /// How many of the newest entries it keeps at least, if it does not keep all.
+    pub fn last(&self) -> usize
+        ensures { result ≡ self.now.last }
+    {
+        self.store.last()
+    }
+
+    /// The index, from 0, of the first entry that is kept: from there on `entry` reads each, and those before are gone. It is 0 where all are
+    /// kept, and the journal's length where none is.
+    pub fn first_kept(&self) -> usize
+        ensures value { result ≡ first_kept self.now }
+        ensures last { result ≤ length self.now.entries - self.now.last }
+        ensures most { self.now.is_kept ≡ false → length self.now.entries ≤ result + 2 * self.now.last }
+    {
+        self.store.first_kept(self.len)
     }
 
     /// Whether it has as many entries as it may have.
@@ -133,7 +157,7 @@ impl Journal {
     /// Makes room for another entry and its effects, unless there is room already.
     ///
     /// It answers `JournalFull` if the journal has as many entries as it may have, and else `NoMemory` if the memory for
-    /// the room was refused. Nothing has changed then. A journal that counts its entries asks for no memory.
+    /// the room was refused. Nothing has changed then. A journal that does not keep all its entries asks for no memory.
     pub fn ready(&mut self) -> Result<(), ReadyError>
         ensures full { IsErrOf result ReadyError.JournalFull ↔ (self.old.limit ≤ length self.old.entries) }
         ensures ok { OnOk result (self.new ≡ record self.old { is_ready = true }) }
@@ -275,24 +299,25 @@ impl Journal {
         self.store.newest_effect(place)
     }
 
-    /// The entry at this index, from 0, of a journal that keeps its entries.
+    /// The entry at this index, from 0, of a journal that keeps all its entries.
     pub fn get(&self, index: usize) -> EntryRef<'_>
         requires kept { IsTrue self.now.is_kept }
         requires within { index < length self.now.entries }
         ensures { slice_get (reverse self.now.entries) index ≡ Some (entry_of result) }
     {
-        self.store.get(index)
+        self.store.get(index, self.len)
     }
 
-    /// The entry at this index, from 0; `None` at the journal's end, and where the journal keeps no entries.
+    /// The entry at this index, from 0; `None` at the journal's end, and where the entry is not kept.
     pub fn entry(&self, index: usize) -> Option<EntryRef<'_>>
         ensures within { IfSome result (λ _. index < length self.now.entries) }
         ensures read { IfSome result (λ entry. slice_get (reverse self.now.entries) index ≡ Some (entry_of entry)) }
-        ensures none { IfNone result ((self.now.is_kept ≡ false) ⊎ (length self.now.entries ≤ index)) }
+        ensures kept { IfSome result (λ _. first_kept self.now ≤ index) }
+        ensures none { IfNone result ((index < first_kept self.now) ⊎ (length self.now.entries ≤ index)) }
     {
-        if !self.is_kept() || index >= self.len {
+        if index < self.first_kept() || index >= self.len {
             return None;
         }
-        Some(self.get(index))
+        Some(self.store.get(index, self.len))
     }
 }

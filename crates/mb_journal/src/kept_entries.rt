@@ -1,5 +1,5 @@
 //! Entries that are kept, one after another.
-ghost use Rattle.std.specs.Prelude.{◌≡◌, ◌+◌, ◌-◌, ◌<◌, ◌≤◌, [], ◌∷◌, ◌++◌};
+ghost use Rattle.std.specs.Prelude.{◌≡◌, ◌+◌, ◌-◌, ◌^◌, ◌<◌, ◌≤◌, [], ◌∷◌, ◌++◌};
 ghost use Rattle.std.specs.Prelude.{List, length, map, reverse, slice_get, slice_range, vec_len, vec_capacity, Some, IfOk, OnOk, OnErr};
 ghost use Rattle.mb_msg.specs.Limits.{most_effects};
 ghost use Rattle.mb_journal.specs.Entry.{newest_effects};
@@ -28,6 +28,8 @@ pub(crate) struct KeptEntries {
     places: usize,
     /// The entries that do not fit into a row.
     wide: Vec<Received>,
+    /// For this many entries there is room once they are cleared, each with as many effects as a call may ask for.
+    reserved: usize,
 }
 
 // `Drop` is written by hand: with a derived one, each crate above would prove again how the fields are dropped.
@@ -38,6 +40,7 @@ impl Drop for KeptEntries {
             effects: _,
             places: _,
             wide: _,
+            reserved: _,
         } = self;
     }
 }
@@ -50,7 +53,7 @@ impl Model for KeptEntries {
 
     ghost use Rattle.mb_journal.specs.Stored.{listed, rows_of, IsStored};
 
-    ghost view = { λ j. record { entries = reverse (listed 0 (rows_of j) j.effects.items); places = j.places } };
+    ghost view = { λ j. record { entries = reverse (listed 0 (rows_of j) j.effects.items); places = j.places; reserved = j.reserved } };
 
     ghost invariant = { IsStored };
 }
@@ -58,14 +61,47 @@ impl Model for KeptEntries {
 impl KeptEntries {
     /// No entries yet. This takes no memory.
     pub(crate) fn new(alloc: Global) -> Self
-        ensures { result ≡ record { entries = []; places = 0 } }
+        ensures { result ≡ record { entries = []; places = 0; reserved = 0 } }
     {
         KeptEntries {
             rows: Vec::new(alloc),
             effects: Vec::new(alloc),
             places: 0,
             wide: Vec::new(alloc),
+            reserved: 0,
         }
+    }
+
+    /// No entries yet, and room for this many. The only error: memory was refused.
+    pub(crate) fn with_room(alloc: Global, places: usize) -> Result<Self, AllocError>
+        requires { places < 2 ^ 32 }
+        ensures { IfOk result (λ entries. entries ≡ record { entries = []; places = places; reserved = places }) }
+    {
+        Ok(KeptEntries {
+            rows: Vec::with_capacity(alloc, places)?,
+            effects: Vec::with_capacity(alloc, EFFECTS * places)?,
+            places,
+            wide: Vec::with_capacity(alloc, places)?,
+            reserved: places,
+        })
+    }
+
+    /// How many entries there are.
+    #[inline(always)]
+    pub(crate) fn len(&self) -> usize
+        ensures { result ≡ length self.now.entries }
+    {
+        self.rows.len()
+    }
+
+    /// Takes all entries away. Their memory is left for others.
+    pub(crate) fn clear(&mut self)
+        ensures { self.new ≡ record { entries = []; places = self.old.reserved; reserved = self.old.reserved } }
+    {
+        self.rows.clear();
+        self.effects.clear();
+        self.wide.clear();
+        self.places = self.reserved;
     }
 
     /// Makes room for some more entries, unless there is room already: the more of them, the more entries there are, so that this is

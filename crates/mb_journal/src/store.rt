@@ -1,15 +1,16 @@
 //! What a journal stores of its entries.
 ghost use Rattle.std.specs.Prelude.{◌≡◌, ℕ, ◌+◌, ◌-◌, ◌<◌, ◌≤◌, [], ◌∷◌, true, false};
 ghost use Rattle.std.specs.Prelude.{length, reverse, slice_get, Some, IfOk, IsOk, OnErr};
-ghost use Rattle.mb_msg.specs.JournalMode.{keeps_all};
+ghost use Rattle.mb_msg.specs.JournalMode.{keeps_all, keeps_last};
 ghost use Rattle.mb_msg.specs.Limits.{most_effects};
 ghost use Rattle.mb_journal.specs.Entry.{newest_effects};
 ghost use Rattle.mb_journal.specs.JournalView.{entry_of, entry_with};
-ghost use Rattle.mb_journal.specs.Store.{stored, is_kept, HasRoom};
+ghost use Rattle.mb_journal.specs.Store.{stored, is_kept, last_of, first_of, HasRoom};
 
 use crate::counted_entries::CountedEntries;
 use crate::entry::{EntryRef, Received};
 use crate::kept_entries::KeptEntries;
+use crate::last_entries::LastEntries;
 use mb_actor::Effect;
 use mb_msg::JournalMode;
 use std::alloc::{AllocError, Global};
@@ -18,6 +19,8 @@ use std::alloc::{AllocError, Global};
 pub(crate) enum Store {
     Kept(KeptEntries),
     Counted(CountedEntries),
+    // In a box, so that the journals of the other modes are no larger.
+    Last(Box<LastEntries>),
 }
 
 // `Drop` is written by hand: with a derived one, each crate above would prove again how the fields are dropped.
@@ -26,31 +29,61 @@ impl Drop for Store {
         match self {
             Store::Kept(_entries) => {}
             Store::Counted(_entries) => {}
+            Store::Last(_entries) => {}
         }
     }
 }
 
 impl Store {
-    /// No entries yet. This takes memory only where they are counted. The only error: memory was refused.
+    /// No entries yet. This takes no memory where all are to be kept. The only error: memory was refused.
     pub(crate) fn new(alloc: Global, mode: JournalMode) -> Result<Self, AllocError>
         ensures none { IfOk result (λ store. stored store ≡ []) }
         ensures mode { IfOk result (λ store. is_kept store ≡ keeps_all mode) }
+        ensures last { IfOk result (λ store. last_of store ≡ keeps_last mode) }
         ensures room { IfOk result (λ store. HasRoom 0 store) }
         ensures never_short { keeps_all mode ≡ true → IsOk result }
     {
         match mode {
             JournalMode::Kept => Ok(Store::Kept(KeptEntries::new(alloc))),
-            JournalMode::Counted => Ok(Store::Counted(CountedEntries::new(alloc)?)),
+            JournalMode::Counted | JournalMode::Last(0) => {
+                Ok(Store::Counted(CountedEntries::new(alloc)?))
+            }
+            JournalMode::Last(last) => {
+                let entries = LastEntries::new(alloc, last as usize)?;
+                Ok(Store::Last(Box::new(alloc, entries)?))
+            }
         }
     }
 
-    /// Whether the entries are kept.
+    /// Whether all entries are kept.
     pub(crate) fn is_kept(&self) -> bool
         ensures { result ≡ is_kept self.now }
     {
         match self {
             Store::Kept(_) => true,
-            Store::Counted(_) => false,
+            Store::Counted(_) | Store::Last(_) => false,
+        }
+    }
+
+    /// How many of the newest entries are kept at least, if not all are.
+    pub(crate) fn last(&self) -> usize
+        ensures { result ≡ last_of self.now }
+    {
+        match self {
+            Store::Kept(_) | Store::Counted(_) => 0,
+            Store::Last(entries) => entries.last(),
+        }
+    }
+
+    /// The index of the first entry that is kept, of this many entries in all.
+    pub(crate) fn first_kept(&self, len: usize) -> usize
+        requires { len ≡ length (stored self.now) }
+        ensures { result ≡ first_of self.now }
+    {
+        match self {
+            Store::Kept(_) => 0,
+            Store::Counted(_) => len,
+            Store::Last(entries) => entries.first_kept(len),
         }
     }
 
@@ -60,14 +93,14 @@ impl Store {
     /// was refused. Nothing has changed then.
     pub(crate) fn make_room(&mut self, limit: usize) -> Result<usize, AllocError>
         requires { length (stored self.old) < limit }
-        ensures same { (stored self.new ≡ stored self.old) × (is_kept self.new ≡ is_kept self.old) }
+        ensures same { (stored self.new ≡ stored self.old) × (is_kept self.new ≡ is_kept self.old) × (last_of self.new ≡ last_of self.old) }
         ensures room { IfOk result (λ places. HasRoom places self.new × (length (stored self.new) < places) × (places ≤ limit)) }
         ensures err { OnErr result (self.new ≡ self.old) }
         ensures never_short { is_kept self.old ≡ false → IsOk result }
     {
         match self {
             Store::Kept(entries) => Ok(entries.make_room()?.min(limit)),
-            Store::Counted(_) => Ok(limit),
+            Store::Counted(_) | Store::Last(_) => Ok(limit),
         }
     }
 
@@ -77,12 +110,13 @@ impl Store {
         requires room { HasRoom (length (stored self.old) + 1) self.old }
         requires within_limit { length effects.now ≤ most_effects }
         ensures added { stored self.new ≡ entry_with arrival effects.now ∷ stored self.old }
-        ensures same { is_kept self.new ≡ is_kept self.old }
+        ensures same { (is_kept self.new ≡ is_kept self.old) × (last_of self.new ≡ last_of self.old) }
         ensures room { (number : ℕ) → HasRoom number self.old → HasRoom number self.new }
     {
         match self {
             Store::Kept(entries) => entries.push(arrival, effects),
             Store::Counted(entries) => entries.push(arrival, effects),
+            Store::Last(entries) => entries.push(arrival, effects),
         }
     }
 
@@ -96,18 +130,21 @@ impl Store {
         match self {
             Store::Kept(entries) => entries.newest_effect(place),
             Store::Counted(entries) => entries.newest_effect(place),
+            Store::Last(entries) => entries.newest_effect(place),
         }
     }
 
-    /// The entry at this index, from 0. The entries are kept.
-    pub(crate) fn get(&self, index: usize) -> EntryRef<'_>
-        requires kept { is_kept self.now ≡ true }
+    /// The entry at this index, from 0, of this many entries in all. It is kept.
+    pub(crate) fn get(&self, index: usize, len: usize) -> EntryRef<'_>
+        requires all { len ≡ length (stored self.now) }
+        requires kept { first_of self.now ≤ index }
         requires within { index < length (stored self.now) }
         ensures { slice_get (reverse (stored self.now)) index ≡ Some (entry_of result) }
     {
         match self {
             Store::Kept(entries) => entries.get(index),
             Store::Counted(_) => unreachable!(),
+            Store::Last(entries) => entries.get(index, len),
         }
     }
 }

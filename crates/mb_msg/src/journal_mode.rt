@@ -7,4 +7,8 @@ pub enum JournalMode {
     Kept,
     /// Counts of the entries and the effects of the newest, and no entry: this takes memory once, when the journal is made.
     Counted,
+    /// Counts of the entries and the newest of them, which can be read: at least the last so many, and fewer than twice as many. This takes
+    /// memory once, when the journal is made: room for twice as many entries, each with as many effects as a call may ask for. Of 0, no
+    /// entry is kept.
+    Last(u32),
 }

@@ -1,5 +1,5 @@
-//! Tests of journals, which are read back entry by entry or count their entries, and keep to their limit, and of strategies, which
-//! decide by their first row that matches.
+//! Tests of journals, which are read back entry by entry, count their entries or keep the newest, and keep to their limit, and of
+//! strategies, which decide by their first row that matches.
 ghost use Rattle.std.specs.Prelude.{◌≡◌, ◌≤◌, true, length};
 
 use crate::seen::see_nth;
@@ -276,7 +276,13 @@ fn are_read_back(rt: &impl Abort, journal: &Journal, entries: &[Told]) {
 
 #[test]
 fn the_limit_is_kept(rt: HostRuntime) {
-    for mode in [JournalMode::Kept, JournalMode::Counted] {
+    for mode in [
+        JournalMode::Kept,
+        JournalMode::Counted,
+        JournalMode::Last(0),
+        JournalMode::Last(1),
+        JournalMode::Last(3),
+    ] {
         is_full_after(&rt, &mut new_journal(&rt, rt.alloc(), mode, 1), 1);
         is_full_after(&rt, &mut new_journal(&rt, rt.alloc(), mode, 2), 2);
     }
@@ -316,6 +322,47 @@ fn a_journal_that_counts_its_entries_has_their_counts(rt: HostRuntime) {
         assert!(rt; counted.len() == kept.len());
         assert!(rt; counted.envelopes() == kept.envelopes());
         assert!(rt; counted.restarts() == kept.restarts());
+    }
+}
+
+/// A journal that keeps at least its last three entries: the first that is kept after none, one, two and more.
+const FIRST_OF_THREE: &[usize] = &[0, 0, 0, 0, 0, 0, 3, 3, 3, 6, 6, 6, 9, 9];
+
+#[test]
+fn a_journal_that_keeps_its_newest_entries_has_them(rt: HostRuntime) {
+    let mut journal = new_journal(&rt, rt.alloc(), JournalMode::Last(3), 100);
+    for first in FIRST_OF_THREE {
+        has_entries_from(&rt, &journal, *first, GREAT);
+        if let Some(told) = GREAT.get(journal.len()) {
+            push(&rt, &mut journal, told);
+        }
+    }
+    assert!(rt; journal.len() == GREAT.len() && journal.last() == 3 && !journal.is_kept());
+}
+
+/// Checks that of these entries the journal has those from this index on, up to its length, and none before.
+fn has_entries_from(rt: &impl Abort, journal: &Journal, first: usize, entries: &[Told]) {
+    assert!(rt; journal.first_kept() == first);
+    for (index, told) in entries.iter().enumerate() {
+        if index < first || index >= journal.len() {
+            assert!(rt; journal.entry(index).is_none());
+        } else {
+            assert!(rt; is_read_back(journal, index, told));
+        }
+    }
+}
+
+/// A journal that keeps its newest entries has the counts of one that keeps all, and at least the entries that it is to keep, but fewer
+/// than twice as many.
+#[test]
+fn a_journal_keeps_as_many_of_the_newest_as_it_is_to(rt: HostRuntime) {
+    for last in 0..8 {
+        let kept = journal_of(&rt, rt.alloc(), JournalMode::Kept, GREAT);
+        let newest = journal_of(&rt, rt.alloc(), JournalMode::Last(last), GREAT);
+        assert!(rt; newest.len() == kept.len() && newest.envelopes() == kept.envelopes());
+        let number = newest.len() - newest.first_kept();
+        assert!(rt; last as usize <= number && (number < 2 * last as usize || last == 0));
+        has_entries_from(&rt, &newest, newest.first_kept(), GREAT);
     }
 }
 

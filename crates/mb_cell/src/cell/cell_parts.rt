@@ -27,6 +27,7 @@ impl<A: Actor, K: Behaviours> Cell<A, K> {
           limit = self.who.limit;
           is_ready = self.is_ready;
           is_kept = self.who.is_kept;
+          last = result.journal.last;
         } }
         ensures lawful { IsLawful self.who (K.gives self.who.this.0) self.journal }
         ensures aside { result.aside.items ≡ aside_of self.who self.journal }

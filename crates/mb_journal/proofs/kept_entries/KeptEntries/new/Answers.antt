@@ -11,6 +11,9 @@ invariant_of-result c = record {
   row_room = omega arith;
   wide_room = omega arith;
   effect_room = omega arith;
+  reserved_rows = omega arith;
+  reserved_wide = omega arith;
+  reserved_effects = omega arith;
 }
 
 pub returns : goal.returns
