@@ -68,7 +68,10 @@ class Peer(typing.NamedTuple):
         command = [word.replace("WORKLOAD", workload) for word in self.words]
         settings = {**os.environ, "ERL_CRASH_DUMP_BYTES": "0"}
         how = {"stdin": subprocess.DEVNULL, "capture_output": True, "text": True, "timeout": MOST_SECONDS, "env": settings}
-        ran = subprocess.run(command, **how)
+        try:
+            ran = subprocess.run(command, **how)
+        except subprocess.TimeoutExpired:
+            raise SystemExit(f"{self.name}, {workload}: not at its end after {MOST_SECONDS} seconds, so there is no table. Run it again.") from None
         told = re.fullmatch(r"(\d+\.\d+) (\d+)\n", ran.stdout)
         if ran.returncode != 0 or not told or int(told[2]) != messages:
             raise SystemExit(f"{self.name}, {workload}: status {ran.returncode}\n{ran.stdout}{ran.stderr}")
