@@ -4,7 +4,7 @@ use Rattle.mb_msg.specs.declared.id.ActorId.{ActorId}
 use Rattle.mb_actor.specs.Behaviour.{Reply}
 use Rattle.mb_actor.specs.OutboxView.{OutboxView, added, refusal}
 use Rattle.mb_actor.specs.declared.answer.Answer.{Answer}
-use Rattle.mb_actor.specs.declared.answer.Answer.TheVariants.{Handled, Unhandled, Failed}
+use Rattle.mb_actor.specs.declared.answer.Answer.TheVariants.{Handled, Unhandled}
 use Rattle.mb_actor.specs.declared.effect.Effect.{Effect}
 use Rattle.mb_typed.specs.Sending.{tell_of}
 use Rattle.mb_typed.specs.TypedBehaviour.{TypedMoment}
@@ -42,7 +42,7 @@ balance_after accounts got = fold (balance_with accounts) (pos 0) got
 -- the answer to a call at this balance
 abbrev pub account_answer : ℕ → ℤ → TypedCall Booking → Option Answer
 account_answer accounts balance Start = Some Handled
-account_answer accounts balance (Receive (Command booking)) = Some (if is_booked accounts balance booking then Handled else Failed 1)
+account_answer accounts balance (Receive (Command booking)) = Some (if is_booked accounts balance booking then Handled else Unhandled)
 account_answer accounts balance (Receive (Terminated who)) = Some Unhandled
 account_answer accounts balance (Restart cause) = Some Handled
 account_answer accounts balance Stop = None

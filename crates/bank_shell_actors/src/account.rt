@@ -7,11 +7,8 @@ use mb_actor::{Answer, CallPermit, Outbox};
 use mb_msg::{ActorId, Cause};
 use mb_typed::{Address, Incoming, TypedActor};
 
-/// An account's failure: a booking is not carried out. There is less than the amount, the sum would not fit, or the other
-/// account is none of the bank's.
-pub const NOT_BOOKED: u32 = 1;
-
-/// An account of a bank whose accounts have the numbers from 1 on.
+/// An account of a bank whose accounts have the numbers from 1 on. It does not handle a booking that can't be carried out: one of more
+/// than there is, one to an account that the bank doesn't have, or a deposit with which the balance would not fit in 64 bits.
 #[derive(Drop)]
 pub struct Account {
     /// How many accounts the bank has.
@@ -38,7 +35,7 @@ impl Account {
           balance = if is_booked self.old.accounts self.old.balance booking
               then sum_with self.old.balance booking else self.old.balance;
         } }
-        ensures answer { result ≡ (if is_booked self.old.accounts self.old.balance booking then Answer.Handled else Answer.Failed 1) }
+        ensures answer { result ≡ (if is_booked self.old.accounts self.old.balance booking then Answer.Handled else Answer.Unhandled) }
         ensures effects { out.new.effects ≡ (if is_booked self.old.accounts self.old.balance booking then booking_effects out.old booking else []) }
         ensures actors { out.new.actors ≡ out.old.actors }
         ensures unspawned { out.new.unspawned ≡ out.old.unspawned }
@@ -55,14 +52,14 @@ impl Account {
           balance = if is_booked self.old.accounts self.old.balance (Booking.Deposit amount)
               then sum_with self.old.balance (Booking.Deposit amount) else self.old.balance;
         } }
-        ensures answer { result ≡ (if is_booked self.old.accounts self.old.balance (Booking.Deposit amount) then Answer.Handled else Answer.Failed 1) }
+        ensures answer { result ≡ (if is_booked self.old.accounts self.old.balance (Booking.Deposit amount) then Answer.Handled else Answer.Unhandled) }
     {
         match self.balance.checked_add(i64::from(amount)) {
             Some(balance) => {
                 self.balance = balance;
                 Answer::Handled
             }
-            None => Answer::Failed(NOT_BOOKED),
+            None => Answer::Unhandled,
         }
     }
 
@@ -73,14 +70,14 @@ impl Account {
           balance = if is_booked self.old.accounts self.old.balance (Booking.Transfer to amount)
               then sum_with self.old.balance (Booking.Transfer to amount) else self.old.balance;
         } }
-        ensures answer { result ≡ (if is_booked self.old.accounts self.old.balance (Booking.Transfer to amount) then Answer.Handled else Answer.Failed 1) }
+        ensures answer { result ≡ (if is_booked self.old.accounts self.old.balance (Booking.Transfer to amount) then Answer.Handled else Answer.Unhandled) }
         ensures effects { out.new.effects ≡ (if is_booked self.old.accounts self.old.balance (Booking.Transfer to amount)
             then booking_effects out.old (Booking.Transfer to amount) else []) }
         ensures actors { out.new.actors ≡ out.old.actors }
         ensures unspawned { out.new.unspawned ≡ out.old.unspawned }
     {
         if to.0 == 0 || to.0 > self.accounts || self.balance < i64::from(amount) {
-            return Answer::Failed(NOT_BOOKED);
+            return Answer::Unhandled;
         }
         self.balance -= i64::from(amount);
         let _refused = Address::new(to).tell(out, Booking::Deposit(amount));

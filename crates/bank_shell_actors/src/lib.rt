@@ -4,5 +4,5 @@
 mod account;
 mod booking;
 
-pub use account::{Account, NOT_BOOKED};
+pub use account::Account;
 pub use booking::Booking;
