@@ -4,14 +4,16 @@
 
 mod arguments;
 mod fault;
+mod flush;
 mod input;
 mod program_error;
 mod refusal;
 mod report;
 mod tracked_stream;
 
-pub use arguments::argument_count;
+pub use arguments::{Arguments, argument_count};
 pub use fault::RunFault;
+pub use flush::Flush;
 pub use input::read_input;
 pub use program_error::ProgramError;
 pub use report::write_report;

@@ -4,8 +4,9 @@ ghost use Rattle.std.specs.Io.{ReadsAtMost, WritesAtMost};
 ghost use Rattle.std.specs.Io.KnownBytes.{Appends, Keeps, ReadConsumes, WriteAppends};
 ghost use Rattle.mb_streams.specs.Written.{AppendsBeginning};
 
+use crate::flush::Flush;
 use std::io;
-use std::io::{ErrorKind, Read, Write};
+use std::io::{ErrorKind, Read};
 use std::marker::Model;
 
 /// A stream with a flag that a call of it has failed. Then no other call of it is made.
@@ -50,7 +51,7 @@ impl<R: Read> TrackedStream<R> {
     }
 }
 
-impl<W: Write> TrackedStream<W> {
+impl<W: Flush> TrackedStream<W> {
     /// Writes some of the bytes, at least one where there is one. An error is the stream's own, or `WriteZero` where
     /// the stream takes none.
     fn write(&mut self, bytes: &[u8]) -> io::Result<usize>
@@ -72,18 +73,20 @@ impl<W: Write> TrackedStream<W> {
     fn flush(&mut self) -> io::Result<()>
         requires working { self.old.failed ≡ false }
         ensures bytes { Keeps (W.contents self.old.stream) (W.contents self.new.stream) }
+        ensures flushed { OnOk result (W.IsFlushed self.new.stream) }
         ensures watched { self.new.failed ≡ (self.old.failed || is_err result) }
     {
-        let result = self.stream.flush();
+        let result = self.stream.flush_written();
         self.failed = self.failed || result.is_err();
         result
     }
 
-    /// Writes all the bytes, once, and flushes the stream. At the first error it stops: a prefix of the bytes was
-    /// written then.
+    /// Writes all the bytes, once, and flushes the stream. At the first error, also of the flush, it stops and answers that error: a prefix
+    /// of the bytes was written then.
     pub fn send(&mut self, bytes: &[u8]) -> io::Result<()>
         requires working { self.old.failed ≡ false }
         ensures whole { OnOk result (Appends (W.contents self.old.stream) (W.contents self.new.stream) bytes.now) }
+        ensures flushed { OnOk result (W.IsFlushed self.new.stream) }
         ensures part { AppendsBeginning (W.contents self.old.stream) (W.contents self.new.stream) bytes.now }
         ensures watched { self.new.failed ≡ (self.old.failed || is_err result) }
     {
