@@ -2,18 +2,9 @@
 #![tactic(auto)]
 
 use mb_msg::JournalMode;
-use mb_program::{TrackedStream, run_program};
-use mb_streams::argument_count;
-use std::process::ExitCode;
+use mb_program::{ProgramExit, Streams, run_process};
 
-fn main(rt: HostRuntime) -> ExitCode {
-    ExitCode::from(run_program(
-        &rt,
-        rt.alloc(),
-        argument_count(&rt),
-        JournalMode::Kept,
-        &mut TrackedStream::new(rt.stdin()),
-        &mut TrackedStream::new(rt.stdout()),
-        &mut TrackedStream::new(rt.stderr()),
-    ))
+fn main(rt: HostRuntime) -> ProgramExit {
+    let mut streams = Streams::standard(rt.stdin(), rt.stdout(), rt.stderr());
+    run_process(&rt, rt.alloc(), JournalMode::Kept, &mut streams)
 }

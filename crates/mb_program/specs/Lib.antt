@@ -3,3 +3,4 @@ pub mod Scripts
 pub mod Scenario
 pub mod Answer
 pub mod RunOf
+pub mod HasRun

@@ -9,9 +9,9 @@ ghost use Rattle.mb_program.specs.Answer.{HasReported, IsAnswer, IsAtFault, IsCu
 
 use crate::answer::answer;
 use mb_msg::JournalMode;
-use mb_streams::{ProgramError, TrackedStream, read_input, write_report};
+use mb_streams::{Flush, ProgramError, TrackedStream, read_input, write_report};
 use std::alloc::Global;
-use std::io::{Read, Write};
+use std::io::Read;
 use std::sync::Wait;
 use std::thread::Threads;
 
@@ -19,7 +19,7 @@ use std::thread::Threads;
 /// 2 where there are arguments beside the program's own path, or the input is no scenario, and 1 where the run failed, memory was
 /// refused, reading failed, or writing did. But for the report nothing is written on `writer`; on a failure `errors` gets one line
 /// that says which, if it can be written.
-pub fn run_program<T: Threads + Wait + Sync, R: Read, W: Write, E: Write>(
+pub fn run_program<T: Threads + Wait + Sync, R: Read, W: Flush, E: Flush>(
     rt: &T,
     alloc: Global,
     arguments: usize,
@@ -41,10 +41,11 @@ pub fn run_program<T: Threads + Wait + Sync, R: Read, W: Write, E: Write>(
     // No more is read than a text may have and a byte beyond.
     ensures taken { TakesAtMost most_read (R.remaining reader.old.stream) (R.remaining reader.new.stream) }
 
-    // With the status 0 the whole report was written of what was read, and the headline holds of that report (`IsOfScenario`). No
+    // With the status 0 the whole report was written of what was read, and flushed at the end, and the headline holds of that report (`IsOfScenario`). No
     // call failed, and the stream for errors was not called.
     ensures reported { result ≡ 0 →
         HasReported journal (R.remaining reader.old.stream) (W.contents writer.old.stream) (W.contents writer.new.stream) }
+    ensures flushed { result ≡ 0 → W.IsFlushed writer.new.stream }
     ensures no_failure { result ≡ 0 → (reader.new.failed || writer.new.failed) ≡ false }
     ensures no_error { result ≡ 0 → errors.new ≡ errors.old }
 

@@ -9,10 +9,12 @@ mod answer;
 mod drive;
 mod fault;
 mod orders;
+mod process;
 mod running;
 mod scenario;
 
 pub use drive::run_program;
-pub use mb_streams::{RunFault, TrackedStream};
+pub use mb_streams::{RunFault, Streams, TrackedStream};
+pub use process::{ProgramExit, run_process};
 pub use running::{FinishedRun, run};
 pub use scenario::{ScenarioRun, run_scenario};

@@ -9,6 +9,7 @@ mod input;
 mod program_error;
 mod refusal;
 mod report;
+mod streams;
 mod tracked_stream;
 
 pub use arguments::{Arguments, argument_count};
@@ -17,4 +18,5 @@ pub use flush::Flush;
 pub use input::read_input;
 pub use program_error::ProgramError;
 pub use report::write_report;
+pub use streams::Streams;
 pub use tracked_stream::TrackedStream;

@@ -7,16 +7,16 @@ ghost use Rattle.mb_streams.specs.declared.program_error.ProgramError.TheVariant
 ghost use Rattle.mb_streams.specs.declared.fault.RunFault.TheVariants as run;
 
 use crate::fault::RunFault;
+use crate::flush::Flush;
 use crate::program_error::ProgramError;
 use crate::tracked_stream::TrackedStream;
 use mb_msg::ActorId;
 use mb_scenario::ReadError;
 use std::alloc::{AllocError, Global};
-use std::io::Write;
 
 /// Prints why there is no report, as far as that can be written, and answers the exit status. Where memory for the line
 /// is refused, the failure is that.
-pub(crate) fn print_failure<E: Write>(
+pub(crate) fn print_failure<E: Flush>(
     alloc: Global,
     errors: &mut TrackedStream<E>,
     failure: &ProgramError,
@@ -40,7 +40,7 @@ pub(crate) fn print_failure<E: Write>(
 }
 
 /// The same where a run gave no report.
-fn refuse_run<E: Write>(alloc: Global, errors: &mut TrackedStream<E>, fault: RunFault) -> u8
+fn refuse_run<E: Flush>(alloc: Global, errors: &mut TrackedStream<E>, fault: RunFault) -> u8
     requires errors { errors.old.failed ≡ false }
     ensures { IsRefusal (Run fault) result (E.contents errors.old.stream) (E.contents errors.new.stream) errors.new.failed }
 {
@@ -72,7 +72,7 @@ fn fault_line(alloc: Global, fault: &ReadError) -> Result<String, AllocError>
 }
 
 /// Prints that memory was refused; this takes no memory.
-fn print_no_memory<E: Write>(errors: &mut TrackedStream<E>) -> u8
+fn print_no_memory<E: Flush>(errors: &mut TrackedStream<E>) -> u8
     requires errors { errors.old.failed ≡ false }
     ensures { (result ≡ exit_status (Input NoMemory))
         × IsLineSaid (E.contents errors.old.stream) (E.contents errors.new.stream) errors.new.failed (error_line (Input NoMemory)) }
@@ -85,7 +85,7 @@ fn print_no_memory<E: Write>(errors: &mut TrackedStream<E>) -> u8
 }
 
 /// Prints the line of a failure, as far as it can be written, and answers the exit status.
-fn print_line<E: Write>(errors: &mut TrackedStream<E>, failure: &ProgramError, line: &str) -> u8
+fn print_line<E: Flush>(errors: &mut TrackedStream<E>, failure: &ProgramError, line: &str) -> u8
     requires errors { errors.old.failed ≡ false }
     requires line { line.now ≡ error_line failure.now }
     ensures { (result ≡ exit_status failure.now)

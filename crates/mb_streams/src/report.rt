@@ -3,15 +3,15 @@ ghost use Rattle.std.specs.Prelude.{◌≡◌, ◌≤◌, false, IfErr, IfOk, st
 ghost use Rattle.mb_streams.specs.ReportOutput.{IsHandedOut};
 ghost use Rattle.mb_streams.specs.ErrorLine.{IsRefusal};
 
+use crate::flush::Flush;
 use crate::program_error::ProgramError;
 use crate::refusal::print_failure;
 use crate::tracked_stream::TrackedStream;
 use std::alloc::Global;
-use std::io::Write;
 
 /// Writes the report, or prints why there is none, and answers the exit status: 0 where the whole report was written.
 /// Where it cannot be written, the failure is `Os`.
-pub fn write_report<W: Write, E: Write>(
+pub fn write_report<W: Flush, E: Flush>(
     alloc: Global,
     writer: &mut TrackedStream<W>,
     errors: &mut TrackedStream<E>,
@@ -23,6 +23,9 @@ pub fn write_report<W: Write, E: Write>(
 
     // A report is written; the stream for errors is called only where that failed.
     ensures report { IfOk report.now (λ report. IsHandedOut W.contents E.contents (string_bytes report) result writer.old writer.new errors.old errors.new) }
+
+    // With the status 0 the writer was flushed at the end.
+    ensures flushed { result ≡ 0 → W.IsFlushed writer.new.stream }
 
     // Of a failure the line is printed, and the writer is not called.
     ensures unwritten { IfErr report.now (λ _. writer.new ≡ writer.old) }

@@ -27,6 +27,15 @@ impl From<AllocError> for TraceError {
 }
 
 impl From<io::Error> for TraceError {
+    ghost use Rattle.std.specs.Prelude.{◌↔◌};
+    ghost use Rattle.std.specs.IoError.{error_kind};
+    ghost use Rattle.std.specs.declared.io.ErrorKind.TheVariants as kind;
+    ghost use Rattle.mb_trace.specs.declared.error.TraceError.TheVariants.{Closed, NoMemory};
+
+    // a full disk is no closed pipe
+    ghost from_gives = { λ failure error. ((error ≡ Closed) ↔ (error_kind failure ≡ kind.BrokenPipe))
+        × ((error ≡ NoMemory) ↔ (error_kind failure ≡ kind.OutOfMemory)) };
+
     fn from(error: io::Error) -> TraceError {
         match error.kind() {
             ErrorKind::BrokenPipe => TraceError::Closed,
