@@ -11,7 +11,8 @@ use std::alloc::{AllocError, AllocFailed};
 /// Why a run gave no report, or why an actor was not added to a planned system. Each holds what came back.
 #[derive(Clone, Copy, Debug, PartialEq, Eq, thiserror::Error)]
 pub enum Error {
-    /// No system can be built from the plan: the first reason of all. Nothing was done.
+    /// No system can be built from the plan: the first reason of all. Or an actor has no place in it (`PlannedSystem::add`). Nothing
+    /// was done.
     #[error("no system can be built from the plan: {0:?}")]
     BadPlan(PlanError),
     /// There are fewer lists of orders than the plan has senders, or more; or an order of a row is from a sender that the plan does

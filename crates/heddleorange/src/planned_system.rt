@@ -1,6 +1,6 @@
 //! A plan and its actors, added together.
 ghost use Rattle.std.specs.Prelude.{◌≡◌, ◌⊎◌, ◌+◌, ◌<◌, ◌≤◌, ◌↔◌, [], ◌∷◌, ◌++◌, All, IfErr, IfOk, IsErrOf, IsTrue, OnErr, OnOk, Some, length, map, string_bytes, vec_capacity};
-ghost use Rattle.mb_build.specs.declared.check.PlanError.TheVariants.{Actors};
+ghost use Rattle.mb_build.specs.declared.check.PlanError.TheVariants.{Actors, Parent};
 ghost use Rattle.mb_msg.specs.declared.pool_kind.PoolKind.TheVariants as pool_kind;
 ghost use Rattle.mb_msg.specs.declared.id.ActorId.{ActorId as Id};
 ghost use Rattle.heddleorange.specs.declared.error.Error.TheVariants.{BadPlan, NameTaken, NoMemory};
@@ -111,8 +111,10 @@ impl<A: Actor> PlannedSystem<A> {
     /// Adds an actor with its plan, and answers its number: the first has number 1. No message may have come to the actor yet. Its
     /// name is `$` and its number. (Akka, too, makes such a name of a `$` and a number.)
     ///
-    /// It answers `BadPlan(Actors)` if there are 63 actors, and else `NoMemory` if memory was refused. The plan and the actor are
-    /// dropped then, and nothing has been added.
+    /// It answers `BadPlan(Actors)` if there are 63 actors; else `BadPlan(Parent)` with the actor's own number if its parent is
+    /// neither the guardian nor one of the actors that are there; else `NoMemory` if memory was refused. The plan and the actor are
+    /// dropped then, and nothing has been added. (That there is such a parent is this project's own profile: in Akka it is the
+    /// parent's own context that makes the child, by `actorOf`.)
     pub fn add(&mut self, plan: ActorPlan, actor: A) -> Result<ActorId, Error>
         requires unused { A.content actor ≡ A.after actor [] }
         ensures id { IfOk result (λ id. id.0 ≡ length self.old.actors.items + 1) }
@@ -124,19 +126,23 @@ impl<A: Actor> PlannedSystem<A> {
         ensures same_names { OnErr result (self.new.names.texts.items ≡ self.old.names.texts.items) }
         ensures settings { self.new.plan ≡ record self.old.plan { actors = self.new.plan.actors } }
         ensures full { IsErrOf result (BadPlan Actors) ↔ (63 ≤ length self.old.actors.items) }
-        ensures errors { IfErr result (λ error. (error ≡ BadPlan Actors) ⊎ (error ≡ NoMemory)) }
+        ensures parent { (id : Id) → IsErrOf result (BadPlan (Parent id)) ↔ ((length self.old.actors.items < 63)
+            × (length self.old.actors.items < plan.parent.0) × (id.0 ≡ length self.old.actors.items + 1)) }
+        ensures errors { IfErr result (λ error. (error ≡ BadPlan Actors) ⊎ ((id : Id) × (error ≡ BadPlan (Parent id))) ⊎ (error ≡ NoMemory)) }
         ensures unused { All (λ actor. A.content actor ≡ A.after actor []) self.old.actors.items
             → All (λ actor. A.content actor ≡ A.after actor []) self.new.actors.items }
     {
+        self.check_place(plan.parent)?;
         let name = self.default_name()?;
         self.push(name, plan, actor)
     }
 
     /// Adds an actor with its plan under this name, and answers its number, as `add` does.
     ///
-    /// If there is room for it, and an actor has this name already, it answers `NameTaken` with that actor's number. (In Akka
-    /// `actorOf` throws an `InvalidActorNameException` then. There a name has to differ from those of its siblings, and not every
-    /// text is one. This project's own profile: any text is, and it has to differ from the names of all actors that are there.)
+    /// If there is room for it, its parent is there, and an actor has this name already, it answers `NameTaken` with that actor's
+    /// number. (In Akka `actorOf` throws an `InvalidActorNameException` then. There a name has to differ from those of its siblings,
+    /// and not every text is one. This project's own profile: any text is, and it has to differ from the names of all actors that
+    /// are there.)
     pub fn add_named(&mut self, name: &str, plan: ActorPlan, actor: A) -> Result<ActorId, Error>
         requires unused { A.content actor ≡ A.after actor [] }
         ensures id { IfOk result (λ id. id.0 ≡ length self.old.actors.items + 1) }
@@ -147,26 +153,43 @@ impl<A: Actor> PlannedSystem<A> {
         ensures same_names { OnErr result (self.new.names.texts.items ≡ self.old.names.texts.items) }
         ensures settings { self.new.plan ≡ record self.old.plan { actors = self.new.plan.actors } }
         ensures full { IsErrOf result (BadPlan Actors) ↔ (63 ≤ length self.old.actors.items) }
-        ensures taken { (id : Id) → IsErrOf result (NameTaken id)
-            ↔ ((length self.old.actors.items < 63) × (number_of self.old.names.texts.items name.now ≡ Some id.0)) }
-        ensures errors { IfErr result (λ error. (error ≡ BadPlan Actors) ⊎ (error ≡ NoMemory) ⊎ ((id : Id) × (error ≡ NameTaken id))) }
+        ensures parent { (id : Id) → IsErrOf result (BadPlan (Parent id)) ↔ ((length self.old.actors.items < 63)
+            × (length self.old.actors.items < plan.parent.0) × (id.0 ≡ length self.old.actors.items + 1)) }
+        ensures taken { (id : Id) → IsErrOf result (NameTaken id) ↔ ((length self.old.actors.items < 63)
+            × (plan.parent.0 ≤ length self.old.actors.items) × (number_of self.old.names.texts.items name.now ≡ Some id.0)) }
+        ensures errors { IfErr result (λ error. (error ≡ BadPlan Actors) ⊎ ((id : Id) × (error ≡ BadPlan (Parent id))) ⊎ (error ≡ NoMemory)
+            ⊎ ((id : Id) × (error ≡ NameTaken id))) }
         ensures unused { All (λ actor. A.content actor ≡ A.after actor []) self.old.actors.items
             → All (λ actor. A.content actor ≡ A.after actor []) self.new.actors.items }
     {
+        self.check_place(plan.parent)?;
         let name = self.free_name(name)?;
         self.push(name, plan, actor)
     }
 
-    // The next actor's name, if it comes without one and there is room for it.
-    fn default_name(&self) -> Result<String, Error>
-        ensures not_full { OnOk result (length self.now.actors.items < 63) }
-        ensures named { IfOk result (λ name. string_bytes name ≡ name_by_default (length self.now.actors.items + 1)) }
+    // Whether there is room for one actor more, and its parent is there.
+    fn check_place(&self, parent: ActorId) -> Result<(), Error>
+        ensures fits { OnOk result ((length self.now.actors.items < 63) × (parent.0 ≤ length self.now.actors.items)) }
         ensures full { IsErrOf result (BadPlan Actors) ↔ (63 ≤ length self.now.actors.items) }
-        ensures errors { IfErr result (λ error. (error ≡ BadPlan Actors) ⊎ (error ≡ NoMemory)) }
+        ensures parent { (id : Id) → IsErrOf result (BadPlan (Parent id)) ↔ ((length self.now.actors.items < 63)
+            × (length self.now.actors.items < parent.0) × (id.0 ≡ length self.now.actors.items + 1)) }
+        ensures errors { IfErr result (λ error. (error ≡ BadPlan Actors) ⊎ ((id : Id) × (error ≡ BadPlan (Parent id)))) }
     {
         if self.is_full() {
             return Err(Error::BadPlan(PlanError::Actors));
         }
+        let own = ActorId(self.actors.len() as u16 + 1);
+        if parent.0 >= own.0 {
+            return Err(Error::BadPlan(PlanError::Parent(own)));
+        }
+        Ok(())
+    }
+
+    // The next actor's name, if it comes without one. The only error: memory was refused.
+    fn default_name(&self) -> Result<String, Error>
+        ensures named { IfOk result (λ name. string_bytes name ≡ name_by_default (length self.now.actors.items + 1)) }
+        ensures error { IfErr result (λ error. error ≡ NoMemory) }
+    {
         let number = self.actors.len() + 1;
         let alloc = *self.actors.allocator();
         let Ok(name) = format!(in alloc; "${number}") else {
@@ -175,18 +198,12 @@ impl<A: Actor> PlannedSystem<A> {
         Ok(name)
     }
 
-    // This name for the next actor, if there is room for it and no actor has the name.
+    // This name for the next actor, if no actor has it.
     fn free_name(&self, name: &str) -> Result<String, Error>
-        ensures not_full { OnOk result (length self.now.actors.items < 63) }
         ensures named { IfOk result (λ free. string_bytes free ≡ name.now) }
-        ensures full { IsErrOf result (BadPlan Actors) ↔ (63 ≤ length self.now.actors.items) }
-        ensures taken { (id : Id) → IsErrOf result (NameTaken id)
-            ↔ ((length self.now.actors.items < 63) × (number_of self.now.names.texts.items name.now ≡ Some id.0)) }
-        ensures errors { IfErr result (λ error. (error ≡ BadPlan Actors) ⊎ (error ≡ NoMemory) ⊎ ((id : Id) × (error ≡ NameTaken id))) }
+        ensures taken { (id : Id) → IsErrOf result (NameTaken id) ↔ (number_of self.now.names.texts.items name.now ≡ Some id.0) }
+        ensures errors { IfErr result (λ error. (error ≡ NoMemory) ⊎ ((id : Id) × (error ≡ NameTaken id))) }
     {
-        if self.is_full() {
-            return Err(Error::BadPlan(PlanError::Actors));
-        }
         if let Some(holder) = self.names.id_of(name) {
             return Err(Error::NameTaken(holder));
         }

@@ -223,3 +223,24 @@ fn take_sixty_three<R: Abort + Threads + Wait + Sync>(rt: &R, alloc: Global) -> 
 fn a_planned_system_takes_sixty_three_actors(rt: HostRuntime) -> Result<(), Fail> {
     take_sixty_three(&rt, rt.alloc())
 }
+
+/// Adds an actor that is to be its own parent, and then a child of one that is there.
+fn add_children<R: Abort>(rt: &R, alloc: Global) -> Result<(), Fail> {
+    let mut planned = planned(alloc, &[COUNTER])?;
+    let own_child = planned.add(
+        ActorPlan::child_of(alloc, ActorId(2)),
+        TestActor::new(COUNTER),
+    );
+    assert!(rt; own_child == Err(Error::BadPlan(PlanError::Parent(ActorId(2)))));
+    let child = planned.add(
+        ActorPlan::child_of(alloc, ActorId(1)),
+        TestActor::new(COUNTER),
+    );
+    assert!(rt; child == Ok(ActorId(2)));
+    Ok(())
+}
+
+#[test]
+fn an_actor_is_added_if_its_parent_is_there(rt: HostRuntime) -> Result<(), Fail> {
+    add_children(&rt, rt.alloc())
+}
