@@ -12,6 +12,7 @@ mod begin;
 mod broken_off;
 mod by_workers;
 mod conservation;
+mod default_settings;
 mod error;
 mod failed_run;
 mod finish;
