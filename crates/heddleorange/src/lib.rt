@@ -46,6 +46,10 @@ pub use mb_msg::{
 pub use mb_report::{ActorReport, Report, SenderReport, report_text};
 pub use mb_shutdown::{Mismatch, UnfinishedActor};
 pub use mb_system::RunError;
+pub use mb_typed::{
+    Address, Command, Incoming, Packed, Typed, TypedActor, TypedCall,
+    a_command_arrives_as_it_was_sent, actor_half, join_actor, join_halves, lower_half, upper_half,
+};
 pub use names::Names;
 pub use planned_system::{PlannedSystem, SETTINGS, Settings};
 pub use reading::{dead_letters, handled, journal, state};
