@@ -1,5 +1,6 @@
 //! Running a scenario and showing its run.
-ghost use Rattle.std.specs.Prelude.{◌≡◌, All, false, true};
+ghost use Rattle.std.specs.Prelude.{◌≡◌, All, IfOk, false, true};
+ghost use Rattle.mb_msg.specs.JournalMode.{keeps_all};
 
 use crate::argument_error::ArgumentError;
 use crate::details::details_of;
@@ -7,10 +8,10 @@ use crate::options::Options;
 use crate::refusal::{Failure, no_memory, not_written};
 use crate::turn_lengths::turn_lengths;
 use mb_msg::JournalMode;
-use mb_program::{FinishedRun, TrackedStream, run_scenario};
+use mb_program::{FinishedRun, ScenarioRun, TrackedStream, run_scenario};
 use mb_scenario::{Scenario, read};
 use mb_streams::read_input;
-use mb_trace::{Filter, Trace, TraceError, TurnLength};
+use mb_trace::{Filter, Trace, TraceError, TurnLength, write_newest};
 use mb_trace_forms::{TraceFormat, write_trace};
 use std::alloc::Global;
 use std::io::{BufWriter, Read, Write};
@@ -28,17 +29,72 @@ pub(crate) fn show<T: Threads + Wait + Sync, R: Read, W: Write + Drop>(
     requires working { reader.old.failed ≡ false }
 {
     let text = read_input(alloc, reader)?;
-    let ran = match run_scenario(rt, alloc, &text, JournalMode::Kept) {
-        Ok(ran) => ran,
-        Err(error) => {
-            // Without memory for more the fault itself is still told.
-            let details = details_of(alloc, &text, &error).unwrap_or(String::new(alloc));
-            return Err(Failure::Scenario { error, details });
-        }
-    };
+    if let Some(last) = options.last {
+        let ran = run(rt, alloc, &text, JournalMode::Last(last))?;
+        return show_newest(alloc, &ran, options, writer);
+    }
+    let ran = run(rt, alloc, &text, JournalMode::Kept)?;
     // The run has taken the scenario's plan and scripts: the text is read once more.
     let scenario = read(alloc, &text)?;
     show_run(alloc, &scenario, &ran.run, options, writer)
+}
+
+/// Runs the scenario of this text, with journals of this mode.
+fn run<T: Threads + Wait + Sync>(
+    rt: &T,
+    alloc: Global,
+    text: &[u8],
+    mode: JournalMode,
+) -> Result<ScenarioRun, Failure>
+    ensures kept { IfOk result (λ ran. All (λ a. a.journal.is_kept ≡ keeps_all mode) ran.run.report.actors.items) }
+{
+    match run_scenario(rt, alloc, text, mode) {
+        Ok(ran) => Ok(ran),
+        Err(error) => {
+            // Without memory for more the fault itself is still told.
+            let details = details_of(alloc, text, &error).unwrap_or(String::new(alloc));
+            Err(Failure::Scenario { error, details })
+        }
+    }
+}
+
+/// Shows the newest entries of each actor, which its journal keeps. An order of those of all actors is found by going through whole
+/// journals, so there is none here.
+fn show_newest<W: Write + Drop>(
+    alloc: Global,
+    ran: &ScenarioRun,
+    options: &Options,
+    writer: W,
+) -> Result<(), Failure> {
+    let actors = numbers_of(alloc, &options.actors, &ran.names)?;
+    let filter = Filter {
+        actors: actors.as_slice(),
+        only: options.only,
+        limit: options.limit,
+    };
+    answer_of(write_kept(alloc, ran, &filter, writer))
+}
+
+/// Writes the entries that the journals of the run keep.
+fn write_kept<W: Write + Drop>(
+    alloc: Global,
+    ran: &ScenarioRun,
+    filter: &Filter<'_>,
+    writer: W,
+) -> Result<(), TraceError> {
+    let mut out = BufWriter::new(alloc, writer)?;
+    write_newest(alloc, &ran.names, filter, &ran.run.report, &mut out)?;
+    out.flush()?;
+    Ok(())
+}
+
+/// Whoever closes the output has read enough. All else that fails is a failure.
+fn answer_of(written: Result<(), TraceError>) -> Result<(), Failure> {
+    match written {
+        Ok(()) | Err(TraceError::Closed) => Ok(()),
+        Err(TraceError::NoMemory) => Err(no_memory()),
+        Err(TraceError::Os) => Err(not_written()),
+    }
 }
 
 /// Shows the run of a scenario.
@@ -62,11 +118,7 @@ fn show_run<W: Write + Drop>(
         only: options.only,
         limit: options.limit,
     };
-    match write(alloc, &trace, &filter, options.format, writer) {
-        Ok(()) | Err(TraceError::Closed) => Ok(()),
-        Err(TraceError::NoMemory) => Err(no_memory()),
-        Err(TraceError::Os) => Err(not_written()),
-    }
+    answer_of(write(alloc, &trace, &filter, options.format, writer))
 }
 
 /// The trace of the run of a scenario, with these turns.

@@ -18,6 +18,8 @@ pub(crate) struct Options {
     pub(crate) only: EntryKinds,
     /// How many entries at most.
     pub(crate) limit: u64,
+    /// How many of the newest entries each actor's journal keeps at least, if it is not to keep all.
+    pub(crate) last: Option<u32>,
 }
 
 static FORMATS: [&str; 4] = ["text", "json", "svg", "html"];
@@ -40,7 +42,8 @@ fn command<'a>(alloc: Global) -> Result<clap::Command<'a>, AllocError> {
         .arg(format_argument(alloc)?)?
         .arg(actor_argument(alloc))?
         .arg(only_argument(alloc)?)?
-        .arg(limit_argument(alloc)?)
+        .arg(limit_argument(alloc)?)?
+        .arg(last_argument(alloc)?)
 }
 
 fn format_argument<'a>(alloc: Global) -> Result<Arg<'a>, AllocError> {
@@ -81,6 +84,17 @@ fn limit_argument<'a>(alloc: Global) -> Result<Arg<'a>, AllocError> {
         .overrides_with("limit")
 }
 
+fn last_argument<'a>(alloc: Global) -> Result<Arg<'a>, AllocError> {
+    Arg::new(alloc, "last")
+        .long("last")
+        .value_name("N")
+        .help("At least the last N entries of each actor, which alone are kept, as text")
+        .value_parser(clap::value_parser!(u32))
+        .overrides_with("last")?
+        .conflicts_with("format")?
+        .conflicts_with("limit")
+}
+
 /// What these matches say.
 fn options_in(alloc: Global, matches: &ArgMatches<'_>) -> Result<Options, AllocError> {
     let file = match matches.get_str("FILE") {
@@ -97,6 +111,7 @@ fn options_in(alloc: Global, matches: &ArgMatches<'_>) -> Result<Options, AllocE
         actors,
         only: only_of(matches.get_str("only")),
         limit: matches.get_one::<u64>("limit").unwrap_or(u64::MAX),
+        last: matches.get_one::<u32>("last"),
     })
 }
 

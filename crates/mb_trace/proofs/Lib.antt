@@ -1,6 +1,7 @@
 pub mod Written
 pub mod Shown
 pub mod AsideLines
+pub mod NewestLines
 pub mod PartLines
 pub mod TurnLines
 pub mod OrderLines

@@ -12,4 +12,5 @@ pub mod Output
 pub mod Text
 pub mod Coverage
 pub mod Rest
+pub mod Newest
 pub mod Whole

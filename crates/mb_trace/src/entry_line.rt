@@ -3,6 +3,7 @@ ghost use Rattle.std.specs.Prelude.{◌++◌, Some, codes, map, string_bytes};
 ghost use Rattle.std.specs.Fmt.{WritesOnOk};
 ghost use Rattle.mb_journal.specs.JournalView.{entry_of};
 ghost use Rattle.mb_trace.specs.Entries.{arrival_text, entry_text, numbered_text, outcome_text};
+ghost use Rattle.mb_trace.specs.Newest.{gone_line_text, lines_text};
 ghost use Rattle.mb_trace.specs.Words.{envelope_text, system_text};
 
 use crate::effect_lines::EffectLines;
@@ -34,6 +35,39 @@ impl fmt::Display for EntryLines<'_> {
             effects: effects_of(&self.entry),
         };
         write!(f, "\n{effects}")
+    }
+}
+
+/// An entry whose actor's journal does not keep all before it, so that how the actor stands is not known. Its `Display` is its lines.
+#[derive(Clone, Copy)]
+pub(crate) struct NewestLines<'a> {
+    pub(crate) names: &'a [String],
+    pub(crate) entry: EntryRef<'a>,
+}
+
+impl fmt::Display for NewestLines<'_> {
+    ghost output = { λ e. Some (lines_text (map string_bytes e.names.now) (entry_of e.entry)) };
+
+    fn fmt<W: fmt::Write>(&self, f: &mut fmt::Formatter<W>) -> fmt::Result {
+        f.write_str("  ")?;
+        write_arrival(f, self.names, &self.entry)?;
+        let effects = effects_of(&self.entry);
+        let names = self.names;
+        write!(f, "\n{}", EffectLines { names, effects })
+    }
+}
+
+/// How many entries of an actor's journal are not kept. Its `Display` is its line.
+#[derive(Clone, Copy)]
+pub(crate) struct GoneLine {
+    pub(crate) first: usize,
+}
+
+impl fmt::Display for GoneLine {
+    ghost output = { λ l. Some (gone_line_text l.first) };
+
+    fn fmt<W: fmt::Write>(&self, f: &mut fmt::Formatter<W>) -> fmt::Result {
+        write!(f, "  entries before, not kept: {}\n", self.first)
     }
 }
 

@@ -51,7 +51,7 @@ impl Filter<'_> {
 }
 
 /// Whether the entry is of this kind.
-fn is_of(only: EntryKinds, entry: &EntryRef<'_>) -> bool
+pub(crate) fn is_of(only: EntryKinds, entry: &EntryRef<'_>) -> bool
     ensures { result ≡ is_of_kind only (entry_of entry.now) }
 {
     match only {

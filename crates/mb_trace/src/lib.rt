@@ -1,7 +1,8 @@
 //! The trace of a run: what came to each actor and what became of it, entry by entry.
 //!
 //! The journals of a report, where they keep their entries, have all of them, each actor's own in order. Of a quiet run the turns give one order of all of them. Of a
-//! run on threads they are shown in one order that agrees with what caused what, or actor by actor where none is found.
+//! run on threads they are shown in one order that agrees with what caused what, or actor by actor where none is found. Journals that keep the
+//! newest entries alone are shown actor by actor.
 #![tactic(auto)]
 
 mod actor_list;
@@ -17,6 +18,7 @@ mod filter;
 mod kept;
 mod laws;
 mod life;
+mod newest;
 mod on_threads;
 mod output;
 mod parts;
@@ -41,6 +43,7 @@ pub use laws::{
     actor_by_actor_has_each_entry_once, merged_order_has_each_entry_once,
     turns_have_each_entry_once,
 };
+pub use newest::write_newest;
 pub use output::write_whole;
 pub use standing::Standing;
 pub use step::TraceStep;
