@@ -5,7 +5,7 @@ PROGRAM := crates/mailrun/out/mailrun
 KEPT := crates/mailrun_kept/out/mailrun_kept
 TRACE := crates/mailtrace/out/mailtrace
 
-.PHONY: run trace prove docs quick examples test refuse check wrong-bodies bench compare install proved
+.PHONY: run trace prove docs quick examples test refuse check wrong-bodies bench instructions compare install proved
 .DEFAULT_GOAL := run
 
 # Runs a scenario and prints its report: make run [SCENARIO=path]. Where the program is not proved yet, an unproved build of its
@@ -50,8 +50,8 @@ examples: proved
 # nothing, the must-fail edits, the tests, the program by two compilers, the program on all scenarios, whose outcomes were worked out by
 # hand, as a user runs it, and on worker threads, the commands of the documents, traces in each form, pages in a browser, where one is
 # there, what becomes of refused allocations, where a C compiler is there, random scenarios beside a second reader, also with kept journals, the
-# journals of one worker beside those of the quiet run, the system messages of random systems on threads, counted, and the library in a
-# repository of its own.
+# journals of one worker beside those of the quiet run, the system messages of random systems on threads, counted, the instructions of a
+# message beside those that the documents say, where valgrind is there, and the library in a repository of its own.
 test:
 	tools/documents --check
 	tools/draw_layers --check
@@ -75,6 +75,7 @@ test:
 	tools/compare_with_a_model $(KEPT)
 	tools/check_order $(TRACE)
 	tools/check_system_messages $(TRACE)
+	@if command -v valgrind > /dev/null; then tools/count_instructions $(PROGRAM) $(KEPT); else echo 'no valgrind: no instruction was counted'; fi
 	tools/check_embed --prove
 
 # Refuses each allocation of the program in turn, and each of a whole run by the tests that the gate has built.
@@ -90,12 +91,18 @@ check:
 wrong-bodies:
 	tools/try_wrong_bodies $(CRATE)
 
-# What the parts cost: messages through a cell and its journal, the queues, the gates and the pools; and six workloads of the program.
-bench:
+# What the parts cost: messages through a cell and its journal, the queues, the gates and the pools; and six workloads of the program. Where
+# valgrind is there, it counts the instructions of a message too, and ends with an error where they are more than docs/SPEED.md says.
+bench: instructions
 	@tools/prove bench
-	@tools/prove mailrun
 	@crates/bench/out/bench
 	@tools/time_workloads $(PROGRAM)
+
+# The instructions of a message beside those that docs/SPEED.md says.
+instructions:
+	@tools/prove mailrun
+	@tools/prove mailrun_kept
+	@if command -v valgrind > /dev/null; then tools/count_instructions $(PROGRAM) $(KEPT); else echo 'no valgrind: no instruction was counted'; fi
 
 # The program beside its peers, with counted and with kept journals, as docs/SPEED.md shows them: make compare [ROUNDS=number]. It says
 # which peers this machine can run, and installs nothing.

@@ -34,11 +34,11 @@ fn total(report: &Report) -> i64 {
         sum = sum.wrapping_add(state(report, id).unwrap_or(0));
     }
     for actor in &report.actors {
-        for envelope in actor.left.iter().chain(&actor.cleaned) {
+        for envelope in actor.left.iter().chain(actor.cleaned.kept()) {
             sum = sum.wrapping_add(worth(envelope));
         }
     }
-    for letter in report.senders.iter().flat_map(|sender| &sender.dead) {
+    for letter in report.senders.iter().flat_map(|sender| sender.dead.kept()) {
         sum = sum.wrapping_add(worth(&letter.envelope));
     }
     sum

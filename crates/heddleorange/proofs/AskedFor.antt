@@ -1,6 +1,6 @@
 -- In a run that gave a report, no system message came into an actor's list that was not asked for, and each that was asked for came into the list of
 -- an actor that did not end.
-use Rattle.std.proofs.Common.{◌≡◌, ◌≢◌, ◌≤◌, ◌+◌, ◌%◌, ◌^◌, ◌==◌, ℕ, Bool, true, false, if◌then◌else◌, List, [], ◌∷◌, ◌++◌, ap, arith, length, map, refl, subst}
+use Rattle.std.proofs.Common.{◌≡◌, ◌≢◌, ◌≤◌, ◌+◌, ◌%◌, ◌^◌, ◌==◌, ℕ, Bool, true, false, List, [], ◌∷◌, ◌++◌, ap, arith, length, map, refl, subst}
 use Rattle.std.proofs.Common.{Some, sym, ◌∙◌}
 use Rattle.std.specs.Prelude.{All, slice_get}
 use Rattle.std.specs.Global.{Box}

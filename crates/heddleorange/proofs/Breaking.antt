@@ -79,7 +79,7 @@ module _ {A K : Type 0} (gives : ℕ → Moment → Reply → Type 0) (plan : Pl
       actors-there gives plan built begun ∙ length-who plan.journal plan.journal_limit plan.actors.items ∙ ap (λ n. n + 1) (as-planned plan actors right.0)
 
   -- orders that are right are for somebody
-  somebody : (error : RunError) → BreaksOff gives built.system now.ends.items orders error → error ≢ Fault.NoSuchActor
+  pub somebody : (error : RunError) → BreaksOff gives built.system now.ends.items orders error → error ≢ Fault.NoSuchActor
   somebody Fault.NoMemory broken is = subst IsNobody is tt
   somebody Fault.JournalFull broken is = subst IsNobody is tt
   somebody Fault.NoSuchActor (inl one) is =
@@ -114,7 +114,7 @@ module _ {A K : Type 0} (gives : ℕ → Moment → Reply → Type 0) (plan : Pl
   told-by Fault.NoMemory shown error known are told =
       subst (HasFailedFor gives plan actors orders shown) (sym told) (right, left shown are)
   told-by Fault.NoSuchActor shown error known are told = absurd (known refl)
-  told-by Fault.JournalFull shown error known are (inl (is, full)) =
+  told-by Fault.JournalFull shown error known are (inl (id, is, full)) =
       subst (HasFailedFor gives plan actors orders shown) (sym is) (right, left shown are, full)
   told-by Fault.JournalFull shown error known are (inr (what, is, lacks)) =
       subst (HasFailedFor gives plan actors orders shown) (sym is) (right, within-plan what lacks, inr (left shown are, lacks))
@@ -124,7 +124,7 @@ module _ {A K : Type 0} (gives : ℕ → Moment → Reply → Type 0) (plan : Pl
       within-plan (Listed id) none = absurd none
       within-plan (Waiting id) none = absurd none
 
-  pub may-break : (fault : RunError) (failed : FailedRun) → BreaksOff gives built.system now.ends.items orders fault
+  pub may-break : (fault : RunError) (failed : FailedRun A) → BreaksOff gives built.system now.ends.items orders fault
       → IsBrokenOff gives now fault plan.journal_limit failed → IsErrorOfRun gives plan actors orders failed
   may-break fault failed broken (inl (are, told)) = told-by fault failed.actors.items failed.error (somebody fault broken) are told
   may-break fault failed broken (inr (is, none)) = subst (HasFailedFor gives plan actors orders failed.actors.items) (sym is) (right, inl none)

@@ -1,6 +1,6 @@
 -- The ledger of a run in numbers alone, from its story.
-use Rattle.std.proofs.Common.{◌≡◌, ℕ, zero, suc, ◌+◌, ◌<◌, ◌≤◌, ◌^◌, ◌%◌, ℤ, List, [], ◌∷◌, ◌++◌, length, cond, refl, sym, ap, ◌∙◌, arith, count_by, Some}
-use Rattle.std.specs.Prelude.{Err, IfOk, Ok, OnOk, Result, slice_get, sum_by}
+use Rattle.std.proofs.Common.{◌≡◌, ℕ, zero, suc, ◌<◌, ◌≤◌, ℤ, List, [], ◌∷◌, length, cond, refl, sym, ◌∙◌, arith, count_by}
+use Rattle.std.specs.Prelude.{Err, IfOk, Ok, OnOk, Result, sum_by}
 use Rattle.std.proofs.lemmas.List.{length-append, length-map}
 use Rattle.std.proofs.lemmas.List.Sums.{sum_by-cons}
 use Rattle.mb_actor.specs.Behaviour.{Moment, Reply}
@@ -20,10 +20,9 @@ use Rattle.mb_report.specs.declared.report.ActorReport.{ActorReport}
 use Rattle.mb_report.specs.declared.report.Report.{Report}
 use Rattle.mb_report.specs.declared.report.SenderReport.{SenderReport}
 use Rattle.mb_shutdown.proofs.Lists.{within}
-use Rattle.heddleorange.specs.Ledger.{AddsUpByCounts, all_begun, all_cleaned, all_left, all_refused, all_sent, settled_count}
+use Rattle.heddleorange.specs.Ledger.{AddsUpByCounts, all_sent, settled_count}
 use Rattle.heddleorange.specs.NoReport.{IsRight}
 use Rattle.heddleorange.specs.WholeRun.{IsReportOfRun}
-use Rattle.heddleorange.specs.declared.failed_run.FailedRun.{FailedRun}
 use Rattle.heddleorange.proofs.Ledger.{adds-up, sent-list}
 use Rattle.heddleorange.proofs.Sums.{sum-flat, sum-same, total, total-list, total-same}
 
@@ -91,8 +90,8 @@ module _ (after : ℕ → List Message → ℤ) (gives : ℕ → Moment → Repl
       ∙ most ∙ settled
 
 -- and so of a call that gives the report
-pub counts-of : (after : ℕ → List Message → ℤ) (gives : ℕ → Moment → Reply → Type 0) (plan : Plan) (actors : ℕ) (orders : List (List Order))
-    (result : Result Report FailedRun) → IfOk result (IsReportOfRun after gives plan orders) → OnOk result (IsRight plan actors orders)
+pub counts-of : {E : Type 0} (after : ℕ → List Message → ℤ) (gives : ℕ → Moment → Reply → Type 0) (plan : Plan) (actors : ℕ) (orders : List (List Order))
+    (result : Result Report E) → IfOk result (IsReportOfRun after gives plan orders) → OnOk result (IsRight plan actors orders)
     → IfOk result AddsUpByCounts
 counts-of after gives plan actors orders (Ok report) story right = adds-up-by-counts after gives plan actors orders report right story
 counts-of after gives plan actors orders (Err error) story right = story

@@ -35,7 +35,6 @@ use Rattle.heddleorange.specs.NoReport.{IsRight}
 use Rattle.heddleorange.specs.Reading.{entries_in, entries_of, journal_of, state_in, state_of}
 use Rattle.heddleorange.specs.States.{ShowsStates}
 use Rattle.heddleorange.specs.WholeRun.{IsReportOfRun, after_at, gives_at, gives_of}
-use Rattle.heddleorange.specs.declared.failed_run.FailedRun.{FailedRun}
 
 split : {X : Type 0} (xs : List X) (n : ℕ) → length xs ≡ n + 1 → (x : X) × (rest : List X) × (xs ≡ x ∷ rest)
 split [] n many = absurd (omega (arith, many))
@@ -148,7 +147,7 @@ module _ {A : Type 0} (after : A → List Message → ℤ) (gives : A → Moment
     G = gives_at actors gives
 
     states : ShowsStates after actors plan report
-    states = all-states actors after G plan orders (Ok report) story right
+    states = all-states actors after G plan orders {E = Unit {0}} (Ok report) story right
 
     row : (k : ℕ) (actor : A) (who : Identity) (line : ActorReport) → slice_get actors k ≡ Some actor → slice_get (actors_in plan) (suc k) ≡ Some who
         → slice_get report.actors.items (suc k) ≡ Some line → IsRow actor who line
@@ -189,8 +188,8 @@ module _ {A : Type 0} (after : A → List Message → ℤ) (gives : A → Moment
         (rest.0, rest.1, omega (arith, ints, sums, ledger, sent, told_all, took_all, took, none))
 
 -- and so of a call that gives the report
-pub conserved-of : {A : Type 0} (after : A → List Message → ℤ) (gives : A → Moment → Reply → Type 0) (worth : Message → ℤ)
-    (holdings : List (Option Holding)) (actors : List A) (plan : Plan) (orders : List (List Order)) (result : Result Report FailedRun)
+pub conserved-of : {A E : Type 0} (after : A → List Message → ℤ) (gives : A → Moment → Reply → Type 0) (worth : Message → ℤ)
+    (holdings : List (Option Holding)) (actors : List A) (plan : Plan) (orders : List (List Order)) (result : Result Report E)
     → ((x : ActorId) → worth (Terminated x) ≡ pos 0) → AllConserve after gives worth holdings actors
     → IfOk result (IsReportOfRun (after_at actors after) (gives_at actors gives) plan orders) → OnOk result (IsRight plan (length actors) orders)
     → IfOk result (IsConserved worth holdings orders)

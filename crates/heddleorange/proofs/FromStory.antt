@@ -16,7 +16,6 @@ use Rattle.heddleorange.specs.NoReport.{IsRight}
 use Rattle.heddleorange.specs.Reading.{entries_in, entries_of, journal_of, state_of}
 use Rattle.heddleorange.specs.States.{ShowsStates}
 use Rattle.heddleorange.specs.WholeRun.{IsReportOfRun, after_at, after_of}
-use Rattle.heddleorange.specs.declared.failed_run.FailedRun.{FailedRun}
 use Rattle.heddleorange.proofs.Identified.{actor-at}
 use Rattle.heddleorange.proofs.Ledger.{line-count}
 
@@ -45,12 +44,12 @@ module _ {A : Type 0} (actors : List A) (after : A → List Message → ℤ) (gi
                 ∙ ap (λ (j : List Entry). Some (after actor (messages who j))) (sym entries),
           )
 
-    pub all-lines : (result : Result Report FailedRun) → IfOk result (IsReportOfRun (after_at actors after) gives plan orders)
+    pub all-lines : {E : Type 0} (result : Result Report E) → IfOk result (IsReportOfRun (after_at actors after) gives plan orders)
         → OnOk result (IsRight plan (length actors) orders) → IfOk result (λ (report : Report). length report.actors.items ≡ length actors + 1)
     all-lines (Ok report) story right = lines report right story
     all-lines (Err error) story right = story
 
-    pub all-states : (result : Result Report FailedRun) → IfOk result (IsReportOfRun (after_at actors after) gives plan orders)
+    pub all-states : {E : Type 0} (result : Result Report E) → IfOk result (IsReportOfRun (after_at actors after) gives plan orders)
         → OnOk result (IsRight plan (length actors) orders) → IfOk result (ShowsStates after actors plan)
     all-states (Ok report) story right = states report right story
     all-states (Err error) story right = story

@@ -41,13 +41,13 @@ module _ {A K : Type 0} (gives : ℕ → Moment → Reply → Type 0) (plan : Pl
 
 module _ {A K : Type 0} (after : ℕ → List Message → ℤ) (gives : ℕ → Moment → Reply → Type 0) (plan : Plan) (orders : List (List Order))
     (now : Built A K) (ran : HasRun gives plan orders now) where
-  pub storied : (result : Result Report FailedRun) → length orders ≡ plan.senders
+  pub storied : {E : Type 0} (result : Result Report E) → length orders ≡ plan.senders
       → IfOk result (λ report. (p : Plan) (os : List (List Order)) → length os ≡ p.senders → HasRun gives p os now → IsReportOfRun after gives p os report)
       → IfOk result (IsReportOfRun after gives plan orders)
   storied (Ok report) right all = all plan orders right ran
   storied (Err error) right all = all
 
-  pub unstoried : (actors : ℕ) (result : Result Report FailedRun) → IsRight plan actors orders
+  pub unstoried : {X : Type 0} (actors : ℕ) (result : Result Report (FailedRun X)) → IsRight plan actors orders
       → IfErr result (λ error. (p : Plan) (n : ℕ) (os : List (List Order)) → IsRight p n os → HasRun gives p os now → IsErrorOfRun gives p n os error)
       → IfErr result (IsErrorOfRun gives plan actors orders)
   unstoried actors (Ok report) right all = all

@@ -1,6 +1,6 @@
 -- What the journals of a report keep, from its story.
-use Rattle.std.proofs.Common.{◌≡◌, ℕ, zero, suc, ◌+◌, ℤ, List, [], ◌∷◌, refl, sym, ap, ◌∙◌, arith, Some}
-use Rattle.std.specs.Prelude.{Err, IfOk, Ok, OnOk, Result, slice_get}
+use Rattle.std.proofs.Common.{◌≡◌, ℕ, zero, suc, ◌+◌, ℤ, List, [], ◌∷◌, sym, ap, ◌∙◌, arith, Some}
+use Rattle.std.specs.Prelude.{Err, IfOk, Ok, Result, slice_get}
 use Rattle.std.proofs.lemmas.Option.{none-some, same_Some}
 use Rattle.mb_actor.specs.Behaviour.{Moment, Reply}
 use Rattle.mb_actor.specs.declared.message.Message.{Message}
@@ -19,7 +19,6 @@ use Rattle.mb_report.specs.declared.report.Report.{Report}
 use Rattle.mb_shutdown.proofs.Lists.{each-place, mapped-to, there, within}
 use Rattle.heddleorange.specs.Kept.{KeepsAsPlanned}
 use Rattle.heddleorange.specs.WholeRun.{IsReportOfRun}
-use Rattle.heddleorange.specs.declared.failed_run.FailedRun.{FailedRun}
 
 -- each actor's journal keeps what the plan says
 keeps-of : (actors : ℕ) (mode : JournalMode) (limit : ℕ) (all : List ActorId) (number : ℕ) (parents : List ActorId) (strategies : List Strategy) (place : ℕ)
@@ -46,7 +45,7 @@ keeps after gives plan orders report story =
     ∙ keeps-planned plan id row.0.who (mapped-to (λ (d : DirectoryEntry). d.who) story.directory (actors_in plan) id row.0 story.planned.who row.1)))
 
 -- and so of a call that gives the report
-pub kept-of : (after : ℕ → List Message → ℤ) (gives : ℕ → Moment → Reply → Type 0) (plan : Plan) (orders : List (List Order))
-    (result : Result Report FailedRun) → IfOk result (IsReportOfRun after gives plan orders) → IfOk result (KeepsAsPlanned plan)
+pub kept-of : {E : Type 0} (after : ℕ → List Message → ℤ) (gives : ℕ → Moment → Reply → Type 0) (plan : Plan) (orders : List (List Order))
+    (result : Result Report E) → IfOk result (IsReportOfRun after gives plan orders) → IfOk result (KeepsAsPlanned plan)
 kept-of after gives plan orders (Ok report) story = keeps after gives plan orders report story
 kept-of after gives plan orders (Err error) story = story

@@ -31,7 +31,6 @@ use Rattle.mb_shutdown.specs.CompleteReport.{fates_in, sender_number}
 use Rattle.heddleorange.specs.Ledger.{AddsUp, all_sent, numbered_from, ordered_from, told_by}
 use Rattle.heddleorange.specs.NoReport.{IsRight}
 use Rattle.heddleorange.specs.WholeRun.{IsReportOfRun}
-use Rattle.heddleorange.specs.declared.failed_run.FailedRun.{FailedRun}
 use Rattle.heddleorange.proofs.Identified.{actor-at, as-planned}
 use Rattle.heddleorange.proofs.Recipients.{Goes, dead-too, numbered-goes, of-place, orders-there, told-goes, told-there}
 use Rattle.heddleorange.proofs.Sums.{in-parts, sum-flat, sum-plus, sum-same, total, total-list, total-plus, total-same, total-split, total-swap}
@@ -297,8 +296,8 @@ module _ (after : ℕ → List Message → ℤ) (gives : ℕ → Moment → Repl
       omega (arith, sent, all, came, refused, parts, a, b, c, d)
 
 -- and so of a call that gives the report
-pub ledger-of : (after : ℕ → List Message → ℤ) (gives : ℕ → Moment → Reply → Type 0) (plan : Plan) (actors : ℕ) (orders : List (List Order))
-    (result : Result Report FailedRun) → IfOk result (IsReportOfRun after gives plan orders) → OnOk result (IsRight plan actors orders)
+pub ledger-of : {E : Type 0} (after : ℕ → List Message → ℤ) (gives : ℕ → Moment → Reply → Type 0) (plan : Plan) (actors : ℕ) (orders : List (List Order))
+    (result : Result Report E) → IfOk result (IsReportOfRun after gives plan orders) → OnOk result (IsRight plan actors orders)
     → IfOk result (AddsUp plan orders)
 ledger-of after gives plan actors orders (Ok report) story right = adds-up after gives plan actors orders report right story
 ledger-of after gives plan actors orders (Err error) story right = story

@@ -41,3 +41,5 @@ pub mod PassedOn
 pub mod Adding
 pub mod ByCounts
 pub mod Kept
+pub mod First
+pub mod GivesBack

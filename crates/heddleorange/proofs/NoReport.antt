@@ -20,7 +20,6 @@ use Rattle.mb_startup.specs.Begun.{IsBegun}
 use Rattle.mb_system.specs.Members.{IsEndOf}
 use Rattle.mb_system.specs.declared.built.Built.{Built}
 use Rattle.mb_system.specs.declared.end.WorkerEnd.{WorkerEnd}
-use Rattle.mb_system.specs.declared.failure.RunError.TheVariants as Fault
 use Rattle.mb_system.specs.declared.system.System.{System}
 use Rattle.mb_msg.specs.declared.order.Order.{Order}
 use Rattle.mb_shutdown.specs.Refused.{DisagreesIfSaid, FindsBusy, FindsIdle, IsRefusal}
@@ -31,7 +30,7 @@ use Rattle.mb_startup.proofs.Directories.{still-planned, still-senders, still-th
 use Rattle.heddleorange.specs.NoReport.{HasFailedFor, IsErrorOfRun, IsRight, IsUnfit}
 use Rattle.heddleorange.specs.Remains.{AreRemains, BringsOwnEnds, HasOwnEnds, HasWorkAmong, IsFailureFor, IsWithoutMemory}
 use Rattle.heddleorange.specs.declared.error.Error.{Error}
-use Rattle.heddleorange.specs.declared.error.Error.TheVariants.{BadPlan, Sends, NoMemory, Run, NotQuiet, Mismatch, NameTaken}
+use Rattle.heddleorange.specs.declared.error.Error.TheVariants.{BadPlan, OrderLists, NoSuchSender, NoSuchActor, NoMemory, NoMemoryInRun, JournalFull, NotQuiet, Mismatch, NameTaken}
 use Rattle.heddleorange.specs.declared.failed_run.FailedRun.{FailedRun}
 use Rattle.heddleorange.proofs.Remains.{remains, remains-with}
 
@@ -39,28 +38,29 @@ use Rattle.heddleorange.proofs.Remains.{remains, remains-with}
 unfit-for : (gives : ℕ → Moment → Reply → Type 0) (plan : Plan) (actors : ℕ) (orders : List (List Order)) (shown : List (Option UnfinishedActor))
     (error : Error) → shown ≡ [] → IsUnfit plan actors orders error → HasFailedFor gives plan actors orders shown error
 unfit-for gives plan actors orders shown (BadPlan reason) none refused = (refused, none)
-unfit-for gives plan actors orders shown Sends none refused = (refused.0, refused.1, none)
+unfit-for gives plan actors orders shown (OrderLists lists senders) none refused = (refused.0, refused.1, refused.2, refused.3, none)
+unfit-for gives plan actors orders shown (NoSuchSender place sender) none refused = (refused.0, refused.1, none)
 unfit-for gives plan actors orders shown NoMemory none refused = absurd refused
-unfit-for gives plan actors orders shown (Run Fault.NoSuchActor) none refused = (refused.0, refused.1, refused.2, none)
-unfit-for gives plan actors orders shown (Run Fault.NoMemory) none refused = absurd refused
-unfit-for gives plan actors orders shown (Run Fault.JournalFull) none refused = absurd refused
+unfit-for gives plan actors orders shown (NoSuchActor sender place to) none refused = (refused.0, refused.1, refused.2, none)
+unfit-for gives plan actors orders shown NoMemoryInRun none refused = absurd refused
+unfit-for gives plan actors orders shown (JournalFull id) none refused = absurd refused
 unfit-for gives plan actors orders shown (NotQuiet id) none refused = absurd refused
 unfit-for gives plan actors orders shown (Mismatch what) none refused = absurd refused
 unfit-for gives plan actors orders shown (NameTaken id) none refused = absurd refused
 
-pub unfit : (gives : ℕ → Moment → Reply → Type 0) (plan : Plan) (actors : ℕ) (orders : List (List Order)) (failed : FailedRun) (error : Error)
+pub unfit : {X : Type 0} (gives : ℕ → Moment → Reply → Type 0) (plan : Plan) (actors : ℕ) (orders : List (List Order)) (failed : FailedRun X) (error : Error)
     → failed.error ≡ error → failed.actors.items ≡ [] → IsUnfit plan actors orders error → IsErrorOfRun gives plan actors orders failed
 unfit gives plan actors orders failed error is none refused =
     subst (HasFailedFor gives plan actors orders failed.actors.items) (sym is) (unfit-for gives plan actors orders failed.actors.items error none refused)
 
 -- memory was refused for what is right
-pub without-memory : (gives : ℕ → Moment → Reply → Type 0) (plan : Plan) (actors : ℕ) (orders : List (List Order)) (failed : FailedRun)
+pub without-memory : {X : Type 0} (gives : ℕ → Moment → Reply → Type 0) (plan : Plan) (actors : ℕ) (orders : List (List Order)) (failed : FailedRun X)
     → IsRight plan actors orders → IsWithoutMemory failed → IsErrorOfRun gives plan actors orders failed
 without-memory gives plan actors orders failed right told =
     subst (HasFailedFor gives plan actors orders failed.actors.items) (sym told.0) (right, inl told.1)
 
 -- what is right is not built only for want of memory
-pub only-memory : {T : Type 0} (gives : ℕ → Moment → Reply → Type 0) (plan : Plan) (actors : ℕ) (orders : List (List Order)) (result : Result T FailedRun)
+pub only-memory : {T X : Type 0} (gives : ℕ → Moment → Reply → Type 0) (plan : Plan) (actors : ℕ) (orders : List (List Order)) (result : Result T (FailedRun X))
     → IsRight plan actors orders → IfErr result IsWithoutMemory → IfErr result (IsErrorOfRun gives plan actors orders)
 only-memory gives plan actors orders (Ok x) right told = tt
 only-memory gives plan actors orders (Err failed) right told = without-memory gives plan actors orders failed right told
@@ -134,7 +134,7 @@ module _ {A K : Type 0} (gives : ℕ → Moment → Reply → Type 0) (plan : Pl
       }
 
   -- how it is told why a system that was right has no end
-  pub untold : (actors : ℕ) (orders : List (List Order)) (why : FinishError A K) (failed : FailedRun) → IsRight plan actors orders
+  pub untold : (actors : ℕ) (orders : List (List Order)) (why : FinishError A K) (failed : FailedRun A) → IsRight plan actors orders
       → All (λ (e : WorkerEnd A K). IsEndOf built.system.gates e.registrar) built.ends.items → IsRefusal built why → DisagreesIfSaid gives built why
       → IsFailureFor gives why failed → IsErrorOfRun gives plan actors orders failed
   untold actors orders (end.MissingEnd number back) failed right ends refused cause told = absurd told

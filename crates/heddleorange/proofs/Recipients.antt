@@ -19,7 +19,7 @@ use Rattle.mb_journal.specs.Lawful.{AreLawful}
 use Rattle.mb_journal.specs.Tells.{AddressedBody, envelopes_from, tells, tells_of_journal}
 use Rattle.mb_journal.specs.Watching.{watching}
 use Rattle.mb_journal.specs.declared.sent_envelope.SentEnvelope.{SentEnvelope}
-use Rattle.mb_msg.specs.declared.dead_letter.Why.{Why}
+use Rattle.mb_msg.specs.declared.dead_letter.DeadLetterReason.{DeadLetterReason}
 use Rattle.mb_msg.specs.declared.envelope.Envelope.{Envelope}
 use Rattle.mb_msg.specs.declared.id.ActorId.{ActorId}
 use Rattle.mb_msg.specs.declared.order.Order.{Order}
@@ -106,7 +106,7 @@ module _ (actors by : ℕ) where
 
 -- dead letters are among those that were answered for
 module _ (P : Envelope → Type 0) where
-  dead-more : (e : Envelope) (refused : Option Why) (ps : List SentEnvelope) → P e → All P (letters_envelopes (dead_letters ps))
+  dead-more : (e : Envelope) (refused : Option DeadLetterReason) (ps : List SentEnvelope) → P e → All P (letters_envelopes (dead_letters ps))
       → All P (letters_envelopes (dead_letters (record { envelope = e; refused = refused } ∷ ps)))
   dead-more e None ps here rest = rest
   dead-more e (Some why) ps here rest = All-cons P e (letters_envelopes (dead_letters ps)) here rest

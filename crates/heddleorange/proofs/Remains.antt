@@ -1,7 +1,7 @@
 -- What is left of the actors of a run of a plan.
 use Rattle.std.proofs.Common.{◌≡◌, ◌⊎◌, inl, inr, ℕ, zero, suc, ◌+◌, ◌<◌, ◌≤◌, List, [], ◌∷◌, length, length-append, refl, sym, ap, ◌∙◌, subst, arith}
 use Rattle.std.proofs.Common.{Bool, true, false, None, Option, Some}
-use Rattle.std.specs.Prelude.{◌||◌, Contains, nat_le, slice_get}
+use Rattle.std.specs.Prelude.{Contains, nat_le, slice_get}
 use Rattle.std.specs.List.{AllZip, list_any}
 use Rattle.std.proofs.lemmas.Bool.Decides.{nat_tests}
 use Rattle.std.proofs.lemmas.List.Elements.{All-contains, All-head}
@@ -40,8 +40,8 @@ use Rattle.mb_system.specs.declared.failure.RunError.{RunError}
 use Rattle.mb_system.specs.declared.failure.RunError.TheVariants as Fault
 use Rattle.mb_system.specs.declared.system.System.{System}
 use Rattle.mb_shutdown.specs.declared.mismatch.Mismatch.TheVariants.{Held}
-use Rattle.heddleorange.specs.declared.error.Error.TheVariants.{Mismatch, Run}
-use Rattle.heddleorange.specs.Remains.{AreRemains, HasOwnEnds, IsLeftOf, IsToldAs, LackOne, SawFull, ShowFull, is_full}
+use Rattle.heddleorange.specs.declared.error.Error.TheVariants.{JournalFull, Mismatch}
+use Rattle.heddleorange.specs.Remains.{AreRemains, HasOwnEnds, IsFirstFull, IsLeftOf, IsToldAs, LackOne, SawFull, ShowFull, is_full}
 use Rattle.heddleorange.proofs.Recipients.{none-passes}
 
 -- each actor's journal may have as many entries as the plan says
@@ -159,31 +159,26 @@ few-actors {A} {K} built own = first built.ends.items own.0 own.1
 at-most : (a b : ℕ) → a ≤ b → nat_le a b ≡ true
 at-most a b le = grind (arith, nat_tests)
 
-from-test : (a b : ℕ) → nat_le a b ≡ true → a ≤ b
-from-test a b is = grind (arith, nat_tests)
-
-full-first : (limit : ℕ) (a : UnfinishedActor) (shown : List (Option UnfinishedActor)) → (list_any (is_full limit) shown ≡ true → ShowFull limit shown)
-    → (b : Bool) → nat_le limit (length a.journal.entries) ≡ b → (b || list_any (is_full limit) shown) ≡ true → ShowFull limit (Some a ∷ shown)
-full-first limit a shown later true at any = (0, a, refl, from-test limit (length a.journal.entries) at)
-full-first limit a shown later false at any = let rest = later any in (suc rest.0, rest.1, rest.2, rest.3)
-
-pub full-there : (limit : ℕ) (shown : List (Option UnfinishedActor)) → list_any (is_full limit) shown ≡ true → ShowFull limit shown
-full-there limit [] is = absurd (cc is)
-full-there limit (None ∷ shown) is = let rest = full-there limit shown is in (suc rest.0, rest.1, rest.2, rest.3)
-full-there limit (Some a ∷ shown) is = full-first limit a shown (full-there limit shown) (nat_le limit (length a.journal.entries)) refl is
+-- a full journal is shown that stands at a place
+full-there : (limit : ℕ) (shown : List (Option UnfinishedActor)) (id : ℕ) (a : UnfinishedActor) → slice_get shown id ≡ Some (Some a)
+    → limit ≤ length a.journal.entries → ShowFull limit shown
+full-there limit shown id a at le = seen (list_any (is_full limit) shown) refl
+  where
+    seen : (b : Bool) → list_any (is_full limit) shown ≡ b → ShowFull limit shown
+    seen true is = is
+    seen false is =
+        let not = at-place (λ o. is_full limit o ≡ false) shown id (Some a) (none-passes (is_full limit) shown is) at in
+        absurd (cc (at-most limit (length a.journal.entries) le, not))
 
 pub lacks-one : (limit : ℕ) (shown : List (Option UnfinishedActor)) → list_any (is_full limit) shown ≡ false → ShowFull limit shown ⊎ LackOne shown
     → LackOne shown
-lacks-one limit shown none (inl (id, a, at, le)) =
-    let not = at-place (λ o. is_full limit o ≡ false) shown id (Some a) (none-passes (is_full limit) shown none) at in
-    absurd (cc (at-most limit (length a.journal.entries) le, not))
+lacks-one limit shown none (inl some) = absurd (cc (some, none))
 lacks-one limit shown none (inr lacks) = lacks
 
 -- how a full journal is told
-pub told-full : (fault : RunError) (limit : ℕ) (shown : List (Option UnfinishedActor)) → fault ≡ Fault.JournalFull
-    → list_any (is_full limit) shown ≡ true → IsToldAs fault limit shown (Run Fault.JournalFull)
-told-full fault limit shown is any =
-    subst (λ f. IsToldAs f limit shown (Run Fault.JournalFull)) (sym is) (inl (refl, full-there limit shown any))
+pub told-full : (fault : RunError) (limit : ℕ) (shown : List (Option UnfinishedActor)) (id : ActorId) → fault ≡ Fault.JournalFull
+    → IsFirstFull limit shown id → IsToldAs fault limit shown (JournalFull id)
+told-full fault limit shown id is first = subst (λ f. IsToldAs f limit shown (JournalFull id)) (sym is) (inl (id, refl, first))
 
 pub told-lack : (fault : RunError) (limit : ℕ) (shown : List (Option UnfinishedActor)) (id : ActorId) → fault ≡ Fault.JournalFull
     → slice_get shown id.0 ≡ Some None → IsToldAs fault limit shown (Mismatch (Held id))
@@ -213,4 +208,4 @@ module _ {A K : Type 0} (gives : ℕ → Moment → Reply → Type 0) (built : B
           each_among (IsKept saw.actor (back.0).home.value.cell.journal _) (Saw saw.actor saw.journal) are.view.log kept among refl in
           let joined = ap length extends.joined in let both = length-append extends.newer saw.journal in
           let shows = ap length (back.2).journal_is in let full = saw.full in
-          inl (saw.actor, a, here, omega (arith, joined, both, shows, full))
+          inl (full-there limit shown saw.actor a here (omega (arith, joined, both, shows, full)))

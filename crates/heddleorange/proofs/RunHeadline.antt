@@ -24,7 +24,6 @@ use Rattle.heddleorange.specs.Ledger.{numbered_from}
 use Rattle.heddleorange.specs.NoReport.{IsRight}
 use Rattle.heddleorange.specs.RunHeadline.{IsPlannedFifo, RunHeadline, ordered_by_each}
 use Rattle.heddleorange.specs.WholeRun.{IsReportOfRun}
-use Rattle.heddleorange.specs.declared.failed_run.FailedRun.{FailedRun}
 use Rattle.heddleorange.proofs.Identified.{as-planned}
 use Rattle.heddleorange.proofs.Ledger.{goes, line-count, outside-as}
 
@@ -91,8 +90,8 @@ module _ (after : ℕ → List Message → ℤ) (gives : ℕ → Moment → Repl
   }
 
 -- and so of a call that gives the report
-pub headline-of : (after : ℕ → List Message → ℤ) (gives : ℕ → Moment → Reply → Type 0) (plan : Plan) (actors : ℕ) (orders : List (List Order))
-    (result : Result Report FailedRun) → IfOk result (IsReportOfRun after gives plan orders) → OnOk result (IsRight plan actors orders)
+pub headline-of : {E : Type 0} (after : ℕ → List Message → ℤ) (gives : ℕ → Moment → Reply → Type 0) (plan : Plan) (actors : ℕ) (orders : List (List Order))
+    (result : Result Report E) → IfOk result (IsReportOfRun after gives plan orders) → OnOk result (IsRight plan actors orders)
     → IfOk result (RunHeadline plan orders)
 headline-of after gives plan actors orders (Ok report) story right = run-headline after gives plan actors orders report right story
 headline-of after gives plan actors orders (Err error) story right = story

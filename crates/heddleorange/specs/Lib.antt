@@ -16,3 +16,6 @@ pub mod RunHeadline
 pub mod Orders
 pub mod Turns
 pub mod Covering
+pub mod NamedOrder
+pub mod GivesBack
+pub mod Added

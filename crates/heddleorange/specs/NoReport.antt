@@ -8,15 +8,14 @@ use Rattle.mb_build.specs.declared.check.PlanError.{PlanError}
 use Rattle.mb_msg.specs.declared.plan.Plan.{Plan}
 use Rattle.mb_shutdown.specs.Mismatched.{of_whom}
 use Rattle.mb_build.specs.Planned.{actors_in}
-use Rattle.mb_system.specs.declared.failure.RunError.TheVariants as Fault
 use Rattle.mb_msg.specs.declared.order.Order.{Order}
 use Rattle.mb_msg.specs.declared.order.OrderKind.{OrderKind}
 use Rattle.mb_msg.specs.declared.order.OrderKind.TheVariants.{Stop, Tell}
 use Rattle.mb_shutdown.specs.NotFinished.{DoesNotAgree}
 use Rattle.mb_shutdown.specs.declared.unfinished.UnfinishedActor.{UnfinishedActor}
-use Rattle.heddleorange.specs.Remains.{AreRemains, HasWorkAmong, IsLackOf, ShowFull}
+use Rattle.heddleorange.specs.Remains.{AreRemains, HasWorkAmong, IsFirstFull, IsLackOf}
 use Rattle.heddleorange.specs.declared.error.Error.{Error}
-use Rattle.heddleorange.specs.declared.error.Error.TheVariants.{BadPlan, Sends, NoMemory, Run, NotQuiet, Mismatch, NameTaken}
+use Rattle.heddleorange.specs.declared.error.Error.TheVariants.{BadPlan, OrderLists, NoSuchSender, NoSuchActor, NoMemory, NoMemoryInRun, JournalFull, NotQuiet, Mismatch, NameTaken}
 use Rattle.heddleorange.specs.declared.failed_run.FailedRun.{FailedRun}
 
 -- This can go to none of so many actors, of which the first has number 1: an envelope goes to one of them, a Terminate also to the guardian.
@@ -41,27 +40,31 @@ IsRight plan actors orders = (reasons plan actors ≡ []) × (length orders ≡ 
 -- there are, and one of the orders can go to no actor.
 abbrev pub IsUnfit : Plan → ℕ → List (List Order) → Error → Type 0
 IsUnfit plan actors orders (BadPlan reason) = (rest : List PlanError) × (reasons plan actors ≡ reason ∷ rest)
-IsUnfit plan actors orders Sends = (reasons plan actors ≡ []) × (length orders ≢ plan.senders)
-IsUnfit plan actors orders (Run Fault.NoSuchActor) =
+IsUnfit plan actors orders (OrderLists lists senders) =
+    (reasons plan actors ≡ []) × (length orders ≢ plan.senders) × (lists ≡ length orders) × (senders ≡ plan.senders)
+IsUnfit plan actors orders (NoSuchSender place sender) = (reasons plan actors ≡ []) × (length orders ≢ plan.senders)
+IsUnfit plan actors orders (NoSuchActor sender place to) =
     (reasons plan actors ≡ []) × (length orders ≡ plan.senders) × (has_one_for_nobody actors orders ≡ true)
-IsUnfit plan actors orders (Run Fault.NoMemory) = ⊥
-IsUnfit plan actors orders (Run Fault.JournalFull) = ⊥
+IsUnfit plan actors orders NoMemoryInRun = ⊥
+IsUnfit plan actors orders (JournalFull id) = ⊥
 IsUnfit plan actors orders NoMemory = ⊥
 IsUnfit plan actors orders (NotQuiet id) = ⊥
 IsUnfit plan actors orders (Mismatch what) = ⊥
 IsUnfit plan actors orders (NameTaken id) = ⊥
 
 -- Why the run gave no report, and what is left of its actors. Nothing is done, as above, and nothing is left; or the plan and the orders are right, and
--- memory was refused, the journal of an actor that is left is at its limit, an actor that is left was found to have something to run still, this very
+-- memory was refused, the first journal of those left that is at its limit is that of this actor, an actor that is left was found to have something to run still, this very
 -- mismatch was found and nothing is left, or nothing came back of this actor.
 abbrev pub HasFailedFor : (ℕ → Moment → Reply → Type 0) → Plan → ℕ → List (List Order) → List (Option UnfinishedActor) → Error → Type 0
 HasFailedFor gives plan actors orders shown (BadPlan reason) = ((rest : List PlanError) × (reasons plan actors ≡ reason ∷ rest)) × (shown ≡ [])
-HasFailedFor gives plan actors orders shown Sends = (reasons plan actors ≡ []) × (length orders ≢ plan.senders) × (shown ≡ [])
-HasFailedFor gives plan actors orders shown (Run Fault.NoSuchActor) =
+HasFailedFor gives plan actors orders shown (OrderLists lists senders) =
+    (reasons plan actors ≡ []) × (length orders ≢ plan.senders) × (lists ≡ length orders) × (senders ≡ plan.senders) × (shown ≡ [])
+HasFailedFor gives plan actors orders shown (NoSuchSender place sender) = (reasons plan actors ≡ []) × (length orders ≢ plan.senders) × (shown ≡ [])
+HasFailedFor gives plan actors orders shown (NoSuchActor sender place to) =
     (reasons plan actors ≡ []) × (length orders ≡ plan.senders) × (has_one_for_nobody actors orders ≡ true) × (shown ≡ [])
-HasFailedFor gives plan actors orders shown (Run Fault.NoMemory) = IsRight plan actors orders × AreRemains gives plan shown
-HasFailedFor gives plan actors orders shown (Run Fault.JournalFull) =
-    IsRight plan actors orders × AreRemains gives plan shown × ShowFull plan.journal_limit shown
+HasFailedFor gives plan actors orders shown NoMemoryInRun = IsRight plan actors orders × AreRemains gives plan shown
+HasFailedFor gives plan actors orders shown (JournalFull id) =
+    IsRight plan actors orders × AreRemains gives plan shown × IsFirstFull plan.journal_limit shown id
 HasFailedFor gives plan actors orders shown NoMemory = IsRight plan actors orders × ((shown ≡ []) ⊎ AreRemains gives plan shown)
 HasFailedFor gives plan actors orders shown (NotQuiet id) =
     IsRight plan actors orders × (id.0 < length (actors_in plan)) × HasWorkAmong gives plan shown id.0
@@ -70,5 +73,5 @@ HasFailedFor gives plan actors orders shown (Mismatch what) = IsRight plan actor
 HasFailedFor gives plan actors orders shown (NameTaken id) = ⊥
 
 -- The failure of a whole run.
-abbrev pub IsErrorOfRun : (ℕ → Moment → Reply → Type 0) → Plan → ℕ → List (List Order) → FailedRun → Type 0
+abbrev pub IsErrorOfRun : {A : Type 0} → (ℕ → Moment → Reply → Type 0) → Plan → ℕ → List (List Order) → FailedRun A → Type 0
 IsErrorOfRun gives plan actors orders failed = HasFailedFor gives plan actors orders failed.actors.items failed.error

@@ -1,6 +1,7 @@
 -- What a report says of one actor.
 use Rattle.std.specs.Prelude.{ℕ, ℤ, List, [], ◌∷◌, ◌++◌, count_by, Option, Some, None, slice_get}
 use Rattle.mb_msg.specs.declared.dead_letter.DeadLetter.{DeadLetter}
+use Rattle.mb_dead_letters.specs.KeptListView.{KeptListView}
 use Rattle.mb_actor.specs.declared.message.Message.{Message}
 use Rattle.mb_journal.specs.Entry.{Entry}
 use Rattle.mb_journal.specs.Incarnation.{entry_messages}
@@ -36,9 +37,9 @@ handled_of None = None
 handled_of (Some journal) = Some (count_by tells_of_envelope journal.entries)
 
 -- The dead letters of this sender, if there is one.
-abbrev pub dead_of : Option SenderReport → Option (List DeadLetter)
+abbrev pub dead_of : Option SenderReport → Option (KeptListView DeadLetter)
 dead_of None = None
-dead_of (Some sender) = Some sender.dead.items
+dead_of (Some sender) = Some sender.dead
 
 -- What the report shows of the content of the actor of this number. The guardian shows nothing, and so does an actor that there is not.
 abbrev pub state_in : Report → ℕ → Option ℤ
@@ -57,5 +58,5 @@ abbrev pub handled_in : Report → ℕ → Option ℕ
 handled_in report id = handled_of (journal_in report id)
 
 -- What the sender of this place sent and was told is dead: first each actor as a sender, then the senders outside.
-abbrev pub dead_in : Report → ℕ → Option (List DeadLetter)
+abbrev pub dead_in : Report → ℕ → Option (KeptListView DeadLetter)
 dead_in report place = dead_of (slice_get report.senders.items place)

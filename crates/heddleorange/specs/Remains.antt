@@ -1,6 +1,7 @@
 -- What is left of the actors of a whole run that gave no report (this project's own profile: Akka shows nothing of such a run).
-use Rattle.std.specs.Prelude.{◌≡◌, ◌⊎◌, ℕ, ◌<◌, ◌≤◌, nat_le, Bool, false, List, [], Contains, Option, Some, None, length, slice_get}
+use Rattle.std.specs.Prelude.{◌≡◌, ◌⊎◌, ℕ, ◌<◌, ◌≤◌, nat_le, Bool, true, false, List, [], Contains, Option, Some, None, length, slice_get}
 use Rattle.std.specs.Global.{Box}
+use Rattle.std.specs.List.{list_any, position_from}
 use Rattle.mb_actor.specs.Behaviour.{Moment, Reply}
 use Rattle.mb_build.specs.Planned.{IsDirectoryOf, actors_in}
 use Rattle.mb_gate.specs.Accessors.{actors_of, first_home, pass_view}
@@ -14,6 +15,7 @@ use Rattle.mb_journal.specs.Identity.{Identity}
 use Rattle.mb_journal.specs.Lawful.{IsLawful}
 use Rattle.mb_journal.specs.Life.{phase}
 use Rattle.mb_journal.specs.Suspension.{count}
+use Rattle.mb_msg.specs.declared.id.ActorId.{ActorId}
 use Rattle.mb_msg.specs.declared.plan.Plan.{Plan}
 use Rattle.mb_shutdown.specs.NotFinished.{HasWorkLeft}
 use Rattle.mb_shutdown.specs.Unfinished.{AreUnfinished, ShowsHomes}
@@ -28,7 +30,7 @@ use Rattle.mb_system.specs.declared.end.WorkerEnd.{WorkerEnd}
 use Rattle.mb_system.specs.declared.failure.RunError.{RunError}
 use Rattle.mb_system.specs.declared.failure.RunError.TheVariants as Fault
 use Rattle.heddleorange.specs.declared.error.Error.{Error}
-use Rattle.heddleorange.specs.declared.error.Error.TheVariants.{Mismatch, NoMemory, NotQuiet, Run}
+use Rattle.heddleorange.specs.declared.error.Error.TheVariants.{JournalFull, Mismatch, NoMemory, NoMemoryInRun, NotQuiet}
 use Rattle.heddleorange.specs.declared.failed_run.FailedRun.{FailedRun}
 
 -- What is left of an actor is what its journal says of it, and the journal is one that it can have, and keeps its entries where the plan says so.
@@ -55,9 +57,13 @@ abbrev pub is_full : ℕ → Option UnfinishedActor → Bool
 is_full limit None = false
 is_full limit (Some a) = nat_le limit (length a.journal.entries)
 
+-- The first of these journals that has at least so many entries is that of the actor of this number.
+abbrev pub IsFirstFull : ℕ → List (Option UnfinishedActor) → ActorId → Type 0
+IsFirstFull limit shown id = position_from (is_full limit) 0 shown ≡ Some id.0
+
 -- One of these journals has at least so many entries.
 abbrev pub ShowFull : ℕ → List (Option UnfinishedActor) → Type 0
-ShowFull limit shown = (id : ℕ) × (a : UnfinishedActor) × (slice_get shown id ≡ Some (Some a)) × (limit ≤ length a.journal.entries)
+ShowFull limit shown = list_any (is_full limit) shown ≡ true
 
 -- Nothing is shown of one of these actors.
 abbrev pub LackOne : List (Option UnfinishedActor) → Type 0
@@ -76,16 +82,16 @@ pub record HasWorkAmong (gives : ℕ → Moment → Reply → Type 0) (plan : Pl
   pub same_gates : work.gates ≡ remains.gates
   pub known : IsPart (pass_view work.after.pass).log remains.view.log
 
--- A run that was broken off for this reason is told so by what is left. A full journal is told where one is shown; else an actor is named of which
--- nothing is shown.
+-- A run that was broken off for this reason is told so by what is left. Of the full journals that are shown the first is named; where none is shown, an
+-- actor is named of which nothing is. No order that can go to nobody is sent.
 abbrev pub IsToldAs : RunError → ℕ → List (Option UnfinishedActor) → Error → Type 0
 IsToldAs Fault.JournalFull limit shown error =
-    ((error ≡ Run Fault.JournalFull) × ShowFull limit shown) ⊎ ((id : What) × (error ≡ Mismatch id) × IsLackOf shown id)
-IsToldAs Fault.NoMemory limit shown error = error ≡ Run Fault.NoMemory
-IsToldAs Fault.NoSuchActor limit shown error = error ≡ Run Fault.NoSuchActor
+    ((id : ActorId) × (error ≡ JournalFull id) × IsFirstFull limit shown id) ⊎ ((id : What) × (error ≡ Mismatch id) × IsLackOf shown id)
+IsToldAs Fault.NoMemory limit shown error = error ≡ NoMemoryInRun
+IsToldAs Fault.NoSuchActor limit shown error = ⊥
 
 -- Nothing is shown, since memory was refused.
-abbrev pub IsWithoutMemory : FailedRun → Type 0
+abbrev pub IsWithoutMemory : {X : Type 0} → FailedRun X → Type 0
 IsWithoutMemory failed = (failed.error ≡ NoMemory) × (failed.actors.items ≡ [])
 
 module _ {A K : Type 0} where
@@ -101,12 +107,12 @@ module _ {A K : Type 0} where
 
   -- The run of this system was broken off for this reason, with this limit of its journals; what is left of its actors is shown, unless memory was
   -- refused.
-  abbrev pub IsBrokenOff : (ℕ → Moment → Reply → Type 0) → Built A K → RunError → ℕ → FailedRun → Type 0
+  abbrev pub IsBrokenOff : (ℕ → Moment → Reply → Type 0) → Built A K → RunError → ℕ → FailedRun A → Type 0
   IsBrokenOff gives built fault limit failed = (AreUnfinished gives built failed.actors.items × IsToldAs fault limit failed.actors.items failed.error)
       ⊎ IsWithoutMemory failed
 
   -- The system has no report for this reason; what is left of its actors is shown, unless memory was refused.
-  abbrev pub IsLeftFor : (ℕ → Moment → Reply → Type 0) → Built A K → Error → FailedRun → Type 0
+  abbrev pub IsLeftFor : (ℕ → Moment → Reply → Type 0) → Built A K → Error → FailedRun A → Type 0
   IsLeftFor gives built error failed = ((failed.error ≡ error) × AreUnfinished gives built failed.actors.items) ⊎ IsWithoutMemory failed
 
   -- All ends of the system are its own, and there is one.
@@ -123,7 +129,7 @@ module _ {A K : Type 0} where
 
   -- The failure of a whole run for this reason of a system that did not end. A system to which all ends and senders come back has none that speaks of a
   -- missing one.
-  abbrev pub IsFailureFor : (ℕ → Moment → Reply → Type 0) → FinishError A K → FailedRun → Type 0
+  abbrev pub IsFailureFor : (ℕ → Moment → Reply → Type 0) → FinishError A K → FailedRun A → Type 0
   IsFailureFor gives (end.MissingEnd number back) failed = ⊥
   IsFailureFor gives (end.MissingSender number back) failed = ⊥
   IsFailureFor gives (end.NotQuiet id back) failed = IsLeftFor gives back (NotQuiet id) failed

@@ -1,12 +1,14 @@
 //! What is left of a run that was broken off.
-ghost use Rattle.std.specs.Prelude.{◌≡◌, ◌⊎◌, ◌≤◌, None, Some, length, slice_get};
-ghost use Rattle.std.specs.List.{list_any};
+ghost use Rattle.std.specs.Prelude.{◌≡◌, ◌≢◌, ◌⊎◌, ◌<◌, ◌≤◌, IfSome, None, Some, false, length, slice_get};
+ghost use Rattle.std.specs.List.{position_from};
 ghost use Rattle.mb_gate.specs.Accessors.{actors_of};
-ghost use Rattle.mb_system.specs.declared.failure.RunError.TheVariants.{JournalFull};
+ghost use Rattle.mb_system.specs.declared.failure.RunError.TheVariants.{JournalFull, NoSuchActor};
+ghost use Rattle.heddleorange.specs.GivesBack.{GivesNothingBack, tells_of_nothing_done};
 ghost use Rattle.heddleorange.specs.Remains.{HasOwnEnds, IsBrokenOff, IsToldAs, LackOne, SawFull, ShowFull, is_full};
 
 use crate::error::Error;
 use crate::failed_run::FailedRun;
+use crate::names::Names;
 use mb_actor::{Actor, Behaviours};
 use mb_msg::ActorId;
 use mb_shutdown::{Mismatch, UnfinishedActor, unfinished_actors};
@@ -20,16 +22,23 @@ pub(crate) fn broken_off<A: Actor, K: Behaviours, R: Wait>(
     built: Built<A, K>,
     fault: RunError,
     limit: u64,
-) -> FailedRun
+) -> FailedRun<A>
     requires own_ends { HasOwnEnds built }
+    requires somebody { fault ≢ NoSuchActor }
     requires full { fault ≡ JournalFull → SawFull (actors_of built.system.gates) limit built.ends.items }
-    ensures { IsBrokenOff K.gives built fault limit result }
+    ensures left { IsBrokenOff K.gives built fault limit result }
+    ensures back { GivesNothingBack result }
 {
     let alloc = built.system.alloc;
     match unfinished_actors(rt, built) {
         Ok(actors) => {
             let error = error_of(fault, limit, &actors);
-            FailedRun { error, actors }
+            FailedRun {
+                error,
+                actors,
+                untouched: None,
+                names: Names::new(alloc),
+            }
         }
         Err(_) => FailedRun::without_actors(alloc, Error::NoMemory),
     }
@@ -38,29 +47,30 @@ pub(crate) fn broken_off<A: Actor, K: Behaviours, R: Wait>(
 // The error that tells of this reason, by what is left.
 fn error_of(fault: RunError, limit: u64, actors: &[Option<UnfinishedActor>]) -> Error
     requires few { length actors.now ≤ 64 }
+    requires somebody { fault ≢ NoSuchActor }
     requires full { fault ≡ JournalFull → ShowFull limit actors.now ⊎ LackOne actors.now }
-    ensures { IsToldAs fault limit actors.now result }
+    ensures told { IsToldAs fault limit actors.now result }
+    ensures begun { tells_of_nothing_done result ≡ false }
 {
     match fault {
-        RunError::NoMemory => Error::Run(RunError::NoMemory),
-        RunError::NoSuchActor => Error::Run(RunError::NoSuchActor),
-        RunError::JournalFull => {
-            if has_full(limit, actors) {
-                return Error::Run(RunError::JournalFull);
-            }
-            Error::Mismatch(Mismatch::Held(missing(actors)))
-        }
+        RunError::NoMemory => Error::NoMemoryInRun,
+        RunError::NoSuchActor => unreachable!(),
+        RunError::JournalFull => match first_full(limit, actors) {
+            Some(number) => Error::JournalFull(ActorId(number as u16)),
+            None => Error::Mismatch(Mismatch::Held(missing(actors))),
+        },
     }
 }
 
-// Whether one of these journals has at least so many entries.
-fn has_full(limit: u64, actors: &[Option<UnfinishedActor>]) -> bool
-    ensures { result ≡ list_any (is_full limit) actors.now }
+// The number of the first of these journals that has at least so many entries.
+fn first_full(limit: u64, actors: &[Option<UnfinishedActor>]) -> Option<usize>
+    ensures first { result ≡ position_from (is_full limit) 0 actors.now }
+    ensures within { IfSome result (λ number. number < length actors.now) }
 {
-    actors.iter().any(|actor| is_full(limit, actor))
+    actors.iter().position(|actor| is_full(limit, actor))
 }
 
-// Whether this one has.
+// Whether this one has so many.
 fn is_full(limit: u64, actor: &Option<UnfinishedActor>) -> bool
     ensures { result ≡ is_full limit actor.now }
 {

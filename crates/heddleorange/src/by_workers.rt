@@ -5,8 +5,10 @@ ghost use Rattle.mb_actor.specs.declared.message.Message.TheVariants.{Terminated
 ghost use Rattle.mb_msg.specs.declared.id.ActorId.{ActorId as Id};
 ghost use Rattle.mb_quantity.specs.Quantity.{AllConserve, Holding};
 ghost use Rattle.heddleorange.specs.Conservation.{IsConserved};
+ghost use Rattle.heddleorange.specs.GivesBack.{GivesBack};
 ghost use Rattle.heddleorange.specs.Kept.{KeepsAsPlanned};
 ghost use Rattle.heddleorange.specs.Ledger.{AddsUp, AddsUpByCounts};
+ghost use Rattle.heddleorange.specs.NamedOrder.{NamesInLists};
 ghost use Rattle.heddleorange.specs.NoReport.{IsErrorOfRun, IsRight};
 ghost use Rattle.heddleorange.specs.RunHeadline.{RunHeadline};
 ghost use Rattle.heddleorange.specs.States.{ShowsStates};
@@ -29,13 +31,15 @@ impl<A: Actor + Send> PlannedSystem<A> {
         rt: &R,
         alloc: Global,
         sends: &[Vec<Order>],
-    ) -> Result<Report, FailedRun>
+    ) -> Result<Report, FailedRun<A>>
         requires unused { All (λ actor. A.content actor ≡ A.after actor []) self.actors.items }
         ensures story { IfOk result (IsReportOfRun (after_at self.actors.items A.after) (gives_at self.actors.items A.gives) self.plan
             (map (λ orders. orders.items) sends.now)) }
         ensures right { OnOk result (IsRight self.plan (length self.actors.items) (map (λ orders. orders.items) sends.now)) }
         ensures refused { IfErr result (IsErrorOfRun (gives_at self.actors.items A.gives) self.plan (length self.actors.items)
             (map (λ orders. orders.items) sends.now)) }
+        ensures which { IfErr result (λ failed. NamesInLists (length self.actors.items) (map (λ orders. orders.items) sends.now) failed.error) }
+        ensures back { IfErr result (GivesBack self.plan self.actors.items self.names.texts.items) }
         ensures states { IfOk result (ShowsStates A.after self.actors.items self.plan) }
         ensures lines { IfOk result (λ report. length report.actors.items ≡ length self.actors.items + 1) }
         ensures headline { IfOk result (RunHeadline self.plan (map (λ orders. orders.items) sends.now)) }

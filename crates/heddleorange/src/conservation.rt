@@ -29,7 +29,7 @@ pub fn what_is_sent_adds_up()
 /// what the senders outside sent. A notice that an actor has ended is worth nothing.
 pub fn a_run_conserves_what_its_actors_conserve<A: Actor>()
     ensures { (worth : Message → ℤ) (holdings : List (Option Holding)) (actors : List A) (plan : Plan) (orders : List (List Order))
-        (result : Outcome Report FailedRun) → ((ended : Id) → worth (Terminated ended) ≡ pos 0)
+        (result : Outcome Report (FailedRun A)) → ((ended : Id) → worth (Terminated ended) ≡ pos 0)
         → AllConserve A.after A.gives worth holdings actors
         → IfOk result (IsReportOfRun (after_at actors A.after) (gives_at actors A.gives) plan orders)
         → OnOk result (IsRight plan (length actors) orders) → IfOk result (IsConserved worth holdings orders) }

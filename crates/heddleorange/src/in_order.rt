@@ -2,8 +2,10 @@
 ghost use Rattle.std.specs.Prelude.{◌≡◌, ◌+◌, [], All, IfErr, IfOk, OnOk, length};
 ghost use Rattle.mb_build.specs.BehavesAsPlanned.{BehaveAsPlanned};
 ghost use Rattle.mb_dispatch.specs.Runs.{turns_in};
+ghost use Rattle.heddleorange.specs.GivesBack.{GivesBack};
 ghost use Rattle.heddleorange.specs.Kept.{KeepsAsPlanned};
 ghost use Rattle.heddleorange.specs.Ledger.{AddsUp, AddsUpByCounts};
+ghost use Rattle.heddleorange.specs.NamedOrder.{NamesInRow};
 ghost use Rattle.heddleorange.specs.NoReport.{IsErrorOfRun, IsRight};
 ghost use Rattle.heddleorange.specs.Orders.{lists_of};
 ghost use Rattle.heddleorange.specs.RunHeadline.{RunHeadline};
@@ -37,8 +39,8 @@ pub struct QuietRun {
 /// `run_here`, where the orders of all senders stand in one row: they are sent in that order, each by its sender, before anything
 /// runs. What each run of a mailbox did is answered too.
 ///
-/// The journals have the entries of the turns and no others, turn after turn. The first sender has number 0. It answers `Sends`
-/// where an order is from a sender that the plan does not have; nothing was done then. (This project's own profile: in Akka
+/// The journals have the entries of the turns and no others, turn after turn. The first sender has number 0. It answers
+/// `NoSuchSender` where an order is from a sender that the plan does not have; nothing was done then. (This project's own profile: in Akka
 /// whoever has a reference sends.)
 pub fn run_in_order<A: Actor, R: Wait>(
     rt: &R,
@@ -46,12 +48,14 @@ pub fn run_in_order<A: Actor, R: Wait>(
     plan: Plan,
     actors: Vec<A>,
     sends: &[SenderOrder],
-) -> Result<QuietRun, FailedRun>
+) -> Result<QuietRun, FailedRun<A>>
     requires unused { All (λ actor. A.content actor ≡ A.after actor []) actors.items }
     ensures story { IfOk result (λ run. IsReportOfRun (after_at actors.items A.after) (gives_at actors.items A.gives) plan
         (lists_of plan.senders sends.now) run.report) }
     ensures right { OnOk result (IsRight plan (length actors.items) (lists_of plan.senders sends.now)) }
     ensures refused { IfErr result (IsErrorOfRun (gives_at actors.items A.gives) plan (length actors.items) (lists_of plan.senders sends.now)) }
+    ensures which { IfErr result (λ failed. NamesInRow plan.senders (length actors.items) sends.now failed.error) }
+    ensures back { IfErr result (GivesBack plan actors.items []) }
     ensures states { IfOk result (λ run. ShowsStates A.after actors.items plan run.report) }
     ensures lines { IfOk result (λ run. length run.report.actors.items ≡ length actors.items + 1) }
     ensures headline { IfOk result (λ run. RunHeadline plan (lists_of plan.senders sends.now) run.report) }
@@ -72,11 +76,13 @@ fn run_planned_in_order<A: Actor, K: Behaviours, R: Wait>(
     plan: Plan,
     actors: Vec<A>,
     sends: &[SenderOrder],
-) -> Result<QuietRun, FailedRun>
+) -> Result<QuietRun, FailedRun<A>>
     requires behaved { BehaveAsPlanned A.content A.after A.gives K.after K.gives 1 actors.items }
     ensures story { IfOk result (λ run. IsReportOfRun K.after K.gives plan (lists_of plan.senders sends.now) run.report) }
     ensures right { OnOk result (IsRight plan (length actors.items) (lists_of plan.senders sends.now)) }
     ensures refused { IfErr result (IsErrorOfRun K.gives plan (length actors.items) (lists_of plan.senders sends.now)) }
+    ensures which { IfErr result (λ failed. NamesInRow plan.senders (length actors.items) sends.now failed.error) }
+    ensures back { IfErr result (GivesBack plan actors.items []) }
     ensures turns { IfOk result (λ run. AreTurnsOf plan (turns_in run.turns)) }
     ensures stretches { IfOk result (λ run. AreStretches run.report (turns_in run.turns)) }
     ensures covers { IfOk result (λ run. CoverJournals run.report (turns_in run.turns)) }

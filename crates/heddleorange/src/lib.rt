@@ -14,20 +14,24 @@ mod by_workers;
 mod conservation;
 mod default_settings;
 mod error;
+mod error_text;
 mod failed_run;
 mod finish;
 mod in_order;
 mod laws;
 mod names;
+mod new_system;
+mod one_of;
 mod planned_system;
 mod reading;
 mod run;
 mod sending;
 mod together;
+mod unused;
 
 pub use conservation::{a_run_conserves_what_its_actors_conserve, what_is_sent_adds_up};
 pub use error::Error;
-pub use failed_run::FailedRun;
+pub use failed_run::{FailedRun, Untouched};
 pub use in_order::{QuietRun, run_in_order};
 pub use laws::{
     an_actor_without_a_restart_has_handled_all, each_actor_gets_what_is_asked_for,
@@ -36,21 +40,24 @@ pub use laws::{
 };
 pub use mb_actor::{Actor, Answer, CallPermit, Effect, Message, Outbox, OutboxError, Phase};
 pub use mb_build::PlanError;
+pub use mb_dead_letters::{DeadLetters, KeptList};
 pub use mb_dispatch::{Turn, Turns};
 pub use mb_journal::{EntryRef, Journal, Received};
 pub use mb_msg::{
-    ActorId, ActorPlan, Body, Cause, DeadLetter, Directive, Envelope, JournalMode, MailboxType,
-    Order, OrderKind, Pattern, Payload, Plan, PoolKind, RankRow, SenderId, SenderOrder, Strategy,
-    SysMsg, Why,
+    ActorId, ActorPlan, Body, Cause, DeadLetter, DeadLetterReason, Directive, Envelope,
+    JournalMode, MailboxType, Order, OrderKind, Pattern, Payload, Plan, PoolKind, RankRow,
+    SenderId, SenderOrder, Strategy, SysMsg,
 };
 pub use mb_report::{ActorReport, Report, SenderReport, report_text};
 pub use mb_shutdown::{Mismatch, UnfinishedActor};
-pub use mb_system::RunError;
 pub use mb_typed::{
     Address, Command, Incoming, Packed, Typed, TypedActor, TypedCall,
     a_command_arrives_as_it_was_sent, actor_half, join_actor, join_halves, lower_half, upper_half,
 };
 pub use names::Names;
+pub use new_system::NewSystem;
+pub use one_of::OneOf;
 pub use planned_system::{PlannedSystem, SETTINGS, Settings};
 pub use reading::{dead_letters, handled, journal, state};
 pub use run::{run_here, run_on_threads};
+pub use unused::Unused;

@@ -4,9 +4,11 @@ ghost use Rattle.mb_build.specs.declared.check.PlanError.TheVariants.{Actors, Pa
 ghost use Rattle.mb_msg.specs.declared.pool_kind.PoolKind.TheVariants as pool_kind;
 ghost use Rattle.mb_msg.specs.declared.id.ActorId.{ActorId as Id};
 ghost use Rattle.heddleorange.specs.declared.error.Error.TheVariants.{BadPlan, NameTaken, NoMemory};
+ghost use Rattle.heddleorange.specs.GivesBack.{GivesBack};
 ghost use Rattle.heddleorange.specs.Kept.{KeepsAsPlanned};
 ghost use Rattle.heddleorange.specs.Ledger.{AddsUp, AddsUpByCounts};
 ghost use Rattle.heddleorange.specs.Names.{name_by_default, number_of, texts_of};
+ghost use Rattle.heddleorange.specs.NamedOrder.{NamesInLists};
 ghost use Rattle.heddleorange.specs.NoReport.{IsErrorOfRun, IsRight};
 ghost use Rattle.heddleorange.specs.RunHeadline.{RunHeadline};
 ghost use Rattle.heddleorange.specs.States.{ShowsStates};
@@ -258,13 +260,15 @@ impl<A: Actor> PlannedSystem<A> {
         rt: &R,
         alloc: Global,
         sends: &[Vec<Order>],
-    ) -> Result<Report, FailedRun>
+    ) -> Result<Report, FailedRun<A>>
         requires unused { All (λ actor. A.content actor ≡ A.after actor []) self.actors.items }
         ensures story { IfOk result (IsReportOfRun (after_at self.actors.items A.after) (gives_at self.actors.items A.gives) self.plan
             (map (λ orders. orders.items) sends.now)) }
         ensures right { OnOk result (IsRight self.plan (length self.actors.items) (map (λ orders. orders.items) sends.now)) }
         ensures refused { IfErr result (IsErrorOfRun (gives_at self.actors.items A.gives) self.plan (length self.actors.items)
             (map (λ orders. orders.items) sends.now)) }
+        ensures which { IfErr result (λ failed. NamesInLists (length self.actors.items) (map (λ orders. orders.items) sends.now) failed.error) }
+        ensures back { IfErr result (GivesBack self.plan self.actors.items self.names.texts.items) }
         ensures states { IfOk result (ShowsStates A.after self.actors.items self.plan) }
         ensures lines { IfOk result (λ report. length report.actors.items ≡ length self.actors.items + 1) }
         ensures headline { IfOk result (RunHeadline self.plan (map (λ orders. orders.items) sends.now)) }
@@ -275,9 +279,12 @@ impl<A: Actor> PlannedSystem<A> {
         let PlannedSystem {
             plan,
             actors,
-            names: _,
+            names,
         } = self;
-        run_here::<A, R>(rt, alloc, plan, actors, sends)
+        match run_here::<A, R>(rt, alloc, plan, actors, sends) {
+            Ok(report) => Ok(report),
+            Err(failed) => Err(failed.with_names(names)),
+        }
     }
 }
 
@@ -288,13 +295,15 @@ impl<A: Actor + Send> PlannedSystem<A> {
         rt: &R,
         alloc: Global,
         sends: &[Vec<Order>],
-    ) -> Result<Report, FailedRun>
+    ) -> Result<Report, FailedRun<A>>
         requires unused { All (λ actor. A.content actor ≡ A.after actor []) self.actors.items }
         ensures story { IfOk result (IsReportOfRun (after_at self.actors.items A.after) (gives_at self.actors.items A.gives) self.plan
             (map (λ orders. orders.items) sends.now)) }
         ensures right { OnOk result (IsRight self.plan (length self.actors.items) (map (λ orders. orders.items) sends.now)) }
         ensures refused { IfErr result (IsErrorOfRun (gives_at self.actors.items A.gives) self.plan (length self.actors.items)
             (map (λ orders. orders.items) sends.now)) }
+        ensures which { IfErr result (λ failed. NamesInLists (length self.actors.items) (map (λ orders. orders.items) sends.now) failed.error) }
+        ensures back { IfErr result (GivesBack self.plan self.actors.items self.names.texts.items) }
         ensures states { IfOk result (ShowsStates A.after self.actors.items self.plan) }
         ensures lines { IfOk result (λ report. length report.actors.items ≡ length self.actors.items + 1) }
         ensures headline { IfOk result (RunHeadline self.plan (map (λ orders. orders.items) sends.now)) }
@@ -305,8 +314,11 @@ impl<A: Actor + Send> PlannedSystem<A> {
         let PlannedSystem {
             plan,
             actors,
-            names: _,
+            names,
         } = self;
-        run_on_threads::<A, R>(rt, alloc, plan, actors, sends)
+        match run_on_threads::<A, R>(rt, alloc, plan, actors, sends) {
+            Ok(report) => Ok(report),
+            Err(failed) => Err(failed.with_names(names)),
+        }
     }
 }

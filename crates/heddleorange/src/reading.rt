@@ -2,8 +2,9 @@
 ghost use Rattle.std.specs.Prelude.{◌≡◌, option_copied};
 ghost use Rattle.heddleorange.specs.Reading.{dead_in, handled_in, journal_in, state_in};
 
+use mb_dead_letters::DeadLetters;
 use mb_journal::Journal;
-use mb_msg::{ActorId, DeadLetter};
+use mb_msg::ActorId;
 use mb_report::Report;
 
 /// What the report shows of the content of this actor. Nothing of the guardian, or where there is no such actor.
@@ -32,7 +33,10 @@ pub fn handled(report: &Report, id: ActorId) -> Option<usize>
 
 /// The envelopes that this actor sent and that were refused when it sent them, in order. `None` where there is no such actor.
 /// The senders outside come behind the actors: the first has the number after the last actor's.
-pub fn dead_letters(report: &Report, id: ActorId) -> Option<&[DeadLetter]>
+///
+/// They can be read where the plan says that journals keep their entries, and the newest where journals keep the newest; their numbers, also by
+/// receiver and by reason, always.
+pub fn dead_letters(report: &Report, id: ActorId) -> Option<&DeadLetters>
     ensures { option_copied result ≡ dead_in report.now id.0 }
 {
     match report.senders.get(id.0 as usize) {

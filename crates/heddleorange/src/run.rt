@@ -1,8 +1,10 @@
 //! A whole run of actors, on one thread or on several.
 ghost use Rattle.std.specs.Prelude.{◌≡◌, ◌+◌, [], All, IfErr, IfOk, OnOk, length, map};
 ghost use Rattle.mb_build.specs.BehavesAsPlanned.{BehaveAsPlanned};
+ghost use Rattle.heddleorange.specs.GivesBack.{GivesBack};
 ghost use Rattle.heddleorange.specs.Kept.{KeepsAsPlanned};
 ghost use Rattle.heddleorange.specs.Ledger.{AddsUp, AddsUpByCounts};
+ghost use Rattle.heddleorange.specs.NamedOrder.{NamesInLists};
 ghost use Rattle.heddleorange.specs.NoReport.{IsErrorOfRun, IsRight};
 ghost use Rattle.heddleorange.specs.RunHeadline.{RunHeadline};
 ghost use Rattle.heddleorange.specs.States.{ShowsStates};
@@ -35,12 +37,14 @@ pub fn run_here<A: Actor, R: Wait>(
     plan: Plan,
     actors: Vec<A>,
     sends: &[Vec<Order>],
-) -> Result<Report, FailedRun>
+) -> Result<Report, FailedRun<A>>
     requires unused { All (λ actor. A.content actor ≡ A.after actor []) actors.items }
     ensures story { IfOk result (IsReportOfRun (after_at actors.items A.after) (gives_at actors.items A.gives) plan
         (map (λ orders. orders.items) sends.now)) }
     ensures right { OnOk result (IsRight plan (length actors.items) (map (λ orders. orders.items) sends.now)) }
     ensures refused { IfErr result (IsErrorOfRun (gives_at actors.items A.gives) plan (length actors.items) (map (λ orders. orders.items) sends.now)) }
+    ensures which { IfErr result (λ failed. NamesInLists (length actors.items) (map (λ orders. orders.items) sends.now) failed.error) }
+    ensures back { IfErr result (GivesBack plan actors.items []) }
     ensures states { IfOk result (ShowsStates A.after actors.items plan) }
     ensures lines { IfOk result (λ report. length report.actors.items ≡ length actors.items + 1) }
     ensures headline { IfOk result (RunHeadline plan (map (λ orders. orders.items) sends.now)) }
@@ -59,12 +63,14 @@ pub fn run_on_threads<A: Actor + Send, R: Threads + Wait + Sync>(
     plan: Plan,
     actors: Vec<A>,
     sends: &[Vec<Order>],
-) -> Result<Report, FailedRun>
+) -> Result<Report, FailedRun<A>>
     requires unused { All (λ actor. A.content actor ≡ A.after actor []) actors.items }
     ensures story { IfOk result (IsReportOfRun (after_at actors.items A.after) (gives_at actors.items A.gives) plan
         (map (λ orders. orders.items) sends.now)) }
     ensures right { OnOk result (IsRight plan (length actors.items) (map (λ orders. orders.items) sends.now)) }
     ensures refused { IfErr result (IsErrorOfRun (gives_at actors.items A.gives) plan (length actors.items) (map (λ orders. orders.items) sends.now)) }
+    ensures which { IfErr result (λ failed. NamesInLists (length actors.items) (map (λ orders. orders.items) sends.now) failed.error) }
+    ensures back { IfErr result (GivesBack plan actors.items []) }
     ensures states { IfOk result (ShowsStates A.after actors.items plan) }
     ensures lines { IfOk result (λ report. length report.actors.items ≡ length actors.items + 1) }
     ensures headline { IfOk result (RunHeadline plan (map (λ orders. orders.items) sends.now)) }
@@ -82,11 +88,13 @@ fn run_planned<A: Actor, K: Behaviours, R: Wait>(
     plan: Plan,
     actors: Vec<A>,
     sends: &[Vec<Order>],
-) -> Result<Report, FailedRun>
+) -> Result<Report, FailedRun<A>>
     requires behaved { BehaveAsPlanned A.content A.after A.gives K.after K.gives 1 actors.items }
     ensures story { IfOk result (IsReportOfRun K.after K.gives plan (map (λ orders. orders.items) sends.now)) }
     ensures right { OnOk result (IsRight plan (length actors.items) (map (λ orders. orders.items) sends.now)) }
     ensures refused { IfErr result (IsErrorOfRun K.gives plan (length actors.items) (map (λ orders. orders.items) sends.now)) }
+    ensures which { IfErr result (λ failed. NamesInLists (length actors.items) (map (λ orders. orders.items) sends.now) failed.error) }
+    ensures back { IfErr result (GivesBack plan actors.items []) }
 {
     let limit = plan.journal_limit;
     let mut built = begin::<A, K, R>(rt, alloc, plan, actors, sends)?;
@@ -103,11 +111,13 @@ fn run_planned_on_threads<A: Actor + Send, K: Behaviours + Send, R: Threads + Wa
     plan: Plan,
     actors: Vec<A>,
     sends: &[Vec<Order>],
-) -> Result<Report, FailedRun>
+) -> Result<Report, FailedRun<A>>
     requires behaved { BehaveAsPlanned A.content A.after A.gives K.after K.gives 1 actors.items }
     ensures story { IfOk result (IsReportOfRun K.after K.gives plan (map (λ orders. orders.items) sends.now)) }
     ensures right { OnOk result (IsRight plan (length actors.items) (map (λ orders. orders.items) sends.now)) }
     ensures refused { IfErr result (IsErrorOfRun K.gives plan (length actors.items) (map (λ orders. orders.items) sends.now)) }
+    ensures which { IfErr result (λ failed. NamesInLists (length actors.items) (map (λ orders. orders.items) sends.now) failed.error) }
+    ensures back { IfErr result (GivesBack plan actors.items []) }
 {
     let limit = plan.journal_limit;
     let mut built = begin::<A, K, R>(rt, alloc, plan, actors, sends)?;

@@ -147,7 +147,7 @@ fn add_homes<A: Actor, K: Behaviours>(
             take,
             sends,
             directory,
-        );
+        )?;
         add(alloc, homes, home)?;
     }
     Ok(())

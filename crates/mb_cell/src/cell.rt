@@ -27,14 +27,14 @@ mod ending;
 mod failed;
 mod front;
 mod handle;
-mod nothing;
+mod queries;
 mod recreate;
 mod resume;
 mod set_aside;
-mod standing;
 mod suspend;
 mod unwatch;
 mod watch;
+mod without_change;
 
 use mb_actor::{Actor, Behaviours, Effect, Outbox, Phase, RecordedActor};
 use mb_journal::{Journal, ReadyError};

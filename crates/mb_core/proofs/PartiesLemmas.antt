@@ -8,8 +8,8 @@ use Rattle.std.proofs.lemmas.Option.{slice_get-get_or, get_or_from_slice_get}
 use Rattle.std.proofs.lemmas.List.{length-set, length-append, get_or-set_other, get_or-set_same}
 use Rattle.std.proofs.lemmas.List.Elements.{All-map}
 use Rattle.std.proofs.lemmas.List.Folds.{list_any-append, Any-from_list_any, list_any-from_Any}
-use Rattle.mb_core.specs.declared.debt.WakeObligation.{WakeObligation}
-use Rattle.mb_core.specs.Actor.{MachineActor, nothing, debt_of}
+use Rattle.mb_core.specs.declared.wake_obligation.WakeObligation.{WakeObligation}
+use Rattle.mb_core.specs.Actor.{MachineActor, nothing, obligation_by}
 use Rattle.mb_core.specs.Held.{IsHeldRightly}
 use Rattle.mb_core.specs.Settled.{IsOwedSystem, IsOwedMessage}
 use Rattle.mb_core.specs.Parties.{copied, moved, both, absorbed, IsOwedTheSame, SplitsKeep, JoinsKeep}
@@ -31,20 +31,20 @@ apart :
     (cause : WakeObligation → Bool) → cause nothing ≡ false → (owed : List WakeObligation) (party : ℕ) →
     (list_any cause (set owed party nothing) || cause (get_or owed party nothing)) ≡ list_any cause owed
 apart cause none [] party = none
-apart cause none (debt ∷ owed) zero = or_swap (list_any cause owed) (cause debt) (cause nothing) none
-apart cause none (debt ∷ owed) (suc party) =
-    or_assoc (cause debt) (list_any cause (set owed party nothing)) (cause (get_or owed party nothing)) ∙
-    ap (λ b. cause debt || b) (apart cause none owed party)
+apart cause none (obligation ∷ owed) zero = or_swap (list_any cause owed) (cause obligation) (cause nothing) none
+apart cause none (obligation ∷ owed) (suc party) =
+    or_assoc (cause obligation) (list_any cause (set owed party nothing)) (cause (get_or owed party nothing)) ∙
+    ap (λ b. cause obligation || b) (apart cause none owed party)
 
 -- and once it owes something else, for that too
 instead :
-    (cause : WakeObligation → Bool) → cause nothing ≡ false → (owed : List WakeObligation) (party : ℕ) (debt : WakeObligation) → party < length owed →
-    (list_any cause (set owed party nothing) || cause debt) ≡ list_any cause (set owed party debt)
-instead cause none [] party debt there = absurd (omega arith)
-instead cause none (first ∷ owed) zero debt there = or_swap (list_any cause owed) (cause debt) (cause nothing) none
-instead cause none (first ∷ owed) (suc party) debt there =
-    or_assoc (cause first) (list_any cause (set owed party nothing)) (cause debt) ∙
-    ap (λ b. cause first || b) (instead cause none owed party debt (omega arith))
+    (cause : WakeObligation → Bool) → cause nothing ≡ false → (owed : List WakeObligation) (party : ℕ) (obligation : WakeObligation) → party < length owed →
+    (list_any cause (set owed party nothing) || cause obligation) ≡ list_any cause (set owed party obligation)
+instead cause none [] party obligation there = absurd (omega arith)
+instead cause none (first ∷ owed) zero obligation there = or_swap (list_any cause owed) (cause obligation) (cause nothing) none
+instead cause none (first ∷ owed) (suc party) obligation there =
+    or_assoc (cause first) (list_any cause (set owed party nothing)) (cause obligation) ∙
+    ap (λ b. cause first || b) (instead cause none owed party obligation (omega arith))
 
 copied_any :
     (cause : WakeObligation → Bool) → cause nothing ≡ false → (owed : List WakeObligation) (party : ℕ) →
@@ -70,46 +70,46 @@ or_joined :
 or_joined whole both_ last new without_into without_from without_two a b = grind arith
 
 absorbed_any :
-    (cause : WakeObligation → Bool) → cause nothing ≡ false → (owed : List WakeObligation) (into from : ℕ) (debt : WakeObligation) → into ≢ from →
-    into < length owed → cause debt ≡ (cause (get_or owed into nothing) || cause (get_or owed from nothing)) →
-    list_any cause (set (set owed into debt) from nothing) ≡ list_any cause owed
-absorbed_any cause none owed into from debt two there sum =
-    or_joined (list_any cause owed) (cause debt) (list_any cause (set owed into debt))
-    (list_any cause (set (set owed into debt) from nothing)) (list_any cause (set owed into nothing))
-    (list_any cause (set owed from nothing)) (list_any cause (set (set (set owed into debt) from nothing) into nothing))
+    (cause : WakeObligation → Bool) → cause nothing ≡ false → (owed : List WakeObligation) (into from : ℕ) (obligation : WakeObligation) → into ≢ from →
+    into < length owed → cause obligation ≡ (cause (get_or owed into nothing) || cause (get_or owed from nothing)) →
+    list_any cause (set (set owed into obligation) from nothing) ≡ list_any cause owed
+absorbed_any cause none owed into from obligation two there sum =
+    or_joined (list_any cause owed) (cause obligation) (list_any cause (set owed into obligation))
+    (list_any cause (set (set owed into obligation) from nothing)) (list_any cause (set owed into nothing))
+    (list_any cause (set owed from nothing)) (list_any cause (set (set (set owed into obligation) from nothing) into nothing))
     (cause (get_or owed into nothing)) (cause (get_or owed from nothing)) sum
-    (subst (λ d. (list_any cause (set (set owed into debt) from nothing) || cause d) ≡ list_any cause (set owed into debt))
-    (get_or-set_other owed into from debt nothing (λ (is : from ≡ into). two (sym is)))
-    (apart cause none (set owed into debt) from))
-    (instead cause none owed into debt there)
+    (subst (λ d. (list_any cause (set (set owed into obligation) from nothing) || cause d) ≡ list_any cause (set owed into obligation))
+    (get_or-set_other owed into from obligation nothing (λ (is : from ≡ into). two (sym is)))
+    (apart cause none (set owed into obligation) from))
+    (instead cause none owed into obligation there)
     (apart cause none owed into)
     (apart cause none owed from)
     (subst
     (λ d.
-    (list_any cause (set (set (set owed into debt) from nothing) into nothing) || cause d) ≡
-    list_any cause (set (set owed into debt) from nothing))
-    (get_or-set_other (set owed into debt) from into nothing nothing two ∙ get_or-set_same owed into debt nothing there)
-    (apart cause none (set (set owed into debt) from nothing) into))
+    (list_any cause (set (set (set owed into obligation) from nothing) into nothing) || cause d) ≡
+    list_any cause (set (set owed into obligation) from nothing))
+    (get_or-set_other (set owed into obligation) from into nothing nothing two ∙ get_or-set_same owed into obligation nothing there)
+    (apart cause none (set (set owed into obligation) from nothing) into))
 
 -- where the lists pass the same test, somebody owes for it in both or in none
 same_any :
     (cause : WakeObligation → Bool) (old new : List WakeObligation) → list_any cause new ≡ list_any cause old →
-    Any (λ debt. cause debt ≡ true) old ↔ Any (λ debt. cause debt ≡ true) new
+    Any (λ obligation. cause obligation ≡ true) old ↔ Any (λ obligation. cause obligation ≡ true) new
 same_any cause old new same = (
   λ some. Any-from_list_any cause new (same ∙ list_any-from_Any cause old some),
   λ some. Any-from_list_any cause old (sym same ∙ list_any-from_Any cause new some),
 )
 
--- an actor of which only the debts and the holder differ
+-- an actor of which only the obligations and the holder differ
 same_owed :
     (x y : MachineActor) → y.mailbox ≡ x.mailbox → y.system ≡ x.system → y.waiting ≡ x.waiting →
-    list_any (λ debt. debt.system) y.owed ≡ list_any (λ debt. debt.system) x.owed →
-    list_any (λ debt. debt.message || debt.sending) y.owed ≡ list_any (λ debt. debt.message || debt.sending) x.owed →
+    list_any (λ obligation. obligation.system) y.owed ≡ list_any (λ obligation. obligation.system) x.owed →
+    list_any (λ obligation. obligation.message || obligation.sending) y.owed ≡ list_any (λ obligation. obligation.message || obligation.sending) x.owed →
     (IsHeldRightly x → IsHeldRightly y) → IsOwedTheSame x y
 same_owed x y mailbox system waiting for_system for_message held =
-    let of_system : IsOwedSystem x ↔ IsOwedSystem y = same_any (λ debt. debt.system) x.owed y.owed for_system in
+    let of_system : IsOwedSystem x ↔ IsOwedSystem y = same_any (λ obligation. obligation.system) x.owed y.owed for_system in
     let of_message : IsOwedMessage x ↔ IsOwedMessage y =
-    same_any (λ debt. debt.message || debt.sending) x.owed y.owed for_message in
+    same_any (λ obligation. obligation.message || obligation.sending) x.owed y.owed for_message in
     record {
       system = of_system;
       message = of_message;
@@ -127,8 +127,8 @@ same_owed x y mailbox system waiting for_system for_message held =
 pub copied_owed : (x : MachineActor) (party : ℕ) → IsOwedTheSame x (copied x party)
 copied_owed x party =
     same_owed x (copied x party) refl refl refl
-    (copied_any (λ debt. debt.system) refl x.owed party)
-    (copied_any (λ debt. debt.message || debt.sending) refl x.owed party)
+    (copied_any (λ obligation. obligation.system) refl x.owed party)
+    (copied_any (λ obligation. obligation.message || obligation.sending) refl x.owed party)
     (λ held. record {
       scheduled = held.scheduled;
       free = held.free;
@@ -138,8 +138,8 @@ copied_owed x party =
 pub moved_owed : (x : MachineActor) (party : ℕ) → IsOwedTheSame x (moved x party)
 moved_owed x party =
     same_owed x (moved x party) refl refl refl
-    (moved_any (λ debt. debt.system) refl x.owed party)
-    (moved_any (λ debt. debt.message || debt.sending) refl x.owed party)
+    (moved_any (λ obligation. obligation.system) refl x.owed party)
+    (moved_any (λ obligation. obligation.message || obligation.sending) refl x.owed party)
     (λ held. record {
       scheduled = held.scheduled;
       free = held.free;
@@ -157,9 +157,9 @@ both_message a b = grind arith
 pub absorbed_owed : (x : MachineActor) (into from : ℕ) → into ≢ from → into < length x.owed → IsOwedTheSame x (absorbed x into from)
 absorbed_owed x into from two there =
     same_owed x (absorbed x into from) refl refl refl
-    (absorbed_any (λ debt. debt.system) refl x.owed into from (both (debt_of x into) (debt_of x from)) two there refl)
-    (absorbed_any (λ debt. debt.message || debt.sending) refl x.owed into from (both (debt_of x into) (debt_of x from)) two there
-    (both_message (debt_of x into) (debt_of x from)))
+    (absorbed_any (λ obligation. obligation.system) refl x.owed into from (both (obligation_by x into) (obligation_by x from)) two there refl)
+    (absorbed_any (λ obligation. obligation.message || obligation.sending) refl x.owed into from (both (obligation_by x into) (obligation_by x from)) two there
+    (both_message (obligation_by x into) (obligation_by x from)))
     (absorbed_held x into from there)
 
 -- what a split of one actor keeps, it keeps of all

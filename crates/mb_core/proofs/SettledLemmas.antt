@@ -7,12 +7,12 @@ use Rattle.std.proofs.lemmas.List.Quantifiers.{any-set}
 use Rattle.std.proofs.lemmas.Bool.{cases_lt}
 use Rattle.std.proofs.lemmas.Bool.Decides.{nat_tests}
 use Rattle.mb_status.specs.Mailbox.{Mailbox, suspend}
-use Rattle.mb_core.specs.declared.debt.WakeObligation.{WakeObligation}
+use Rattle.mb_core.specs.declared.wake_obligation.WakeObligation.{WakeObligation}
 use Rattle.mb_core.specs.declared.event.Event.{Event}
 use Rattle.mb_core.specs.declared.event.Step.{Step}
 use Rattle.mb_core.specs.declared.event.Step.TheVariants.{Read, Schedule, Idle, Suspend, Resume, Close, Sent, Unsent}
 use Rattle.mb_core.specs.declared.event.Step.TheVariants.{Taken, Count, Push, Take, SysAdd, SysRead, SysDrain, SysEnd}
-use Rattle.mb_core.specs.Actor.{MachineActor, at_start, nothing, owing, debt_of, has_work}
+use Rattle.mb_core.specs.Actor.{MachineActor, at_start, nothing, owing, obligation_by, has_work}
 use Rattle.mb_core.specs.Held.{IsHeldRightly}
 use Rattle.mb_core.specs.Run.{Change, Transition, Run, LeadsTo, can_start, after_reading}
 use Rattle.mb_core.specs.Settled.{IsSettled, IsOwedSystem, IsOwedMessage}
@@ -47,36 +47,36 @@ nobody x party held open_ free is = grind (arith, held.free open_ free)
 
 -- what a party owes after reading the status of an open mailbox that nobody holds
 pub read_system :
-    (m : Mailbox) (debt : WakeObligation) → IsFalse m.closed → IsFalse m.scheduled → (after_reading m debt).system ≡ debt.system
-read_system m debt open_ free = grind arith
+    (m : Mailbox) (obligation : WakeObligation) → IsFalse m.closed → IsFalse m.scheduled → (after_reading m obligation).system ≡ obligation.system
+read_system m obligation open_ free = grind arith
 
 pub read_message :
-    (m : Mailbox) (debt : WakeObligation) → IsFalse m.closed → IsFalse m.scheduled → m.count ≡ 0 →
-    ((after_reading m debt).message || (after_reading m debt).sending) ≡ (debt.message || debt.sending)
-read_message m debt open_ free unsuspended = grind (arith, nat_tests)
+    (m : Mailbox) (obligation : WakeObligation) → IsFalse m.closed → IsFalse m.scheduled → m.count ≡ 0 →
+    ((after_reading m obligation).message || (after_reading m obligation).sending) ≡ (obligation.message || obligation.sending)
+read_message m obligation open_ free unsuspended = grind (arith, nat_tests)
 
 -- the party owes no less than it did for system work
 pub system_kept :
-    (x : MachineActor) (party : ℕ) (debt : WakeObligation) → party < length x.owed → (IsTrue (debt_of x party).system → IsTrue debt.system) →
-    IsOwedSystem x → IsOwedSystem (owing x party debt)
-system_kept x party debt there kept some =
-    any_set_kept (λ d. IsTrue d.system) x.owed party debt there kept some
+    (x : MachineActor) (party : ℕ) (obligation : WakeObligation) → party < length x.owed → (IsTrue (obligation_by x party).system → IsTrue obligation.system) →
+    IsOwedSystem x → IsOwedSystem (owing x party obligation)
+system_kept x party obligation there kept some =
+    any_set_kept (λ d. IsTrue d.system) x.owed party obligation there kept some
 
 -- nor for envelopes
 pub message_kept :
-    (x : MachineActor) (party : ℕ) (debt : WakeObligation) → party < length x.owed →
-    (IsTrue ((debt_of x party).message || (debt_of x party).sending) → IsTrue (debt.message || debt.sending)) →
-    IsOwedMessage x → IsOwedMessage (owing x party debt)
-message_kept x party debt there kept some =
-    any_set_kept (λ d. IsTrue (d.message || d.sending)) x.owed party debt there kept some
+    (x : MachineActor) (party : ℕ) (obligation : WakeObligation) → party < length x.owed →
+    (IsTrue ((obligation_by x party).message || (obligation_by x party).sending) → IsTrue (obligation.message || obligation.sending)) →
+    IsOwedMessage x → IsOwedMessage (owing x party obligation)
+message_kept x party obligation there kept some =
+    any_set_kept (λ d. IsTrue (d.message || d.sending)) x.owed party obligation there kept some
 
-pub owes_system : (x : MachineActor) (party : ℕ) (debt : WakeObligation) → party < length x.owed → IsTrue debt.system → IsOwedSystem (owing x party debt)
-owes_system x party debt there owes = any-set (λ d. IsTrue d.system) x.owed party debt there owes
+pub owes_system : (x : MachineActor) (party : ℕ) (obligation : WakeObligation) → party < length x.owed → IsTrue obligation.system → IsOwedSystem (owing x party obligation)
+owes_system x party obligation there owes = any-set (λ d. IsTrue d.system) x.owed party obligation there owes
 
 pub owes_message :
-    (x : MachineActor) (party : ℕ) (debt : WakeObligation) → party < length x.owed → IsTrue (debt.message || debt.sending) →
-    IsOwedMessage (owing x party debt)
-owes_message x party debt there owes = any-set (λ d. IsTrue (d.message || d.sending)) x.owed party debt there owes
+    (x : MachineActor) (party : ℕ) (obligation : WakeObligation) → party < length x.owed → IsTrue (obligation.message || obligation.sending) →
+    IsOwedMessage (owing x party obligation)
+owes_message x party obligation there owes = any-set (λ d. IsTrue (d.message || d.sending)) x.owed party obligation there owes
 
 or_true : (b : Bool) → IsTrue (b || true)
 or_true true = refl
@@ -91,7 +91,7 @@ suspend-scheduled m = grind arith
 -- a look at the waiting number, by what it found
 settled_count :
     (x : MachineActor) (party : ℕ) (y : MachineActor) (none : Bool) → (x.waiting == 0) ≡ none → party < length x.owed →
-    y ≡ (if none then owing x party (record (debt_of x party) { message = false }) else x) → IsSettled x → IsSettled y
+    y ≡ (if none then owing x party (record (obligation_by x party) { message = false }) else x) → IsSettled x → IsSettled y
 settled_count x party y false found there change settled = subst IsSettled (sym change) settled
 settled_count x party y true found there change settled = rw change (record {
   system = λ open_ free work. system_kept x party _ there (λ was. was) (settled.system open_ free work);
@@ -101,7 +101,7 @@ settled_count x party y true found there change settled = rw change (record {
 -- a look at the system list, by what it found
 settled_look :
     (x : MachineActor) (party : ℕ) (y : MachineActor) (work : Bool) → has_work x.system ≡ work → party < length x.owed →
-    y ≡ (if work then x else owing x party (record (debt_of x party) { system = false })) → IsSettled x → IsSettled y
+    y ≡ (if work then x else owing x party (record (obligation_by x party) { system = false })) → IsSettled x → IsSettled y
 settled_look x party y true found there change settled = subst IsSettled (sym change) settled
 settled_look x party y false found there change settled = rw change (record {
   system = λ open_ free work. cc;
@@ -115,10 +115,10 @@ pub settled_change :
     IsHeldRightly x → IsSettled x → IsSettled y
 settled_change x party Read y change there held settled = rw change (record {
   system = λ open_ free work.
-      system_kept x party _ there (λ was. rw (read_system x.mailbox (debt_of x party) open_ free) was) (settled.system open_ free work);
+      system_kept x party _ there (λ was. rw (read_system x.mailbox (obligation_by x party) open_ free) was) (settled.system open_ free work);
   message = λ open_ free unsuspended waits.
       message_kept x party _ there
-      (λ was. rw (read_message x.mailbox (debt_of x party) open_ free unsuspended) was)
+      (λ was. rw (read_message x.mailbox (obligation_by x party) open_ free unsuspended) was)
       (settled.message open_ free unsuspended waits);
 })
 settled_change x party Schedule y change there held settled =
@@ -141,7 +141,7 @@ settled_change x party Close y change there held settled =
     rw change.1 (record { system = λ open_ free work. cc; message = λ open_ free unsuspended waits. cc })
 settled_change x party Sent y change there held settled = rw change (record {
   system = λ open_ free work. system_kept x party _ there (λ was. was) (settled.system open_ free work);
-  message = λ open_ free unsuspended waits. owes_message x party _ there (or_true (debt_of x party).message);
+  message = λ open_ free unsuspended waits. owes_message x party _ there (or_true (obligation_by x party).message);
 })
 settled_change x party Unsent y change there held settled = rw change.1 (record {
   system = λ open_ free work. system_kept x party _ there (λ was. was) (settled.system open_ free work);

@@ -4,7 +4,7 @@ use Rattle.std.specs.Prelude.{option_and_then, Option, Some, None}
 use Rattle.mb_status.specs.Mailbox.{Mailbox, mailbox_of}
 use Rattle.mb_msg.specs.declared.envelope.Envelope.{Envelope}
 use Rattle.mb_msg.specs.declared.system.SysMsg.{SysMsg}
-use Rattle.mb_core.specs.declared.debt.WakeObligation.{WakeObligation}
+use Rattle.mb_core.specs.declared.wake_obligation.WakeObligation.{WakeObligation}
 
 -- One actor: its mailbox's status, its envelopes in order, the number counted as waiting (modulo 2^64), its system
 -- work (earliest first, or gone for good), the party that holds it if any, and what each party owes it, by the
@@ -22,16 +22,16 @@ abbrev pub nothing : WakeObligation
 nothing = record { system = false; message = false; sending = false }
 
 -- what a party owes the actor
-abbrev pub debt_of : MachineActor → ℕ → WakeObligation
-debt_of x party = slice_index_or x.owed party nothing
+abbrev pub obligation_by : MachineActor → ℕ → WakeObligation
+obligation_by x party = slice_index_or x.owed party nothing
 
 -- what a party owes an actor of a state, by their numbers
-abbrev pub debt_between : List MachineActor → ℕ → ℕ → Option WakeObligation
-debt_between state party actor = option_and_then (λ x. slice_get x.owed party) (slice_get state actor)
+abbrev pub obligation_between : List MachineActor → ℕ → ℕ → Option WakeObligation
+obligation_between state party actor = option_and_then (λ x. slice_get x.owed party) (slice_get state actor)
 
 -- the actor, to which a party now owes this
 abbrev pub owing : MachineActor → ℕ → WakeObligation → MachineActor
-owing x party debt = record x { owed = slice_set x.owed party debt }
+owing x party obligation = record x { owed = slice_set x.owed party obligation }
 
 -- there is system work: a message is listed
 abbrev pub has_work : Option (List SysMsg) → Bool

@@ -2,20 +2,20 @@
 -- who owes and who holds (this project's own profile).
 use Rattle.std.specs.Prelude.{◌≡◌, ◌≢◌, ◌↔◌, ◌⊎◌, ℕ, ◌<◌, ◌==◌, ◌||◌, if◌then◌else◌, List, [], ◌∷◌, ◌++◌, All, map, length}
 use Rattle.std.specs.Prelude.{slice_get, slice_set, Some, option_map}
-use Rattle.mb_core.specs.declared.debt.WakeObligation.{WakeObligation}
-use Rattle.mb_core.specs.Actor.{MachineActor, nothing, debt_of}
+use Rattle.mb_core.specs.declared.wake_obligation.WakeObligation.{WakeObligation}
+use Rattle.mb_core.specs.Actor.{MachineActor, nothing, obligation_by}
 use Rattle.mb_core.specs.Held.{IsHeldRightly, HasPossibleMailbox}
 use Rattle.mb_core.specs.Settled.{IsSettled, IsOwedSystem, IsOwedMessage}
 
 -- a new party, of the next number, owes a copy of what this party owes
 abbrev pub copied : MachineActor → ℕ → MachineActor
-copied x party = record x { owed = x.owed ++ debt_of x party ∷ [] }
+copied x party = record x { owed = x.owed ++ obligation_by x party ∷ [] }
 
 -- a new party, of the next number, takes what this party owes, which owes nothing from then on
 abbrev pub moved : MachineActor → ℕ → MachineActor
-moved x party = record x { owed = slice_set x.owed party nothing ++ debt_of x party ∷ [] }
+moved x party = record x { owed = slice_set x.owed party nothing ++ obligation_by x party ∷ [] }
 
--- two debts as one: for each cause it is owed where one of the two is
+-- two obligations as one: for each cause it is owed where one of the two is
 abbrev pub both : WakeObligation → WakeObligation → WakeObligation
 both a b =
     record {
@@ -29,10 +29,10 @@ abbrev pub absorbed : MachineActor → ℕ → ℕ → MachineActor
 absorbed x into from =
     record x {
       holder = option_map (λ party. if party == from then into else party) x.holder;
-      owed = slice_set (slice_set x.owed into (both (debt_of x into) (debt_of x from))) from nothing;
+      owed = slice_set (slice_set x.owed into (both (obligation_by x into) (obligation_by x from))) from nothing;
     }
 
--- A party is split off this one: of each actor its debts are copied, or moved. (A party that schedules an actor moves to
+-- A party is split off this one: of each actor its obligations are copied, or moved. (A party that schedules an actor moves to
 -- its claim what it owes that actor, and copies what it owes the others.)
 pub record IsSplit (party : ℕ) (old new : List MachineActor) : Type 0 where
   pub same_actors : length new ≡ length old

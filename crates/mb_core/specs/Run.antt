@@ -3,20 +3,20 @@ use Rattle.std.specs.Prelude.{◌≡◌, ℕ, ◌+◌, ◌-◌, ◌%◌, ◌^◌
 use Rattle.std.specs.Prelude.{List, [], ◌∷◌, ◌++◌, All, map, length, remove, slice_get, slice_set, Option, Some, None, IsSome, option_map}
 use Rattle.mb_status.specs.Mailbox.{Mailbox, mailbox_of, is_valid, most_suspensions, suspended, idle, suspend, resume, closed_mailbox}
 use Rattle.mb_msg.specs.declared.system.SysMsg.{SysMsg}
-use Rattle.mb_core.specs.declared.debt.WakeObligation.{WakeObligation}
+use Rattle.mb_core.specs.declared.wake_obligation.WakeObligation.{WakeObligation}
 use Rattle.mb_core.specs.declared.event.Event.{Event}
 use Rattle.mb_core.specs.declared.event.Step.{Step}
 use Rattle.mb_core.specs.declared.event.Step.TheVariants.{Read, Schedule, Idle, Suspend, Resume, Close, Sent, Unsent}
 use Rattle.mb_core.specs.declared.event.Step.TheVariants.{Taken, Count, Push, Take, SysAdd, SysRead, SysDrain, SysEnd}
-use Rattle.mb_core.specs.Actor.{MachineActor, nothing, debt_of, owing, has_work, at_start}
+use Rattle.mb_core.specs.Actor.{MachineActor, nothing, obligation_by, owing, has_work, at_start}
 
 -- What a party still owes once it has read this status: nothing where the actor is scheduled or closed; no wake-up
 -- for envelopes where it is suspended; else what it owed as `sending` it owes as `message` (this project's own profile).
 abbrev pub after_reading : Mailbox → WakeObligation → WakeObligation
-after_reading m debt =
+after_reading m obligation =
     if m.closed || m.scheduled then nothing
-    else (if suspended m then record debt { message = false; sending = false }
-    else record debt { message = debt.message || debt.sending; sending = false })
+    else (if suspended m then record obligation { message = false; sending = false }
+    else record obligation { message = obligation.message || obligation.sending; sending = false })
 
 -- the waiting number with one more counted, and with one less (this project's own profile)
 abbrev pub one_more : ℕ → ℕ
@@ -47,7 +47,7 @@ given_back x rest = record x { mailbox = idle x.mailbox; system = with_first x.s
 -- mailbox are those of `akka.dispatch.Mailbox`; who owes what is this project's own profile.
 abbrev pub Change : MachineActor → ℕ → Step → MachineActor → Type 0
 -- always
-Change x party Read y = y ≡ owing x party (after_reading x.mailbox (debt_of x party))
+Change x party Read y = y ≡ owing x party (after_reading x.mailbox (obligation_by x party))
 -- where the mailbox is neither closed nor scheduled: the party holds the actor from now on, and owes it nothing
 Change x party Schedule y =
     IsFalse x.mailbox.closed × IsFalse x.mailbox.scheduled ×
@@ -55,7 +55,7 @@ Change x party Schedule y =
 -- by the holder: the rest goes in front of the system work, and the party owes the actor a check of both queues
 Change x party (Idle rest) y =
     (x.holder ≡ Some party) ×
-    (y ≡ owing (given_back x rest) party (record (debt_of x party) { system = true; message = true }))
+    (y ≡ owing (given_back x rest) party (record (obligation_by x party) { system = true; message = true }))
 -- by the holder, where the count is below the limit
 Change x party Suspend y =
     (x.holder ≡ Some party) × (x.mailbox.count < most_suspensions) × (y ≡ record x { mailbox = suspend x.mailbox })
@@ -65,17 +65,17 @@ Change x party Resume y = (x.holder ≡ Some party) × (y ≡ record x { mailbox
 Change x party Close y = (x.holder ≡ Some party) × (y ≡ record x { mailbox = closed_mailbox })
 -- always
 Change x party Sent y =
-    y ≡ owing (record x { waiting = one_more x.waiting }) party (record (debt_of x party) { sending = true })
+    y ≡ owing (record x { waiting = one_more x.waiting }) party (record (obligation_by x party) { sending = true })
 -- by a party that is sending: it owes a check instead
 Change x party Unsent y =
-    IsTrue (debt_of x party).sending ×
+    IsTrue (obligation_by x party).sending ×
     (y ≡
-    owing (record x { waiting = one_less x.waiting }) party (record (debt_of x party) { message = true; sending = false }))
+    owing (record x { waiting = one_less x.waiting }) party (record (obligation_by x party) { message = true; sending = false }))
 -- by the holder
 Change x party Taken y = (x.holder ≡ Some party) × (y ≡ record x { waiting = one_less x.waiting })
 -- always: where nothing waits, no check of the envelopes is owed
 Change x party Count y =
-    y ≡ (if x.waiting == 0 then owing x party (record (debt_of x party) { message = false }) else x)
+    y ≡ (if x.waiting == 0 then owing x party (record (obligation_by x party) { message = false }) else x)
 -- always
 Change x party (Push envelope) y = y ≡ record x { envelopes = x.envelopes ++ envelope ∷ [] }
 -- by the holder, where there is an envelope at the index
@@ -84,10 +84,10 @@ Change x party (Take place) y =
 -- where the system work is not gone
 Change x party (SysAdd message) y =
     IsSome x.system ×
-    (y ≡ owing (record x { system = with_last x.system message }) party (record (debt_of x party) { system = true }))
+    (y ≡ owing (record x { system = with_last x.system message }) party (record (obligation_by x party) { system = true }))
 -- always: where nothing is listed, no check of it is owed
 Change x party SysRead y =
-    y ≡ (if has_work x.system then x else owing x party (record (debt_of x party) { system = false }))
+    y ≡ (if has_work x.system then x else owing x party (record (obligation_by x party) { system = false }))
 -- by the holder
 Change x party SysDrain y = (x.holder ≡ Some party) × (y ≡ record x { system = drained x.system })
 -- by the holder of a closed actor: the system work is gone for good

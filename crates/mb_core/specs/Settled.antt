@@ -10,15 +10,15 @@ is_runnable x = not x.mailbox.scheduled && can_schedule x.mailbox (nat_lt 0 x.wa
 
 -- some party owes the actor a check of its system work (this project's own profile, as all that is owed)
 abbrev pub IsOwedSystem : MachineActor → Type 0
-IsOwedSystem x = Any (λ debt. IsTrue debt.system) x.owed
+IsOwedSystem x = Any (λ obligation. IsTrue obligation.system) x.owed
 
 -- some party owes it a wake-up for an envelope
 abbrev pub IsOwedMessage : MachineActor → Type 0
-IsOwedMessage x = Any (λ debt. IsTrue (debt.message || debt.sending)) x.owed
+IsOwedMessage x = Any (λ obligation. IsTrue (obligation.message || obligation.sending)) x.owed
 
 -- nobody owes it anything
 abbrev pub IsOwedNothing : MachineActor → Type 0
-IsOwedNothing x = All (λ debt. debt ≡ nothing) x.owed
+IsOwedNothing x = All (λ obligation. obligation ≡ nothing) x.owed
 
 -- Nothing is stranded at an actor that is neither closed nor scheduled: with system work it is owed a check of that, and
 -- where it is not suspended and envelopes are counted as waiting it is owed a wake-up.

@@ -1,6 +1,6 @@
 //! The state of one actor in the machine, and how a step changes it.
 ghost use Rattle.std.specs.Prelude.{◌≡◌, ◌↔◌, ◌<◌, length, IsTrue, IfOk, option_map};
-ghost use Rattle.mb_core.specs.Actor.{at_start, debt_of, has_work, owing};
+ghost use Rattle.mb_core.specs.Actor.{at_start, obligation_by, has_work, owing};
 ghost use Rattle.mb_core.specs.Run.{IsCarriedOut};
 ghost use Rattle.mb_core.specs.Settled.{is_runnable};
 
@@ -8,8 +8,8 @@ mod envelope_events;
 mod status_events;
 mod system_events;
 
-use crate::debt::WakeObligation;
 use crate::event::Step;
+use crate::wake_obligation::WakeObligation;
 use mb_msg::{Envelope, SysMsg};
 use mb_status::Status;
 use std::alloc::{AllocError, Global};
@@ -167,18 +167,18 @@ impl ActorState {
         self.holder == Some(party)
     }
 
-    fn debt(&self, party: usize) -> WakeObligation
+    fn obligation(&self, party: usize) -> WakeObligation
         requires { party < length self.now.owed }
-        ensures { result ≡ debt_of self.now party }
+        ensures { result ≡ obligation_by self.now party }
     {
         self.owed[party]
     }
 
     /// From now on the party owes the actor this.
-    fn owe(&mut self, party: usize, debt: WakeObligation)
+    fn owe(&mut self, party: usize, obligation: WakeObligation)
         requires { party < length self.old.owed }
-        ensures { self.new ≡ owing self.old party debt }
+        ensures { self.new ≡ owing self.old party obligation }
     {
-        self.owed[party] = debt;
+        self.owed[party] = obligation;
     }
 }

@@ -32,14 +32,14 @@ pub fn every_run_keeps_mailboxes()
 {}
 
 /// A law: each event keeps that nothing is stranded, where actors are held as they should be.
-pub fn step_keeps_debts()
+pub fn step_keeps_obligations()
     ensures of_its_actor { ChangesKeepWith IsHeldRightly IsSettled }
     ensures of_all { StepsKeepWith IsHeldRightly IsSettled }
 {}
 
 /// A law: after every run nothing is stranded. An actor that is not closed and that nobody holds is owed a check of its
 /// system messages where it has some, and a wake-up for its envelopes where some are counted and it may handle them.
-pub fn every_run_keeps_debts()
+pub fn every_run_keeps_obligations()
     ensures { EveryRunHas IsSettled }
 {}
 
@@ -87,9 +87,9 @@ pub fn every_run_keeps_ended()
     ensures { StretchesLink (λ old number events x y. StaysEnded x y) }
 {}
 
-/// A law, of the state and no event: where a party is split off another one and copies its debts or takes them over,
+/// A law, of the state and no event: where a party is split off another one and copies its obligations or takes them over,
 /// each actor is owed what it was owed, and has the same holder. So all other laws still hold.
-pub fn split_keeps_debts()
+pub fn split_keeps_obligations()
     ensures copied { (x : MachineActor) (party : ℕ) → IsOwedTheSame x (copied x party) }
     ensures moved { (x : MachineActor) (party : ℕ) → IsOwedTheSame x (moved x party) }
     ensures held { SplitsKeep IsHeldRightly }
@@ -99,7 +99,7 @@ pub fn split_keeps_debts()
 
 /// A law, of the state and no event: where a party takes over what another one owes and holds, each actor is owed what
 /// it was owed. So all other laws still hold.
-pub fn join_keeps_debts()
+pub fn join_keeps_obligations()
     ensures absorbed { (x : MachineActor) (into from : ℕ) → into ≢ from → into < length x.owed → IsOwedTheSame x (absorbed x into from) }
     ensures held { JoinsKeep IsHeldRightly }
     ensures possible { JoinsKeep HasPossibleMailbox }

@@ -7,23 +7,23 @@
 #![tactic(auto)]
 
 mod actor;
-mod debt;
 mod event;
 mod laws;
 mod messages;
 mod model;
 mod run;
+mod wake_obligation;
 
 pub use actor::ActorState;
-pub use debt::WakeObligation;
 pub use event::{Event, Step};
 pub use laws::{
-    every_run_counts_by_the_holder, every_run_keeps_debts, every_run_keeps_ended,
-    every_run_keeps_holders, every_run_keeps_mailboxes, every_run_leaves_actors_to_their_holders,
-    join_keeps_debts, runnable_is_owed, split_keeps_debts, step_counts_by_the_holder,
-    step_keeps_debts, step_keeps_ended, step_keeps_holders, step_keeps_mailboxes,
-    step_leaves_actors_to_their_holders,
+    every_run_counts_by_the_holder, every_run_keeps_ended, every_run_keeps_holders,
+    every_run_keeps_mailboxes, every_run_keeps_obligations,
+    every_run_leaves_actors_to_their_holders, join_keeps_obligations, runnable_is_owed,
+    split_keeps_obligations, step_counts_by_the_holder, step_keeps_ended, step_keeps_holders,
+    step_keeps_mailboxes, step_keeps_obligations, step_leaves_actors_to_their_holders,
 };
 pub use messages::Messages;
 pub use model::Model;
 pub use run::replay;
+pub use wake_obligation::WakeObligation;

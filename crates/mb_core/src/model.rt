@@ -1,11 +1,11 @@
 //! The state of the machine.
 ghost use Rattle.std.specs.Prelude.{◌≡◌, ◌↔◌, IsTrue, All, IsSome, IfOk, IfSome};
-ghost use Rattle.mb_core.specs.Actor.{debt_between};
+ghost use Rattle.mb_core.specs.Actor.{obligation_between};
 ghost use Rattle.mb_core.specs.Run.{IsMade, can_start, start};
 
 use crate::actor::ActorState;
-use crate::debt::WakeObligation;
 use crate::event::Event;
+use crate::wake_obligation::WakeObligation;
 use mb_msg::ActorId;
 use mb_status::Status;
 use std::alloc::{AllocError, Global};
@@ -34,8 +34,8 @@ impl Model {
     }
 
     /// What this party owes that actor; `None` where either does not exist.
-    pub fn debt(&self, party: usize, actor: ActorId) -> Option<WakeObligation>
-        ensures { result ≡ debt_between self.now party actor.0 }
+    pub fn obligation(&self, party: usize, actor: ActorId) -> Option<WakeObligation>
+        ensures { result ≡ obligation_between self.now party actor.0 }
     {
         let state = self.actors.get(actor.0 as usize)?;
         state.owed().get(party).copied()

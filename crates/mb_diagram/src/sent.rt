@@ -2,7 +2,7 @@
 use crate::picture::{Picture, PictureEntry};
 use mb_actor::Effect;
 use mb_journal::Received;
-use mb_msg::{ActorId, DeadLetter, Envelope, SysMsg, Why};
+use mb_msg::{ActorId, DeadLetter, DeadLetterReason, Envelope, SysMsg};
 use std::alloc::{AllocError, Global};
 
 /// What each actor sent, entry by entry.
@@ -55,8 +55,10 @@ impl SentEnvelopes {
             None => 0,
         };
         match letter.why {
-            Why::Closed | Why::Cleaned => sent.max(self.end_of(letter.envelope.to)),
-            Why::Full | Why::NoMemory => sent,
+            DeadLetterReason::Closed | DeadLetterReason::Cleaned => sent.max(self.end_of(
+                letter.envelope.to,
+            )),
+            DeadLetterReason::Full | DeadLetterReason::NoMemory => sent,
         }
     }
 

@@ -5,7 +5,7 @@ use crate::widths::name_width;
 use mb_actor::{Answer, Effect, Phase};
 use mb_journal::Received;
 use mb_msg::limits::ACTORS;
-use mb_msg::{ActorId, Body, Cause, SysMsg, Why};
+use mb_msg::{ActorId, Body, Cause, DeadLetterReason, SysMsg};
 use mb_trace::Standing;
 use std::fmt;
 
@@ -413,12 +413,12 @@ fn write_number<W: fmt::Write>(f: &mut fmt::Formatter<W>, number: u64) -> fmt::R
 }
 
 /// Why an envelope is dead.
-pub(crate) fn why_word(why: Why) -> &'static str {
+pub(crate) fn why_word(why: DeadLetterReason) -> &'static str {
     match why {
-        Why::Closed => "closed",
-        Why::Full => "full",
-        Why::NoMemory => "no memory",
-        Why::Cleaned => "cleaned",
+        DeadLetterReason::Closed => "closed",
+        DeadLetterReason::Full => "full",
+        DeadLetterReason::NoMemory => "no memory",
+        DeadLetterReason::Cleaned => "cleaned",
     }
 }
 

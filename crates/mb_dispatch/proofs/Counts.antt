@@ -12,7 +12,7 @@ use Rattle.mb_gate.specs.View.{Read, Saw, Counted, Looked, Sent, Unsent, Took, P
 use Rattle.mb_gate.specs.Waiting.{counted_off, counted_on}
 use Rattle.mb_journal.specs.Accepted.{is_queued, queued, to_actor}
 use Rattle.mb_journal.specs.declared.sent_envelope.SentEnvelope.{SentEnvelope}
-use Rattle.mb_msg.specs.declared.dead_letter.Why.{Why}
+use Rattle.mb_msg.specs.declared.dead_letter.DeadLetterReason.{DeadLetterReason}
 use Rattle.mb_msg.specs.declared.envelope.Envelope.{Envelope}
 use Rattle.mb_register.specs.Sending.{counts}
 use Rattle.mb_register.specs.Views.{Does, IsLook}
@@ -71,7 +71,7 @@ does-counts id did told ps old new does same = λ actor.
     omega (arith, all_on, all_off, more_on, more_off, none.0, none.1, is))
 
 -- an envelope that was queued is counted, and one that was refused is taken back
-pub counts-posting : (e : Envelope) (refused : Option Why) (actor : ℕ)
+pub counts-posting : (e : Envelope) (refused : Option DeadLetterReason) (actor : ℕ)
     → total (counted_on actor) (counts e.to.0 refused) ≡ total (counted_off actor) (counts e.to.0 refused) + queued_to actor (posting e refused ∷ [])
 counts-posting e (Some why) actor = by_receiver (e.to.0 == actor)
   where

@@ -10,3 +10,4 @@ pub mod Alike
 pub mod Together
 pub mod There
 pub mod Runs
+pub mod Claims

@@ -8,7 +8,7 @@ use Rattle.mb_gate.specs.View.{Observation, SentSystem, View}
 use Rattle.mb_gate.specs.View.{Read, Saw, Counted, Looked, Sent, Unsent, Took, Pushed, Drained, Ended}
 use Rattle.mb_mailbox.specs.RunSends.{FindsEndedAsSent, PutsAsSent, ended_in, listed_measure, refused_of}
 use Rattle.mb_mailbox.proofs.RecordedLemmas.{does-end, look-ends-none}
-use Rattle.mb_msg.specs.declared.dead_letter.Why.{Why}
+use Rattle.mb_msg.specs.declared.dead_letter.DeadLetterReason.{DeadLetterReason}
 use Rattle.mb_msg.specs.declared.system.SysMsg.{SysMsg}
 use Rattle.mb_register.specs.Sending.{counts}
 use Rattle.mb_register.specs.Views.{Does, IsLook}
@@ -69,12 +69,12 @@ does-log id did sent old new does same noted = record {
 }
 
 -- counting an envelope puts nothing
-pub counts-put-none : (id : ℕ) (refused : Option Why) (to : ℕ) (measure : SysMsg → ℕ)
+pub counts-put-none : (id : ℕ) (refused : Option DeadLetterReason) (to : ℕ) (measure : SysMsg → ℕ)
     → total (put_in to (λ m. measure m.1)) (counts id refused) ≡ total (listed_measure to measure) []
 counts-put-none id None to measure = refl
 counts-put-none id (Some why) to measure = refl
 
-pub counts-end-none : (id : ℕ) (refused : Option Why) (to : ℕ) → total (ended_in to) (counts id refused) ≡ total (refused_of to) []
+pub counts-end-none : (id : ℕ) (refused : Option DeadLetterReason) (to : ℕ) → total (ended_in to) (counts id refused) ≡ total (refused_of to) []
 counts-end-none id None to = refl
 counts-end-none id (Some why) to = refl
 

@@ -4,8 +4,8 @@ use Rattle.std.proofs.Common.{◌+◌, ◌<◌, zero, suc, arith, take, drop, ge
 use Rattle.std.specs.Prelude.{Err, Result, Some, reverse}
 use Rattle.std.specs.Global.{Box}
 use Rattle.std.proofs.lemmas.List.{append-nil, drop_more, map-append, reverse-append, take-append-drop}
-use Rattle.mb_msg.specs.declared.dead_letter.Why.{Why}
-use Rattle.mb_msg.specs.declared.dead_letter.Why.TheVariants as why
+use Rattle.mb_msg.specs.declared.dead_letter.DeadLetterReason.{DeadLetterReason}
+use Rattle.mb_msg.specs.declared.dead_letter.DeadLetterReason.TheVariants as why
 use Rattle.mb_msg.specs.Payload.{body_of}
 use Rattle.mb_msg.specs.declared.envelope.Body.{Body}
 use Rattle.mb_msg.specs.declared.payload.Payload.{Payload}
@@ -34,7 +34,7 @@ use Rattle.mb_queue.specs.Passes.{SendPassView}
 use Rattle.mb_send.specs.Answers.{FollowsLook, IsTold, Stops}
 use Rattle.mb_send.specs.Faults.{OnlyLooked}
 use Rattle.mb_send.specs.Posted.{envelope_of, posting}
-use Rattle.mb_send.specs.declared.put.Put.{Put}
+use Rattle.mb_send.specs.declared.send_outcome.SendOutcome.{SendOutcome}
 use Rattle.mb_send.specs.declared.send_error.SendError.{SendError}
 use Rattle.mb_send.specs.declared.send_error.SendError.TheVariants.{NoMemory, NoSuchActor}
 use Rattle.mb_send.specs.declared.ticket.Look.{Look}
@@ -235,10 +235,10 @@ then-at id a b c p q = record {
 -- an envelope was sent by a tell
 module _ (by : SenderId) (number : ℕ) (to : ActorId) (body : Body) (posted posted' : List SentEnvelope) where
   abbrev pub IsOnePosted : View → View → Type 0
-  IsOnePosted old new = (refused : Option Why) × (posted' ≡ posted ++ posting (envelope_of by to number body) refused ∷ [])
+  IsOnePosted old new = (refused : Option DeadLetterReason) × (posted' ≡ posted ++ posting (envelope_of by to number body) refused ∷ [])
       × CountsQueued (posting (envelope_of by to number body) refused ∷ []) old new
 
-  pub one-posted : (sends : List SendPassView) (old new : View) (put : Put) → IsTold by number to body posted posted' sends old new put
+  pub one-posted : (sends : List SendPassView) (old new : View) (put : SendOutcome) → IsTold by number to body posted posted' sends old new put
       → IsOnePosted old new × (new.sent_system ≡ old.sent_system) × GoesOnAt to.0 old new
   one-posted sends old new put told = by_look told.look told.follows
     where
@@ -281,7 +281,7 @@ module _ (by : SenderId) (number : ℕ) (to : ActorId) (body : Body) (posted pos
       )
 
 module _ {A K : Type 0} where
-  pub sent-told : (to : ActorId) (payload : Payload) (put : Put) (a b : Sender A K) → b.inner.send_log.by ≡ a.inner.send_log.by
+  pub sent-told : (to : ActorId) (payload : Payload) (put : SendOutcome) (a b : Sender A K) → b.inner.send_log.by ≡ a.inner.send_log.by
       → IsTold a.inner.send_log.by a.inner.send_log.sent to (body_of payload) a.inner.send_log.posted b.inner.send_log.posted a.inner.sends.items
       (pass_view a.inner.registrar.pass) (pass_view b.inner.registrar.pass) put → HasSent (order_for to (Tell payload) 1 ∷ []) a b
   sent-told to payload put a b by told =
@@ -322,7 +322,7 @@ module _ {A K : Type 0} (to : ActorId) (a b : Sender A K) where
         gives_back = read.gives_back;
       }
 
-  pub sent-nothing : (r : Result Put SendError) (error : SendError) → r ≡ Err error → (r ≡ Err NoSuchActor → b ≡ a)
+  pub sent-nothing : (r : Result SendOutcome SendError) (error : SendError) → r ≡ Err error → (r ≡ Err NoSuchActor → b ≡ a)
       → (r ≡ Err NoMemory → OnlyLooked to a.inner b.inner) → HasSent [] a b
   sent-nothing r NoSuchActor was unknown unsent = subst (λ s. HasSent [] a s) (sym (unknown was)) (sent-none a)
   sent-nothing r NoMemory was unknown unsent = sent-looked (unsent was)
@@ -362,7 +362,7 @@ module _ {A K : Type 0} where
 module _ {A K : Type 0} (actors : ℕ) (to : ActorId) (a b : Sender A K)
     (discharged : (obligation_to to.0 (pass_view b.inner.registrar.pass) ≡ nothing) ⊎ (is_owed b.inner.registrar.owed to.0 ≡ true))
     (still : (id : ℕ) → is_owed a.inner.registrar.owed id ≡ true → is_owed b.inner.registrar.owed id ≡ true) where
-  pub obligations-told : (body : Body) (put : Put) → IsTold a.inner.send_log.by a.inner.send_log.sent to body a.inner.send_log.posted b.inner.send_log.posted
+  pub obligations-told : (body : Body) (put : SendOutcome) → IsTold a.inner.send_log.by a.inner.send_log.sent to body a.inner.send_log.posted b.inner.send_log.posted
       a.inner.sends.items (pass_view a.inner.registrar.pass) (pass_view b.inner.registrar.pass) put
       → KeepsObligations actors (sender_caller a.inner.registrar) (sender_caller b.inner.registrar)
   obligations-told body put told =

@@ -4,3 +4,4 @@ pub mod Found
 pub mod Jobs
 pub mod Faults
 pub mod Runs
+pub mod Claims

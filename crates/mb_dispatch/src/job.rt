@@ -2,6 +2,7 @@
 ghost use Rattle.std.specs.Prelude.{◌≡◌, IfErr, OnErr, OnOk};
 ghost use Rattle.mb_gate.specs.Accessors.{actors_of};
 ghost use Rattle.mb_system.specs.Obligations.{KeepsObligations, OwesNobody};
+ghost use Rattle.mb_dispatch.specs.Claims.{SenderLosesNoClaim};
 ghost use Rattle.mb_dispatch.specs.Faults.{BreaksJob};
 ghost use Rattle.mb_system.specs.Members.{IsSenderOf, sender_caller};
 ghost use Rattle.mb_dispatch.specs.Jobs.{ForgetsNobody};
@@ -25,6 +26,7 @@ pub struct Job<A: Actor, K: Behaviours> {
 
 impl<A: Actor, K: Behaviours> Task<System<A, K>> for Job<A, K> {
     ghost use Rattle.std.specs.Prelude.{◌≡◌, IfErr, OnOk};
+    ghost use Rattle.mb_dispatch.specs.Claims.{SenderLosesNoClaim};
     ghost use Rattle.mb_dispatch.specs.Faults.{BreaksJob};
     ghost use Rattle.mb_system.specs.Members.{IsSenderOf};
     ghost use Rattle.mb_dispatch.specs.Jobs.{ForgetsNobody, IsDone};
@@ -33,19 +35,21 @@ impl<A: Actor, K: Behaviours> Task<System<A, K>> for Job<A, K> {
     ghost ready = { λ system job. IsSenderOf system.gates job.sender.inner };
 
     ghost keeps = { λ system old new. IsSenderOf system.gates new.sender.inner × (new.sender.inner.send_log.by ≡ old.sender.inner.send_log.by)
-        × HasSentSome old.sends.items old.sender new.sender × ForgetsNobody system.gates old.sender new.sender × (new.sends ≡ old.sends) };
+        × HasSentSome old.sends.items old.sender new.sender × ForgetsNobody system.gates old.sender new.sender × (new.sends ≡ old.sends)
+        × SenderLosesNoClaim old.sender new.sender };
 
     ghost done = { λ system old new. IsDone system.gates old new };
 
     ghost fails = { λ system old new fault. BreaksJob system.gates old.sends.items old.sender new.sender fault };
 
     /// Sends all, in order, and then registers each actor again to which the sender owes a look. It stops at the first fault, and
-    /// what was sent before stays sent. Whatever comes of it, the job is done then.
+    /// what was sent before stays sent. Whatever comes of it, the job is done then, and no claim is lost.
     fn perform<R: Wait>(&mut self, rt: &R, shared: &System<A, K>) -> Result<(), RunError>
         requires ready { IsSenderOf shared.now.gates self.old.sender.inner }
         ensures keeps { IsSenderOf shared.now.gates self.new.sender.inner × (self.new.sender.inner.send_log.by ≡ self.old.sender.inner.send_log.by)
             × HasSentSome self.old.sends.items self.old.sender self.new.sender
-            × ForgetsNobody shared.now.gates self.old.sender self.new.sender × (self.new.sends ≡ self.old.sends) }
+            × ForgetsNobody shared.now.gates self.old.sender self.new.sender × (self.new.sends ≡ self.old.sends)
+            × SenderLosesNoClaim self.old.sender self.new.sender }
         ensures done { OnOk result (IsDone shared.now.gates self.old self.new) }
         ensures fails { IfErr result (BreaksJob shared.now.gates self.old.sends.items self.old.sender self.new.sender) }
     {
@@ -69,6 +73,7 @@ fn send_and_retry<A: Actor, K: Behaviours, R: Wait>(
     ensures obligations { OnOk result (KeepsObligations (actors_of system.now.gates) (sender_caller sender.old.inner.registrar)
         (sender_caller sender.new.inner.registrar)) }
     ensures still { ForgetsNobody system.now.gates sender.old sender.new }
+    ensures claims { SenderLosesNoClaim sender.old sender.new }
     ensures stopped { OnErr result (HasSentSome orders.now sender.old sender.new) }
     ensures fault { IfErr result (BreaksJob system.now.gates orders.now sender.old sender.new) }
 {

@@ -14,7 +14,7 @@ mod working;
 pub use job::Job;
 pub use mailbox::run_mailbox;
 pub use mb_mailbox::Turn;
-pub use mb_send::{Look, Put, SendError, Ticket};
+pub use mb_send::{Look, SendError, SendOutcome, Ticket};
 pub use mb_system::{Built, RunError, Sender, System, WorkerEnd};
 pub use order::send_all;
 pub use quiet::run_quietly;

@@ -47,6 +47,7 @@ pub fn run_mailbox<A: Actor, K: Behaviours, R: Wait>(
         × LeavesRun system.now.throughput claim (pass_view end.old.registrar.pass) (pass_view end.new.registrar.pass) journal turn NoRoom
         × IsShortOfMemory claim.home.value.cell.who journal }
     ensures number { end.new.number ≡ end.old.number }
+    ensures log { end.new.taken ≡ end.old.taken }
 {
     mb_mailbox::run_mailbox(
         rt,

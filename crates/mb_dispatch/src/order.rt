@@ -1,5 +1,6 @@
 //! Carrying out what a sender outside the actors is to send.
 ghost use Rattle.std.specs.Prelude.{◌≡◌, [], ◌∷◌, IfErr, OnErr, OnOk};
+ghost use Rattle.mb_dispatch.specs.Claims.{SenderLosesNoClaim};
 ghost use Rattle.mb_dispatch.specs.Faults.{BreaksSending, IsRefusedFor, StopsFor};
 ghost use Rattle.mb_gate.specs.Accessors.{actors_of};
 ghost use Rattle.mb_system.specs.Obligations.{KeepsObligations};
@@ -15,7 +16,7 @@ use std::sync::Wait;
 /// Carries out all these orders, each as often as it says, in their order. It stops at the first fault: `NoSuchActor` or
 /// `NoMemory` as a tell or a stop answers it. What was sent before stays sent, and nothing more is sent. Call `retry_refused`
 /// then: it looks after the actors to which the sender owes a look. These are those to which it owed one before, and actors
-/// whose claims the pool refused.
+/// whose claims the pool refused. No claim is lost.
 pub fn send_all<A: Actor, K: Behaviours, R: Wait>(
     rt: &R,
     system: &System<A, K>,
@@ -29,6 +30,7 @@ pub fn send_all<A: Actor, K: Behaviours, R: Wait>(
     ensures obligations { OnOk result (KeepsObligations (actors_of system.now.gates) (sender_caller sender.old.inner.registrar)
         (sender_caller sender.new.inner.registrar)) }
     ensures owed { OwesForRefusals (sender_caller sender.old.inner.registrar).account (sender_caller sender.new.inner.registrar).account }
+    ensures claims { SenderLosesNoClaim sender.old sender.new }
     ensures stopped { OnErr result (StopsWithin orders.now sender.old sender.new) }
     ensures fault { IfErr result (BreaksSending system.now.gates orders.now) }
     ensures reason { IfErr result (StopsFor system.now.gates orders.now sender.old sender.new) }
@@ -53,6 +55,7 @@ fn send_often<A: Actor, K: Behaviours, R: Wait>(
     ensures obligations { OnOk result (KeepsObligations (actors_of system.now.gates) (sender_caller sender.old.inner.registrar)
         (sender_caller sender.new.inner.registrar)) }
     ensures owed { OwesForRefusals (sender_caller sender.old.inner.registrar).account (sender_caller sender.new.inner.registrar).account }
+    ensures claims { SenderLosesNoClaim sender.old sender.new }
     ensures stopped { OnErr result (HasSentUpTo [] order sender.old sender.new) }
     ensures fault { IfErr result (BreaksSending system.now.gates (order ∷ [])) }
     ensures reason { IfErr result (IsRefusedFor system.now.gates order.to order.what) }
@@ -79,6 +82,7 @@ fn send<A: Actor, K: Behaviours, R: Wait>(
     ensures obligations { OnOk result (KeepsObligations (actors_of system.now.gates) (sender_caller sender.old.inner.registrar)
         (sender_caller sender.new.inner.registrar)) }
     ensures owed { OwesForRefusals (sender_caller sender.old.inner.registrar).account (sender_caller sender.new.inner.registrar).account }
+    ensures claims { SenderLosesNoClaim sender.old sender.new }
     ensures unsent { OnErr result (HasSent [] sender.old sender.new) }
     ensures fault { IfErr result (BreaksSending system.now.gates (order_for to what 1 ∷ [])) }
     ensures reason { IfErr result (IsRefusedFor system.now.gates to what) }

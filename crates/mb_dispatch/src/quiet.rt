@@ -6,6 +6,7 @@ ghost use Rattle.mb_gate.specs.Untouched.{origin_of};
 ghost use Rattle.mb_register.specs.Owed.{IsNobody};
 ghost use Rattle.mb_system.specs.Obligations.{AreDischargedOrOwed, HasNoObligationTo};
 ghost use Rattle.mb_system.specs.Members.{end_caller, IsEndOf};
+ghost use Rattle.mb_dispatch.specs.Claims.{RunsEachClaim};
 ghost use Rattle.mb_dispatch.specs.Faults.{BreaksQuietRun};
 ghost use Rattle.mb_dispatch.specs.Found.{FoundPoolEmpty};
 ghost use Rattle.mb_dispatch.specs.Runs.{MadeRuns, turns_in};
@@ -22,7 +23,8 @@ use std::sync::Wait;
 ///
 /// It answers `JournalFull` or `NoMemory` as a run of a mailbox does, and `NoMemory` also if there was no room for one more
 /// answer, or if the run queue refused a claim again. What was done stays done, and the same call goes on. Whatever is
-/// answered, each actor is owed nothing by the end, or is in the set of actors that it owes a look.
+/// answered, each actor is owed nothing by the end, or is in the set of actors that it owes a look; and no claim is lost: the end
+/// has run each that it took.
 pub fn run_quietly<A: Actor, K: Behaviours, R: Wait>(
     rt: &R,
     system: &System<A, K>,
@@ -36,6 +38,7 @@ pub fn run_quietly<A: Actor, K: Behaviours, R: Wait>(
     ensures runs { IfOk result (λ turns. MadeRuns K.gives (origin_of system.now.gates) system.now.throughput
         (pass_view end.old.registrar.pass) (turns_in turns) (pass_view end.new.registrar.pass)) }
     ensures empty { OnOk result (FoundPoolEmpty K.gives end.new) }
+    ensures claims { RunsEachClaim end.old end.new }
     ensures number { end.new.number ≡ end.old.number }
     ensures log_kept { IsPart (pass_view end.old.registrar.pass).log (pass_view end.new.registrar.pass).log }
     ensures fault { IfErr result (BreaksQuietRun K.gives system.now (pass_view end.old.registrar.pass) end.new) }

@@ -6,6 +6,7 @@ ghost use Rattle.mb_gate.specs.Untouched.{origin_of};
 ghost use Rattle.mb_system.specs.OnlyLooks.{OnlyLooks};
 ghost use Rattle.mb_system.specs.Obligations.{FirstDischargedOrOwed, FirstHasNoObligation, KeepAllObligations};
 ghost use Rattle.mb_system.specs.Members.{AreEndsOf, OweNobody, StillSee, ends_numbers};
+ghost use Rattle.mb_dispatch.specs.Claims.{RunEachClaim, SenderLosesNoClaim};
 ghost use Rattle.mb_dispatch.specs.Faults.{BreaksRun, RunsOrBreaks};
 ghost use Rattle.mb_dispatch.specs.Found.{AllFoundPoolEmpty};
 ghost use Rattle.mb_dispatch.specs.Runs.{OnlyRuns};
@@ -25,7 +26,7 @@ use std::thread::Threads;
 /// mailboxes, by the system's throughput, and to look at actors.
 ///
 /// It answers the first error in the order of the ends, then of the jobs. Whatever is answered, no end forgets anything that it
-/// owes, and each job sent what it is to send in order, all of it or up to where it stopped.
+/// owes; no claim is lost, and each end has run each claim that it took. And each job sent what it is to send in order, all of it or up to where it stopped.
 pub fn run<A: Actor + Send, K: Behaviours + Send, R: Threads + Wait + Sync>(
     rt: &R,
     system: &System<A, K>,
@@ -42,6 +43,8 @@ pub fn run<A: Actor + Send, K: Behaviours + Send, R: Threads + Wait + Sync>(
     ensures obligations { KeepAllObligations system.now.gates ends.old ends.new }
     ensures settled { OnOk result (FirstHasNoObligation system.now.gates ends.new) }
     ensures empty { OnOk result (AllFoundPoolEmpty K.gives ends.new) }
+    ensures claims { RunEachClaim ends.old ends.new }
+    ensures claims_of_jobs { AllZip (λ o n. SenderLosesNoClaim o.sender n.sender) jobs.old jobs.new }
     ensures runs { AllZip (λ o n. RunsOrBreaks K.gives system.now (pass_view o.registrar.pass) n) ends.old ends.new }
     ensures ran { OnOk result (AllZip (λ o n. OnlyRuns K.gives (origin_of system.now.gates) system.now.throughput (pass_view o.registrar.pass)
         (pass_view n.registrar.pass)) ends.old ends.new) }
@@ -66,6 +69,7 @@ fn register_by_first<A: Actor, K: Behaviours, R: Wait>(
     ensures ends { AreEndsOf system.now.gates ends.new × (ends_numbers ends.new ≡ ends_numbers ends.old) }
     ensures log_kept { StillSee ends.old ends.new }
     ensures obligations { KeepAllObligations system.now.gates ends.old ends.new }
+    ensures claims { RunEachClaim ends.old ends.new }
     ensures discharged { FirstDischargedOrOwed system.now.gates ends.new }
     ensures looks { AllZip (λ o n. OnlyLooks (pass_view o.registrar.pass) (pass_view n.registrar.pass)) ends.old ends.new }
 {

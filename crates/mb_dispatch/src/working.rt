@@ -1,5 +1,5 @@
 //! A worker beside others.
-ghost use Rattle.std.specs.Prelude.{◌≡◌, ◌<◌, ℕ, false, IfErr, IfNone, IfOk, IfSome, OnOk, Some};
+ghost use Rattle.std.specs.Prelude.{◌≡◌, ◌<◌, ℕ, false, IfErr, IfNone, IfOk, IfSome, MatchResult, OnOk, Some, option_to_list};
 ghost use Rattle.mb_gate.specs.Accessors.{actors_of, pass_view};
 ghost use Rattle.mb_gate.specs.Rule.{IsPart};
 ghost use Rattle.mb_gate.specs.Untouched.{origin_of};
@@ -9,6 +9,7 @@ ghost use Rattle.mb_register.specs.Owed.{is_owed};
 ghost use Rattle.mb_system.specs.Obligations.{KeepsObligations};
 ghost use Rattle.mb_system.specs.Members.{IsEndOf, end_caller};
 ghost use Rattle.mb_system.specs.OnlyLooks.{OnlyLooks};
+ghost use Rattle.mb_dispatch.specs.Claims.{RunsEachClaim, RunsEachClaimBut};
 ghost use Rattle.mb_dispatch.specs.Faults.{BreaksWork};
 ghost use Rattle.mb_dispatch.specs.Found.{FoundPoolEmpty};
 ghost use Rattle.mb_dispatch.specs.Runs.{OnlyRuns};
@@ -24,7 +25,8 @@ use std::sync::Wait;
 
 /// Takes and runs claims until it finds none while no job of a run is open and no worker counts as busy. It owes no looks then, and
 /// its last look for a claim found the pool empty. All that it does is to run mailboxes, by the system's throughput, and to look at
-/// actors.
+/// actors. No claim is lost: it runs each claim that it takes, and each that it gets goes into the run queue or, where the queue
+/// refuses it, back to its actor.
 ///
 /// It stops at the first error: `JournalFull` or `NoMemory` as a run of a mailbox answers it, and `NoMemory` if the run queue
 /// refused a claim again. What was done stays done, and nothing that was owed is forgotten.
@@ -38,6 +40,7 @@ pub fn work<A: Actor, K: Behaviours, R: Wait>(
     ensures discharged { OnOk result ((id : ℕ) → id < actors_of system.now.gates → is_owed end.new.registrar.owed id ≡ false) }
     ensures empty { OnOk result (FoundPoolEmpty K.gives end.new) }
     ensures obligations { KeepsObligations (actors_of system.now.gates) (end_caller end.old.registrar) (end_caller end.new.registrar) }
+    ensures claims { RunsEachClaim end.old end.new }
     ensures number { end.new.number ≡ end.old.number }
     ensures log_kept { IsPart (pass_view end.old.registrar.pass).log (pass_view end.new.registrar.pass).log }
     ensures ran { OnOk result (OnlyRuns K.gives (origin_of system.now.gates) system.now.throughput (pass_view end.old.registrar.pass)
@@ -61,6 +64,7 @@ fn work_on<A: Actor, K: Behaviours, R: Wait>(
     ensures discharged { OnOk result ((id : ℕ) → id < actors_of system.now.gates → is_owed end.new.registrar.owed id ≡ false) }
     ensures empty { OnOk result (FoundPoolEmpty K.gives end.new) }
     ensures obligations { KeepsObligations (actors_of system.now.gates) (end_caller end.old.registrar) (end_caller end.new.registrar) }
+    ensures claims { RunsEachClaim end.old end.new }
     ensures number { end.new.number ≡ end.old.number }
     ensures log_kept { IsPart (pass_view end.old.registrar.pass).log (pass_view end.new.registrar.pass).log }
     ensures ran { OnOk result (OnlyRuns K.gives (origin_of system.now.gates) system.now.throughput (pass_view end.old.registrar.pass)
@@ -94,6 +98,7 @@ fn next_claim<A: Actor, K: Behaviours, R: Wait>(
     ensures discharged { IfOk result (λ next. IfNone next ((id : ℕ) → id < actors_of system.now.gates → is_owed end.new.registrar.owed id ≡ false)) }
     ensures empty { IfOk result (λ next. IfNone next (FoundPoolEmpty K.gives end.new)) }
     ensures obligations { KeepsObligations (actors_of system.now.gates) (end_caller end.old.registrar) (end_caller end.new.registrar) }
+    ensures claims { MatchResult result (λ next. RunsEachClaimBut (option_to_list next) end.old end.new) (λ _. RunsEachClaim end.old end.new) }
     ensures number { end.new.number ≡ end.old.number }
     ensures looks { OnlyLooks (pass_view end.old.registrar.pass) (pass_view end.new.registrar.pass) }
     ensures log_kept { IsPart (pass_view end.old.registrar.pass).log (pass_view end.new.registrar.pass).log }
@@ -119,6 +124,7 @@ fn wait<A: Actor, K: Behaviours, R: Wait>(
     ensures empty { IfNone result (FoundPoolEmpty K.gives end.new) }
     ensures same { (end.new.registrar.pass ≡ end.old.registrar.pass) × (end.new.registrar.owed ≡ end.old.registrar.owed)
         × (gates_of end.new.registrar.run_queue.end ≡ gates_of end.old.registrar.run_queue.end) × (end.new.number ≡ end.old.number) }
+    ensures claims { RunsEachClaimBut (option_to_list result) end.old end.new }
 {
     going.leave();
     let backoff = Backoff::new();
@@ -147,6 +153,7 @@ impl<A: Actor, K: Behaviours> Task<System<A, K>> for WorkerEnd<A, K> {
     ghost use Rattle.mb_gate.specs.Rule.{IsPart};
     ghost use Rattle.mb_system.specs.Obligations.{KeepsObligations};
     ghost use Rattle.mb_system.specs.Members.{IsEndOf, end_caller};
+    ghost use Rattle.mb_dispatch.specs.Claims.{RunsEachClaim};
     ghost use Rattle.mb_dispatch.specs.Faults.{BreaksWork, HasWorked, RunsOrBreaks};
 
     ghost ready = { λ system end. IsEndOf system.gates end.registrar };
@@ -154,7 +161,7 @@ impl<A: Actor, K: Behaviours> Task<System<A, K>> for WorkerEnd<A, K> {
     ghost keeps = { λ system old new. IsEndOf system.gates new.registrar × (new.number ≡ old.number)
         × IsPart (pass_view old.registrar.pass).log (pass_view new.registrar.pass).log
         × KeepsObligations (actors_of system.gates) (end_caller old.registrar) (end_caller new.registrar)
-        × RunsOrBreaks K.gives system (pass_view old.registrar.pass) new };
+        × RunsOrBreaks K.gives system (pass_view old.registrar.pass) new × RunsEachClaim old new };
 
     ghost done = { λ system old new. HasWorked K.gives system (pass_view old.registrar.pass) new };
 
@@ -165,7 +172,7 @@ impl<A: Actor, K: Behaviours> Task<System<A, K>> for WorkerEnd<A, K> {
         ensures keeps { IsEndOf shared.now.gates self.new.registrar × (self.new.number ≡ self.old.number)
             × IsPart (pass_view self.old.registrar.pass).log (pass_view self.new.registrar.pass).log
             × KeepsObligations (actors_of shared.now.gates) (end_caller self.old.registrar) (end_caller self.new.registrar)
-            × RunsOrBreaks K.gives shared.now (pass_view self.old.registrar.pass) self.new }
+            × RunsOrBreaks K.gives shared.now (pass_view self.old.registrar.pass) self.new × RunsEachClaim self.old self.new }
         ensures done { OnOk result (HasWorked K.gives shared.now (pass_view self.old.registrar.pass) self.new) }
         ensures fails { IfErr result (BreaksWork K.gives shared.now (pass_view self.old.registrar.pass) self.new) }
     {

@@ -27,6 +27,10 @@ mod limited;
 #[cfg(test)]
 mod meeting;
 #[cfg(test)]
+mod new_system;
+#[cfg(test)]
+mod numbers;
+#[cfg(test)]
 mod ordered;
 #[cfg(test)]
 mod planned;

@@ -58,7 +58,7 @@ const SHORT: TestCase<'static> = TestCase {
     ..PLAIN
 };
 
-const JOURNAL_FULL: &str = "Run(JournalFull)";
+const JOURNAL_FULL: &str = "JournalFull(ActorId(1))";
 
 const SHORT_JOURNAL: &[Run] = &[(SHORT, JOURNAL_FULL)];
 

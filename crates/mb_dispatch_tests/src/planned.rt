@@ -5,7 +5,9 @@ use crate::reading::{has_letters, has_no_actor, has_no_sender};
 use crate::seen::see;
 use crate::whole_run::RunMode;
 use heddleorange::{Error, PlanError, PlannedSystem, SETTINGS, handled, journal, state};
-use mb_msg::{ActorId, ActorPlan, Body, DeadLetter, Envelope, MailboxType, Order, SenderId, Why};
+use mb_msg::{
+    ActorId, ActorPlan, Body, DeadLetter, DeadLetterReason, Envelope, MailboxType, Order, SenderId,
+};
 use mb_report::Report;
 use mb_testkit::{
     ADD, Action, COUNTER, FAIL, TestActor, TestActorPlan, TestMailbox, journal_text, sends_of, tell,
@@ -95,7 +97,7 @@ const REFUSED: DeadLetter = DeadLetter {
             value: 7,
         },
     },
-    why: Why::Full,
+    why: DeadLetterReason::Full,
 };
 
 /// The dead letters of each sender: the guardian, the actors, and the sender outside.

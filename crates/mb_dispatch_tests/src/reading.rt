@@ -99,7 +99,7 @@ fn is_same_entry(one: &EntryRef<'_>, other: &EntryRef<'_>) -> bool {
 fn are_letters_read_right(report: &Report) -> bool {
     let mut id = ActorId(0);
     for sender in &report.senders {
-        if !has_letters(report, id, &sender.dead) {
+        if !has_letters(report, id, sender.dead.kept()) {
             return false;
         }
         id = ActorId(id.0.wrapping_add(1));
@@ -110,7 +110,7 @@ fn are_letters_read_right(report: &Report) -> bool {
 /// Whether these are read as the dead letters of this sender.
 pub fn has_letters(report: &Report, id: ActorId, letters: &[DeadLetter]) -> bool {
     match dead_letters(report, id) {
-        Some(read) => read == letters,
+        Some(read) => read.kept() == letters,
         None => false,
     }
 }

@@ -1,11 +1,11 @@
 //! Runs that are refused, or broken off: each error in which a whole run with ample memory was seen to end, on one thread and on
 //! threads.
 use crate::whole_run::{RunMode, run_whole};
-use heddleorange::{Error, FailedRun, PlanError, RunError, UnfinishedActor};
+use heddleorange::{Error, FailedRun, PlanError, UnfinishedActor};
 use mb_msg::ActorId;
 use mb_testkit::{
-    ADD, COUNTER, Order, PLAIN, TestActorPlan, TestCase, TestMailbox, plan_of, sends_of, stop,
-    tell, test_actors_of,
+    ADD, COUNTER, Order, PLAIN, TestActor, TestActorPlan, TestCase, TestMailbox, plan_of, sends_of,
+    stop, tell, test_actors_of,
 };
 use std::alloc::{AllocError, Global};
 use std::process::Abort;
@@ -35,7 +35,10 @@ const WITHOUT_ORDERS: Refusal = Refusal {
     plan: ONE,
     actors: &[COUNTER],
     sends: &[],
-    why: Error::Sends,
+    why: Error::OrderLists {
+        lists: 0,
+        senders: 1,
+    },
     left: &[],
 };
 
@@ -127,21 +130,38 @@ const BAD_ORDERS: &[Refusal] = &[
     WITHOUT_ORDERS,
     Refusal {
         sends: &[&[tell!(2, ADD, 1)], &[]],
+        why: Error::OrderLists {
+            lists: 2,
+            senders: 1,
+        },
         ..WITHOUT_ORDERS
     },
     Refusal {
         sends: &[&[tell!(1, ADD, 1), tell!(2, ADD, 1)]],
-        why: Error::Run(RunError::NoSuchActor),
+        why: Error::NoSuchActor {
+            sender: 0,
+            place: 1,
+            to: ActorId(2),
+        },
         ..WITHOUT_ORDERS
     },
     Refusal {
         sends: &[&[tell!(0, ADD, 1)]],
-        why: Error::Run(RunError::NoSuchActor),
+        why: Error::NoSuchActor {
+            sender: 0,
+            place: 0,
+            to: ActorId(0),
+        },
         ..WITHOUT_ORDERS
     },
     Refusal {
-        sends: &[&[stop!(2)]],
-        why: Error::Run(RunError::NoSuchActor),
+        plan: TestCase { senders: 2, ..ONE },
+        sends: &[&[tell!(1, ADD, 1)], &[tell!(1, ADD, 1), stop!(3), stop!(2)]],
+        why: Error::NoSuchActor {
+            sender: 1,
+            place: 1,
+            to: ActorId(3),
+        },
         ..WITHOUT_ORDERS
     },
     FULL_JOURNAL,
@@ -154,7 +174,7 @@ pub const FULL_JOURNAL: Refusal = Refusal {
         ..ONE
     },
     sends: &[&[tell!(1, ADD, 1), tell!(1, ADD, 2)]],
-    why: Error::Run(RunError::JournalFull),
+    why: Error::JournalFull(ActorId(1)),
     left: &[1, 2],
     ..WITHOUT_ORDERS
 };
@@ -174,7 +194,7 @@ fn refused<R: Threads + Wait + Sync>(
     alloc: Global,
     mode: RunMode,
     refusal: &Refusal,
-) -> Result<Option<FailedRun>, AllocError> {
+) -> Result<Option<FailedRun<TestActor>>, AllocError> {
     let sends = lists_of(alloc, refusal.sends)?;
     let actors = test_actors_of(alloc, refusal.actors)?;
     let plan = plan_of(alloc, &refusal.plan)?;
@@ -201,10 +221,27 @@ fn are_left(actors: &[Option<UnfinishedActor>], due: &[usize]) -> bool {
     number == actors.len()
 }
 
+/// How many actors come back as they were handed in.
+fn handed_back(failed: &FailedRun<TestActor>) -> usize {
+    match &failed.untouched {
+        Some(untouched) => untouched.actors.len(),
+        None => 0,
+    }
+}
+
 /// The run has no report for the reason that is due, and what is left of its actors is as is due.
-fn see_refused<R: Abort>(rt: &R, refusal: &Refusal, failed: &FailedRun) {
+fn see_refused<R: Abort>(rt: &R, refusal: &Refusal, failed: &FailedRun<TestActor>) {
     assert!(rt; failed.error == refusal.why);
     assert!(rt; are_left(&failed.actors, refusal.left));
+    let is_untouched = refusal.left.is_empty();
+    assert!(rt;
+        handed_back(failed)
+            == if is_untouched {
+                refusal.actors.len()
+            } else {
+                0
+            }
+    );
 }
 
 /// Checks that each of these is refused as is due.
@@ -240,7 +277,7 @@ fn a_run_on_threads_is_refused_for_its_first_reason(rt: HostRuntime) {
 
 #[test]
 fn a_failed_run_is_shown_as_its_error(rt: HostRuntime) -> Result<(), Fail> {
-    let failed = FailedRun::without_actors(rt.alloc(), Error::NoMemory);
+    let failed: FailedRun<TestActor> = FailedRun::without_actors(rt.alloc(), Error::NoMemory);
     let text = format!(in rt.alloc(); "{failed}")?;
     assert!(&rt; text.as_str() == "memory was refused");
     Ok(())

@@ -5,8 +5,8 @@ use crate::end_call::{EndAnswer, EndCall};
 use crate::sender_call::{SenderAnswer, SenderCall};
 use crate::system_driver::SystemDriver;
 use crate::test_system::{TestSystem, system_of};
-use mb_dispatch::{Put, RunError, SendError};
-use mb_msg::{ActorId, Payload, PoolKind, Why};
+use mb_dispatch::{RunError, SendError, SendOutcome};
+use mb_msg::{ActorId, DeadLetterReason, Payload, PoolKind};
 use mb_report::Report;
 use mb_testkit::{ADD, Action, COUNTER, FAIL, PLAIN, TestActorPlan, TestCase, text_of};
 use std::alloc::Global;
@@ -113,8 +113,9 @@ fn tell_each<S: SystemDriver, R: Wait>(rt: &R, company: &mut S) -> Option<&'stat
     let mut due = WITH_ALL;
     for (payload, without) in SENDS {
         match tell_at_last(rt, company, *payload)? {
-            SenderAnswer::Put(Ok(Put::Queued(_))) => {}
-            SenderAnswer::Put(Ok(Put::Dead(_, Why::NoMemory))) => due = *without,
+            SenderAnswer::Put(Ok(SendOutcome::Queued(_))) => {}
+            SenderAnswer::Put(Ok(SendOutcome::Dead(_, DeadLetterReason::NoMemory))) => due =
+                *without,
             _ => return None,
         }
     }

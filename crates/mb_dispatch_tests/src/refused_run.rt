@@ -2,8 +2,8 @@
 //! allocation refused in turn.
 use crate::refused::{BY_SHARED, SENDS, WITH_ALL, is_text_due, see_due};
 use crate::whole_run::{RunMode, run_whole};
-use heddleorange::{Error, RunError, dead_letters};
-use mb_msg::{ActorId, DeadLetter, Order, OrderKind, Why};
+use heddleorange::{Error, dead_letters};
+use mb_msg::{ActorId, DeadLetter, DeadLetterReason, Order, OrderKind};
 use mb_report::Report;
 use mb_testkit::{TestCase, plan_of, test_actors_of};
 use std::alloc::{AllocError, Global};
@@ -44,7 +44,7 @@ fn run_at_last<R: Threads + Wait + Sync>(
     story: &TestCase<'_>,
 ) -> Result<Report, Error> {
     match run_once(rt, alloc, story) {
-        Err(Error::NoMemory | Error::Run(RunError::NoMemory)) => run_once(rt, alloc, story),
+        Err(Error::NoMemory | Error::NoMemoryInRun) => run_once(rt, alloc, story),
         outcome => outcome,
     }
 }
@@ -52,7 +52,7 @@ fn run_at_last<R: Threads + Wait + Sync>(
 /// The report that is due, where these are the sender's dead letters.
 fn due_with(letters: &[DeadLetter]) -> &'static str {
     for letter in letters {
-        if letter.why == Why::NoMemory {
+        if letter.why == DeadLetterReason::NoMemory {
             return match SENDS.get(letter.envelope.number as usize) {
                 Some((_, without)) => *without,
                 None => "",
@@ -64,7 +64,7 @@ fn due_with(letters: &[DeadLetter]) -> &'static str {
 
 fn is_as_due(alloc: Global, report: &Report) -> Option<bool> {
     let letters = dead_letters(report, SENDER)?;
-    is_text_due(alloc, report, due_with(letters))
+    is_text_due(alloc, report, due_with(letters.kept()))
 }
 
 #[test]

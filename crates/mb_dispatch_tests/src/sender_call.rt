@@ -3,7 +3,7 @@ ghost use Rattle.std.specs.Prelude.{◌≡◌};
 ghost use Rattle.mb_system.specs.Members.{IsSenderOf};
 
 use mb_actor::{Actor, Behaviours};
-use mb_dispatch::{Look, Put, SendError, Sender, System, Ticket};
+use mb_dispatch::{Look, SendError, SendOutcome, Sender, System, Ticket};
 use mb_msg::{ActorId, Payload};
 use std::sync::Wait;
 
@@ -24,7 +24,7 @@ pub enum SenderCall {
 #[derive(Drop)]
 pub enum SenderAnswer {
     /// What became of what was told or put.
-    Put(Result<Put, SendError>),
+    Put(Result<SendOutcome, SendError>),
     /// Whether the actor was stopped.
     Stopped(Result<bool, SendError>),
     /// How the actor was seen.

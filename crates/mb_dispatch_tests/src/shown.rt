@@ -2,7 +2,7 @@
 use crate::end_call::EndAnswer;
 use crate::sender_call::SenderAnswer;
 use heddleorange::{Error, FailedRun};
-use mb_dispatch::{Look, Put, RunError, SendError, Turn};
+use mb_dispatch::{Look, RunError, SendError, SendOutcome, Turn};
 use mb_report::Report;
 use mb_testkit::{add, text_of};
 use std::alloc::{AllocError, Global};
@@ -16,9 +16,9 @@ pub fn outcome_text(alloc: Global, outcome: Result<Report, Error>, count: usize)
 }
 
 /// The same of a whole run that shows what is left of its actors.
-pub fn failed_text(
+pub fn failed_text<A: Drop>(
     alloc: Global,
-    outcome: Result<Report, FailedRun>,
+    outcome: Result<Report, FailedRun<A>>,
     count: usize,
 ) -> Option<String> {
     match outcome {
@@ -86,7 +86,7 @@ pub fn sender_text(alloc: Global, answer: SenderAnswer) -> Result<String, AllocE
     }
 }
 
-fn put_text(alloc: Global, put: Put) -> Result<String, AllocError> {
+fn put_text(alloc: Global, put: SendOutcome) -> Result<String, AllocError> {
     format!(in alloc; "{put:?}")
 }
 

@@ -85,7 +85,7 @@ pub fn run_whole<A: Actor + Send, R: Threads + Wait + Sync>(
     plan: Plan,
     actors: Vec<A>,
     sends: &[Vec<Order>],
-) -> Result<Report, FailedRun>
+) -> Result<Report, FailedRun<A>>
     requires unused { All (λ actor. A.content actor ≡ A.after actor []) actors.items }
 {
     match mode {

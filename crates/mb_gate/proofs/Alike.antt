@@ -3,7 +3,7 @@ use Rattle.std.proofs.Common.{◌≡◌, ◌≢◌, ⊎_elim, ℕ, Bool, true, f
 use mathlib.Core.Logic.{dite}
 use native.Mathlib.Decide.{ℕ_discrete}
 use Rattle.mb_journal.specs.Entry.{Entry}
-use Rattle.mb_core.specs.declared.debt.WakeObligation.{WakeObligation}
+use Rattle.mb_core.specs.declared.wake_obligation.WakeObligation.{WakeObligation}
 use Rattle.mb_ghost.specs.Summed.{total}
 use Rattle.mb_ghost.proofs.SummedLemmas.{total_append}
 use Rattle.mb_gate.specs.View.{View, Observation, Saw, Release, obligation_to, either_obligation, taken_journal, idling, taking_in, taking_over}
@@ -14,7 +14,7 @@ use Rattle.mb_gate.specs.Shown.{ReleasesAlike}
 use Rattle.mb_gate.proofs.Numbers.{among_first, among_more, among_left, among_right}
 use Rattle.mb_gate.proofs.OneNumber.{first_or_rest, among_either}
 use Rattle.mb_gate.proofs.Views.{owes_here, owes_else}
-use Rattle.mb_gate.proofs.Parting.{debt_of-added}
+use Rattle.mb_gate.proofs.Parting.{obligation_by-added}
 
 -- two lists in either order have the same in them
 swapped : (s x : Observation) (a b : List Observation) → IsAmong s (x ∷ (a ++ b)) → IsAmong s (x ∷ (b ++ a))
@@ -62,13 +62,13 @@ module _ (claim pass : View) (actor : ℕ) (journal : List Entry) where
 
   owed_here : obligation_to actor before ≡ obligation_to actor after
   owed_here = idled_here actor journal (taking_in claim pass)
-      ∙ (ap (λ (d : WakeObligation). record d { system = true; message = true }) (debt_of-added actor pass.obligations claim.obligations)
-      ∙ (sent (obligation_to actor pass) (obligation_to actor claim) ∙ sym (debt_of-added actor (idling actor journal claim).obligations pass.obligations
+      ∙ (ap (λ (d : WakeObligation). record d { system = true; message = true }) (obligation_by-added actor pass.obligations claim.obligations)
+      ∙ (sent (obligation_to actor pass) (obligation_to actor claim) ∙ sym (obligation_by-added actor (idling actor journal claim).obligations pass.obligations
       ∙ ap (λ (d : WakeObligation). either_obligation d (obligation_to actor pass)) (idled_here actor journal claim))))
 
   owed_else : (a : ℕ) → a ≢ actor → obligation_to a before ≡ obligation_to a after
-  owed_else a other = idled_else actor a journal (taking_in claim pass) other ∙ (debt_of-added a pass.obligations claim.obligations
-      ∙ (either_swapped (obligation_to a pass) (obligation_to a claim) ∙ sym (debt_of-added a (idling actor journal claim).obligations pass.obligations
+  owed_else a other = idled_else actor a journal (taking_in claim pass) other ∙ (obligation_by-added a pass.obligations claim.obligations
+      ∙ (either_swapped (obligation_to a pass) (obligation_to a claim) ∙ sym (obligation_by-added a (idling actor journal claim).obligations pass.obligations
       ∙ ap (λ (d : WakeObligation). either_obligation d (obligation_to a pass)) (idled_else actor a journal claim other))))
 
   owed_by : (a : ℕ) → obligation_to a before ≡ obligation_to a after

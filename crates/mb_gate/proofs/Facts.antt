@@ -41,7 +41,7 @@ use Rattle.mb_journal.specs.Entry.{Entry}
 use Rattle.mb_syslist.specs.MessageList.{MessageList, numbered}
 use Rattle.mb_gate.specs.HomeFacts.{HomeFacts}
 use Rattle.mb_gate.specs.declared.slot.Slot.TheVariants.{List as Listing}
-use Rattle.mb_core.specs.declared.debt.WakeObligation.{WakeObligation}
+use Rattle.mb_core.specs.declared.wake_obligation.WakeObligation.{WakeObligation}
 use Rattle.mb_ghost.specs.Layout.{Spot, write}
 use Rattle.mb_ghost.proofs.LockedLemmas.{stays_locked}
 use Rattle.mb_ghost.proofs.OwedLemmas.{still_owed}
@@ -360,7 +360,7 @@ module _ {H : Type 0} (is_of : ℕ → H → Type 0) (facts : H → HomeFacts) (
   pub elsewhere : (x : Place) (vs : List View) (id : ℕ) (v w : View) → get_elem? vs id ≡ some v → Elsewhere H actor v w → Facts x vs → Facts x
       (set vs id w)
   elsewhere x vs id v w at same = views_change x vs id v w at same.claim same.list same.account
-      (λ _. subst (λ (d : WakeObligation). IsTrue (d.message || d.sending)) (sym same.debt)) (λ _. subst (λ (d : WakeObligation). IsTrue d.system) (sym same.debt))
+      (λ _. subst (λ (d : WakeObligation). IsTrue (d.message || d.sending)) (sym same.obligation)) (λ _. subst (λ (d : WakeObligation). IsTrue d.system) (sym same.obligation))
       (same.knows x) same.vouches
 
   -- a load changes nothing but the view

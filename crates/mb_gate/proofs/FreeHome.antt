@@ -8,8 +8,8 @@ use Rattle.mb_gate.specs.Tries.{IsFree, IsGot, IsExchanged}
 use Rattle.mb_gate.proofs.Wins.{free_word}
 use Rattle.mb_gate.specs.FreeHome.{WasFold, FreeIsFold}
 use Rattle.mb_gate.specs.declared.claim.Claim.{Claim}
-use Rattle.mb_gate.specs.declared.schedule.Tried.{Tried}
-use Rattle.mb_gate.specs.declared.schedule.Tried.TheVariants.{Got, Already, Closed, Lost}
+use Rattle.mb_gate.specs.declared.schedule.ScheduleOutcome.{ScheduleOutcome}
+use Rattle.mb_gate.specs.declared.schedule.ScheduleOutcome.TheVariants.{Got, Already, Closed, Lost}
 
 -- the parts of a mailbox with the word of a free one
 free_parts : (n count : ℕ) (c s : Bool) → (if c then 1 else 4 * n + (if s then 2 else 0)) ≡ 4 * count → (c ≡ false) × (s ≡ false) × (n ≡ count)
@@ -40,7 +40,7 @@ module _ {H : Type 0} (is_of : ℕ → H → Type 0) (facts : H → HomeFacts) (
         journal = ap (λ (v : View). (held_in v).journal) got.known;
       }
 
-  pub free_is_fold : (tried : Tried H) → IsExchanged is_of facts actor before after seen tried → FreeIsFold is_of facts actor tried
+  pub free_is_fold : (tried : ScheduleOutcome H) → IsExchanged is_of facts actor before after seen tried → FreeIsFold is_of facts actor tried
   free_is_fold (Got claim) got = was_fold claim got
   free_is_fold Already told = tt
   free_is_fold Closed told = tt

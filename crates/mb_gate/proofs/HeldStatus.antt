@@ -97,7 +97,7 @@ module _ {H : Type 0} (is_of : ℕ → H → Type 0) (facts : H → HomeFacts) (
   reading_held_elsewhere actor other word v apart = record {
     claim = refl;
     list = refl;
-    debt = refl;
+    obligation = refl;
     account = counts_no_more other (Read actor word) v (reading_held actor word v) refl (refl, refl, λ q. refl) refl refl refl (λ q. (refl, refl));
     vouches = λ a. among_more (Read a 1) (Read actor word) v.log;
     knows = λ x k. record { seen = ((λ e _. absurd (apart (sym e))), k.seen); sent_system = k.sent_system };

@@ -40,7 +40,7 @@ use mathlib.Core.Option.{none, some}
 use lib.ListN.{get_elem?}
 use Rattle.mb_msg.specs.declared.system.SysMsg.{SysMsg}
 use Rattle.mb_syslist.specs.MessageList.{MessageList, with_last, listed, pushed}
-use Rattle.mb_core.specs.declared.debt.WakeObligation.{WakeObligation}
+use Rattle.mb_core.specs.declared.wake_obligation.WakeObligation.{WakeObligation}
 use Rattle.atomic_table.specs.Table.{Me}
 use Rattle.atomic_table.specs.Table.{rest as tail_of}
 use Rattle.mb_ghost.specs.Layout.{Spot, slot_at, write, fill}
@@ -209,7 +209,7 @@ module _ {H : Type 0} (is_of : ℕ → H → Type 0) (facts : H → HomeFacts) (
             (record {
               claim = refl;
               list = lent_else a l (λ e. n (sym e)) ∙ sym (ap (lent_of a) bare);
-              debt = refl;
+              obligation = refl;
               account = record { on = refl; off = refl; put = λ q. refl; share = refl; got = refl; back = refl; releases = λ q. (refl, refl) };
               vouches = λ b p. p;
               knows = λ _ s. record {
@@ -314,7 +314,7 @@ module _ {H : Type 0} (is_of : ℕ → H → Type 0) (facts : H → HomeFacts) (
             (record {
               claim = refl;
               list = sym (ap (lent_of a) has ∙ lent_else a l (λ e. k (sym e ∙ of)));
-              debt = owes_else actor a d u k;
+              obligation = owes_else actor a d u k;
               account = counts_no_more a (Pushed actor (pushed l.listed) m) v w refl
                   (refl, refl, λ q. ap (λ (b : Bool). if b then q (pushed l.listed, m) else 0) (ne_eqb actor a (λ e. k (sym e)))) refl refl refl (λ q. (refl, refl));
               vouches = λ b. among_more (Read b 1) (Pushed actor (pushed l.listed) m) v.log;
@@ -406,7 +406,7 @@ module _ {H : Type 0} (is_of : ℕ → H → Type 0) (facts : H → HomeFacts) (
           claim = ap (λ z. held_of a (regiven given gave z)) has ∙ (held_else a c' (λ e. i (sym e ∙ of)) ∙ sym (ap (held_of a) has ∙ held_else a
               c (λ e. i (sym e ∙ of))));
           list = sym (ap (lent_of a) keeps ∙ lent_else a l (λ e. i (sym e ∙ of_list)));
-          debt = refl;
+          obligation = refl;
           account = counts_no_more a s v w refl (uncounted a) refl refl refl (λ q. (refl, refl));
           vouches = λ b. among_more (Read b 1) s v.log;
           knows = λ q t. record { seen = (so a q (λ e. absurd (i e)), t.seen); sent_system = t.sent_system };
@@ -432,7 +432,7 @@ module _ {H : Type 0} (is_of : ℕ → H → Type 0) (facts : H → HomeFacts) (
     others = λ a n y g. elsewhere is_of facts actors a y vs id v w at (record {
       claim = refl;
       list = refl;
-      debt = refl;
+      obligation = refl;
       account = counts_no_more a (Ended actor []) v w refl (refl, refl, λ q. refl) refl refl refl (λ q. (refl, refl));
       vouches = λ b. among_more (Read b 1) (Ended actor []) v.log;
       knows = λ _ t.

@@ -34,7 +34,7 @@ use mathlib.Core.Option.{some}
 use lib.ListN.{get_elem?}
 use Rattle.mb_msg.specs.declared.system.SysMsg.{SysMsg}
 use Rattle.mb_journal.specs.Entry.{Entry}
-use Rattle.mb_core.specs.declared.debt.WakeObligation.{WakeObligation}
+use Rattle.mb_core.specs.declared.wake_obligation.WakeObligation.{WakeObligation}
 use Rattle.mb_ghost.specs.Layout.{Spot}
 use Rattle.mb_ghost.specs.Seen.{Each}
 use Rattle.mb_ghost.proofs.LockedLemmas.{splits_locked, joins_locked}
@@ -107,9 +107,9 @@ added_at actor d ds old true is rest = ap (λ n. either_obligation d.1 (obligati
 added_at actor d ds old false is rest = rest
 
 -- what is owed after two were joined is what either owed
-pub debt_of-added : (actor : ℕ) (ds old : List (ℕ × WakeObligation)) → obligation_of actor (added_obligations ds old) ≡ either_obligation (obligation_of actor ds) (obligation_of actor old)
-debt_of-added actor [] old = refl
-debt_of-added actor (d ∷ ds) old = added_at actor d ds old (d.0 == actor) refl (debt_of-added actor ds old)
+pub obligation_by-added : (actor : ℕ) (ds old : List (ℕ × WakeObligation)) → obligation_of actor (added_obligations ds old) ≡ either_obligation (obligation_of actor ds) (obligation_of actor old)
+obligation_by-added actor [] old = refl
+obligation_by-added actor (d ∷ ds) old = added_at actor d ds old (d.0 == actor) refl (obligation_by-added actor ds old)
 
 either_message : (a b : WakeObligation) → IsTrue (a.message || a.sending) ⊎ IsTrue (b.message || b.sending) → IsTrue ((either_obligation a b).message ||
     (either_obligation a b).sending)
@@ -306,14 +306,14 @@ module _ {H : Type 0} (is_of : ℕ → H → Type 0) (facts : H → HomeFacts) (
         was_seen_closed = λ b. joins_owed (HasSeenClosed b) (IsAmong b x.ghost.closed_to) vs id other v w both blank at apart there
             (λ p. among_right (Read b 1) w.log v.log p) (λ p. among_left (Read b 1) w.log v.log p) (f.was_seen_closed b);
         message = joins_owed (HasMessageObligation actor) (MessageDue x) vs id other v w both blank at apart there
-            (λ p. subst (λ (d : WakeObligation). IsTrue (d.message || d.sending)) (sym (debt_of-added actor w.obligations v.obligations)) (either_message (obligation_to actor
+            (λ p. subst (λ (d : WakeObligation). IsTrue (d.message || d.sending)) (sym (obligation_by-added actor w.obligations v.obligations)) (either_message (obligation_to actor
             w) (obligation_to actor v) (inr p)))
-            (λ p. subst (λ (d : WakeObligation). IsTrue (d.message || d.sending)) (sym (debt_of-added actor w.obligations v.obligations)) (either_message (obligation_to actor
+            (λ p. subst (λ (d : WakeObligation). IsTrue (d.message || d.sending)) (sym (obligation_by-added actor w.obligations v.obligations)) (either_message (obligation_to actor
             w) (obligation_to actor v) (inl p))) f.message;
         system = joins_owed (HasSystemObligation actor) (SystemDue x) vs id other v w both blank at apart there
-            (λ p. subst (λ (d : WakeObligation). IsTrue d.system) (sym (debt_of-added actor w.obligations v.obligations)) (either_system (obligation_to actor w) (obligation_to actor v)
+            (λ p. subst (λ (d : WakeObligation). IsTrue d.system) (sym (obligation_by-added actor w.obligations v.obligations)) (either_system (obligation_to actor w) (obligation_to actor v)
             (inr p)))
-            (λ p. subst (λ (d : WakeObligation). IsTrue d.system) (sym (debt_of-added actor w.obligations v.obligations)) (either_system (obligation_to actor w) (obligation_to actor v)
+            (λ p. subst (λ (d : WakeObligation). IsTrue d.system) (sym (obligation_by-added actor w.obligations v.obligations)) (either_system (obligation_to actor w) (obligation_to actor v)
             (inl p))) f.system;
         seen = joins_seen (Knows actor x) vs id other both blank
             (record {

@@ -47,11 +47,11 @@ use lib.ListN.{get_elem?, length-map}
 use Rattle.mb_status.specs.Mailbox.{mailbox_of, is_valid, is_possible}
 use Rattle.mb_status.specs.WordLemmas.{word_of-mailbox_of}
 use Rattle.mb_msg.specs.declared.system.SysMsg.{SysMsg}
-use Rattle.mb_core.specs.declared.debt.WakeObligation.{WakeObligation}
+use Rattle.mb_core.specs.declared.wake_obligation.WakeObligation.{WakeObligation}
 use Rattle.mb_core.specs.Actor as machine
 use Rattle.mb_ghost.specs.Layout.{Spot, spot_of}
 use Rattle.mb_ghost.specs.Locked.{ticket_at, Locked}
-use Rattle.mb_ghost.specs.Owed.{Debtor}
+use Rattle.mb_ghost.specs.Owed.{ObligedParty}
 use Rattle.mb_gate.specs.HomeFacts.{HomeFacts}
 use Rattle.mb_gate.specs.declared.slot.Slot.{Slot}
 use Rattle.mb_gate.specs.View.{View, Read, Pushed, Drained, Ended, Held, obligation_to}
@@ -75,7 +75,7 @@ place_of f (y ∷ ys) zero x d e = (omega arith, ap f (some-injective y x e))
 place_of f (y ∷ ys) (suc q) x d e = let p = place_of f ys q x d e in (omega arith, p.1)
 
 -- a seat with the obligation is among those that owe
-pays_among : (P : WakeObligation → Type 0) (actor : ℕ) (vs : List View) → Debtor (λ v. P (obligation_to actor v)) vs → Any P (map (obligation_to actor) vs)
+pays_among : (P : WakeObligation → Type 0) (actor : ℕ) (vs : List View) → ObligedParty (λ v. P (obligation_to actor v)) vs → Any P (map (obligation_to actor) vs)
 pays_among P actor vs p = let at = place_of (obligation_to actor) vs p.seat p.view (obligation_to actor p.view) p.present in (
   p.seat,
   obligation_to actor p.view,

@@ -35,7 +35,7 @@ use lib.ListN.{get_elem?}
 use Rattle.mb_status.specs.Mailbox.{mailbox_of, word_of, is_valid}
 use Rattle.mb_msg.specs.declared.system.SysMsg.{SysMsg}
 use Rattle.mb_journal.specs.Entry.{Entry}
-use Rattle.mb_core.specs.declared.debt.WakeObligation.{WakeObligation}
+use Rattle.mb_core.specs.declared.wake_obligation.WakeObligation.{WakeObligation}
 use Rattle.mb_core.specs.Run.{after_reading}
 use Rattle.atomic_table.specs.Table.{Me}
 use Rattle.atomic_table.specs.Table.{rest as tail_of}
@@ -344,7 +344,7 @@ module _ {H : Type 0} (is_of : ℕ → H → Type 0) (facts : H → HomeFacts) (
       let farther : Extends j x.ghost.journal = subst (λ z. Extends j z) h.1.taken longer in
       let shut : x.row Status ≡ 1 → new ≡ 1 = (λ one. absurd (unshut (sym h.1.word ∙ one))) in
       let grows = grown x y (λ e. e) shut farther refl in
-      let debt : WakeObligation = record (obligation_to actor v) { system = true; message = true } in record {
+      let obligation : WakeObligation = record (obligation_to actor v) { system = true; message = true } in record {
         view = w;
         slot_step = gives_to CellSlot (Home home);
         kept = g;
@@ -381,8 +381,8 @@ module _ {H : Type 0} (is_of : ℕ → H → Type 0) (facts : H → HomeFacts) (
           bare = sharer_bare actor vs id w share f.bare;
           was_seen_closed = vouches_home actor j v c x.ghost.closed_to (facts home).closed_to vs id at h.1.known_closed known f.was_seen_closed;
           message = pays (HasMessageObligation actor) (MessageDue y) vs id v w at (subst (λ (d : WakeObligation). IsTrue (d.message || d.sending)) (sym (owes_here
-              actor debt v)) refl);
-          system = pays (HasSystemObligation actor) (SystemDue y) vs id v w at (subst (λ (d : WakeObligation). IsTrue d.system) (sym (owes_here actor debt v)) refl);
+              actor obligation v)) refl);
+          system = pays (HasSystemObligation actor) (SystemDue y) vs id v w at (subst (λ (d : WakeObligation). IsTrue d.system) (sym (owes_here actor obligation v)) refl);
           seen = let k = goes_on actor x y v grows (f.seen id v at) in
               learns (Knows actor x) (Knows actor y) vs id w (λ u. goes_on actor x y u grows) (record {
                 seen = (
@@ -415,7 +415,7 @@ module _ {H : Type 0} (is_of : ℕ → H → Type 0) (facts : H → HomeFacts) (
       let farther : Extends j x.ghost.journal = subst (λ z. Extends j z) h.1.taken longer in
       let shut : x.row Status ≡ 1 = h.1.word ∙ closed in
       let grows = grown x y (λ e. e) (λ one. one) farther refl in
-      let debt : WakeObligation = record (obligation_to actor v) { system = true; message = true } in record {
+      let obligation : WakeObligation = record (obligation_to actor v) { system = true; message = true } in record {
         view = w;
         slot_step = gives_to CellSlot (Home home);
         kept = g;
@@ -452,8 +452,8 @@ module _ {H : Type 0} (is_of : ℕ → H → Type 0) (facts : H → HomeFacts) (
           bare = sharer_bare actor vs id w share f.bare;
           was_seen_closed = vouches_home actor j v c x.ghost.closed_to (facts home).closed_to vs id at h.1.known_closed known f.was_seen_closed;
           message = pays (HasMessageObligation actor) (MessageDue y) vs id v w at (subst (λ (d : WakeObligation). IsTrue (d.message || d.sending)) (sym (owes_here
-              actor debt v)) refl);
-          system = pays (HasSystemObligation actor) (SystemDue y) vs id v w at (subst (λ (d : WakeObligation). IsTrue d.system) (sym (owes_here actor debt v)) refl);
+              actor obligation v)) refl);
+          system = pays (HasSystemObligation actor) (SystemDue y) vs id v w at (subst (λ (d : WakeObligation). IsTrue d.system) (sym (owes_here actor obligation v)) refl);
           seen = let k = goes_on actor x y v grows (f.seen id v at) in
               learns (Knows actor x) (Knows actor y) vs id w (λ u. goes_on actor x y u grows) (record {
                 seen = (

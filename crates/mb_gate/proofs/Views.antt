@@ -33,7 +33,7 @@ use Rattle.std.proofs.Common.{
 }
 use Rattle.mb_ghost.specs.Summed.{total}
 use Rattle.mb_journal.specs.Entry.{Entry}
-use Rattle.mb_core.specs.declared.debt.WakeObligation.{WakeObligation}
+use Rattle.mb_core.specs.declared.wake_obligation.WakeObligation.{WakeObligation}
 use Rattle.mb_core.specs.Actor.{nothing}
 use Rattle.mb_core.specs.Run.{after_reading}
 use Rattle.mb_status.specs.Mailbox.{mailbox_of}
@@ -196,7 +196,7 @@ released_else actor other j v n q =
 pub record Elsewhere (H : Type 0) (actor : ℕ) (v w : View) : Type 0 where
   pub claim : claim_for actor w ≡ claim_for actor v
   pub list : list_for actor w ≡ list_for actor v
-  pub debt : obligation_to actor w ≡ obligation_to actor v
+  pub obligation : obligation_to actor w ≡ obligation_to actor v
   pub account : SameAccount actor v w
   pub vouches : (other : ℕ) → HasSeenClosed other v → HasSeenClosed other w
   pub knows : (x : Spot Word SlotName (Slot H) Ghost) → Knows actor x v → Knows actor x w
@@ -210,7 +210,7 @@ module _ {H : Type 0} where
   seeing_elsewhere other s v so none = record {
     claim = refl;
     list = refl;
-    debt = refl;
+    obligation = refl;
     account = counts_no_more other s v (seeing s v) refl none refl refl refl (λ q. (refl, refl));
     vouches = λ a. among_more (Read a 1) s v.log;
     knows = λ x k. record {
@@ -225,7 +225,7 @@ module _ {H : Type 0} where
   owing_elsewhere actor other d s v n so none = record {
     claim = refl;
     list = refl;
-    debt = owes_else actor other d v n;
+    obligation = owes_else actor other d v n;
     account = counts_no_more other s v (with_obligation actor d (seeing s v)) refl none refl refl refl (λ q. (refl, refl));
     vouches = λ a. among_more (Read a 1) s v.log;
     knows = λ x k. record {
@@ -239,7 +239,7 @@ module _ {H : Type 0} where
   reading_elsewhere actor other word v n = record {
     claim = refl;
     list = refl;
-    debt = owes_else actor other (after_reading (mailbox_of word) (obligation_to actor v)) v n;
+    obligation = owes_else actor other (after_reading (mailbox_of word) (obligation_to actor v)) v n;
     account = counts_no_more other (Read actor word) v (reading actor word v) refl (refl, refl, λ q. refl) refl refl refl
         (λ q. (refl, refl));
     vouches = λ a. among_more (Read a 1) (Read actor word) v.log;
@@ -254,7 +254,7 @@ module _ {H : Type 0} where
         (λ e. n (sym e)) ∙ sym (ap
         (held_of other) bare);
     list = refl;
-    debt = owes_else actor other nothing v n;
+    obligation = owes_else actor other nothing v n;
     account = record { on = refl; off = refl; put = λ q. refl; share = refl; got = times_else actor other v.got n; back = refl; releases = λ q. (refl, refl) };
     vouches = λ a k. k;
     knows = λ x k. record { seen = k.seen; sent_system = k.sent_system };
@@ -266,7 +266,7 @@ module _ {H : Type 0} where
     claim = ap (λ z. held_of other (rewritten word z)) has ∙ (held_else other (record c { word = word }) (λ e. n (sym e ∙ of)) ∙ sym (ap (held_of
         other) has ∙ held_else other c (λ e. n (sym e ∙ of))));
     list = refl;
-    debt = refl;
+    obligation = refl;
     account = record { on = refl; off = refl; put = λ q. refl; share = refl; got = refl; back = refl; releases = λ q. (refl, refl) };
     vouches = λ a k. k;
     knows = λ x k. record { seen = k.seen; sent_system = k.sent_system };
@@ -277,7 +277,7 @@ module _ {H : Type 0} where
   idling_elsewhere actor other j c v n has of = record {
     claim = sym (ap (held_of other) has ∙ held_else other c (λ e. n (sym e ∙ of)));
     list = refl;
-    debt = owes_else actor other (record (obligation_to actor v) { system = true; message = true }) v n;
+    obligation = owes_else actor other (record (obligation_to actor v) { system = true; message = true }) v n;
     account = counts_no_more other (Saw actor j) v (idling actor j v) refl (refl, refl, λ q. refl) refl refl (times_else actor other v.returned n)
         (released_else actor other j v n);
     vouches = λ a. among_more (Read a 1) (Saw actor j) v.log;

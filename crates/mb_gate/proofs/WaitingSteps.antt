@@ -29,7 +29,7 @@ use Rattle.std.proofs.Common.{
 }
 use mathlib.Core.Option.{some}
 use lib.ListN.{get_elem?}
-use Rattle.mb_core.specs.declared.debt.WakeObligation.{WakeObligation}
+use Rattle.mb_core.specs.declared.wake_obligation.WakeObligation.{WakeObligation}
 use Rattle.atomic_table.specs.Table.{Me}
 use Rattle.mb_ghost.specs.Layout.{Spot, write}
 use Rattle.mb_ghost.specs.Ruled.{RuledStep, stays}
@@ -332,7 +332,7 @@ module _ {H : Type 0} (is_of : ℕ → H → Type 0) (facts : H → HomeFacts) (
     others = λ a n y g. elsewhere is_of facts actors a y vs id v v at (record {
       claim = refl;
       list = refl;
-      debt = refl;
+      obligation = refl;
       account = record { on = refl; off = refl; put = λ q. refl; share = refl; got = refl; back = refl; releases = λ q. (refl, refl) };
       vouches = λ b p. p;
       knows = λ _ k.

@@ -2,7 +2,7 @@
 use Rattle.std.proofs.Common.{◌≡◌, ℕ, ◌+◌, ◌/◌, ◌%◌, if◌then◌else◌, Bool, true, false, ◌||◌, IsTrue, sym, subst, ne_eqb, arith}
 use Rattle.std.proofs.lemmas.Bool.Decides.{nat_tests}
 use Rattle.mb_status.specs.Mailbox.{Mailbox, mailbox_of, is_valid, suspended}
-use Rattle.mb_core.specs.declared.debt.WakeObligation.{WakeObligation}
+use Rattle.mb_core.specs.declared.wake_obligation.WakeObligation.{WakeObligation}
 use Rattle.mb_core.specs.Actor.{nothing}
 use Rattle.mb_core.specs.Run.{after_reading}
 

@@ -5,8 +5,8 @@ use Rattle.mb_gate.specs.HomeFacts.{HomeFacts}
 use Rattle.mb_gate.specs.Tries.{IsFree}
 use Rattle.mb_gate.specs.Accessors.{held_actor, status_of, taken_with}
 use Rattle.mb_gate.specs.declared.claim.Claim.{Claim}
-use Rattle.mb_gate.specs.declared.schedule.Tried.{Tried}
-use Rattle.mb_gate.specs.declared.schedule.Tried.TheVariants.{Got}
+use Rattle.mb_gate.specs.declared.schedule.ScheduleOutcome.{ScheduleOutcome}
+use Rattle.mb_gate.specs.declared.schedule.ScheduleOutcome.TheVariants.{Got}
 
 module _ {H : Type 0} (is_of : ℕ → H → Type 0) (facts : H → HomeFacts) (actor : ℕ) where
   -- The home that this claim brings was the actor's own. The mailbox that its journal says is neither closed nor scheduled, and its word is
@@ -20,6 +20,6 @@ module _ {H : Type 0} (is_of : ℕ → H → Type 0) (facts : H → HomeFacts) (
     pub journal : taken_with claim ≡ (facts claim.home).journal
 
   -- A try that got a claim found the actor so.
-  abbrev pub FreeIsFold : Tried H → Type 0
+  abbrev pub FreeIsFold : ScheduleOutcome H → Type 0
   FreeIsFold (Got claim) = WasFold claim
   FreeIsFold _ = Unit {0}

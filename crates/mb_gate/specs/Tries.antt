@@ -14,8 +14,8 @@ use Rattle.mb_gate.specs.Claims.{claimed}
 use Rattle.mb_gate.specs.TableSteps.{ExtendsSeen, StaysClosed}
 use Rattle.mb_gate.specs.Accessors.{claim_id, claim_view, held_actor, status_of, gave_last, recorded_by}
 use Rattle.mb_gate.specs.declared.claim.Claim.{Claim}
-use Rattle.mb_gate.specs.declared.schedule.Tried.{Tried}
-use Rattle.mb_gate.specs.declared.schedule.Tried.TheVariants.{Got, Already, Closed, Lost}
+use Rattle.mb_gate.specs.declared.schedule.ScheduleOutcome.{ScheduleOutcome}
+use Rattle.mb_gate.specs.declared.schedule.ScheduleOutcome.TheVariants.{Got, Already, Closed, Lost}
 
 -- The status is neither closed nor scheduled.
 pub record IsFree (seen : Mailbox) : Type 0 where
@@ -40,7 +40,7 @@ pub record WonClaim {H : Type 0} (facts : H → HomeFacts) (actor : ℕ) (status
   pub share : is_some_item me.0.share ≡ true
 
 -- A claim that was got is of these gates.
-abbrev pub IsClaimOf : {H : Type 0} → TableId → Tried H → Type 0
+abbrev pub IsClaimOf : {H : Type 0} → TableId → ScheduleOutcome H → Type 0
 IsClaimOf gates (Got claim) = claim_id claim ≡ gates
 IsClaimOf gates _ = Unit {0}
 
@@ -63,7 +63,7 @@ module _ {H : Type 0} (is_of : ℕ → H → Type 0) (facts : H → HomeFacts) (
 
   -- What the exchange answers, the pass having known this before it: Got by that exchange; Lost with the word that it found, which is
   -- closed if the actor was seen closed.
-  abbrev pub IsExchanged : Tried H → Type 0
+  abbrev pub IsExchanged : ScheduleOutcome H → Type 0
   IsExchanged (Got claim) = IsGot claim
   IsExchanged (Lost found) = IsFree seen × (word_of found ≢ word_of seen) × (after ≡ reading actor (word_of found) before)
       × StaysClosed actor (word_of found) before
@@ -72,7 +72,7 @@ module _ {H : Type 0} (is_of : ℕ → H → Type 0) (facts : H → HomeFacts) (
 module _ {H : Type 0} (is_of : ℕ → H → Type 0) (facts : H → HomeFacts) (actor : ℕ) (before after : View) (seen : Mailbox) where
   -- What the call answers, having read this status: Got by its own exchange; Already and Closed as it read; Lost with another word that
   -- its exchange found. An actor that was seen closed is closed: it answers neither Already nor Lost with another word than that.
-  abbrev pub IsTried : Tried H → Type 0
+  abbrev pub IsTried : ScheduleOutcome H → Type 0
   IsTried (Got claim) = IsGot is_of facts actor (reading actor (word_of seen) before) after seen claim
   IsTried Already = (seen.closed ≡ false) × (seen.scheduled ≡ true) × (after ≡ reading actor (word_of seen) before)
       × StaysClosed actor (word_of seen) before

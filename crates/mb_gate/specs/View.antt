@@ -5,7 +5,7 @@ use Rattle.mb_status.specs.Mailbox.{mailbox_of}
 use Rattle.mb_msg.specs.declared.system.SysMsg.{SysMsg}
 use Rattle.mb_syslist.specs.MessageList.{MessageList}
 use Rattle.mb_journal.specs.Entry.{Entry}
-use Rattle.mb_core.specs.declared.debt.WakeObligation.{WakeObligation}
+use Rattle.mb_core.specs.declared.wake_obligation.WakeObligation.{WakeObligation}
 use Rattle.mb_core.specs.Actor.{nothing}
 use Rattle.mb_core.specs.Run.{after_reading}
 use Rattle.mb_ghost.specs.Shares.{halved, half_of}
@@ -89,7 +89,7 @@ alone = record blank { share = 0 ∷ [] }
 
 -- The view, which owes this actor this from now on.
 abbrev pub with_obligation : ℕ → WakeObligation → View → View
-with_obligation actor debt v = record v { obligations = (actor, debt) ∷ v.obligations }
+with_obligation actor obligation v = record v { obligations = (actor, obligation) ∷ v.obligations }
 
 -- The view, with one observation more.
 abbrev pub seeing : Observation → View → View
@@ -99,7 +99,7 @@ seeing s v = record v { log = s ∷ v.log }
 abbrev pub reading : ℕ → ℕ → View → View
 reading actor word v = with_obligation actor (after_reading (mailbox_of word) (obligation_to actor v)) (seeing (Read actor word) v)
 
--- The view after its claim read its actor's status word. Nobody else writes that word, so the reading settles no debt.
+-- The view after its claim read its actor's status word. Nobody else writes that word, so the reading settles no obligation.
 abbrev pub reading_held : ℕ → ℕ → View → View
 reading_held actor word v = seeing (Read actor word) v
 
@@ -204,7 +204,7 @@ looking actor has_work v =
 abbrev pub either_obligation : WakeObligation → WakeObligation → WakeObligation
 either_obligation a b = record { system = a.system || b.system; message = a.message || b.message; sending = a.sending || b.sending }
 
--- The first list's debts, with those of the second list to the same actors, in front of the second list.
+-- The first list's obligations, with those of the second list to the same actors, in front of the second list.
 abbrev pub added_obligations : List (ℕ × WakeObligation) → List (ℕ × WakeObligation) → List (ℕ × WakeObligation)
 added_obligations [] old = old
 added_obligations (d ∷ ds) old = (d.0, either_obligation d.1 (obligation_of d.0 old)) ∷ added_obligations ds old

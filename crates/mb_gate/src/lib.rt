@@ -54,4 +54,4 @@ pub use pass::Pass;
 pub use pooled_claim::PooledClaim;
 pub use returned_actor::ReturnedActor;
 pub use run_queue::{RefusedClaim, RunQueue};
-pub use schedule::Tried;
+pub use schedule::ScheduleOutcome;

@@ -29,7 +29,7 @@ use std::mem;
 use std::snapshot::Snapshot;
 
 /// What a try to schedule an actor came to (`Mailbox.setAsScheduled`, which answers whether it won).
-pub enum Tried<H> {
+pub enum ScheduleOutcome<H> {
     /// The claim is the caller's.
     Got(Claim<H>),
     /// There is a claim of the actor already.
@@ -45,7 +45,7 @@ impl<H: MailboxState> Gates<H> {
     ///
     /// It reads the status, and answers `Closed` or `Already` where the status says that. Else it exchanges the word that it
     /// read, and answers `Lost` with the status that it found where another step came between.
-    pub fn try_schedule(&self, pass: &mut Pass<H>, id: ActorId) -> Tried<H>
+    pub fn try_schedule(&self, pass: &mut Pass<H>, id: ActorId) -> ScheduleOutcome<H>
         requires same_gates { pass_id pass.old ≡ gates_id self.now }
         requires present { id.0 < actors_of self.now }
         ensures same_gates { (pass_id pass.new ≡ pass_id pass.old) × IsClaimOf (gates_id self.now) result }
@@ -54,11 +54,11 @@ impl<H: MailboxState> Gates<H> {
     {
         let seen = self.status(pass, id);
         if seen.closed() {
-            return Tried::Closed;
+            return ScheduleOutcome::Closed;
         }
         match seen.with_scheduled() {
             Some(status) => self.exchange_status(pass, id, seen, status),
-            None => Tried::Already,
+            None => ScheduleOutcome::Already,
         }
     }
 
@@ -68,7 +68,7 @@ impl<H: MailboxState> Gates<H> {
         id: ActorId,
         seen: Status,
         status: Status,
-    ) -> Tried<H>
+    ) -> ScheduleOutcome<H>
         requires same_gates { pass_id pass.old ≡ gates_id self.now }
         requires present { id.0 < actors_of self.now }
         requires free { IsFree seen }
@@ -79,10 +79,10 @@ impl<H: MailboxState> Gates<H> {
         let old = seen.word();
         let found = self.exchange_word(&mut pass.seat, id, seen, status);
         if found == old {
-            return Tried::Got(self.claim(&mut pass.seat, id, status));
+            return ScheduleOutcome::Got(self.claim(&mut pass.seat, id, status));
         }
         match Status::of(found) {
-            Some(found) => Tried::Lost(found),
+            Some(found) => ScheduleOutcome::Lost(found),
             None => unreachable!(),
         }
     }

@@ -7,7 +7,7 @@ ghost use Rattle.mb_gate.specs.Accessors.{gates_id, pass_id, claim_id, actors_of
 
 use crate::test_home::{GUARDIAN, TestHome, gates_of_one};
 use crate::tries::{attempt, give};
-use mb_gate::{Claim, Gates, MailboxState, Pass, Tried};
+use mb_gate::{Claim, Gates, MailboxState, Pass, ScheduleOutcome};
 use mb_msg::ActorId;
 use std::test::Fail;
 
@@ -42,9 +42,9 @@ fn is_held(gates: &Gates<TestHome>, pass: &mut Pass<TestHome>, id: ActorId) -> b
     ensures same_gates { pass_id pass.new ≡ pass_id pass.old }
 {
     match gates.try_schedule(pass, id) {
-        Tried::Already => true,
-        Tried::Closed | Tried::Lost(_) => false,
-        Tried::Got(claim) => {
+        ScheduleOutcome::Already => true,
+        ScheduleOutcome::Closed | ScheduleOutcome::Lost(_) => false,
+        ScheduleOutcome::Got(claim) => {
             give(gates, claim, pass);
             false
         }

@@ -4,7 +4,7 @@ ghost use Rattle.mb_gate.specs.Accessors.{gates_id, pass_id, claim_id, actors_of
 
 use crate::order_check::{OrderCheck, add_all};
 use crate::test_home::{GUARDIAN, TestHome};
-use mb_gate::{Claim, Gates, Pass, PooledClaim, Tried};
+use mb_gate::{Claim, Gates, Pass, PooledClaim, ScheduleOutcome};
 use mb_msg::ActorId;
 use std::process::Abort;
 use std::sync::Wait;
@@ -24,8 +24,8 @@ pub fn claim_of(
     ensures begun { IfSome result (λ claim. (taken_with claim ≡ []) × (recorded_by claim ≡ [])) }
 {
     match gates.try_schedule(pass, id) {
-        Tried::Got(claim) => Some(claim),
-        Tried::Already | Tried::Closed | Tried::Lost(_) => None,
+        ScheduleOutcome::Got(claim) => Some(claim),
+        ScheduleOutcome::Already | ScheduleOutcome::Closed | ScheduleOutcome::Lost(_) => None,
     }
 }
 
@@ -48,8 +48,8 @@ pub fn pooled(gates: &Gates<TestHome>, pass: &mut Pass<TestHome>) -> Option<Pool
     ensures same_gates { pass_id pass.new ≡ pass_id pass.old }
 {
     match gates.try_schedule(pass, GUARDIAN) {
-        Tried::Got(claim) => Some(PooledClaim::new(claim)),
-        Tried::Already | Tried::Closed | Tried::Lost(_) => None,
+        ScheduleOutcome::Got(claim) => Some(PooledClaim::new(claim)),
+        ScheduleOutcome::Already | ScheduleOutcome::Closed | ScheduleOutcome::Lost(_) => None,
     }
 }
 
@@ -96,10 +96,10 @@ pub fn missed(gates: &Gates<TestHome>, pass: &mut Pass<TestHome>) -> Option<Miss
     ensures same_gates { pass_id pass.new ≡ pass_id pass.old }
 {
     match gates.try_schedule(pass, GUARDIAN) {
-        Tried::Already => Some(Miss::Already),
-        Tried::Closed => Some(Miss::Closed),
-        Tried::Lost(_) => Some(Miss::Lost),
-        Tried::Got(claim) => {
+        ScheduleOutcome::Already => Some(Miss::Already),
+        ScheduleOutcome::Closed => Some(Miss::Closed),
+        ScheduleOutcome::Lost(_) => Some(Miss::Lost),
+        ScheduleOutcome::Got(claim) => {
             give(gates, claim, pass);
             None
         }

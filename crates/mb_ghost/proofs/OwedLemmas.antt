@@ -5,7 +5,7 @@ use mathlib.Core.Option.{some, some-ne-none, some-injective}
 use native.Mathlib.Decide.{ℕ_discrete}
 use lib.ListN.{get_elem?}
 use Rattle.atomic_table.proofs.Lists.{set_else, at_longer}
-use Rattle.mb_ghost.specs.Owed.{Debtor, Owed}
+use Rattle.mb_ghost.specs.Owed.{ObligedParty, Owed}
 
 module _ {V : Type 0} where
   pub set_at : (vs : List V) (id : ℕ) (v w : V) → get_elem? vs id ≡ some v → get_elem? (set vs id w) id ≡ some w
@@ -22,7 +22,7 @@ module _ {V : Type 0} (Pays : V → Type 0) where
   pub pays : (Due : Type 0) (vs : List V) (id : ℕ) (v w : V) → get_elem? vs id ≡ some v → Pays w → Owed Due Pays (set vs id w)
   pays Due vs id v w at owes due = record { seat = id; view = w; present = set_at vs id v w at; pays = owes }
 
-  payer_stays : (vs : List V) (id : ℕ) (v w : V) → get_elem? vs id ≡ some v → (Pays v → Pays w) → Debtor Pays vs → Debtor Pays (set vs id w)
+  payer_stays : (vs : List V) (id : ℕ) (v w : V) → get_elem? vs id ≡ some v → (Pays v → Pays w) → ObligedParty Pays vs → ObligedParty Pays (set vs id w)
   payer_stays vs id v w at keeps p = dite (ℕ_discrete p.seat id)
       (λ same. let is : p.view ≡ v = some-injective p.view v (sym p.present ∙ (ap (get_elem? vs) same ∙ at)) in
       record { seat = id; view = w; present = set_at vs id v w at; pays = keeps (subst Pays is p.pays) })
@@ -33,7 +33,7 @@ module _ {V : Type 0} (Pays : V → Type 0) where
       Owed Due Pays vs → Owed Due' Pays (set vs id w)
   still_owed Due Due' vs id v w at less keeps owed due = payer_stays vs id v w at (keeps due) (owed (less due))
 
-  payer_more : (vs more : List V) → Debtor Pays vs → Debtor Pays (vs ++ more)
+  payer_more : (vs more : List V) → ObligedParty Pays vs → ObligedParty Pays (vs ++ more)
   payer_more vs more p = record { seat = p.seat; view = p.view; present = at_longer vs more p.seat p.view p.present; pays = p.pays }
 
   -- a view is cut in two, and what it owed one of them owes

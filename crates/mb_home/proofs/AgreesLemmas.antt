@@ -9,7 +9,7 @@ use Rattle.std.proofs.lemmas.Option.{slice_get_within, get_or_from_slice_get, sl
 use Rattle.std.proofs.lemmas.Bool.Decides.{nat_tests}
 use Rattle.std.proofs.Math.ListN.{length-set}
 use Rattle.mb_msg.specs.declared.dead_letter.DeadLetter.{DeadLetter}
-use Rattle.mb_msg.specs.declared.dead_letter.Why.{Why}
+use Rattle.mb_msg.specs.declared.dead_letter.DeadLetterReason.{DeadLetterReason}
 use Rattle.mb_msg.specs.declared.envelope.Body.{Body}
 use Rattle.mb_msg.specs.declared.envelope.Envelope.{Envelope}
 use Rattle.mb_msg.specs.declared.id.ActorId.{ActorId}
@@ -174,7 +174,7 @@ count-one : (n : ℕ) (sent : ℕ) → sent ≡ n % 2 ^ 64 → (sent + 1) % 2 ^ 
 count-one n sent is = ap (λ k. (k + 1) % 2 ^ 64) is ∙ mod-add-mod n (2 ^ 64) 1
 
 -- the next envelope is a dead letter, for a reason that holds
-pub settled-dead : (h : Contents) (gives : Moment → Reply → Type 0) (to : ActorId) (body : Body) (left : List Act) (why : Why) (room : ℕ) →
+pub settled-dead : (h : Contents) (gives : Moment → Reply → Type 0) (to : ActorId) (body : Body) (left : List Act) (why : DeadLetterReason) (room : ℕ) →
     AgreesWithJournal gives (Tell to body ∷ left) h → h.room ≡ room + 1 → IsReason h.directory why to.0 →
     AgreesWithJournal gives left (record h {
       cell = record h.cell { is_ready = false };

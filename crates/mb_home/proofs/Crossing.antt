@@ -4,12 +4,12 @@ use denote.Param.Send.{IsSend, sendable, view_send}
 use denote.Param.SendFields.{declared_send}
 use Rattle.std.proofs.Crossing.{crosses as std_crosses}
 use Rattle.mb_msg.proofs.envelope.Envelope.TheSendSync as envelope
-use Rattle.mb_msg.proofs.dead_letter.DeadLetter.TheSendSync as dead_letter
 use Rattle.mb_msg.proofs.id.ActorId.TheSendSync as actor_id
 use Rattle.mb_actor.specs.declared.actor.Actor as actor
 use Rattle.mb_actor.specs.declared.behaviours.Behaviours as behaviours
 use Rattle.mb_syslist.proofs.Crossing.{chain_send}
 use Rattle.mb_queue.proofs.Crossing.{send_pass_send, take_pass_send}
+use Rattle.mb_dead_letters.proofs.Crossing.{dead_letters_send, kept_list_send}
 use Rattle.mb_cell.proofs.Crossing.{cell_send}
 use Rattle.mb_home.specs.contracts.home.Home as home
 use Rattle.mb_home.specs.contracts.home.Home.TheInside as home_inside
@@ -29,13 +29,13 @@ module _ (A K : RattleType) (gA : actor.Ghosts A.Denot) (gK : behaviours.Ghosts 
             (
               search (sendable, std_crosses, send_pass_send) depth 20,
               (
-                search (sendable, std_crosses, dead_letter.the_send) depth 20,
+                search sendable,
                 (
-                  search (sendable, std_crosses, envelope.the_send) depth 20,
+                  search sendable,
                   (
-                    search sendable,
+                    kept_list_send _ envelope.the_send,
                     (
-                      search sendable,
+                      dead_letters_send,
                       (
                         search (sendable, std_crosses) depth 20,
                         tt,

@@ -6,7 +6,7 @@ use Rattle.std.proofs.lemmas.List.{map-append, length-map}
 use Rattle.std.specs.Prelude.{cond, Option, Some, None}
 use Rattle.std.proofs.lemmas.List.Concat.{flat_map-append}
 use Rattle.std.proofs.lemmas.List.Elements.{filter-append}
-use Rattle.mb_msg.specs.declared.dead_letter.Why.{Why}
+use Rattle.mb_msg.specs.declared.dead_letter.DeadLetterReason.{DeadLetterReason}
 use Rattle.mb_msg.specs.declared.envelope.Envelope.{Envelope}
 use Rattle.mb_journal.specs.Acts.{acts}
 use Rattle.mb_journal.specs.Entry.{Entry}
@@ -38,14 +38,14 @@ told-more who before e ps all =
     ∙ ap (λ k. told who before ++ envelopes_from who.this.0 k (tells (acts who before e))) (count ∙ omega arith)
     ∙ sym (envelopes-append who.this.0 0 (tells_of_journal who before) (tells (acts who before e)))
 
-abbrev pub posting : Envelope → Option Why → SentEnvelope
+abbrev pub posting : Envelope → Option DeadLetterReason → SentEnvelope
 posting e refused = record { envelope = e; refused = refused }
 
-pub accepted-more : (ps : List SentEnvelope) (e : Envelope) (refused : Option Why) → accepted (ps ++ posting e refused ∷ []) ≡ accepted ps ++ e ∷ []
+pub accepted-more : (ps : List SentEnvelope) (e : Envelope) (refused : Option DeadLetterReason) → accepted (ps ++ posting e refused ∷ []) ≡ accepted ps ++ e ∷ []
 accepted-more ps e refused = map-append (λ (p : SentEnvelope). p.envelope) ps (posting e refused ∷ [])
 
 -- what was answered grows by the envelope that is told next
-pub told-one : (all : List Envelope) (ps : List SentEnvelope) (e : Envelope) (refused : Option Why) (by : ℕ) (t : AddressedBody) (ts : List AddressedBody) →
+pub told-one : (all : List Envelope) (ps : List SentEnvelope) (e : Envelope) (refused : Option DeadLetterReason) (by : ℕ) (t : AddressedBody) (ts : List AddressedBody) →
     e ≡ record { by = record { 0 = by }; to = t.0; number = length ps % 2 ^ 64; body = t.1 } →
     accepted ps ++ envelopes_from by (length ps) (t ∷ ts) ≡ all →
     accepted (ps ++ posting e refused ∷ []) ++ envelopes_from by (length (ps ++ posting e refused ∷ [])) ts ≡ all
@@ -61,14 +61,14 @@ queued-more ps e =
     ap (map (λ (p : SentEnvelope). p.envelope)) (filter-append is_queued ps (posting e None ∷ []))
     ∙ map-append (λ (p : SentEnvelope). p.envelope) (filter is_queued ps) (posting e None ∷ [])
 
-pub queued-same : (ps : List SentEnvelope) (e : Envelope) (why : Why) → queued (ps ++ posting e (Some why) ∷ []) ≡ queued ps
+pub queued-same : (ps : List SentEnvelope) (e : Envelope) (why : DeadLetterReason) → queued (ps ++ posting e (Some why) ∷ []) ≡ queued ps
 queued-same ps e why =
     ap (map (λ (p : SentEnvelope). p.envelope)) (filter-append is_queued ps (posting e (Some why) ∷ []) ∙ append-nil (filter is_queued ps))
 
 pub dead-same : (ps : List SentEnvelope) (e : Envelope) → dead_letters (ps ++ posting e None ∷ []) ≡ dead_letters ps
 dead-same ps e = flat_map-append letter_of ps (posting e None ∷ []) ∙ append-nil (dead_letters ps)
 
-pub dead-more : (ps : List SentEnvelope) (e : Envelope) (why : Why) →
+pub dead-more : (ps : List SentEnvelope) (e : Envelope) (why : DeadLetterReason) →
     dead_letters (ps ++ posting e (Some why) ∷ []) ≡ dead_letters ps ++ record { envelope = e; why = why } ∷ []
 dead-more ps e why = flat_map-append letter_of ps (posting e (Some why) ∷ [])
 

@@ -4,7 +4,7 @@ use Rattle.std.specs.Prelude.{Contains, IsTrue, slice_get, slice_set, Some}
 use Rattle.std.proofs.lemmas.List.Elements.{All-head}
 use Rattle.std.proofs.lemmas.Option.{slice_get_read, slice_get_within, get_or_from_slice_get}
 use lib.ListN.{get_or}
-use Rattle.mb_msg.specs.declared.dead_letter.Why.{Why}
+use Rattle.mb_msg.specs.declared.dead_letter.DeadLetterReason.{DeadLetterReason}
 use Rattle.mb_msg.specs.declared.envelope.Body.{Body}
 use Rattle.mb_msg.specs.declared.envelope.Envelope.{Envelope}
 use Rattle.mb_msg.specs.declared.id.ActorId.{ActorId}
@@ -134,7 +134,7 @@ settled-pushes h new gives to told s d =
     (gives h.cell.who.this.0) to told h.cell.acts s) d.was)
 
 pub settled-dead_letter : (h mid new : Contents) (gives : ℕ → Moment → Reply → Type 0) (to : ActorId) (told : Body) (refused : PushError) (e : Envelope)
-    (why : Why) →
+    (why : DeadLetterReason) →
     AgreesWithJournal (gives h.cell.who.this.0) (Tell to told ∷ h.cell.acts) h → mid ≡ h → RefusesPush h (to.0 - 1) refused → e ≡ next_envelope h to told →
     why ≡ reason_of refused →
     new ≡ record mid { cell = record mid.cell { is_ready = false }; dead = mid.dead ++ record { envelope = e; why = why } ∷ []; sent = (mid.sent + 1) % 2 ^ 64; room = new.room } →
@@ -162,7 +162,7 @@ settled-dead_letter h mid new gives to told refused e why s same r e_is why_is i
           (h.sent + 1) % 2 ^ 64;
       room = new.room;
     }) e_is
-    ∙ ap (λ (x : Why). record h {
+    ∙ ap (λ (x : DeadLetterReason). record h {
       cell = record h.cell { is_ready = false };
       dead = h.dead ++ record { envelope = next_envelope h to told; why = x } ∷ [];
       sent =

@@ -3,8 +3,8 @@ use Rattle.std.specs.Prelude.{◌≡◌, ℕ, ◌+◌, ◌%◌, ◌^◌, ◌<◌
 use Rattle.std.specs.Prelude.{Some}
 use Rattle.mb_msg.specs.Limits.{most_entries}
 use Rattle.mb_msg.specs.declared.dead_letter.DeadLetter.{DeadLetter}
-use Rattle.mb_msg.specs.declared.dead_letter.Why.{Why}
-use Rattle.mb_msg.specs.declared.dead_letter.Why.TheVariants as why
+use Rattle.mb_msg.specs.declared.dead_letter.DeadLetterReason.{DeadLetterReason}
+use Rattle.mb_msg.specs.declared.dead_letter.DeadLetterReason.TheVariants as why
 use Rattle.mb_msg.specs.declared.system.SysMsg.{SysMsg}
 use Rattle.mb_syslist.specs.MessageList.{numbered}
 use Rattle.mb_actor.specs.Behaviour.{Moment, Reply}
@@ -67,7 +67,7 @@ pub record CountsSystemMessages (h : Contents) : Type 0 where
   pub none : closed h.cell.who h.cell.journal ≡ false → h.dropped ≡ 0
 
 -- Why a sent envelope may be a dead letter: as full only where its receiver's queue has a bound, and never as cleaned up.
-abbrev pub IsReason : List DirectoryEntry → Why → ℕ → Type 0
+abbrev pub IsReason : List DirectoryEntry → DeadLetterReason → ℕ → Type 0
 IsReason directory why.Closed to = Unit {0}
 IsReason directory why.Full to = IsBounded directory to
 IsReason directory why.NoMemory to = Unit {0}

@@ -2,8 +2,8 @@
 use Rattle.std.specs.Prelude.{◌≡◌, ℕ, ◌+◌, ◌%◌, ◌^◌, false, List, [], ◌∷◌, ◌++◌, length}
 use Rattle.std.specs.List.{flat_map}
 use Rattle.mb_msg.specs.declared.dead_letter.DeadLetter.{DeadLetter}
-use Rattle.mb_msg.specs.declared.dead_letter.Why.{Why}
-use Rattle.mb_msg.specs.declared.dead_letter.Why.TheVariants as why
+use Rattle.mb_msg.specs.declared.dead_letter.DeadLetterReason.{DeadLetterReason}
+use Rattle.mb_msg.specs.declared.dead_letter.DeadLetterReason.TheVariants as why
 use Rattle.mb_msg.specs.declared.system.SysMsg.{SysMsg}
 use Rattle.mb_status.specs.Mailbox.{Mailbox}
 use Rattle.mb_actor.specs.Behaviour.{Moment, Reply}
@@ -48,7 +48,7 @@ abbrev pub drained_of : Contents → List (ℕ × SysMsg)
 drained_of h = system_entries h.cell.journal ++ h.rest
 
 -- The receiver of a dead letter that says that its receiver is closed.
-abbrev pub receiver_if_closed : Why → ℕ → List ℕ
+abbrev pub receiver_if_closed : DeadLetterReason → ℕ → List ℕ
 receiver_if_closed why.Closed to = to ∷ []
 receiver_if_closed why.Full to = []
 receiver_if_closed why.NoMemory to = []

@@ -1,8 +1,8 @@
 -- What each step of a run does to the actor's home.
 use Rattle.std.specs.Prelude.{◌≡◌, ◌≢◌, ℕ, ◌+◌, ◌%◌, ◌^◌, ◌⊎◌, false, List, [], ◌∷◌, ◌++◌, slice_get, slice_set, Option, Some}
 use Rattle.std.specs.Prelude.{None, IsSome}
-use Rattle.mb_msg.specs.declared.dead_letter.Why.{Why}
-use Rattle.mb_msg.specs.declared.dead_letter.Why.TheVariants as why
+use Rattle.mb_msg.specs.declared.dead_letter.DeadLetterReason.{DeadLetterReason}
+use Rattle.mb_msg.specs.declared.dead_letter.DeadLetterReason.TheVariants as why
 use Rattle.mb_msg.specs.declared.envelope.Body.{Body}
 use Rattle.mb_msg.specs.declared.envelope.Envelope.{Envelope}
 use Rattle.mb_msg.specs.declared.id.ActorId.{ActorId}
@@ -79,7 +79,7 @@ pub record Pushes (old new : Contents) (to : ActorId) (body : Body) : Type 0 whe
   }
 
 -- The envelope became a dead letter for this reason. Room for the next message is to be made again.
-pub record RecordsDeadLetter (old new : Contents) (to : ActorId) (body : Body) (reason : Why) : Type 0 where
+pub record RecordsDeadLetter (old new : Contents) (to : ActorId) (body : Body) (reason : DeadLetterReason) : Type 0 where
   pub same : new ≡ record old {
     cell = record old.cell { is_ready = false };
     dead = old.dead ++ record { envelope = next_envelope old to body; why = reason } ∷ [];
@@ -89,7 +89,7 @@ pub record RecordsDeadLetter (old new : Contents) (to : ActorId) (body : Body) (
   pub room : old.room ≡ new.room + 1
 
 -- The reason of a dead letter whose push was refused.
-abbrev pub reason_of : PushError → Why
+abbrev pub reason_of : PushError → DeadLetterReason
 reason_of (Full e) = why.Full
 reason_of (NoMemory e) = why.NoMemory
 

@@ -1,5 +1,5 @@
 //! The home of an actor, and how it begins and ends.
-ghost use Rattle.std.specs.Prelude.{◌≡◌, ◌+◌, ◌%◌, ◌^◌, ◌≤◌, [], All, map};
+ghost use Rattle.std.specs.Prelude.{◌≡◌, ◌+◌, ◌%◌, ◌^◌, ◌≤◌, [], true, All, IfOk, IsOk, map};
 ghost use Rattle.mb_msg.specs.Limits.{most_entries};
 ghost use Rattle.mb_queue.specs.Passes.{SendPassView};
 ghost use Rattle.mb_home.specs.AgreesWithJournal.{IsOwn, AgreesWithJournal};
@@ -8,10 +8,11 @@ ghost use Rattle.mb_home.specs.Steps.{HasNoBacklog, at_first};
 use crate::entry_snapshot::EntrySnapshot;
 use mb_actor::{Actor, Behaviours};
 use mb_cell::Cell;
-use mb_msg::{ActorId, DeadLetter, Envelope};
+use mb_dead_letters::{DeadLetters, KeptList};
+use mb_msg::{ActorId, Envelope};
 use mb_queue::{SendPass, TakePass};
 use mb_syslist::Chain;
-use std::alloc::Global;
+use std::alloc::{AllocError, Global};
 use std::marker::Model;
 use std::snapshot::Snapshot;
 
@@ -31,10 +32,10 @@ pub struct Home<A: Actor, K: Behaviours> {
     sent: u64,
     take: TakePass,
     sends: Vec<SendPass>,
-    dead: Vec<DeadLetter>,
-    cleaned: Vec<Envelope>,
     aside_dead: u64,
     dropped: u64,
+    cleaned: KeptList<Envelope>,
+    dead: DeadLetters,
     directory: Snapshot<Vec<EntrySnapshot<A, K>>>,
 }
 
@@ -48,17 +49,17 @@ impl<A: Actor, K: Behaviours> Drop for Home<A, K> {
             sends: _,
             rest: _,
             sent: _,
-            dead: _,
-            cleaned: _,
             aside_dead: _,
             dropped: _,
+            cleaned: _,
+            dead: _,
             directory: _,
         } = self;
     }
 }
 
 impl<A: Actor, K: Behaviours> Model for Home<A, K> {
-    ghost use Rattle.std.specs.Prelude.{◌≡◌, ◌-◌, ◌≤◌, map, true, vec_len, vec_capacity};
+    ghost use Rattle.std.specs.Prelude.{◌≡◌, ◌≤◌, map, true};
     ghost use Rattle.mb_msg.specs.Limits.{most_entries};
     ghost use Rattle.mb_home.specs.Contents.{Contents};
     ghost use Rattle.mb_home.specs.Steps.{most_tells};
@@ -75,12 +76,13 @@ impl<A: Actor, K: Behaviours> Model for Home<A, K> {
       cleaned = h.cleaned.items;
       aside_dead = h.aside_dead;
       dropped = h.dropped;
-      room = vec_capacity h.dead - vec_len h.dead;
+      room = h.dead.room;
       directory = map (λ n. record { who = n.cell.value.who; queue = n.take.value.queue; discipline = n.take.value.discipline }) h.directory.value.items;
     } };
 
     ghost invariant = { λ h. (h.id ≡ h.cell.who.this) × (h.cell.who.limit ≤ most_entries)
-        × (h.cell.is_ready ≡ true → most_tells ≤ vec_capacity h.dead - vec_len h.dead) };
+        × (h.cell.is_ready ≡ true → most_tells ≤ h.dead.room)
+        × (h.dead.is_kept ≡ h.cell.who.is_kept) × (h.cleaned.is_kept ≡ h.cell.who.is_kept) };
 }
 
 /// What a home leaves at the end of its system.
@@ -95,9 +97,9 @@ pub struct HomeParts<A: Actor, K: Behaviours> {
     /// How many envelopes it sent, modulo 2^64.
     pub sent: u64,
     /// Those of them that are dead letters, in order.
-    pub dead: Vec<DeadLetter>,
+    pub dead: DeadLetters,
     /// The envelopes that were still queued when it ended, in order.
-    pub cleaned: Vec<Envelope>,
+    pub cleaned: KeptList<Envelope>,
     /// How many numbered system messages to it were never applied and are dead, modulo 2^64.
     pub dead_system: u64,
 }
@@ -105,6 +107,9 @@ pub struct HomeParts<A: Actor, K: Behaviours> {
 impl<A: Actor, K: Behaviours> Home<A, K> {
     /// The home of an actor to which nothing came yet: of its cell, the pass of its queue, and the passes that it sends by, one
     /// for each receiver from number 1 on, in order. The directory has the cells and passes of all actors, by number.
+    ///
+    /// Of the actor's dead letters, and of the envelopes that are cleaned up when it ends, as much is kept as its journal keeps. The only error:
+    /// memory was refused. What was handed in is dropped then. Where the journal keeps all this takes no memory.
     pub fn new(
         alloc: Global,
         id: ActorId,
@@ -112,34 +117,41 @@ impl<A: Actor, K: Behaviours> Home<A, K> {
         take: TakePass,
         sends: Vec<SendPass>,
         directory: &Vec<EntrySnapshot<A, K>>,
-    ) -> Self
+    ) -> Result<Self, AllocError>
         requires number { id ≡ cell.who.this }
         requires untouched { (cell.journal ≡ []) × (cell.acts ≡ []) }
         requires none_taken { take.taken ≡ [] }
         requires none_pushed { All (λ (p : SendPassView). p.pushed ≡ []) sends.items }
         requires owner { IsOwn (at_first cell take sends.items 0
             (map (λ n. record { who = n.cell.value.who; queue = n.take.value.queue; discipline = n.take.value.discipline }) directory.now.items)) }
-        ensures first { result ≡ at_first cell take sends.items result.room
-            (map (λ n. record { who = n.cell.value.who; queue = n.take.value.queue; discipline = n.take.value.discipline }) directory.now.items) }
-        ensures settled { AgreesWithJournal (K.gives cell.who.this.0) [] result }
-        ensures no_backlog { HasNoBacklog result }
+        ensures first { IfOk result (λ home. home ≡ at_first cell take sends.items home.room
+            (map (λ n. record { who = n.cell.value.who; queue = n.take.value.queue; discipline = n.take.value.discipline }) directory.now.items)) }
+        ensures settled { IfOk result (λ home. AgreesWithJournal (K.gives cell.who.this.0) [] home) }
+        ensures no_backlog { IfOk result (λ home. HasNoBacklog home) }
+        ensures never_short { cell.who.is_kept ≡ true → IsOk result }
     {
         // Its contract shows that the journal is lawful.
-        let _ = cell.journal();
-        Self::unused(alloc, id, cell, take, sends, directory)
+        let journal = cell.journal();
+        let (keeps_all, last) = (journal.is_kept(), journal.last());
+        let cleaned = KeptList::new(alloc, keeps_all, last)?;
+        let dead = DeadLetters::new(alloc, keeps_all, last)?;
+        Ok(Self::unused(id, cell, take, sends, cleaned, dead, directory))
     }
 
     /// The fields of an unused home.
     fn unused(
-        alloc: Global,
         id: ActorId,
         cell: Cell<A, K>,
         take: TakePass,
         sends: Vec<SendPass>,
+        cleaned: KeptList<Envelope>,
+        dead: DeadLetters,
         directory: &Vec<EntrySnapshot<A, K>>,
     ) -> Self
         requires number { id ≡ cell.who.this }
         requires within_limit { cell.who.limit ≤ most_entries }
+        requires kept { (cleaned.is_kept ≡ cell.who.is_kept) × (dead.is_kept ≡ cell.who.is_kept) }
+        requires none { (cleaned.items ≡ []) × (dead.items ≡ []) }
         ensures { result ≡ at_first cell take sends.items result.room
             (map (λ n. record { who = n.cell.value.who; queue = n.take.value.queue; discipline = n.take.value.discipline }) directory.now.items) }
     {
@@ -152,10 +164,10 @@ impl<A: Actor, K: Behaviours> Home<A, K> {
             sends,
             rest: Chain::new(),
             sent: 0,
-            dead: Vec::new(alloc),
-            cleaned: Vec::new(alloc),
             aside_dead: 0,
             dropped: 0,
+            cleaned,
+            dead,
             directory: Snapshot::of(directory),
         }
     }
@@ -173,6 +185,7 @@ impl<A: Actor, K: Behaviours> Home<A, K> {
         ensures passes { (result.take ≡ self.take) × (result.sends.items ≡ self.sends) }
         ensures sent { (result.sent ≡ self.sent) × (result.dead.items ≡ self.dead) }
         ensures cleaned { result.cleaned.items ≡ self.cleaned }
+        ensures kept { (result.dead.is_kept ≡ self.cell.who.is_kept) × (result.cleaned.is_kept ≡ self.cell.who.is_kept) }
         ensures dead_system { result.dead_system ≡ (self.aside_dead + self.dropped) % 2 ^ 64 }
     {
         let Home {
@@ -182,10 +195,10 @@ impl<A: Actor, K: Behaviours> Home<A, K> {
             sends,
             rest: _,
             sent,
-            dead,
-            cleaned,
             aside_dead,
             dropped,
+            cleaned,
+            dead,
             directory: _,
         } = self;
         HomeParts {

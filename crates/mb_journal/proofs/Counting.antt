@@ -3,7 +3,7 @@ use Rattle.std.proofs.Common.{◌≡◌, ◌==◌, ℕ, ◌+◌, Bool, true, fal
 use Rattle.std.proofs.Common.{◌∷◌, filter, refl, sym, ap, ◌∙◌, arith, Option, Some, None, count_by}
 use Rattle.std.proofs.lemmas.List.Sums.{sum_by-cons}
 use Rattle.mb_msg.specs.declared.envelope.Envelope.{Envelope}
-use Rattle.mb_msg.specs.declared.dead_letter.Why.{Why}
+use Rattle.mb_msg.specs.declared.dead_letter.DeadLetterReason.{DeadLetterReason}
 use Rattle.mb_journal.specs.declared.sent_envelope.SentEnvelope.{SentEnvelope}
 use Rattle.mb_journal.specs.Accepted.{accepted, queued, dead_letters, envelopes_of}
 use Rattle.mb_journal.specs.Pair.{QueuedMatchFates, AcceptedMatchFates}
@@ -32,7 +32,7 @@ module _ (test : Envelope → Bool) where
   Splits ps = count_by test (accepted ps) ≡ count_by test (queued ps) + count_by test (envelopes_of (dead_letters ps))
 
   -- one more, queued or dead
-  splits-more : (e : Envelope) (refused : Option Why) (ps : List SentEnvelope) → Splits ps → Splits (record { envelope = e; refused = refused } ∷ ps)
+  splits-more : (e : Envelope) (refused : Option DeadLetterReason) (ps : List SentEnvelope) → Splits ps → Splits (record { envelope = e; refused = refused } ∷ ps)
   splits-more e None ps before =
       let a = count-cons test e (accepted ps) in
       let b = count-cons test e (queued ps) in

@@ -3,7 +3,7 @@ use Rattle.std.proofs.Common.{◌≡◌, ◌==◌, ◌≢◌, ℕ, zero, suc, �
 use Rattle.std.proofs.Common.{[], ◌∷◌, length, get_or, refl, sym, ap, ◌∙◌, subst, arith, Option, Some, None, count_by}
 use Rattle.std.proofs.lemmas.Bool.Decides.{nat_tests}
 use Rattle.mb_msg.specs.declared.envelope.Envelope.{Envelope}
-use Rattle.mb_msg.specs.declared.dead_letter.Why.{Why}
+use Rattle.mb_msg.specs.declared.dead_letter.DeadLetterReason.{DeadLetterReason}
 use Rattle.mb_journal.specs.declared.sent_envelope.SentEnvelope.{SentEnvelope}
 use Rattle.mb_journal.specs.Accepted.{accepted, queued, dead_letters, envelopes_of, to_actor, is_same_name, has_name, without_named, NumbersCountUpFrom}
 use Rattle.mb_journal.specs.Pair.{QueuedInFateOrder, FatesInSendOrder, AcceptedMatchFates, EachHasOneFate}
@@ -94,7 +94,7 @@ stands-once by to ps fates numbered often e there here =
 
 -- no dead letter of a later one has the name of an earlier one
 module _ (e : Envelope) (by : ℕ) where
-  not-among-more : (x : Envelope) (refused : Option Why) (ps : List SentEnvelope) → e.number < x.number
+  not-among-more : (x : Envelope) (refused : Option DeadLetterReason) (ps : List SentEnvelope) → e.number < x.number
       → has_name (envelopes_of (dead_letters ps)) e ≡ false
       → has_name (envelopes_of (dead_letters (record { envelope = x; refused = refused } ∷ ps))) e ≡ false
   not-among-more x None ps lt rest = rest
@@ -118,7 +118,7 @@ drop-first x gone by n (e ∷ es) numbered lt =
     λ i. cond (not (no i)) (e ∷ rest i) (rest i)
 
 -- those that were queued are the accepted ones without the dead letters
-queued-more : (by n : ℕ) (x : Envelope) (refused : Option Why) (ps : List SentEnvelope) → x.number ≡ n → NumbersCountUpFrom by (n + 1) (accepted ps)
+queued-more : (by n : ℕ) (x : Envelope) (refused : Option DeadLetterReason) (ps : List SentEnvelope) → x.number ≡ n → NumbersCountUpFrom by (n + 1) (accepted ps)
     → queued ps ≡ without_named (envelopes_of (dead_letters ps)) (accepted ps)
     → queued (record { envelope = x; refused = refused } ∷ ps)
     ≡ without_named (envelopes_of (dead_letters (record { envelope = x; refused = refused }

@@ -3,7 +3,7 @@
 use Rattle.std.specs.Prelude.{◌≡◌, ℕ, ◌+◌, ◌==◌, ◌&&◌, ◌||◌, Bool, false, not, List, [], ◌∷◌, map, filter, is_none, Option, Some, None}
 use Rattle.std.specs.List.{flat_map}
 use Rattle.mb_msg.specs.declared.envelope.Envelope.{Envelope}
-use Rattle.mb_msg.specs.declared.dead_letter.Why.{Why}
+use Rattle.mb_msg.specs.declared.dead_letter.DeadLetterReason.{DeadLetterReason}
 use Rattle.mb_msg.specs.declared.dead_letter.DeadLetter.{DeadLetter}
 use Rattle.mb_journal.specs.declared.sent_envelope.SentEnvelope.{SentEnvelope}
 
@@ -20,7 +20,7 @@ abbrev pub queued : List SentEnvelope → List Envelope
 queued postings = map (λ (p : SentEnvelope). p.envelope) (filter is_queued postings)
 
 -- the dead letter of an envelope, if it is one
-abbrev pub letters : Envelope → Option Why → List DeadLetter
+abbrev pub letters : Envelope → Option DeadLetterReason → List DeadLetter
 letters e None = []
 letters e (Some why) = record { envelope = e; why = why } ∷ []
 

@@ -4,8 +4,8 @@ use Rattle.std.specs.Prelude.{if◌then◌else◌}
 use Rattle.std.specs.Global.{Box}
 use Rattle.mb_status.specs.Mailbox.{Mailbox, word_of, mailbox_of}
 use Rattle.mb_msg.specs.declared.dead_letter.DeadLetter.{DeadLetter}
-use Rattle.mb_msg.specs.declared.dead_letter.Why.{Why}
-use Rattle.mb_msg.specs.declared.dead_letter.Why.TheVariants.{Closed}
+use Rattle.mb_msg.specs.declared.dead_letter.DeadLetterReason.{DeadLetterReason}
+use Rattle.mb_msg.specs.declared.dead_letter.DeadLetterReason.TheVariants.{Closed}
 use Rattle.mb_msg.specs.declared.envelope.Body.{Body}
 use Rattle.mb_msg.specs.declared.envelope.Envelope.{Envelope}
 use Rattle.mb_msg.specs.declared.id.ActorId.{ActorId}
@@ -191,7 +191,7 @@ module _ (gives : ℕ → Moment → Reply → Type 0) (origin : Origin (Box Con
         (subst (λ d. Each (IsKnownClosedTo seen h) (closed_receivers d)) (sym (ap (λ (x : Contents). x.dead) p.same)) r.known_closed)
 
     -- it is a dead letter
-    pub running-is_dead_letter : (why : Why) → RecordsDeadLetter h.home new to body why → Each (IsKnownClosedTo seen h) (receiver_if_closed why to.0) →
+    pub running-is_dead_letter : (why : DeadLetterReason) → RecordsDeadLetter h.home new to body why → Each (IsKnownClosedTo seen h) (receiver_if_closed why to.0) →
         IsRunning gives origin new.cell.acts seen (record h { home = new })
     running-is_dead_letter why b known =
         running-left (any-room new.cell (record h.home.cell { is_ready = false }) (ap (λ (x : Contents). x.cell) b.same)) (ap (λ (x : Contents). x.directory) b.same) (ap (λ (x : Contents). x.rest) b.same)

@@ -4,7 +4,7 @@ use Rattle.std.specs.Global.{Box}
 use Rattle.atomic_table.specs.Seated.{TableId}
 use Rattle.mb_status.specs.Mailbox.{Mailbox}
 use Rattle.mb_msg.specs.declared.system.SysMsg.{SysMsg}
-use Rattle.mb_core.specs.declared.debt.WakeObligation.{WakeObligation}
+use Rattle.mb_core.specs.declared.wake_obligation.WakeObligation.{WakeObligation}
 use Rattle.mb_journal.specs.Entry.{Entry}
 use Rattle.mb_gate.specs.declared.claim.Claim.{Claim}
 use Rattle.mb_gate.specs.Accessors.{claim_id, claim_view, held_actor, status_of, taken_with, closed_with, gave_last, given_to, drained_by, recorded_by}

@@ -2,7 +2,7 @@
 -- the gates before it is queued is this project's own profile).
 use Rattle.std.specs.Prelude.{◌≡◌, ◌⊎◌, ℕ, true, false, [], ◌∷◌, ◌++◌, Some, None}
 use Rattle.mb_status.specs.Mailbox.{mailbox_of}
-use Rattle.mb_msg.specs.declared.dead_letter.Why.TheVariants.{Closed}
+use Rattle.mb_msg.specs.declared.dead_letter.DeadLetterReason.TheVariants.{Closed}
 use Rattle.mb_msg.specs.declared.envelope.Body.{Body}
 use Rattle.mb_msg.specs.declared.id.ActorId.{ActorId}
 use Rattle.mb_queue.specs.declared.refused.PushError.{PushError}

@@ -18,9 +18,9 @@ ghost use Rattle.mb_mailbox.specs.Recorded.{SendsAsRecorded};
 ghost use Rattle.mb_mailbox.specs.Running.{IsRunning, BacklogAgrees, KeepsJournal};
 
 use crate::clean_up::clean_up;
+use crate::registering::{register_if_awaited, register_told};
 use crate::sending_system::send_system;
 use crate::telling::tell;
-use crate::waking::{register_if_awaited, register_told};
 use mb_actor::{Actor, Behaviours};
 use mb_cell::Act;
 use mb_gate::{Claim, Gates, RunQueue};

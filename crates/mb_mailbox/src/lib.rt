@@ -8,12 +8,12 @@
 mod acts;
 mod clean_up;
 mod envelopes;
+mod registering;
 mod run;
 mod sending_system;
 mod systems;
 mod telling;
 mod turn;
-mod waking;
 
 pub use run::run_mailbox;
 pub use turn::Turn;

@@ -15,9 +15,9 @@ ghost use Rattle.mb_mailbox.specs.Ran.{HadRoom, HasStopped, IsShortOfMemory, Lea
 ghost use Rattle.mb_mailbox.specs.declared.turn.Turn.{Turn};
 
 use crate::envelopes::apply_envelopes;
+use crate::registering::register_told;
 use crate::systems::apply_systems;
 use crate::turn::Turn;
-use crate::waking::register_told;
 use mb_actor::{Actor, Behaviours};
 use mb_gate::{Claim, Gates, RunQueue};
 use mb_home::BoxedHome;

@@ -3,7 +3,7 @@ use crate::envelope::Envelope;
 
 /// Why an envelope was not queued, or was taken from its queue unhandled.
 #[derive(Clone, Copy, Debug, PartialEq, Eq)]
-pub enum Why {
+pub enum DeadLetterReason {
     /// The receiver's mailbox was closed.
     Closed,
     /// The receiver's bounded mailbox was full.
@@ -20,5 +20,5 @@ pub struct DeadLetter {
     /// What was sent.
     pub envelope: Envelope,
     /// Why it is dead.
-    pub why: Why,
+    pub why: DeadLetterReason,
 }

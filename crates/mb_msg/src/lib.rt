@@ -21,7 +21,7 @@ mod supervision;
 mod system;
 
 pub use actor_plan::ActorPlan;
-pub use dead_letter::{DeadLetter, Why};
+pub use dead_letter::{DeadLetter, DeadLetterReason};
 pub use envelope::{Body, Envelope};
 pub use id::{ActorId, SenderId};
 pub use journal_mode::JournalMode;

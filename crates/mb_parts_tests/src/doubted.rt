@@ -7,8 +7,9 @@ use crate::doubted::Twist::{
 use crate::seen::see;
 use mb_actor::Answer;
 use mb_actor::Phase::{self, Broken, Ended, Live};
+use mb_dead_letters::{DeadLetters, KeptList};
 use mb_journal::Journal;
-use mb_msg::Why::{self, Closed, Full};
+use mb_msg::DeadLetterReason::{self, Closed, Full};
 use mb_msg::{ActorId, Body, DeadLetter, Envelope, JournalMode, SenderId, SysMsg};
 use mb_report::{ActorReport, Report, SenderReport};
 use mb_testkit::{ADD, COUNTER, Order, PLAIN, TestCase, is_right, plan_of, sends_of, stop, tell};
@@ -53,7 +54,7 @@ enum Twist {
     /// The envelope with 2 was cleaned up.
     Cleaned,
     /// The envelope with 2 is dead.
-    Dead(Why),
+    Dead(DeadLetterReason),
     /// The guardian handled the envelope with 2.
     Elsewhere,
     /// The status word that was read before each envelope tells of one suspension.
@@ -209,7 +210,7 @@ fn handle_all(actor: &mut ActorReport, claim: &Claim) -> Result<(), AllocError> 
 fn do_otherwise(actor: &mut ActorReport, twist: Twist) -> Result<(), AllocError> {
     match twist {
         Left => actor.left.push(envelope(TWO))?,
-        Cleaned => actor.cleaned.push(envelope(TWO))?,
+        Cleaned => clean_up(actor, envelope(TWO))?,
         Stopped => apply(&mut actor.journal, 1, SysMsg::Terminate, None)?,
         _ => {}
     }
@@ -219,20 +220,33 @@ fn do_otherwise(actor: &mut ActorReport, twist: Twist) -> Result<(), AllocError>
 fn first_sender(alloc: Global, twist: Twist) -> Result<SenderReport, AllocError> {
     let mut first = sender(alloc, 2);
     match twist {
-        Dead(why) => first.dead.push(DeadLetter {
-            envelope: envelope(TWO),
-            why,
-        })?,
+        Dead(why) => refuse(&mut first, envelope(TWO), why)?,
         SentMore => first.sent = 3,
         _ => {}
     }
     Ok(first)
 }
 
+fn clean_up(actor: &mut ActorReport, envelope: Envelope) -> Result<(), AllocError> {
+    actor.cleaned.reserve(1)?;
+    actor.cleaned.push(envelope);
+    Ok(())
+}
+
+fn refuse(
+    sender: &mut SenderReport,
+    envelope: Envelope,
+    why: DeadLetterReason,
+) -> Result<(), AllocError> {
+    sender.dead.reserve(1)?;
+    sender.dead.push(DeadLetter { envelope, why });
+    Ok(())
+}
+
 fn sender(alloc: Global, sent: u64) -> SenderReport {
     SenderReport {
         sent,
-        dead: Vec::new(alloc),
+        dead: DeadLetters::keeping_all(alloc),
     }
 }
 
@@ -247,7 +261,7 @@ fn started(alloc: Global, number: u64, answer: Option<Answer>) -> Result<ActorRe
         journal,
         aside: Vec::new(alloc),
         left: Vec::new(alloc),
-        cleaned: Vec::new(alloc),
+        cleaned: KeptList::keeping_all(alloc),
         dead_system: 0,
     })
 }

@@ -2,8 +2,11 @@
 ghost use Rattle.std.specs.Prelude.{◌≡◌, ◌+◌, IfSome, length};
 
 use mb_actor::{Answer, Phase};
+use mb_dead_letters::{DeadLetters, KeptList};
 use mb_journal::Journal;
-use mb_msg::{ActorId, Body, Cause, DeadLetter, Envelope, JournalMode, SenderId, SysMsg, Why};
+use mb_msg::{
+    ActorId, Body, Cause, DeadLetter, DeadLetterReason, Envelope, JournalMode, SenderId, SysMsg,
+};
 use mb_report::{ActorReport, Report, SenderReport, report_text};
 use std::alloc::{AllocError, Global};
 use std::test::Fail;
@@ -26,7 +29,7 @@ fn quiet(alloc: Global, phase: Phase, state: Option<i64>, journal: Journal) -> A
         journal,
         aside: Vec::new(alloc),
         left: Vec::new(alloc),
-        cleaned: Vec::new(alloc),
+        cleaned: KeptList::keeping_all(alloc),
         dead_system: 0,
     }
 }
@@ -72,7 +75,8 @@ fn restart(journal: &mut Journal) -> Option<()> {
 fn ended(alloc: Global) -> Option<ActorReport> {
     let journal = journal_of_one_restart(alloc)?;
     let mut actor = quiet(alloc, Phase::Ended, Some(i64::MIN), journal);
-    actor.cleaned.push(envelope(1, 2)).ok()?;
+    actor.cleaned.reserve(1).ok()?;
+    actor.cleaned.push(envelope(1, 2));
     Some(actor)
 }
 
@@ -95,7 +99,7 @@ fn actors(alloc: Global) -> Option<Vec<ActorReport>>
     vec![in alloc; guardian, first, second].ok()
 }
 
-fn dead(to: u16, number: u64, why: Why) -> DeadLetter {
+fn dead(to: u16, number: u64, why: DeadLetterReason) -> DeadLetter {
     DeadLetter {
         envelope: envelope(to, number),
         why,
@@ -106,13 +110,18 @@ fn dead(to: u16, number: u64, why: Why) -> DeadLetter {
 fn senders(alloc: Global) -> Option<Vec<SenderReport>>
     ensures { IfSome result (λ made. length made.items ≡ 1) }
 {
-    let dead = vec![in alloc;
-        dead(1, 3, Why::Closed),
-        dead(2, 4, Why::Full),
-        dead(1, 7, Why::NoMemory),
+    let mut letters = DeadLetters::keeping_all(alloc);
+    letters.reserve(3).ok()?;
+    letters.push(dead(1, 3, DeadLetterReason::Closed));
+    letters.push(dead(2, 4, DeadLetterReason::Full));
+    letters.push(dead(1, 7, DeadLetterReason::NoMemory));
+    vec![in alloc;
+        SenderReport {
+            sent: 8,
+            dead: letters
+        },
     ]
-    .ok()?;
-    vec![in alloc; SenderReport { sent: 8, dead }].ok()
+    .ok()
 }
 
 fn names(alloc: Global) -> Option<Vec<String>>

@@ -33,11 +33,10 @@ use Rattle.mb_msg.specs.declared.order.Order.{Order}
 use Rattle.mb_program.specs.Faults.{IsFaultOf}
 use Rattle.mb_streams.specs.declared.fault.RunFault.{RunFault}
 use Rattle.mb_streams.specs.declared.fault.RunFault.TheVariants as told
-use Rattle.mb_system.specs.declared.failure.RunError.TheVariants as Fault
 use Rattle.heddleorange.specs.NoReport.{HasFailedFor, IsErrorOfRun, IsRight, has_nobody, is_for_nobody}
 use Rattle.heddleorange.specs.Orders.{lists_of, orders_of}
 use Rattle.heddleorange.specs.declared.error.Error.{Error}
-use Rattle.heddleorange.specs.declared.error.Error.TheVariants.{BadPlan, Sends, NoMemory, Run, NotQuiet, Mismatch, NameTaken}
+use Rattle.heddleorange.specs.declared.error.Error.TheVariants.{BadPlan, OrderLists, NoSuchSender, NoSuchActor, NoMemory, NoMemoryInRun, JournalFull, NotQuiet, Mismatch, NameTaken}
 use Rattle.heddleorange.specs.declared.failed_run.FailedRun.{FailedRun}
 use Rattle.heddleorange.proofs.InOrder.{for-nobody, length-lists, many-from}
 use Rattle.mb_scenario.proofs.Passed.{AreActorData, IsBoundData, IsReceived, IsSendData, length-items, passed, senders-right}
@@ -174,19 +173,20 @@ as-many-names text scenario names read named =
     ∙ sym (ap length (named ∙ ap (λ (s : ScenarioData). s.names) is))
 
 -- a fault tells of the error of a run whose plan and orders are right
-some-fault : (gives : ℕ → Moment → Reply → Type 0) (plan : Plan) (actors : ℕ) (orders : List (List Order)) (failed : FailedRun)
+some-fault : {X : Type 0} (gives : ℕ → Moment → Reply → Type 0) (plan : Plan) (actors : ℕ) (orders : List (List Order)) (failed : FailedRun X)
     (error : Error) → IsRight plan actors orders → HasFailedFor gives plan actors orders failed.actors.items error → (fault : RunFault) × IsFaultOf error fault
 some-fault gives plan actors orders failed (BadPlan reason) right is = let none = ap length (sym is.0.1 ∙ right.0) in absurd (omega (arith, none))
-some-fault gives plan actors orders failed Sends right is = absurd (is.1 right.1)
+some-fault gives plan actors orders failed (OrderLists lists senders) right is = absurd (is.1 right.1)
+some-fault gives plan actors orders failed (NoSuchSender place sender) right is = absurd (is.1 right.1)
 some-fault gives plan actors orders failed NoMemory right is = (told.NoMemory, refl)
-some-fault gives plan actors orders failed (Run Fault.NoMemory) right is = (told.NoMemory, refl)
-some-fault gives plan actors orders failed (Run Fault.JournalFull) right is = (told.JournalFull, refl)
-some-fault gives plan actors orders failed (Run Fault.NoSuchActor) right is = absurd (cc (right.2, is.2))
+some-fault gives plan actors orders failed NoMemoryInRun right is = (told.NoMemory, refl)
+some-fault gives plan actors orders failed (JournalFull id) right is = (told.JournalFull, refl)
+some-fault gives plan actors orders failed (NoSuchActor sender place to) right is = absurd (cc (right.2, is.2))
 some-fault gives plan actors orders failed (NotQuiet id) right is = (told.NotQuiet id, refl)
 some-fault gives plan actors orders failed (Mismatch what) right is = (told.Mismatch, refl)
 some-fault gives plan actors orders failed (NameTaken id) right is = absurd is
 
-pub fault-of-run : (gives : ℕ → Moment → Reply → Type 0) (plan : Plan) (actors : ℕ) (orders : List (List Order)) (failed : FailedRun)
+pub fault-of-run : {X : Type 0} (gives : ℕ → Moment → Reply → Type 0) (plan : Plan) (actors : ℕ) (orders : List (List Order)) (failed : FailedRun X)
     → IsRight plan actors orders → IsErrorOfRun gives plan actors orders failed → (fault : RunFault) × IsFaultOf failed.error fault
 fault-of-run gives plan actors orders failed right is = some-fault gives plan actors orders failed failed.error right is
 

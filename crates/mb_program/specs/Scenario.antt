@@ -2,6 +2,7 @@
 use Rattle.std.specs.Prelude.{◌≡◌, length}
 use Rattle.mb_msg.specs.declared.plan.Plan.{Plan}
 use Rattle.mb_scenario.specs.Plans.{ScenarioData}
+use Rattle.mb_script.specs.declared.script.Script.{Script}
 use Rattle.mb_scenario.specs.View.{plan_data}
 use Rattle.mb_report.specs.declared.report.Report.{Report}
 use Rattle.heddleorange.specs.NoReport.{IsErrorOfRun}
@@ -25,6 +26,6 @@ pub record IsOfScenario (scenario : ScenarioData) (report : Report) : Type 0 whe
 pub record EndsIn (scenario : ScenarioData) (fault : RunFault) : Type 0 where
   pub plan : Plan
   pub planned : plan_data plan ≡ scenario.plan
-  pub failed : FailedRun
+  pub failed : FailedRun Script
   pub of_run : IsErrorOfRun (gives_by_scripts scenario.scripts) plan (length scenario.scripts) (lists_of plan.senders scenario.sends) failed
   pub told : IsFaultOf failed.error fault

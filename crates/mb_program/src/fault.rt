@@ -2,7 +2,7 @@
 ghost use Rattle.mb_streams.specs.declared.fault.RunFault.{RunFault as FaultOf};
 ghost use Rattle.mb_program.specs.Faults.{IsFaultOf};
 
-use heddleorange::{Error, RunError};
+use heddleorange::Error;
 use mb_streams::RunFault;
 
 /// The fault that tells of this error of a run whose plan and orders were right.
@@ -11,13 +11,14 @@ pub(crate) fn fault_of(error: &Error) -> RunFault
     ensures { IsFaultOf error.now result }
 {
     match error {
-        Error::NoMemory | Error::Run(RunError::NoMemory) => RunFault::NoMemory,
-        Error::Run(RunError::JournalFull) => RunFault::JournalFull,
+        Error::NoMemory | Error::NoMemoryInRun => RunFault::NoMemory,
+        Error::JournalFull(_) => RunFault::JournalFull,
         Error::NotQuiet(id) => RunFault::NotQuiet(*id),
         Error::Mismatch(_) => RunFault::Mismatch,
         Error::BadPlan(_)
-        | Error::Sends
-        | Error::NameTaken(_)
-        | Error::Run(RunError::NoSuchActor) => unreachable!(),
+        | Error::OrderLists { .. }
+        | Error::NoSuchSender { .. }
+        | Error::NoSuchActor { .. }
+        | Error::NameTaken(_) => unreachable!(),
     }
 }

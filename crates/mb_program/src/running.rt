@@ -29,7 +29,7 @@ pub struct FinishedRun {
 /// calling thread alone, after all was sent in the order of the text; of it the turns are answered too. Else each worker and each
 /// sender has a thread of its own.
 ///
-/// The errors are `NoMemory`, and `Run`, `NotQuiet` and `Mismatch` as `heddleorange` says of them.
+/// The errors are `NoMemory`, `NoMemoryInRun`, `JournalFull`, `NotQuiet` and `Mismatch`, as `heddleorange` says of them.
 pub fn run<A: Actor + Send, R: Threads + Wait + Sync>(
     rt: &R,
     alloc: Global,
@@ -37,7 +37,7 @@ pub fn run<A: Actor + Send, R: Threads + Wait + Sync>(
     actors: Vec<A>,
     sends: &[SenderOrder],
     is_quiet: bool,
-) -> Result<FinishedRun, FailedRun>
+) -> Result<FinishedRun, FailedRun<A>>
     requires unused { All (λ actor. A.content actor ≡ A.after actor []) actors.items }
     requires right { IsRight plan (length actors.items) (lists_of plan.senders sends.now) }
     ensures ran { IfOk result (λ run. IsReportOfRun (after_at actors.items A.after) (gives_at actors.items A.gives) plan

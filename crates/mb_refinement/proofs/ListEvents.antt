@@ -9,10 +9,10 @@ use Rattle.atomic_table.specs.Table.{State, Me, keeps, takes, gives, put_back, s
 use Rattle.atomic_table.proofs.Lists.{set_else, set_here}
 use Rattle.mb_msg.specs.declared.system.SysMsg.{SysMsg}
 use Rattle.mb_syslist.specs.MessageList.{MessageList, with_last, listed, pushed, drained, ended}
-use Rattle.mb_core.specs.declared.debt.WakeObligation.{WakeObligation}
+use Rattle.mb_core.specs.declared.wake_obligation.WakeObligation.{WakeObligation}
 use Rattle.mb_core.specs.declared.event.Step as event
 use Rattle.mb_core.specs.declared.event.Step.TheVariants.{SysAdd, SysRead, SysDrain, SysEnd}
-use Rattle.mb_core.specs.Actor.{MachineActor, debt_of, owing, has_work}
+use Rattle.mb_core.specs.Actor.{MachineActor, obligation_by, owing, has_work}
 use Rattle.mb_core.specs.Run as run
 use Rattle.mb_core.specs.Run.{Change}
 use Rattle.mb_ghost.specs.Layout.{word_at, slot_at, Spot, spot_of}
@@ -40,7 +40,7 @@ use Rattle.mb_refinement.specs.ListEvents.{
   StoreIsSysEnd,
   CheckIsSysDrain,
 }
-use Rattle.mb_refinement.proofs.Places.{gate_mark, holder_stays, holder_changes, shown_listed, shown_now, list_put, mark_put, list_out, debt_at, owed_back}
+use Rattle.mb_refinement.proofs.Places.{gate_mark, holder_stays, holder_changes, shown_listed, shown_now, list_put, mark_put, list_out, obligation_at, owed_back}
 use Rattle.mb_refinement.proofs.Tables.{word_now, word_stays, event_at, silent_at, load_event, load_silent}
 use Rattle.mb_refinement.proofs.StatusEvents.{first_of, won_word, lost_word}
 
@@ -113,12 +113,12 @@ module _ {H : Type 0} (is_of : ℕ → H → Type 0) (facts : H → HomeFacts) w
     no_item x.ghost.listed.messages both.0,
   )
 
-  reads_none : (x : MachineActor) (id : ℕ) (y : MachineActor) (b : Bool) → b ≡ false → y ≡ owing x id (record (debt_of x id) { system = false }) → y ≡ (if b then
-      x else owing x id (record (debt_of x id) { system = false }))
+  reads_none : (x : MachineActor) (id : ℕ) (y : MachineActor) (b : Bool) → b ≡ false → y ≡ owing x id (record (obligation_by x id) { system = false }) → y ≡ (if b then
+      x else owing x id (record (obligation_by x id) { system = false }))
   reads_none x id y true e is = absurd (cc)
   reads_none x id y false e is = is
 
-  reads_some : (x : MachineActor) (id : ℕ) (y : MachineActor) (b : Bool) → b ≡ true → y ≡ x → y ≡ (if b then x else owing x id (record (debt_of x id) {
+  reads_some : (x : MachineActor) (id : ℕ) (y : MachineActor) (b : Bool) → b ≡ true → y ≡ x → y ≡ (if b then x else owing x id (record (obligation_by x id) {
     system =
         false;
   }))
@@ -133,23 +133,23 @@ module _ {H : Type 0} (is_of : ℕ → H → Type 0) (facts : H → HomeFacts) w
       let f = r.each actor inside in
       let found = get_or s.words (word_at actor 17) 0 in
       let is : w ≡ looking actor (shows_work found) v = first_of _ _ (made.told actor word) in
-      let debt : WakeObligation = record (obligation_to actor v) { system = false } in
+      let obligation : WakeObligation = record (obligation_to actor v) { system = false } in
       let quiet : shows_work found ≡ false → IsEvent is_of facts n s r s' r' actor id SysRead rest rest =
-      (λ no. let so : w ≡ with_obligation actor debt (seeing (Looked actor false) v) = is ∙ ap (λ c. looking actor c v) no in
+      (λ no. let so : w ≡ with_obligation actor obligation (seeing (Looked actor false) v) = is ∙ ap (λ c. looking actor c v) no in
       let nothing = nothing_there x rest f.list_place m no in
-      load_event is_of facts n s r actor inside Gate id v w me.1 debt made.present (λ a. ap (claim_for a) so) (λ a. ap (list_for a) so)
-      (λ a apart. ap (obligation_to a) so ∙ owes_else actor a debt (seeing (Looked actor false) v) apart)
-      (ap (obligation_to actor) so ∙ owes_here actor debt (seeing (Looked actor false) v)) s' made.after r' SysRead rest
+      load_event is_of facts n s r actor inside Gate id v w me.1 obligation made.present (λ a. ap (claim_for a) so) (λ a. ap (list_for a) so)
+      (λ a apart. ap (obligation_to a) so ∙ owes_else actor a obligation (seeing (Looked actor false) v) apart)
+      (ap (obligation_to actor) so ∙ owes_here actor obligation (seeing (Looked actor false) v)) s' made.after r' SysRead rest
       (λ y e. reads_none (shown actor x s.views rest) id y (has_work (work_of x.ghost rest)) (no_work x.ghost.listed.closed rest x.ghost.listed.messages
       nothing.0 nothing.1)
-      (e ∙ ap (λ (d : WakeObligation). owing (shown actor x s.views rest) id (record d { system = false })) (sym (debt_at actor x s.views id v made.present
+      (e ∙ ap (λ (d : WakeObligation). owing (shown actor x s.views rest) id (record d { system = false })) (sym (obligation_at actor x s.views id v made.present
       rest))))) in
       let seen : shows_work found ≡ true → w ≡ seeing (Looked actor true) v = (λ yes. is ∙ looked_same actor (shows_work found) v yes) in (
         ⊎_elim quiet (λ work. by_work s s' r r' actor id v w me.1 rest inside made.present made.after quiet (shows_work found) refl seen work),
         (λ yes. let so = seen yes in load_silent is_of facts n s r actor inside Gate id v w me.1 made.present (λ a. record {
           claim = ap (claim_for a) so;
           list = ap (list_for a) so;
-          debt = ap (obligation_to a) so;
+          obligation = ap (obligation_to a) so;
         }) s' made.after r'),
       )
     where
@@ -175,7 +175,7 @@ module _ {H : Type 0} (is_of : ℕ → H → Type 0) (facts : H → HomeFacts) w
       load_silent is_of facts n s r actor inside Gate id me.0 made.view me.1 made.present (λ a. record {
         claim = ap (claim_for a) so;
         list = ap (list_for a) so;
-        debt = ap (obligation_to a) so;
+        obligation = ap (obligation_to a) so;
       }) s' (made.after ∙ ap (λ k. stepped s (word_at actor 17) k id me.1 made.view keeps) (lost_word (get_or s.words (word_at actor 17) 0) st.first st.second
       miss)) r'
 
@@ -201,7 +201,7 @@ module _ {H : Type 0} (is_of : ℕ → H → Type 0) (facts : H → HomeFacts) w
       (λ a apart. record {
         claim = ap (claim_for a) is;
         list = ap (list_for a) is ∙ (lent_else a l (λ e. apart (sym e)) ∙ sym (ap (lent_of a) bare));
-        debt = ap (obligation_to a) is;
+        obligation = ap (obligation_to a) is;
       })
       (λ a apart. set_else s.homes (slot_at actor 1) (slot_at a 1) none (slots_apart a actor 1 1 (omega arith) (omega arith) apart)) s'
       (made.after ∙ ap (λ k. stepped s (word_at actor 17) k id me.1 w (takes (slot_at actor 1) (Listing list))) (won_word found st.first st.second hit)) r'
@@ -225,13 +225,13 @@ module _ {H : Type 0} (is_of : ℕ → H → Type 0) (facts : H → HomeFacts) w
       load_silent is_of facts n s r actor inside Gate id me.0 made.view me.1 made.present (λ a. record {
         claim = ap (claim_for a) so;
         list = ap (list_for a) so;
-        debt = ap (obligation_to a) so;
+        obligation = ap (obligation_to a) so;
       }) s' stays r')
       (λ miss. let so : made.view ≡ me.0 = first_of _ _ ((made.told actor message word said).1 miss) in
       load_silent is_of facts n s r actor inside Gate id me.0 made.view me.1 made.present (λ a. record {
         claim = ap (claim_for a) so;
         list = ap (list_for a) so;
-        debt = ap (obligation_to a) so;
+        obligation = ap (obligation_to a) so;
       }) s' stays r')
 
   -- a list that is put back lies in its slot
@@ -258,7 +258,7 @@ module _ {H : Type 0} (is_of : ℕ → H → Type 0) (facts : H → HomeFacts) w
       let f = r.each actor inside in
       let lent = is_lent is_of facts n actor id x s.views v l f made.present has of in
       let is : w ≡ enlisting actor (pushed l.listed) message v = first_of _ _ told.0 in
-      let debt : WakeObligation = record (obligation_to actor v) { system = true } in
+      let obligation : WakeObligation = record (obligation_to actor v) { system = true } in
       let u : View = record v {
         log = Pushed actor (pushed l.listed) message ∷ v.log;
         list = None;
@@ -270,7 +270,7 @@ module _ {H : Type 0} (is_of : ℕ → H → Type 0) (facts : H → HomeFacts) w
       (λ a apart. record {
         claim = ap (claim_for a) is;
         list = ap (list_for a) is ∙ sym (ap (lent_of a) has ∙ lent_else a l (λ e. apart (sym e ∙ of)));
-        debt = ap (obligation_to a) is ∙ owes_else actor a debt u apart;
+        obligation = ap (obligation_to a) is ∙ owes_else actor a obligation u apart;
       }) put.1 s' made.after r' (SysAdd message) rest rest
       (λ q. let x' : Place = spot_of word_offset slot_offset (stepped s (word_at actor 17) st.first id me.1 w gives) q.ghosts actor in
       let f' = q.each actor inside in
@@ -279,15 +279,15 @@ module _ {H : Type 0} (is_of : ℕ → H → Type 0) (facts : H → HomeFacts) w
         (
           some_work x.ghost.listed.closed (rest ++ x.ghost.listed.messages) open_yet,
           shown_now is_of facts n actor x x' s.views id v w made.present f f' (x.row Status) (x.row Waiting) (run.with_last (work_of x.ghost rest) message)
-              (holder_of x.ghost.holder) debt rest (word_stays is_of facts n s r actor inside Gate Status st.first (λ e. omega arith)) (word_stays is_of facts n s
+              (holder_of x.ghost.holder) obligation rest (word_stays is_of facts n s r actor inside Gate Status st.first (λ e. omega arith)) (word_stays is_of facts n s
               r actor inside Gate Waiting st.first (λ e. omega arith))
               (ap (λ (z : MessageList). if z.closed then None else Some (rest ++ z.messages)) (now ∙ ap (λ (z : MessageList). with_last z message) lent.1.taken)
               ∙ adds_last x.ghost.listed.closed rest x.ghost.listed.messages message)
               (ap holder_of (holder_stays is_of facts n actor x x' s.views id v w made.present f f' (ap (claim_for actor) is)))
-              (ap (obligation_to actor) is ∙ owes_here actor debt u)
+              (ap (obligation_to actor) is ∙ owes_here actor obligation u)
               ∙ ap (λ (d : WakeObligation). owing (record (shown actor x s.views rest) { system = run.with_last (work_of x.ghost rest) message }) id (record d {
                 system = true;
-              })) (sym (debt_at actor x s.views id v made.present rest)),
+              })) (sym (obligation_at actor x s.views id v made.present rest)),
         ),
         (λ m quiet. m (sym (mark_put is_of facts n actor x x' s.views id v w made.present f f' l new l.gave lent.0 lacks now (word_now is_of facts n s r actor
             inside Gate st.first ∙ gate) ∙ lent.1.gave) ∙ quiet)),
@@ -315,7 +315,7 @@ module _ {H : Type 0} (is_of : ℕ → H → Type 0) (facts : H → HomeFacts) w
         claim = ap (claim_for a) is ∙ (ap (λ z. held_of a (regiven given gave z)) owns ∙ (held_else a c' (λ e. apart (sym e ∙ of)) ∙ sym (ap (held_of a) owns ∙
             held_else a c (λ e. apart (sym e ∙ of)))));
         list = ap (list_for a) is ∙ sym (ap (lent_of a) has ∙ lent_else a l (λ e. apart (sym e ∙ of_list)));
-        debt = ap (obligation_to a) is;
+        obligation = ap (obligation_to a) is;
       }) put.1 s' after r' step rest []
       (λ q. let x' : Place = spot_of word_offset slot_offset (stepped s (word_at actor 17) word id carried w gives) q.ghosts actor in
       let f' = q.each actor inside in
@@ -387,6 +387,6 @@ module _ {H : Type 0} (is_of : ℕ → H → Type 0) (facts : H → HomeFacts) w
             load_silent is_of facts n s r actor inside Gate id v w me.1 made.present (λ a. record {
               claim = ap (claim_for a) so;
               list = ap (list_for a) so;
-              debt = ap (obligation_to a) so;
+              obligation = ap (obligation_to a) so;
             }) s' made.after r'),
       )

@@ -9,7 +9,7 @@ use Rattle.atomic_table.specs.Table.{State}
 use Rattle.atomic_table.proofs.Lists.{set_else}
 use Rattle.mb_status.specs.Mailbox.{mailbox_of}
 use Rattle.mb_msg.specs.declared.system.SysMsg.{SysMsg}
-use Rattle.mb_core.specs.declared.debt.WakeObligation.{WakeObligation}
+use Rattle.mb_core.specs.declared.wake_obligation.WakeObligation.{WakeObligation}
 use Rattle.mb_core.specs.Actor.{MachineActor, nothing}
 use Rattle.mb_core.specs.Parties as parties
 use Rattle.mb_ghost.specs.Layout.{Spot, spot_of}
@@ -22,7 +22,7 @@ use Rattle.mb_gate.specs.Rule.{Word, Status, Gate, Waiting, word_offset, SlotNam
 use Rattle.mb_gate.specs.Shown.{holder_of, work_of, shown}
 use Rattle.mb_refinement.specs.Refines.{Rule, shows}
 use Rattle.mb_refinement.specs.PartyEvents.{IsCut, IsMerge, IsShownAs, SplitsAreSplits, JoinsAreJoins}
-use Rattle.mb_refinement.proofs.Places.{locked_once, listed_stays, gave_stays, debt_at, owed_back}
+use Rattle.mb_refinement.proofs.Places.{locked_once, listed_stays, gave_stays, obligation_at, owed_back}
 
 map-snoc : {A B : Type 0} (f : A → B) (xs : List A) (y : A) → map f (xs ++ y ∷ []) ≡ map f xs ++ f y ∷ []
 map-snoc f [] y = refl
@@ -44,7 +44,7 @@ eqb_same a b e = dite (ℕ_discrete a b) (λ same. same) (λ other. absurd (fals
     false_true : false ≡ true → ⊥
     false_true e = cc
 
--- what is owed once the debts of one list are added to those of another
+-- what is owed once the obligations of one list are added to those of another
 added_owes : (actor : ℕ) (ds old : List (ℕ × WakeObligation)) → obligation_of actor (added_obligations ds old) ≡ parties.both (obligation_of actor old)
     (obligation_of actor ds)
 added_owes actor [] old = let d = obligation_of actor old in λ i. record { system = or_none d.system i; message = or_none d.message i; sending = or_none d.sending i }
@@ -89,14 +89,14 @@ module _ {H : Type 0} (is_of : ℕ → H → Type 0) (facts : H → HomeFacts) w
 
   -- a view is cut in two, of which the second has neither claim nor list, and owes what the one did
   cut_as : (n : ℕ) (s s' : State (Slot H) View) (r : Rule is_of facts n s) (r' : Rule is_of facts n s') (id : ℕ) (v left right : View) (actor : ℕ) → actor < n
-      → (debt : WakeObligation) → claim_for actor left ≡ claim_for actor v → claim_for actor right ≡ None → list_for actor left ≡ list_for actor v → list_for
-      actor right ≡ None → obligation_to actor left ≡ debt → obligation_to actor right ≡ obligation_to actor v → IsCut id v left right s s' → (makes :
+      → (obligation : WakeObligation) → claim_for actor left ≡ claim_for actor v → claim_for actor right ≡ None → list_for actor left ≡ list_for actor v → list_for
+      actor right ≡ None → obligation_to actor left ≡ obligation → obligation_to actor right ≡ obligation_to actor v → IsCut id v left right s s' → (makes :
       MachineActor → MachineActor)
       → ((rest : List SysMsg) (y : MachineActor) → y ≡ record (shows is_of facts n s r actor rest) {
-        owed = set (map (obligation_to actor) s.views) id debt ++ obligation_to actor v ∷ [];
+        owed = set (map (obligation_to actor) s.views) id obligation ++ obligation_to actor v ∷ [];
       } → y ≡ makes (shows is_of facts n s r actor rest))
       → IsShownAs is_of facts n s r s' r' makes actor
-  cut_as n s s' r r' id v left right actor inside debt claim none list no_list owes owes_too made makes so =
+  cut_as n s s' r r' id v left right actor inside obligation claim none list no_list owes owes_too made makes so =
       subst (λ (z : State (Slot H) View). (q : Rule is_of facts n z) → IsShownAs is_of facts n s r z q makes actor) (sym made.after)
       (λ q.
       let vs' = set s.views id left ++ right ∷ [] in
@@ -106,11 +106,11 @@ module _ {H : Type 0} (is_of : ℕ → H → Type 0) (facts : H → HomeFacts) w
       let f' = q.each actor inside in
       let claims = splits_locked (claim_for actor) x.ghost.holder s.views id v left right made.present claim none f.claims in
       let lists = splits_locked (list_for actor) x.ghost.lent_to s.views id v left right made.present list no_list f.lists in
-      let owed : map (obligation_to actor) vs' ≡ set (map (obligation_to actor) s.views) id debt ++ obligation_to actor v ∷ [] =
+      let owed : map (obligation_to actor) vs' ≡ set (map (obligation_to actor) s.views) id obligation ++ obligation_to actor v ∷ [] =
       map-snoc (obligation_to actor) (set s.views id left) right ∙ (λ i. (map-set (obligation_to actor) s.views id left ∙ ap (set (map (obligation_to actor)
       s.views) id) owes) i ++ owes_too i ∷ []) in record {
         same = λ rest. so rest (shown actor x' vs' rest) (reshown n actor x x' s.views vs' f f' refl refl claims lists (set (map (obligation_to actor) s.views) id
-            debt ++ obligation_to actor v ∷ []) owed rest);
+            obligation ++ obligation_to actor v ∷ []) owed rest);
         marked = λ rest m quiet. m (sym (same_mark n actor x x' s.views vs' f f' refl refl claims lists) ∙ quiet);
       }) r'
 
@@ -120,7 +120,7 @@ module _ {H : Type 0} (is_of : ℕ → H → Type 0) (facts : H → HomeFacts) w
       } → y ≡ parties.copied (shows is_of facts n s r actor rest) id
   copies_as n s r id v actor at rest y e =
       let x : Place = spot_of word_offset slot_offset s r.ghosts actor in
-      e ∙ (λ i. record (shown actor x s.views rest) { owed = owed_back actor x s.views id v at i ++ sym (debt_at actor x s.views id v at rest) i ∷ [] })
+      e ∙ (λ i. record (shown actor x s.views rest) { owed = owed_back actor x s.views id v at i ++ sym (obligation_at actor x s.views id v at rest) i ∷ [] })
 
   moves_as : (n : ℕ) (s : State (Slot H) View) (r : Rule is_of facts n s) (id : ℕ) (v : View) (actor : ℕ) → get_elem? s.views id ≡ some v → (rest : List SysMsg)
       (y : MachineActor) → y ≡ record (shows is_of facts n s r actor rest) {
@@ -129,7 +129,7 @@ module _ {H : Type 0} (is_of : ℕ → H → Type 0) (facts : H → HomeFacts) w
   moves_as n s r id v actor at rest y e =
       let x : Place = spot_of word_offset slot_offset s r.ghosts actor in
       e ∙ (λ i. record (shown actor x s.views rest) {
-        owed = set (map (obligation_to actor) s.views) id nothing ++ sym (debt_at actor x s.views id v at rest) i ∷ [];
+        owed = set (map (obligation_to actor) s.views) id nothing ++ sym (obligation_at actor x s.views id v at rest) i ∷ [];
       })
 
   pub splits_are_splits : SplitsAreSplits is_of facts
@@ -174,7 +174,7 @@ module _ {H : Type 0} (is_of : ℕ → H → Type 0) (facts : H → HomeFacts) w
             actor v) (obligation_to actor w))) other nothing) owed rest
             ∙ (λ i. record (shown actor x s.views rest) {
               holder = not_holder actor other id s.views w x.ghost.holder made.there (ap (held_of actor) bare) f.claims i;
-              owed = set (set (map (obligation_to actor) s.views) id (parties.both (sym (debt_at actor x s.views id v made.present rest) i) (sym (debt_at actor x s.views
+              owed = set (set (map (obligation_to actor) s.views) id (parties.both (sym (obligation_at actor x s.views id v made.present rest) i) (sym (obligation_at actor x s.views
                   other w made.there rest) i))) other nothing;
             });
         marked = λ rest m quiet. m (sym (same_mark n actor x x' s.views vs' f f' refl refl claims lists) ∙ quiet);

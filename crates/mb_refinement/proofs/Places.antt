@@ -8,8 +8,8 @@ use lib.ListN.{get_elem?}
 use Rattle.mb_status.specs.Mailbox.{mailbox_of}
 use Rattle.mb_msg.specs.declared.system.SysMsg.{SysMsg}
 use Rattle.mb_syslist.specs.MessageList.{MessageList}
-use Rattle.mb_core.specs.declared.debt.WakeObligation.{WakeObligation}
-use Rattle.mb_core.specs.Actor.{nothing, debt_of, owing}
+use Rattle.mb_core.specs.declared.wake_obligation.WakeObligation.{WakeObligation}
+use Rattle.mb_core.specs.Actor.{nothing, obligation_by, owing}
 use Rattle.mb_ghost.specs.Layout.{Spot}
 use Rattle.mb_ghost.specs.Locked.{Locked, held_by}
 use Rattle.mb_ghost.proofs.LockedLemmas.{stays_locked, takes_up, changes_ticket, puts_back}
@@ -24,7 +24,7 @@ use Rattle.mb_gate.specs.Shown.{holder_of, work_of, shown}
 pub record Aside (actor : ℕ) (v w : View) : Type 0 where
   pub claim : claim_for actor w ≡ claim_for actor v
   pub list : list_for actor w ≡ list_for actor v
-  pub debt : obligation_to actor w ≡ obligation_to actor v
+  pub obligation : obligation_to actor w ≡ obligation_to actor v
 
 some_same : {A : Type 0} (a b : A) → Some a ≡ Some b → a ≡ b
 some_same a b e = cc
@@ -67,9 +67,9 @@ gate_mark out l true false e = absurd (let z : gate_word out l true ≡ gate_wor
 gate_mark out l false true e = absurd (let z : gate_word out l false ≡ gate_word out l true = e in omega arith)
 
 -- what a seat owes, as it is shown
-pub debt_at : {H : Type 0} (actor : ℕ) (x : Spot Word SlotName (Slot H) Ghost) (vs : List View) (id : ℕ) (v : View) → get_elem? vs id ≡ some v → (rest : List
-    SysMsg) → debt_of (shown actor x vs rest) id ≡ obligation_to actor v
-debt_at actor x vs id v at rest = there vs id at
+pub obligation_at : {H : Type 0} (actor : ℕ) (x : Spot Word SlotName (Slot H) Ghost) (vs : List View) (id : ℕ) (v : View) → get_elem? vs id ≡ some v → (rest : List
+    SysMsg) → obligation_by (shown actor x vs rest) id ≡ obligation_to actor v
+obligation_at actor x vs id v at rest = there vs id at
   where
     there : (us : List View) (k : ℕ) → get_elem? us k ≡ some v → get_or (map (obligation_to actor) us) k nothing ≡ obligation_to actor v
     there [] k e = absurd (some-ne-none v (sym e))
@@ -79,7 +79,7 @@ debt_at actor x vs id v at rest = there vs id at
 -- what is owed stays where a seat owes what it owed
 pub owed_back : {H : Type 0} (actor : ℕ) (x : Spot Word SlotName (Slot H) Ghost) (vs : List View) (id : ℕ) (v : View) → get_elem? vs id ≡ some v
     → set (map (obligation_to actor) vs) id (obligation_to actor v) ≡ map (obligation_to actor) vs
-owed_back actor x vs id v at = ap (set (map (obligation_to actor) vs) id) (sym (debt_at actor x vs id v at [])) ∙ set-get_or (map (obligation_to actor) vs) id
+owed_back actor x vs id v at = ap (set (map (obligation_to actor) vs) id) (sym (obligation_at actor x vs id v at [])) ∙ set-get_or (map (obligation_to actor) vs) id
     nothing
 
 module _ {H : Type 0} (is_of : ℕ → H → Type 0) (facts : H → HomeFacts) where
@@ -149,17 +149,17 @@ module _ {H : Type 0} (is_of : ℕ → H → Type 0) (facts : H → HomeFacts) w
     owed_stays same = owed_now ∙ (ap (set (map (obligation_to actor) vs) id) same ∙ owed_back actor x vs id v at)
 
     -- the actor as it is shown then
-    pub shown_now : (status waiting : ℕ) (system : Option (List SysMsg)) (holder : Option ℕ) (debt : WakeObligation) (rest : List SysMsg) → x'.row Status ≡ status → x'.row
-        Waiting ≡ waiting → work_of x'.ghost rest ≡ system → holder_of x'.ghost.holder ≡ holder → obligation_to actor w ≡ debt
+    pub shown_now : (status waiting : ℕ) (system : Option (List SysMsg)) (holder : Option ℕ) (obligation : WakeObligation) (rest : List SysMsg) → x'.row Status ≡ status → x'.row
+        Waiting ≡ waiting → work_of x'.ghost rest ≡ system → holder_of x'.ghost.holder ≡ holder → obligation_to actor w ≡ obligation
         → shown actor x' (set vs id w) rest ≡ record {
           mailbox = mailbox_of status;
           envelopes = [];
           waiting = waiting;
           system = system;
           holder = holder;
-          owed = set (map (obligation_to actor) vs) id debt;
+          owed = set (map (obligation_to actor) vs) id obligation;
         }
-    shown_now status waiting system holder debt rest s wt y h d i = record {
+    shown_now status waiting system holder obligation rest s wt y h d i = record {
       mailbox = mailbox_of (s i);
       envelopes = [];
       waiting = wt i;
@@ -174,13 +174,13 @@ module _ {H : Type 0} (is_of : ℕ → H → Type 0) (facts : H → HomeFacts) w
     -- nothing of the actor changes, where its list is as it was, wherever it is
     pub shown_listed : claim_for actor w ≡ claim_for actor v → obligation_to actor w ≡ obligation_to actor v → x'.row Status ≡ x.row Status → x'.row Waiting ≡
         x.row Waiting → x'.ghost.listed ≡ x.ghost.listed → (rest : List SysMsg) → shown actor x' (set vs id w) rest ≡ shown actor x vs rest
-    shown_listed claim debt s wt listed rest i = record {
+    shown_listed claim obligation s wt listed rest i = record {
       mailbox = mailbox_of (s i);
       envelopes = [];
       waiting = wt i;
       system = work_stays listed rest i;
       holder = holder_of (holder_stays claim i);
-      owed = owed_stays debt i;
+      owed = owed_stays obligation i;
     }
 
     -- what is listed in a list that was put back
@@ -211,12 +211,12 @@ module _ {H : Type 0} (is_of : ℕ → H → Type 0) (facts : H → HomeFacts) w
       waiting = wt i;
       system = work_stays (list_stays a.list slot) rest i;
       holder = holder_of (holder_stays a.claim i);
-      owed = owed_stays a.debt i;
+      owed = owed_stays a.obligation i;
     }
 
     -- only what this seat owes the actor changes
-    pub owes_now : (debt : WakeObligation) → claim_for actor w ≡ claim_for actor v → list_for actor w ≡ list_for actor v → obligation_to actor w ≡ debt
+    pub owes_now : (obligation : WakeObligation) → claim_for actor w ≡ claim_for actor v → list_for actor w ≡ list_for actor v → obligation_to actor w ≡ obligation
         → x'.row Status ≡ x.row Status → x'.row Waiting ≡ x.row Waiting → x'.slot ListSlot ≡ x.slot ListSlot → (rest : List SysMsg)
-        → shown actor x' (set vs id w) rest ≡ owing (shown actor x vs rest) id debt
-    owes_now debt claim list owes s wt slot rest = shown_now (x.row Status) (x.row Waiting) (work_of x.ghost rest) (holder_of x.ghost.holder) debt rest s wt
+        → shown actor x' (set vs id w) rest ≡ owing (shown actor x vs rest) id obligation
+    owes_now obligation claim list owes s wt slot rest = shown_now (x.row Status) (x.row Waiting) (work_of x.ghost rest) (holder_of x.ghost.holder) obligation rest s wt
         (work_stays (list_stays list slot) rest) (ap holder_of (holder_stays claim)) owes

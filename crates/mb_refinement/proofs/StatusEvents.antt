@@ -7,7 +7,7 @@ use Rattle.atomic_table.specs.Table.{State, keeps, takes, gives, put_back, stepp
 use Rattle.atomic_table.proofs.Lists.{set_else}
 use Rattle.mb_status.specs.Mailbox.{mailbox_of, is_valid, most_suspensions, suspend, resume, idle}
 use Rattle.mb_msg.specs.declared.system.SysMsg.{SysMsg}
-use Rattle.mb_core.specs.declared.debt.WakeObligation.{WakeObligation}
+use Rattle.mb_core.specs.declared.wake_obligation.WakeObligation.{WakeObligation}
 use Rattle.mb_core.specs.declared.event.Step as event
 use Rattle.mb_core.specs.declared.event.Step.TheVariants.{Read, Schedule, Idle, Suspend, Resume, Close}
 use Rattle.mb_core.specs.Actor.{MachineActor, nothing, owing}
@@ -39,14 +39,14 @@ use Rattle.mb_gate.proofs.Views.{held_here, owes_here, reading_elsewhere, taking
 use Rattle.mb_gate.proofs.StatusSteps.{is_held}
 use Rattle.mb_refinement.specs.Refines.{Rule, IsEvent}
 use Rattle.mb_refinement.specs.StatusEvents.{LoadIsRead, WonExchangeIsSchedule, LostExchangeIsRead, LoadByTheHolderIsNone, StoreIsByTheHolder, StoreIsIdle, FlagIsIdle}
-use Rattle.mb_refinement.proofs.Places.{Aside, holder_taken, holder_changes, holder_left, list_stays, mark_stays, work_stays, shown_now, debt_at, owed_back}
+use Rattle.mb_refinement.proofs.Places.{Aside, holder_taken, holder_changes, holder_left, list_stays, mark_stays, work_stays, shown_now, obligation_at, owed_back}
 use Rattle.mb_refinement.proofs.Tables.{word_now, word_stays, event_at, load_event, load_silent}
 
 pub aside_of : {H : Type 0} (actor : ℕ) (v w u : View) → w ≡ u → Elsewhere H actor v u → Aside actor v w
 aside_of actor v w u is e = record {
   claim = ap (claim_for actor) is ∙ e.claim;
   list = ap (list_for actor) is ∙ e.list;
-  debt = ap (obligation_to actor) is ∙ e.debt;
+  obligation = ap (obligation_to actor) is ∙ e.obligation;
 }
 
 pub first_of : {A B : Type 0} (p q : A × B) → p ≡ q → p.0 ≡ q.0
@@ -133,9 +133,9 @@ module _ {H : Type 0} (is_of : ℕ → H → Type 0) (facts : H → HomeFacts) w
       let x : Place = spot_of word_offset slot_offset s r.ghosts actor in
       load_event is_of facts n s r actor inside Status id v w carried (after_reading (mailbox_of found) (obligation_to actor v)) at
       (λ a. ap (claim_for a) is) (λ a. ap (list_for a) is)
-      (λ a apart. (aside_of {H = H} a v w (reading actor found v) is (reading_elsewhere actor a found v apart)).debt)
+      (λ a apart. (aside_of {H = H} a v w (reading actor found v) is (reading_elsewhere actor a found v apart)).obligation)
       (ap (obligation_to actor) is ∙ owes_here actor (after_reading (mailbox_of found) (obligation_to actor v)) v) s' after r' Read rest
-      (λ y e. e ∙ ap (λ d. owing (shown actor x s.views rest) id (after_reading (mailbox_of found) d)) (sym (debt_at actor x s.views id v at rest)))
+      (λ y e. e ∙ ap (λ d. owing (shown actor x s.views rest) id (after_reading (mailbox_of found) d)) (sym (obligation_at actor x s.views id v at rest)))
 
   pub load_is_read : LoadIsRead is_of facts
   load_is_read n s s' r r' actor id me st rest inside word made =
@@ -188,7 +188,7 @@ module _ {H : Type 0} (is_of : ℕ → H → Type 0) (facts : H → HomeFacts) w
   load_by_the_holder_is_none n s s' r r' actor id me st c inside word has of made =
       let is : made.view ≡ reading_held actor (get_or s.words (word_at actor 16) 0) me.0 = first_of _ _ (made.told actor c word has of).0 in
       load_silent is_of facts n s r actor inside Status id me.0 made.view me.1 made.present
-      (λ a. record { claim = ap (claim_for a) is; list = ap (list_for a) is; debt = ap (obligation_to a) is }) s' made.after r'
+      (λ a. record { claim = ap (claim_for a) is; list = ap (list_for a) is; obligation = ap (obligation_to a) is }) s' made.after r'
 
   -- the holder gives the actor back
   idles_as : (n : ℕ) (s s' : State (Slot H) View) (r : Rule is_of facts n s) (r' : Rule is_of facts n s') (actor id : ℕ) (v w : View) (c : Held) (home : H)
@@ -203,7 +203,7 @@ module _ {H : Type 0} (is_of : ℕ → H → Type 0) (facts : H → HomeFacts) w
       let x : Place = spot_of word_offset slot_offset s r.ghosts actor in
       let f = r.each actor inside in
       let h = is_held is_of facts n actor id x s.views v c f at has of in
-      let debt : WakeObligation = record (obligation_to actor v) { system = true; message = true } in
+      let obligation : WakeObligation = record (obligation_to actor v) { system = true; message = true } in
       let lists : (a : ℕ) → get_elem? (put_back s.homes carried) (slot_at a 1) ≡ get_elem? s.homes (slot_at a 1) = (λ a. ap (λ l. get_elem? (put_back
       s.homes l) (slot_at a 1)) carries ∙ set_else s.homes (slot_at actor 0) (slot_at a 1) (some (Home home)) (λ e. omega arith)) in
       event_at is_of facts n s r actor inside name new id v w carried gives at
@@ -215,7 +215,7 @@ module _ {H : Type 0} (is_of : ℕ → H → Type 0) (facts : H → HomeFacts) w
       let listed = list_stays is_of facts n actor x x' s.views id v w at f f' same (lists actor) in (
         (
           ap holder_of h.0,
-          shown_now is_of facts n actor x x' s.views id v w at f f' now (x.row Waiting) (with_first (work_of x.ghost rest) left) None debt (left ++ rest) status
+          shown_now is_of facts n actor x x' s.views id v w at f f' now (x.row Waiting) (with_first (work_of x.ghost rest) left) None obligation (left ++ rest) status
               (word_stays is_of facts n s r actor inside name Waiting new no_waiting)
               (work_stays is_of facts n actor x x' s.views id v w at f f' listed (left ++ rest) ∙ in_front x.ghost left rest)
               (ap holder_of (holder_left is_of facts n actor x x' s.views id v w at f f' c h.0 (ap (claim_for actor) is)))
@@ -226,7 +226,7 @@ module _ {H : Type 0} (is_of : ℕ → H → Type 0) (facts : H → HomeFacts) w
                 waiting = x.row Waiting;
                 system = with_first (work_of x.ghost rest) left;
                 holder = None;
-                owed = set (shown actor x s.views rest).owed id (record (sym (debt_at actor x s.views id v at rest) i) { system = true; message = true });
+                owed = set (shown actor x s.views rest).owed id (record (sym (obligation_at actor x s.views id v at rest) i) { system = true; message = true });
               }),
         ),
         (λ m quiet. let was : x.ghost.gave ≡ false = sym (mark_stays is_of facts n actor x x' s.views id v w at f f' same (lists actor) (word_stays is_of facts

@@ -16,7 +16,7 @@ use Rattle.mb_gate.specs.View.{View}
 use Rattle.mb_gate.specs.Rule.{Word, Status, Gate, Waiting, word_offset, SlotName, slot_offset, Ghost}
 use Rattle.mb_gate.proofs.Allowed.{words_few}
 use Rattle.std.proofs.lemmas.List.{set-get_or}
-use Rattle.mb_core.specs.declared.debt.WakeObligation.{WakeObligation}
+use Rattle.mb_core.specs.declared.wake_obligation.WakeObligation.{WakeObligation}
 use Rattle.mb_core.specs.Actor.{MachineActor, owing}
 use Rattle.mb_gate.specs.View.{obligation_to}
 use Rattle.mb_gate.specs.Rule.{claim_for, list_for}
@@ -104,23 +104,23 @@ module _ {H : Type 0} (is_of : ℕ → H → Type 0) (facts : H → HomeFacts) (
   words_stay name k = ap (λ (ws : List ℕ). get_or ws k 0) (set-get_or s.words (word_at actor (word_offset name)) 0)
 
   -- a load after which only what the seat owes the actor may differ is an event, where owing that is one
-  pub load_event : (name : Word) (id : ℕ) (v w : View) (carried : List (ℕ × Slot H)) (debt : WakeObligation) → get_elem? s.views id ≡ some v
+  pub load_event : (name : Word) (id : ℕ) (v w : View) (carried : List (ℕ × Slot H)) (obligation : WakeObligation) → get_elem? s.views id ≡ some v
       → ((a : ℕ) → claim_for a w ≡ claim_for a v) → ((a : ℕ) → list_for a w ≡ list_for a v) → ((a : ℕ) → a ≢ actor → obligation_to a w ≡ obligation_to a v)
-      → obligation_to actor w ≡ debt
+      → obligation_to actor w ≡ obligation
       → (s' : State (Slot H) View) → s' ≡ stepped s (word_at actor (word_offset name)) (get_or s.words (word_at actor (word_offset name)) 0) id carried w keeps
       → (r' : Rule is_of facts n s') (step : Step) (rest : List SysMsg)
-      → ((y : MachineActor) → y ≡ owing (shows is_of facts n s r actor rest) id debt → Change (shows is_of facts n s r actor rest) id step y)
+      → ((y : MachineActor) → y ≡ owing (shows is_of facts n s r actor rest) id obligation → Change (shows is_of facts n s r actor rest) id step y)
       → IsEvent is_of facts n s r s' r' actor id step rest rest
-  load_event name id v w carried debt at claims lists debts owes s' after r' step rest so =
+  load_event name id v w carried obligation at claims lists obligations owes s' after r' step rest so =
       let x : Spot Word SlotName (Slot H) Ghost = spot_of word_offset slot_offset s r.ghosts actor in
       let found = get_or s.words (word_at actor (word_offset name)) 0 in
-      event_at name found id v w carried keeps at (λ a apart. record { claim = claims a; list = lists a; debt = debts a apart }) (λ a apart. refl) s' after r'
+      event_at name found id v w carried keeps at (λ a apart. record { claim = claims a; list = lists a; obligation = obligations a apart }) (λ a apart. refl) s' after r'
       step rest rest
       (λ q. let x' : Spot Word SlotName (Slot H) Ghost = spot_of word_offset slot_offset (stepped s (word_at actor (word_offset name)) found id carried w keeps)
       q.ghosts actor in
       let f = r.each actor inside in let f' = q.each actor inside in (
         so (shows is_of facts n (stepped s (word_at actor (word_offset name)) found id carried w keeps) q actor rest)
-            (owes_now is_of facts n actor x x' s.views id v w at f f' debt (claims actor) (lists actor) owes (words_stay name (word_at actor 16))
+            (owes_now is_of facts n actor x x' s.views id v w at f f' obligation (claims actor) (lists actor) owes (words_stay name (word_at actor 16))
             (words_stay name (word_at actor 0)) refl rest),
         (λ m quiet. m (sym (mark_stays is_of facts n actor x x' s.views id v w at f f' (lists actor) refl (words_stay name (word_at actor 17))) ∙ quiet)),
       ))

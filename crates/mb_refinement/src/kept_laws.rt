@@ -2,9 +2,10 @@
 ghost use Rattle.mb_refinement.specs.KeptFacts.{HoldsFromTheBeginning, StaysEndedOver, EventsAreTheHolders};
 
 use mb_core::{
-    every_run_keeps_debts, every_run_keeps_holders, every_run_keeps_mailboxes, join_keeps_debts,
-    split_keeps_debts, step_counts_by_the_holder, step_keeps_debts, step_keeps_ended,
-    step_keeps_holders, step_keeps_mailboxes, step_leaves_actors_to_their_holders,
+    every_run_keeps_holders, every_run_keeps_mailboxes, every_run_keeps_obligations,
+    join_keeps_obligations, split_keeps_obligations, step_counts_by_the_holder, step_keeps_ended,
+    step_keeps_holders, step_keeps_mailboxes, step_keeps_obligations,
+    step_leaves_actors_to_their_holders,
 };
 use mb_gate::{MailboxState, words_show_the_machine};
 
@@ -15,12 +16,12 @@ pub fn interleavings_keep_what_runs_keep<H: MailboxState>()
 {
     every_run_keeps_holders();
     every_run_keeps_mailboxes();
-    every_run_keeps_debts();
+    every_run_keeps_obligations();
     step_keeps_holders();
     step_keeps_mailboxes();
-    step_keeps_debts();
-    split_keeps_debts();
-    join_keeps_debts();
+    step_keeps_obligations();
+    split_keeps_obligations();
+    join_keeps_obligations();
 }
 
 /// A law: what is closed at one table, or whose list is ended, is so at each later one, whatever seats are split and joined

@@ -2,12 +2,12 @@
 -- is queued is this project's own profile).
 use Rattle.std.specs.Prelude.{◌≡◌, ℕ, false, List, [], ◌∷◌, Option, Some, None}
 use Rattle.mb_status.specs.Mailbox.{mailbox_of}
-use Rattle.mb_msg.specs.declared.dead_letter.Why.{Why}
+use Rattle.mb_msg.specs.declared.dead_letter.DeadLetterReason.{DeadLetterReason}
 use Rattle.mb_gate.specs.View.{Observation, Read, Sent, Unsent}
 
 -- What is done at the gates for an envelope to an open actor, the newest first, by who sends it from outside and by who tells it in a run: it is
 -- counted once before its queue gets it, and the count is taken back once where the queue refused it, for whatever reason.
-abbrev pub counts : ℕ → Option Why → List Observation
+abbrev pub counts : ℕ → Option DeadLetterReason → List Observation
 counts to None = Sent to 1 ∷ []
 counts to (Some why) = Unsent to 1 ∷ Sent to 1 ∷ []
 

@@ -9,7 +9,7 @@ ghost use Rattle.mb_register.specs.Views.{GotAndGaveBack, LooksAfter};
 ghost use Rattle.mb_gate.specs.Untouched.{origin_of, IsUntouched};
 
 use crate::hint::Hint;
-use mb_gate::{Claim, Gates, MailboxState, Pass, Tried};
+use mb_gate::{Claim, Gates, MailboxState, Pass, ScheduleOutcome};
 use mb_msg::ActorId;
 use std::sync::Wait;
 
@@ -118,10 +118,10 @@ pub(crate) fn take_due_again<H: MailboxState, R: Wait>(
             return None;
         }
         match gates.try_schedule(pass, id) {
-            Tried::Got(claim) => return Some(claim),
-            Tried::Already => return None,
-            Tried::Closed => return None,
-            Tried::Lost(_) => {}
+            ScheduleOutcome::Got(claim) => return Some(claim),
+            ScheduleOutcome::Already => return None,
+            ScheduleOutcome::Closed => return None,
+            ScheduleOutcome::Lost(_) => {}
         }
     }
     unreachable!()

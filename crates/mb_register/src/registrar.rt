@@ -14,7 +14,7 @@ use crate::hint::Hint;
 use crate::owed::Owed;
 use crate::told::Told;
 use crate::untouched::give_home;
-use mb_gate::{Gates, MailboxState, Pass, RefusedClaim, RunQueue, Tried};
+use mb_gate::{Gates, MailboxState, Pass, RefusedClaim, RunQueue, ScheduleOutcome};
 use mb_msg::ActorId;
 use std::sync::Wait;
 
@@ -97,7 +97,7 @@ impl<H: MailboxState, W: RunQueue<H>> Registrar<H, W> {
     {
         // Each answer is given in its own arm, and the claim is handed on right where it was got: so it stays in registers.
         match gates.try_schedule(&mut self.pass, id) {
-            Tried::Got(claim) => match self.run_queue.push(rt, claim, at_run_end) {
+            ScheduleOutcome::Got(claim) => match self.run_queue.push(rt, claim, at_run_end) {
                 Ok(()) => return true,
                 Err(RefusedClaim { claim }) => {
                     give_home(gates, &mut self.pass, claim);
@@ -105,9 +105,11 @@ impl<H: MailboxState, W: RunQueue<H>> Registrar<H, W> {
                     return false;
                 }
             },
-            Tried::Already => return false,
-            Tried::Closed => return false,
-            Tried::Lost(_) => return self.register_due_again(rt, gates, id, hint, at_run_end),
+            ScheduleOutcome::Already => return false,
+            ScheduleOutcome::Closed => return false,
+            ScheduleOutcome::Lost(_) => return self.register_due_again(
+                rt, gates, id, hint, at_run_end,
+            ),
         }
     }
 

@@ -1,6 +1,6 @@
 -- The numbers of a report, as queries of its lists (this project's own profile: Akka has no such report).
-use Rattle.std.specs.Prelude.{ℕ, ◌+◌, ◌==◌, Bool, List, length, count_by, sum_by}
-use Rattle.mb_msg.specs.declared.dead_letter.DeadLetter.{DeadLetter}
+use Rattle.std.specs.Prelude.{ℕ, ◌+◌, List, length, count_by, sum_by}
+use Rattle.mb_dead_letters.specs.Letters.{is_to}
 use Rattle.mb_journal.specs.Counts.{tells_of_envelope, tells_of_restart}
 use Rattle.mb_report.specs.declared.report.ActorReport.{ActorReport}
 use Rattle.mb_report.specs.declared.report.SenderReport.{SenderReport}
@@ -14,10 +14,6 @@ left_of actor = length actor.left.items
 
 abbrev pub restarts_of : ActorReport → ℕ
 restarts_of actor = count_by tells_of_restart actor.journal.entries
-
--- the dead letter was sent to the actor of this number
-abbrev pub is_to : ℕ → DeadLetter → Bool
-is_to id letter = letter.envelope.to.0 == id
 
 -- how many envelopes to the actor of this number its senders were told are dead
 abbrev pub refused_to : ℕ → List SenderReport → ℕ

@@ -9,6 +9,7 @@ use crate::line::Line;
 use crate::lines::Lines;
 use crate::refused::refused_to;
 use crate::report::{ActorReport, Report, SenderReport};
+use mb_msg::ActorId;
 use std::alloc::{AllocError, Global};
 
 /// The lines of a report; the actors other than the guardian have these names.
@@ -49,11 +50,12 @@ fn line_of(
     name: &str,
     actor: &ActorReport,
 ) -> Result<Line, AllocError>
-    requires { length senders.now ≤ 80 }
+    requires within_limit { length senders.now ≤ 80 }
+    requires actor { id < 64 }
     ensures line { IfOk result (λ line. kept line ≡ line_data senders.now id name.now actor.now) }
     ensures below_bound { IfOk result (λ line. line.dead < 2 ^ 72) }
 {
-    let dead = actor.cleaned.len() as u128 + refused_to(id, senders);
+    let dead = actor.cleaned.len() as u128 + refused_to(ActorId(id as u16), senders);
     Ok(Line {
         name: String::from_str(alloc, name)?,
         phase: actor.phase,

@@ -2,8 +2,9 @@
 ghost use Rattle.std.specs.Prelude.{◌≤◌, length};
 
 use mb_actor::Phase;
+use mb_dead_letters::{DeadLetters, KeptList};
 use mb_journal::Journal;
-use mb_msg::{DeadLetter, Envelope, SysMsg};
+use mb_msg::{Envelope, SysMsg};
 
 /// What became of one actor.
 #[derive(Drop)]
@@ -20,8 +21,8 @@ pub struct ActorReport {
     pub aside: Vec<(u64, SysMsg)>,
     /// The envelopes that are left in its mailbox, in order.
     pub left: Vec<Envelope>,
-    /// The envelopes that were still queued when it ended, in order.
-    pub cleaned: Vec<Envelope>,
+    /// The envelopes that were still queued when it ended, in order. Their number is kept in each mode of journals.
+    pub cleaned: KeptList<Envelope>,
     /// How many numbered system messages to it were never applied and are dead.
     pub dead_system: u64,
 }
@@ -31,8 +32,9 @@ pub struct ActorReport {
 pub struct SenderReport {
     /// How many envelopes it sent.
     pub sent: u64,
-    /// Those of them that were refused when they were sent, in order.
-    pub dead: Vec<DeadLetter>,
+    /// Those of them that were refused when they were sent, in order. Their numbers are kept in each mode of journals: of all, by receiver and by
+    /// reason.
+    pub dead: DeadLetters,
 }
 
 /// What a run has come to: the actors by their numbers, the guardian first; and the senders, first each actor as a

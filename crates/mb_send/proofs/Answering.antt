@@ -1,7 +1,7 @@
 -- Why a push was refused, as its sender is told.
 use Rattle.std.proofs.Common.{◌≡◌, subst, sym}
 use Rattle.std.specs.Prelude.{Some}
-use Rattle.mb_msg.specs.declared.dead_letter.Why.{Why}
+use Rattle.mb_msg.specs.declared.dead_letter.DeadLetterReason.{DeadLetterReason}
 use Rattle.mb_queue.specs.declared.refused.Refusal.{Refusal}
 use Rattle.mb_queue.specs.declared.refused.Refusal.TheVariants.{Full, NoMemory}
 use Rattle.mb_queue.specs.Passes.{SendPassView}
@@ -12,5 +12,5 @@ why-so : (pass : SendPassView) (refused : Refusal) → IsReason pass refused →
 why-so pass Full is = is
 why-so pass NoMemory is = is
 
-pub why-told : (pass : SendPassView) (refused : Refusal) (why : Why) → IsReason pass refused → why ≡ reason refused → IsWhy pass (Some why)
-why-told pass refused why is same = subst (λ (w : Why). IsWhy pass (Some w)) (sym same) (why-so pass refused is)
+pub why-told : (pass : SendPassView) (refused : Refusal) (why : DeadLetterReason) → IsReason pass refused → why ≡ reason refused → IsWhy pass (Some why)
+why-told pass refused why is same = subst (λ (w : DeadLetterReason). IsWhy pass (Some w)) (sym same) (why-so pass refused is)

@@ -6,8 +6,8 @@ use Rattle.std.specs.Prelude.{is_some}
 use Rattle.std.specs.List.{list_all}
 use Rattle.std.proofs.lemmas.List.Folds.{list_all-append}
 use Rattle.mb_msg.specs.declared.dead_letter.DeadLetter.{DeadLetter}
-use Rattle.mb_msg.specs.declared.dead_letter.Why.{Why}
-use Rattle.mb_msg.specs.declared.dead_letter.Why.TheVariants as why
+use Rattle.mb_msg.specs.declared.dead_letter.DeadLetterReason.{DeadLetterReason}
+use Rattle.mb_msg.specs.declared.dead_letter.DeadLetterReason.TheVariants as why
 use Rattle.mb_msg.specs.declared.envelope.Envelope.{Envelope}
 use Rattle.mb_queue.specs.declared.refused.Refusal.{Refusal}
 use Rattle.mb_queue.specs.declared.refused.Refusal.TheVariants.{Full, NoMemory}
@@ -27,7 +27,7 @@ pub bounded-queued : (queues : List Queue) (ps : List SentEnvelope) (e : Envelop
     are_of_bounded queues (dead_letters (ps ++ posting e None ∷ [])) ≡ true
 bounded-queued queues ps e all = ap (are_of_bounded queues) (dead-queued ps e) ∙ all
 
-pub bounded-dead : (queues : List Queue) (ps : List SentEnvelope) (e : Envelope) (w : Why)
+pub bounded-dead : (queues : List Queue) (ps : List SentEnvelope) (e : Envelope) (w : DeadLetterReason)
     → may_be_refused (queue_to queues e.to.0) w ≡ true → are_of_bounded queues (dead_letters ps) ≡ true
     → are_of_bounded queues (dead_letters (ps ++ posting e (Some w) ∷ [])) ≡ true
 bounded-dead queues ps e w may all =
@@ -37,7 +37,7 @@ bounded-dead queues ps e w may all =
     ∙ and-both (list_all p (dead_letters ps)) (p letter && true) all (and-both (p letter) true may refl)
 
 -- a queue refuses as full only where it has a bound
-pub may-find-full : (queues : List Queue) (k : ℕ) (pass : SendPassView) (refused : Refusal) (w : Why) → slice_get queues k ≡ Some pass.queue →
+pub may-find-full : (queues : List Queue) (k : ℕ) (pass : SendPassView) (refused : Refusal) (w : DeadLetterReason) → slice_get queues k ≡ Some pass.queue →
     IsReason pass refused → w ≡ reason refused → may_be_refused (queue_to queues (suc k)) w ≡ true
 may-find-full queues k pass Full w there full is = (λ i. may_be_refused (there i) (is i)) ∙ ap is_some full.1
 may-find-full queues k pass NoMemory w there full is = λ i. may_be_refused (there i) (is i)

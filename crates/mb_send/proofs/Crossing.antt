@@ -4,7 +4,7 @@ use denote.Param.Send.{IsSend, sendable}
 use denote.Param.SendFields.{declared_send}
 use Rattle.std.proofs.Crossing.{crosses as std_crosses, send as heap_send}
 use Rattle.mb_msg.proofs.id.SenderId.TheSendSync as sender_id
-use Rattle.mb_msg.proofs.dead_letter.DeadLetter.TheSendSync as dead_letter
+use Rattle.mb_dead_letters.proofs.Crossing.{dead_letters_send}
 use Rattle.mb_ghost.proofs.Crossing.{log_send}
 use Rattle.mb_queue.proofs.Crossing.{send_pass_send}
 use Rattle.mb_register.proofs.Crossing.{registrar_send}
@@ -14,7 +14,7 @@ use Rattle.mb_send.specs.contracts.sender.GatesSender as sender
 send_log_send : IsSend send_log.the_row
 send_log_send = declared_send send_log.the_type (
   search (sendable, sender_id.the_send) depth 20,
-  (search sendable, (search (sendable, std_crosses, dead_letter.the_send) depth 20, (search (sendable, log_send) depth 20, tt))),
+  (search sendable, (dead_letters_send, (search (sendable, log_send) depth 20, tt))),
 )
 
 module _ (H W : RattleType) (home : IsSend H) (run_queue : IsSend W) where

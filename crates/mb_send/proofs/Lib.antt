@@ -6,3 +6,4 @@ pub mod Bounding
 pub mod Crossing
 pub mod Obligations
 pub mod Failing
+pub mod Handing

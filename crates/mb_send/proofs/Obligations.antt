@@ -1,6 +1,6 @@
 -- To which actors a sender owes a look.
 use Rattle.std.proofs.Common.{◌≡◌, ◌==◌, ◌||◌, ◌+◌, ◌-◌, ◌<◌, arith, ℕ, Bool, true, false, List, inl, inr, refl, ap, ◌∙◌, subst}
-use Rattle.mb_core.specs.declared.debt.WakeObligation.{WakeObligation}
+use Rattle.mb_core.specs.declared.wake_obligation.WakeObligation.{WakeObligation}
 use Rattle.mb_gate.specs.View.{View, Sent, obligation_to, seeing, sending}
 use Rattle.mb_gate.specs.declared.claim.Claim.{Claim}
 use Rattle.mb_register.specs.Owed.{is_owed}

@@ -1,11 +1,11 @@
 -- One more envelope in a sender's log.
-use Rattle.std.proofs.Common.{◌≡◌, ◌≢◌, ◌==◌, ℕ, ◌+◌, true, false, cond, List, [], ◌∷◌, ◌++◌}
-use Rattle.std.proofs.Common.{map, filter, length, refl, sym, ap, ◌∙◌, subst, arith, Some, None, append_assoc}
+use Rattle.std.proofs.Common.{◌≡◌, ◌≢◌, ◌==◌, ℕ, ◌+◌, ◌≤◌, true, false, cond, List, [], ◌∷◌, ◌++◌}
+use Rattle.std.proofs.Common.{map, filter, length, refl, sym, ap, ◌∙◌, subst, arith, Option, Some, None, append_assoc}
 use Rattle.std.proofs.lemmas.List.{append-nil, length-append, length-map, map-append}
 use Rattle.std.proofs.lemmas.List.Elements.{filter-append}
 use Rattle.std.proofs.lemmas.Bool.Decides.{nat_tests}
 use Rattle.mb_msg.specs.declared.envelope.Envelope.{Envelope}
-use Rattle.mb_msg.specs.declared.dead_letter.Why.{Why}
+use Rattle.mb_msg.specs.declared.dead_letter.DeadLetterReason.{DeadLetterReason}
 use Rattle.mb_send.specs.Posted.{names_from, names_of}
 use Rattle.mb_journal.specs.declared.sent_envelope.SentEnvelope.{SentEnvelope}
 use Rattle.mb_journal.specs.Accepted.{NumbersCountUpFrom, accepted, queued, dead_letters, letter_of, is_queued, to_actor}
@@ -52,7 +52,7 @@ flat-append (x ∷ ps) p = ap (λ l. letter_of x ++ l) (flat-append ps p) ∙ sy
 pub dead-queued : (ps : List SentEnvelope) (e : Envelope) → dead_letters (ps ++ record { envelope = e; refused = None } ∷ []) ≡ dead_letters ps
 dead-queued ps e = flat-append ps (record { envelope = e; refused = None }) ∙ append-nil (dead_letters ps)
 
-pub dead-more : (ps : List SentEnvelope) (e : Envelope) (why : Why)
+pub dead-more : (ps : List SentEnvelope) (e : Envelope) (why : DeadLetterReason)
     → dead_letters (ps ++ record { envelope = e; refused = Some why } ∷ []) ≡ dead_letters ps ++ record { envelope = e; why = why } ∷ []
 dead-more ps e why = flat-append ps (record { envelope = e; refused = Some why })
 
@@ -77,9 +77,20 @@ route-other to ps e other =
     to-append to ps (record { envelope = e; refused = None } ∷ []) ∙ ap (λ b. to_actor to (queued ps) ++ cond b (e ∷ []) []) a
     ∙ append-nil (to_actor to (queued ps))
 
-pub route-dead : (to : ℕ) (ps : List SentEnvelope) (e : Envelope) (why : Why)
+pub route-dead : (to : ℕ) (ps : List SentEnvelope) (e : Envelope) (why : DeadLetterReason)
     → to_actor to (queued (ps ++ record { envelope = e; refused = Some why } ∷ [])) ≡ to_actor to (queued ps)
 route-dead to ps e why = to-append to ps (record { envelope = e; refused = Some why } ∷ []) ∙ append-nil (to_actor to (queued ps))
 
 pub length-more : (ps : List SentEnvelope) (p : SentEnvelope) → length (ps ++ p ∷ []) ≡ length ps + 1
 length-more ps p = length-append ps (p ∷ [])
+
+-- no more are dead letters than were answered for
+letter-one : (e : Envelope) (refused : Option DeadLetterReason) → length (letter_of (record { envelope = e; refused = refused })) ≤ 1
+letter-one e None = omega arith
+letter-one e (Some why) = omega arith
+
+pub letters-few : (ps : List SentEnvelope) → length (dead_letters ps) ≤ length ps
+letters-few [] = omega arith
+letters-few (p ∷ ps) =
+    let here = letter-one p.envelope p.refused in let rest = letters-few ps in let all = length-append (letter_of p) (dead_letters ps) in
+    omega (arith, here, rest, all)

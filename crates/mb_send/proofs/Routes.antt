@@ -3,7 +3,7 @@ use Rattle.std.proofs.Common.{◌≡◌, ◌≢◌, ◌⊎◌, inl, inr, ℕ, ze
 use Rattle.std.proofs.Common.{◌∷◌, ◌++◌, Some, None, slice_get, slice_set, refl, sym, ap, ◌∙◌, subst, arith}
 use Rattle.std.proofs.lemmas.Option.{none-some, same_Some}
 use Rattle.mb_msg.specs.declared.envelope.Envelope.{Envelope}
-use Rattle.mb_msg.specs.declared.dead_letter.Why.{Why}
+use Rattle.mb_msg.specs.declared.dead_letter.DeadLetterReason.{DeadLetterReason}
 use Rattle.mb_journal.specs.declared.sent_envelope.SentEnvelope.{SentEnvelope}
 use Rattle.mb_journal.specs.Accepted.{queued, to_actor}
 use Rattle.mb_queue.specs.Passes.{Queue, SendPassView}
@@ -61,7 +61,7 @@ module _ (by : ℕ) (ps : List SentEnvelope) (sends : List SendPassView) (routes
           let apart : e.to.0 ≢ i + 1 = λ same. other (omega (arith, here, same)) in
           record { sender = route.sender; receiver = route.receiver; pushed = route.pushed ∙ sym (route-other (i + 1) ps e apart) }
 
-  pub routes-dead : (new : SendPassView) (why : Why) → new ≡ old → AreRoutes by (ps ++ posting e (Some why) ∷ []) (slice_set sends k new)
+  pub routes-dead : (new : SendPassView) (why : DeadLetterReason) → new ≡ old → AreRoutes by (ps ++ posting e (Some why) ∷ []) (slice_set sends k new)
   routes-dead new why is i s at = by_place (same_or_other i k)
     where
       from : IsRoute by (i + 1) ps s → IsRoute by (i + 1) (ps ++ posting e (Some why) ∷ []) s
@@ -74,7 +74,7 @@ module _ (by : ℕ) (ps : List SentEnvelope) (sends : List SendPassView) (routes
       by_place (inr other) = from (routes i s (sym (set-other sends k i new other) ∙ at))
 
 -- the passes stay as they are where nothing was pushed
-pub routes-is_dead_letter : (by : ℕ) (ps : List SentEnvelope) (sends : List SendPassView) (e : Envelope) (why : Why) → AreRoutes by ps sends →
+pub routes-is_dead_letter : (by : ℕ) (ps : List SentEnvelope) (sends : List SendPassView) (e : Envelope) (why : DeadLetterReason) → AreRoutes by ps sends →
     AreRoutes by (ps ++ posting e (Some why) ∷ []) sends
 routes-is_dead_letter by ps sends e why routes i s at = let route = routes i s at in
     record { sender = route.sender; receiver = route.receiver; pushed = route.pushed ∙ sym (route-dead (i + 1) ps e why) }

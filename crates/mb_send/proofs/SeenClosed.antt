@@ -3,8 +3,8 @@ use Rattle.std.proofs.Common.{◌≡◌, ℕ, Bool, true, false, ◌&&◌, ◌||
 use Rattle.std.specs.List.{list_any, list_all}
 use Rattle.std.proofs.lemmas.List.Folds.{list_any-append, list_all-append}
 use Rattle.mb_msg.specs.declared.dead_letter.DeadLetter.{DeadLetter}
-use Rattle.mb_msg.specs.declared.dead_letter.Why.{Why}
-use Rattle.mb_msg.specs.declared.dead_letter.Why.TheVariants as why
+use Rattle.mb_msg.specs.declared.dead_letter.DeadLetterReason.{DeadLetterReason}
+use Rattle.mb_msg.specs.declared.dead_letter.DeadLetterReason.TheVariants as why
 use Rattle.mb_msg.specs.declared.envelope.Envelope.{Envelope}
 use Rattle.mb_queue.specs.declared.refused.Refusal.{Refusal}
 use Rattle.mb_queue.specs.declared.refused.Refusal.TheVariants.{Full, NoMemory}
@@ -36,7 +36,7 @@ seen-more : (id : ℕ) (more log : List Observation) → has_seen_closed log id 
 seen-more id more log seen = list_any-append (finds_closed id) more log ∙ ap (λ b. list_any (finds_closed id) more || b) seen
     ∙ or-true (list_any (finds_closed id) more)
 
-may-more : (a b : Bool) (w : Why) → (a ≡ true → b ≡ true) → may_be_dead a w ≡ true → may_be_dead b w ≡ true
+may-more : (a b : Bool) (w : DeadLetterReason) → (a ≡ true → b ≡ true) → may_be_dead a w ≡ true → may_be_dead b w ≡ true
 may-more a b why.Closed more may = more may
 may-more a b why.Full more may = refl
 may-more a b why.NoMemory more may = refl
@@ -66,7 +66,7 @@ pub was_seen_closed-queued : (log : List Observation) (ps : List SentEnvelope) (
     were_seen_closed log (dead_letters (ps ++ posting e None ∷ [])) ≡ true
 was_seen_closed-queued log ps e all = ap (were_seen_closed log) (dead-queued ps e) ∙ all
 
-pub was_seen_closed-dead : (log : List Observation) (ps : List SentEnvelope) (e : Envelope) (w : Why) → may_be_dead (has_seen_closed log e.to.0) w ≡ true →
+pub was_seen_closed-dead : (log : List Observation) (ps : List SentEnvelope) (e : Envelope) (w : DeadLetterReason) → may_be_dead (has_seen_closed log e.to.0) w ≡ true →
     were_seen_closed log (dead_letters ps) ≡ true → were_seen_closed log (dead_letters (ps ++ posting e (Some w) ∷ [])) ≡ true
 was_seen_closed-dead log ps e w may all =
     let p = λ (d : DeadLetter). may_be_dead (has_seen_closed log d.envelope.to.0) d.why in
@@ -75,6 +75,6 @@ was_seen_closed-dead log ps e w may all =
     ∙ and-both (list_all p (dead_letters ps)) (p letter && true) all (and-both (p letter) true may refl)
 
 -- a push is refused for another reason
-pub may-refuse : (seen : Bool) (refused : Refusal) (w : Why) → w ≡ reason refused → may_be_dead seen w ≡ true
+pub may-refuse : (seen : Bool) (refused : Refusal) (w : DeadLetterReason) → w ≡ reason refused → may_be_dead seen w ≡ true
 may-refuse seen Full w is = ap (may_be_dead seen) is
 may-refuse seen NoMemory w is = ap (may_be_dead seen) is

@@ -12,18 +12,18 @@ use Rattle.mb_queue.specs.Pushes.{WasFull}
 use Rattle.mb_send.specs.declared.ticket.Ticket.{Ticket}
 use Rattle.mb_send.specs.declared.ticket.Look.{Look}
 use Rattle.mb_send.specs.declared.ticket.Look.TheVariants.{Open, Closed}
-use Rattle.mb_msg.specs.declared.dead_letter.Why.{Why}
-use Rattle.mb_msg.specs.declared.dead_letter.Why.TheVariants as why
+use Rattle.mb_msg.specs.declared.dead_letter.DeadLetterReason.{DeadLetterReason}
+use Rattle.mb_msg.specs.declared.dead_letter.DeadLetterReason.TheVariants as why
 use Rattle.mb_queue.specs.declared.refused.Refusal.{Refusal}
 use Rattle.mb_queue.specs.declared.refused.Refusal.TheVariants.{Full, NoMemory}
-use Rattle.mb_send.specs.declared.put.Put.{Put}
-use Rattle.mb_send.specs.declared.put.Put.TheVariants.{Queued, Dead}
+use Rattle.mb_send.specs.declared.send_outcome.SendOutcome.{SendOutcome}
+use Rattle.mb_send.specs.declared.send_outcome.SendOutcome.TheVariants.{Queued, Dead}
 use Rattle.mb_send.specs.Posted.{envelope_of, posting}
 use Rattle.mb_register.specs.Sending.{counts}
 use Rattle.mb_register.specs.Views.{Does}
 
 -- The answer with this number: queued, or dead for this reason.
-abbrev pub put_of : ℕ → Option Why → Put
+abbrev pub put_of : ℕ → Option DeadLetterReason → SendOutcome
 put_of number None = Queued number
 put_of number (Some why) = Dead number why
 
@@ -43,13 +43,13 @@ pub record IsSeen (to : ActorId) (look : Look) (before after : View) : Type 0 wh
   pub answer : AnswersLook to seen look
 
 -- Why a push was refused, as the sender is told.
-abbrev pub reason : Refusal → Why
+abbrev pub reason : Refusal → DeadLetterReason
 reason Full = why.Full
 reason NoMemory = why.NoMemory
 
 -- The pass refused the envelope for this reason, or did not refuse it. A queue with a bound refuses only if it was full at some moment, one without a
 -- bound only if memory was refused, and none because its actor is closed.
-abbrev pub IsWhy : SendPassView → Option Why → Type 0
+abbrev pub IsWhy : SendPassView → Option DeadLetterReason → Type 0
 IsWhy pass None = Unit {0}
 IsWhy pass (Some why.Full) = (most : ℕ) × (pass.queue.main.capacity ≡ Some most) × WasFull most pass
 IsWhy pass (Some why.NoMemory) = pass.queue.main.capacity ≡ None
@@ -59,27 +59,27 @@ IsWhy pass (Some why.Cleaned) = ⊥
 module _ (by : SenderId) (number : ℕ) (to : ActorId) (body : Body) (posted posted' : List SentEnvelope) where
   -- The envelope of this sender, number, receiver and body was counted, and the pass to its receiver pushed it or refused it. That stands last in the
   -- sender's log, and is the answer.
-  pub record IsSent (sends : List SendPassView) (old new : View) (put : Put) : Type 0 where
+  pub record IsSent (sends : List SendPassView) (old new : View) (put : SendOutcome) : Type 0 where
     pub pass : SendPassView
     pub present : slice_get sends (to.0 - 1) ≡ Some pass
-    pub refused : Option Why
+    pub refused : Option DeadLetterReason
     pub why : IsWhy pass refused
     pub answer : put ≡ put_of number refused
     pub posted_is : posted' ≡ posted ++ posting (envelope_of by to number body) refused ∷ []
     pub counted : Does to.0 (counts to.0 refused) [] old new
 
   -- The envelope is a dead letter, since its receiver is closed.
-  pub record IsDeadLetter (put : Put) : Type 0 where
+  pub record IsDeadLetter (put : SendOutcome) : Type 0 where
     pub answer : put ≡ Dead number why.Closed
     pub posted_is : posted' ≡ posted ++ posting (envelope_of by to number body) (Some why.Closed) ∷ []
 
   -- A receiver that was seen open is sent to. For one that was seen closed the envelope is a dead letter, and nothing else changes.
-  abbrev pub FollowsLook : List SendPassView → View → View → Put → Look → Type 0
+  abbrev pub FollowsLook : List SendPassView → View → View → SendOutcome → Look → Type 0
   FollowsLook sends old new put (Open ticket) = IsSent sends old new put
   FollowsLook sends old new put Closed = IsDeadLetter put × (new ≡ old)
 
   -- The receiver's status was read, and the envelope was sent or became a dead letter as that says.
-  pub record IsTold (sends : List SendPassView) (old new : View) (put : Put) : Type 0 where
+  pub record IsTold (sends : List SendPassView) (old new : View) (put : SendOutcome) : Type 0 where
     pub look : Look
     pub between : View
     pub seen : IsSeen to look old between

@@ -2,8 +2,8 @@
 use Rattle.std.specs.Prelude.{ℕ, zero, suc, Bool, true, false, List, Option, None, Some, is_some, slice_get}
 use Rattle.std.specs.List.{list_all}
 use Rattle.mb_msg.specs.declared.dead_letter.DeadLetter.{DeadLetter}
-use Rattle.mb_msg.specs.declared.dead_letter.Why.{Why}
-use Rattle.mb_msg.specs.declared.dead_letter.Why.TheVariants as why
+use Rattle.mb_msg.specs.declared.dead_letter.DeadLetterReason.{DeadLetterReason}
+use Rattle.mb_msg.specs.declared.dead_letter.DeadLetterReason.TheVariants as why
 use Rattle.mb_queue.specs.Passes.{Queue}
 
 -- The queue of the receiver of this number, where these are the queues of all receivers in the order of their numbers, from 1 on.
@@ -12,7 +12,7 @@ queue_to queues zero = None
 queue_to queues (suc place) = slice_get queues place
 
 -- An envelope to this queue, if there is one, may be a dead letter for this reason: as full only if the queue has a bound.
-abbrev pub may_be_refused : Option Queue → Why → Bool
+abbrev pub may_be_refused : Option Queue → DeadLetterReason → Bool
 may_be_refused None w = false
 may_be_refused (Some queue) why.Full = is_some queue.main.capacity
 may_be_refused (Some queue) why.Closed = true

@@ -1,7 +1,7 @@
 -- What a sender's log holds.
 use Rattle.std.specs.Prelude.{ℕ, ◌+◌, List, [], ◌∷◌, map, Option}
 use Rattle.mb_msg.specs.declared.envelope.Envelope.{Envelope}
-use Rattle.mb_msg.specs.declared.dead_letter.Why.{Why}
+use Rattle.mb_msg.specs.declared.dead_letter.DeadLetterReason.{DeadLetterReason}
 use Rattle.mb_msg.specs.declared.envelope.Body.{Body}
 use Rattle.mb_msg.specs.declared.id.ActorId.{ActorId}
 use Rattle.mb_msg.specs.declared.id.SenderId.{SenderId}
@@ -12,7 +12,7 @@ abbrev pub envelope_of : SenderId → ActorId → ℕ → Body → Envelope
 envelope_of by to number body = record { by = by; to = to; number = number; body = body }
 
 -- An envelope with what the sender was answered for it.
-abbrev pub posting : Envelope → Option Why → SentEnvelope
+abbrev pub posting : Envelope → Option DeadLetterReason → SentEnvelope
 posting envelope refused = record { envelope = envelope; refused = refused }
 
 -- The names of envelopes: the sender's number and their own.

@@ -2,8 +2,8 @@
 use Rattle.std.specs.Prelude.{◌==◌, ◌&&◌, ℕ, Bool, true, false, List}
 use Rattle.std.specs.List.{list_any, list_all}
 use Rattle.mb_msg.specs.declared.dead_letter.DeadLetter.{DeadLetter}
-use Rattle.mb_msg.specs.declared.dead_letter.Why.{Why}
-use Rattle.mb_msg.specs.declared.dead_letter.Why.TheVariants as why
+use Rattle.mb_msg.specs.declared.dead_letter.DeadLetterReason.{DeadLetterReason}
+use Rattle.mb_msg.specs.declared.dead_letter.DeadLetterReason.TheVariants as why
 use Rattle.mb_gate.specs.View.{Observation, Read, Saw, Counted, Looked, Sent, Unsent, Took, Pushed, Drained, Ended}
 
 -- This is a reading of the actor's status that said that it is closed.
@@ -24,7 +24,7 @@ abbrev pub has_seen_closed : List Observation → ℕ → Bool
 has_seen_closed log id = list_any (finds_closed id) log
 
 -- An envelope may be dead for this reason: as closed only if its receiver was seen closed.
-abbrev pub may_be_dead : Bool → Why → Bool
+abbrev pub may_be_dead : Bool → DeadLetterReason → Bool
 may_be_dead seen why.Closed = seen
 may_be_dead seen why.Full = true
 may_be_dead seen why.NoMemory = true

@@ -5,16 +5,16 @@
 //! and its passes into the queues agree.
 #![tactic(auto)]
 
-mod put;
 mod send_error;
 mod send_log;
+mod send_outcome;
 mod sender;
 mod stopping;
 mod telling;
 mod ticket;
 
-pub use put::Put;
 pub use send_error::SendError;
 pub use send_log::SendLog;
+pub use send_outcome::SendOutcome;
 pub use sender::GatesSender;
 pub use ticket::{Look, Ticket};

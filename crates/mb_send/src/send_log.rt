@@ -1,18 +1,18 @@
 //! The log of what a sender was answered.
-ghost use Rattle.std.specs.Prelude.{◌≡◌, ◌<◌, [], ◌∷◌, ◌++◌, length, vec_len, vec_capacity, Some, None, IfOk, OnErr, IsErrOf};
+ghost use Rattle.std.specs.Prelude.{◌≡◌, ◌<◌, [], ◌∷◌, ◌++◌, false, length, Some, None, IfOk, IsOk, OnErr, IsErrOf};
 ghost use Rattle.mb_msg.specs.Payload.{body_of};
 ghost use Rattle.mb_journal.specs.Accepted.{accepted, dead_letters};
 ghost use Rattle.mb_send.specs.declared.send_error.SendError.TheVariants as SendError;
 ghost use Rattle.mb_send.specs.Posted.{envelope_of, names_from, names_of, posting};
 
 use crate::send_error::SendError;
+use mb_dead_letters::DeadLetters;
 use mb_ghost::Log;
 use mb_journal::SentEnvelope;
-use mb_msg::{ActorId, Body, DeadLetter, Envelope, Payload, SenderId, Why};
-use std::alloc::Global;
+use mb_msg::{ActorId, Body, DeadLetter, DeadLetterReason, Envelope, Payload, SenderId};
 
-/// The log of a sender outside the actors: how many envelopes it sent, and those of them that are dead letters. Contracts see
-/// all that it was answered for, in the order of the numbers, which run from 0 over all receivers.
+/// The log of a sender outside the actors: how many envelopes it sent, and those of them that are dead letters, of which all are kept, or the
+/// newest, or none. Contracts see all that it was answered for, in the order of the numbers, which run from 0 over all receivers.
 #[derive(Drop)]
 pub struct SendLog {
     /// Who the sender is.
@@ -20,7 +20,7 @@ pub struct SendLog {
     /// How many envelopes it was answered for.
     pub sent: u64,
     /// Those that were refused, in order.
-    pub dead: Vec<DeadLetter>,
+    pub dead: DeadLetters,
     /// What it was answered, in order, for proofs alone. It takes no bytes.
     pub posted: Log<SentEnvelope>,
     ghost counted: { sent ≡ length posted },
@@ -29,31 +29,37 @@ pub struct SendLog {
 }
 
 impl SendLog {
-    /// The log of a sender that was answered nothing yet.
-    pub(crate) fn new(alloc: Global, by: SenderId) -> SendLog
-        ensures { (result.by ≡ by) × (result.sent ≡ 0) × (result.posted ≡ []) }
+    /// The log of a sender that was answered nothing yet, with these dead letters, of which there is none yet.
+    pub(crate) fn new(by: SenderId, dead: DeadLetters) -> SendLog
+        requires { dead.items ≡ [] }
+        ensures { (result.by ≡ by) × (result.sent ≡ 0) × (result.posted ≡ []) × (result.dead ≡ dead) }
     {
         SendLog {
             by,
             sent: 0,
-            dead: Vec::new(alloc),
+            dead,
             posted: Log::new(),
         }
     }
 
     /// Makes room for the next envelope, should it become a dead letter. It answers `NoMemory` if memory was refused, or if the
-    /// last number is used up; what the log says is as before.
+    /// last number is used up; what the log says is as before. Where not all dead letters are kept it asks for no memory, and answers `NoMemory` only
+    /// if the last number is used up.
     pub(crate) fn ready(&mut self) -> Result<(), SendError>
-        ensures room { IfOk result (λ _. vec_len self.new.dead < vec_capacity self.new.dead) }
+        ensures room { IfOk result (λ _. 0 < self.new.dead.room) }
         ensures number { IfOk result (λ _. self.new.sent < 18446744073709551615) }
         ensures same { (self.new.by ≡ self.old.by) × (self.new.sent ≡ self.old.sent) × (self.new.dead.items ≡ self.old.dead.items)
             × (self.new.posted ≡ self.old.posted) }
         ensures refused { OnErr result (IsErrOf result SendError.NoMemory) }
+        ensures never_short { self.old.dead.is_kept ≡ false → self.old.sent < 18446744073709551615 → IsOk result }
     {
-        if self.sent == u64::MAX || self.dead.reserve(1).is_err() {
+        if self.sent == u64::MAX {
             return Err(SendError::NoMemory);
         }
-        Ok(())
+        match self.dead.reserve(1) {
+            Ok(()) => Ok(()),
+            Err(_) => Err(SendError::NoMemory),
+        }
     }
 
     /// The next envelope, to this receiver with this payload.
@@ -83,14 +89,14 @@ impl SendLog {
     }
 
     /// Adds the next envelope to the log as a dead letter.
-    pub(crate) fn record_dead(&mut self, envelope: Envelope, why: Why)
+    pub(crate) fn record_dead(&mut self, envelope: Envelope, why: DeadLetterReason)
         requires next { (envelope.by ≡ self.old.by) × (envelope.number ≡ self.old.sent) }
         requires number { self.old.sent < 18446744073709551615 }
-        requires room { vec_len self.old.dead < vec_capacity self.old.dead }
+        requires room { 0 < self.old.dead.room }
         ensures posted { self.new.posted ≡ self.old.posted ++ posting envelope (Some why) ∷ [] }
         ensures same_sender { self.new.by ≡ self.old.by }
     {
-        self.dead.push_reserved(DeadLetter { envelope, why });
+        self.dead.push(DeadLetter { envelope, why });
         self.posted.add(SentEnvelope {
             envelope,
             refused: Some(why),

@@ -11,6 +11,7 @@ ghost use Rattle.mb_send.specs.Answers.{IsSeen};
 use crate::send_error::SendError;
 use crate::send_log::SendLog;
 use crate::ticket::{Look, Ticket};
+use mb_dead_letters::DeadLetters;
 use mb_gate::{Gates, MailboxState, RunQueue};
 use mb_msg::{ActorId, SenderId};
 use mb_queue::SendPass;
@@ -35,21 +36,24 @@ pub struct GatesSender<H, W> {
 
 impl<H: MailboxState, W: RunQueue<H>> GatesSender<H, W> {
     /// A sender that was answered nothing yet, with its registrar and its passes into the queues, by which nothing was pushed
-    /// yet: one for each receiver from number 1 on, in order.
+    /// yet: one for each receiver from number 1 on, in order. Of the envelopes that it is answered for as dead letters as much is kept as these dead
+    /// letters keep, of which there is none yet.
     pub fn new(
         alloc: Global,
         by: SenderId,
         registrar: Registrar<H, W>,
         sends: Vec<SendPass>,
+        dead: DeadLetters,
     ) -> Self
         requires routes { AreRoutes by.0 [] sends.items }
+        requires none { dead.items ≡ [] }
         ensures parts { (result.registrar ≡ registrar) × (result.sends ≡ sends) }
-        ensures send_log { (result.send_log.by ≡ by) × (result.send_log.sent ≡ 0) × (result.send_log.posted ≡ []) }
+        ensures send_log { (result.send_log.by ≡ by) × (result.send_log.sent ≡ 0) × (result.send_log.posted ≡ []) × (result.send_log.dead ≡ dead) }
     {
         GatesSender {
             registrar,
             sends,
-            send_log: SendLog::new(alloc, by),
+            send_log: SendLog::new(by, dead),
             alloc,
         }
     }

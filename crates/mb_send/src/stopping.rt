@@ -6,6 +6,7 @@ ghost use Rattle.mb_gate.specs.Accessors.{gates_id, pass_id, actors_of, pass_vie
 ghost use Rattle.mb_send.specs.declared.send_error.SendError.TheVariants as SendError;
 ghost use Rattle.mb_gate.specs.Untouched.{origin_of};
 ghost use Rattle.mb_register.specs.Owed.{is_owed};
+ghost use Rattle.mb_register.specs.Registering.{LosesNoClaim};
 ghost use Rattle.mb_send.specs.Answers.{Stops};
 ghost use Rattle.mb_send.specs.Asked.{RegistersAtMost, account_of};
 
@@ -23,7 +24,7 @@ impl<H: MailboxState, W: RunQueue<H>> GatesSender<H, W> {
     ///
     /// It answers `NoSuchActor` for a number that no actor has, and else `NoMemory` if memory was refused: then nothing has
     /// changed. The sender still owes every look that it owed, and besides one to this actor, if the run queue refused its
-    /// claim.
+    /// claim. No claim is lost.
     pub fn stop<R: Wait>(
         &mut self,
         rt: &R,
@@ -38,6 +39,8 @@ impl<H: MailboxState, W: RunQueue<H>> GatesSender<H, W> {
         ensures discharged { IfOk result (λ _. (obligation_to id.0 (pass_view self.new.registrar.pass) ≡ nothing) ⊎ (is_owed self.new.registrar.owed id.0 ≡ true)) }
         ensures still { (other : ℕ) → is_owed self.old.registrar.owed other ≡ true → is_owed self.new.registrar.owed other ≡ true }
         ensures registered { RegistersAtMost id.0 (account_of W.pushed W.refused self.old.registrar) (account_of W.pushed W.refused self.new.registrar) }
+        ensures handed { LosesNoClaim (account_of W.pushed W.refused self.old.registrar) (account_of W.pushed W.refused self.new.registrar)
+            (pass_view self.old.registrar.pass) (pass_view self.new.registrar.pass) }
         ensures same_gates { (pass_id self.new.registrar.pass ≡ pass_id self.old.registrar.pass) × (W.origin self.new.registrar.run_queue ≡ W.origin self.old.registrar.run_queue) }
         ensures same { (self.new.send_log ≡ self.old.send_log) × (self.new.sends ≡ self.old.sends) }
     {

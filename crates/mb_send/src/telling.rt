@@ -1,5 +1,5 @@
 //! What a sender outside the actors sends to them.
-ghost use Rattle.std.specs.Prelude.{◌≡◌, ◌⊎◌, ℕ, ◌+◌, ◌<◌, ◌≤◌, true, vec_len, IfOk, IsErrOf, OnErr, Some};
+ghost use Rattle.std.specs.Prelude.{◌≡◌, ◌⊎◌, ℕ, ◌+◌, ◌<◌, ◌≤◌, false, true, vec_len, IfOk, IsOk, IsErrOf, OnErr, Some};
 ghost use Rattle.mb_msg.specs.Payload.{body_of};
 ghost use Rattle.mb_core.specs.Actor.{nothing};
 ghost use Rattle.mb_gate.specs.View.{obligation_to};
@@ -7,18 +7,19 @@ ghost use Rattle.mb_gate.specs.Accessors.{gates_id, pass_id, actors_of, pass_vie
 ghost use Rattle.mb_send.specs.declared.send_error.SendError.TheVariants as SendError;
 ghost use Rattle.mb_gate.specs.Untouched.{origin_of};
 ghost use Rattle.mb_register.specs.Owed.{is_owed};
+ghost use Rattle.mb_register.specs.Registering.{LosesNoClaim};
 ghost use Rattle.mb_send.specs.Sends.{receiving_queues};
 ghost use Rattle.mb_send.specs.Answers.{IsSent, IsDeadLetter, IsTold, reason, receiver_of};
 ghost use Rattle.mb_send.specs.SeenClosed.{has_seen_closed};
 ghost use Rattle.mb_send.specs.Faults.{OnlyLooked, IsSameSendLog};
 ghost use Rattle.mb_send.specs.Asked.{RegistersAtMost, account_of};
 
-use crate::put::Put;
 use crate::send_error::SendError;
+use crate::send_outcome::SendOutcome;
 use crate::sender::GatesSender;
 use crate::ticket::{Look, Ticket};
 use mb_gate::{Gates, MailboxState, RunQueue};
-use mb_msg::{ActorId, Payload, Why};
+use mb_msg::{ActorId, DeadLetterReason, Payload};
 use mb_queue::Refusal;
 use mb_register::Hint;
 use std::sync::Wait;
@@ -28,27 +29,30 @@ impl<H: MailboxState, W: RunQueue<H>> GatesSender<H, W> {
     /// that a queue refuses, since it is full or memory was refused, becomes a dead letter, which takes a number too.
     ///
     /// It answers `NoMemory` if there was no room for the dead letter that it might become, or if the sender's last number is
-    /// used up: then nothing is sent, and no number is used. The sender still owes every look that it owed, and besides one to
-    /// the receiver, if the run queue refused its claim.
+    /// used up: then nothing is sent, and no number is used. A sender that does not keep all dead letters always has room for one. The sender still
+    /// owes every look that it owed, and besides one to the receiver, if the run queue refused its claim. No claim is lost.
     pub fn put<R: Wait>(
         &mut self,
         rt: &R,
         gates: &Gates<H>,
         ticket: Ticket,
         payload: Payload,
-    ) -> Result<Put, SendError>
+    ) -> Result<SendOutcome, SendError>
         requires same_gates { (pass_id self.old.registrar.pass ≡ gates_id gates.now) × (W.origin self.old.registrar.run_queue ≡ Some (origin_of gates.now)) }
         requires all { vec_len self.old.sends + 1 ≡ actors_of gates.now }
         requires present { (0 < (receiver_of ticket).0) × ((receiver_of ticket).0 < actors_of gates.now) × ((receiver_of ticket).0 < 64) }
         ensures refused { OnErr result (IsErrOf result SendError.NoMemory × (self.new.send_log.posted ≡ self.old.send_log.posted)
             × (self.new.registrar ≡ self.old.registrar)) }
         ensures unsent { OnErr result (IsSameSendLog self.old.send_log self.new.send_log × (self.new.sends ≡ self.old.sends)) }
+        ensures never_short { self.old.send_log.dead.is_kept ≡ false → self.old.send_log.sent < 18446744073709551615 → IsOk result }
         ensures sent { IfOk result (IsSent self.old.send_log.by self.old.send_log.sent (receiver_of ticket) (body_of payload) self.old.send_log.posted self.new.send_log.posted
             self.old.sends.items (pass_view self.old.registrar.pass) (pass_view self.new.registrar.pass)) }
         ensures discharged { IfOk result (λ _. (obligation_to (receiver_of ticket).0 (pass_view self.new.registrar.pass) ≡ nothing) ⊎ (is_owed self.new.registrar.owed (receiver_of ticket).0
             ≡ true)) }
         ensures still { (id : ℕ) → is_owed self.old.registrar.owed id ≡ true → is_owed self.new.registrar.owed id ≡ true }
         ensures registered { RegistersAtMost (receiver_of ticket).0 (account_of W.pushed W.refused self.old.registrar) (account_of W.pushed W.refused self.new.registrar) }
+        ensures handed { LosesNoClaim (account_of W.pushed W.refused self.old.registrar) (account_of W.pushed W.refused self.new.registrar)
+            (pass_view self.old.registrar.pass) (pass_view self.new.registrar.pass) }
         ensures same_gates { (pass_id self.new.registrar.pass ≡ pass_id self.old.registrar.pass) × (W.origin self.new.registrar.run_queue ≡ W.origin self.old.registrar.run_queue) }
         ensures same { (self.new.send_log.by ≡ self.old.send_log.by) × (vec_len self.new.sends ≡ vec_len self.old.sends) }
         ensures queues { receiving_queues self.new.sends.items ≡ receiving_queues self.old.sends.items }
@@ -64,14 +68,14 @@ impl<H: MailboxState, W: RunQueue<H>> GatesSender<H, W> {
             Ok(()) => {
                 self.send_log.record_queued(envelope);
                 self.registrar.register(rt, gates, to, Hint::Message, false);
-                Ok(Put::Queued(number))
+                Ok(SendOutcome::Queued(number))
             }
             Err(refused) => {
                 let why = why_of(refused);
                 self.send_log.record_dead(envelope, why);
                 gates.note_unsent(&mut self.registrar.pass, to);
                 self.registrar.register(rt, gates, to, Hint::None, false);
-                Ok(Put::Dead(number, why))
+                Ok(SendOutcome::Dead(number, why))
             }
         }
     }
@@ -81,14 +85,14 @@ impl<H: MailboxState, W: RunQueue<H>> GatesSender<H, W> {
     ///
     /// It answers `NoSuchActor` as a look does, and else `NoMemory` as a put does: then nothing is sent, and no number is used,
     /// but what was seen stays seen. The sender still owes every look that it owed, and besides one to the receiver, if the run
-    /// queue refused its claim.
+    /// queue refused its claim. No claim is lost.
     pub fn tell<R: Wait>(
         &mut self,
         rt: &R,
         gates: &Gates<H>,
         to: ActorId,
         payload: Payload,
-    ) -> Result<Put, SendError>
+    ) -> Result<SendOutcome, SendError>
         requires same_gates { (pass_id self.old.registrar.pass ≡ gates_id gates.now) × (W.origin self.old.registrar.run_queue ≡ Some (origin_of gates.now)) }
         requires all { (vec_len self.old.sends + 1 ≡ actors_of gates.now) × (actors_of gates.now ≤ 64) }
         ensures refused { OnErr result ((self.new.send_log.posted ≡ self.old.send_log.posted)
@@ -96,12 +100,16 @@ impl<H: MailboxState, W: RunQueue<H>> GatesSender<H, W> {
             ⊎ (IsErrOf result SendError.NoMemory × (0 < to.0) × (to.0 < actors_of gates.now)))) }
         ensures unknown { IsErrOf result SendError.NoSuchActor → self.new ≡ self.old }
         ensures unsent { IsErrOf result SendError.NoMemory → OnlyLooked to self.old self.new }
+        ensures never_short { self.old.send_log.dead.is_kept ≡ false → self.old.send_log.sent < 18446744073709551615 → 0 < to.0 → to.0 < actors_of gates.now
+            → IsOk result }
         ensures present { IfOk result (λ _. (0 < to.0) × (to.0 < actors_of gates.now)) }
         ensures told { IfOk result (IsTold self.old.send_log.by self.old.send_log.sent to (body_of payload) self.old.send_log.posted self.new.send_log.posted
             self.old.sends.items (pass_view self.old.registrar.pass) (pass_view self.new.registrar.pass)) }
         ensures discharged { IfOk result (λ _. (obligation_to to.0 (pass_view self.new.registrar.pass) ≡ nothing) ⊎ (is_owed self.new.registrar.owed to.0 ≡ true)) }
         ensures still { (id : ℕ) → is_owed self.old.registrar.owed id ≡ true → is_owed self.new.registrar.owed id ≡ true }
         ensures registered { RegistersAtMost to.0 (account_of W.pushed W.refused self.old.registrar) (account_of W.pushed W.refused self.new.registrar) }
+        ensures handed { LosesNoClaim (account_of W.pushed W.refused self.old.registrar) (account_of W.pushed W.refused self.new.registrar)
+            (pass_view self.old.registrar.pass) (pass_view self.new.registrar.pass) }
         ensures same_gates { (pass_id self.new.registrar.pass ≡ pass_id self.old.registrar.pass) × (W.origin self.new.registrar.run_queue ≡ W.origin self.old.registrar.run_queue) }
         ensures same { (self.new.send_log.by ≡ self.old.send_log.by) × (vec_len self.new.sends ≡ vec_len self.old.sends) }
         ensures queues { receiving_queues self.new.sends.items ≡ receiving_queues self.old.sends.items }
@@ -114,10 +122,15 @@ impl<H: MailboxState, W: RunQueue<H>> GatesSender<H, W> {
     }
 
     // Makes the next envelope a dead letter, since its receiver was seen closed.
-    fn record_dead_letter(&mut self, to: ActorId, payload: Payload) -> Result<Put, SendError>
+    fn record_dead_letter(
+        &mut self,
+        to: ActorId,
+        payload: Payload,
+    ) -> Result<SendOutcome, SendError>
         requires closed { has_seen_closed (pass_view self.old.registrar.pass).log to.0 ≡ true }
         requires present { (0 < to.0) × (to.0 ≤ vec_len self.old.sends) }
         ensures refused { OnErr result (IsErrOf result SendError.NoMemory × (self.new.send_log.posted ≡ self.old.send_log.posted)) }
+        ensures never_short { self.old.send_log.dead.is_kept ≡ false → self.old.send_log.sent < 18446744073709551615 → IsOk result }
         ensures unsent { OnErr result (IsSameSendLog self.old.send_log self.new.send_log) }
         ensures is_dead_letter { IfOk result (IsDeadLetter self.old.send_log.by self.old.send_log.sent to (body_of payload) self.old.send_log.posted self.new.send_log.posted) }
         ensures same { (self.new.registrar ≡ self.old.registrar) × (self.new.sends ≡ self.old.sends) × (self.new.send_log.by ≡ self.old.send_log.by) }
@@ -125,17 +138,18 @@ impl<H: MailboxState, W: RunQueue<H>> GatesSender<H, W> {
         self.send_log.ready()?;
         let number = self.send_log.sent;
         let envelope = self.send_log.next(to, payload);
-        self.send_log.record_dead(envelope, Why::Closed);
-        Ok(Put::Dead(number, Why::Closed))
+        self.send_log
+            .record_dead(envelope, DeadLetterReason::Closed);
+        Ok(SendOutcome::Dead(number, DeadLetterReason::Closed))
     }
 }
 
 // Why a push was refused, as the sender is told.
-fn why_of(refused: Refusal) -> Why
+fn why_of(refused: Refusal) -> DeadLetterReason
     ensures { result ≡ reason refused }
 {
     match refused {
-        Refusal::Full => Why::Full,
-        Refusal::NoMemory => Why::NoMemory,
+        Refusal::Full => DeadLetterReason::Full,
+        Refusal::NoMemory => DeadLetterReason::NoMemory,
     }
 }

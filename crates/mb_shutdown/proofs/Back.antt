@@ -85,6 +85,7 @@ module _ {A K : Type 0} where
     ends = with_item built.ends 0 (record {
       number = first.number;
       registrar = record { pass = pass; run_queue = first.registrar.run_queue; owed = first.registrar.owed; told = first.registrar.told };
+      taken = first.taken;
     });
     senders = built.senders;
   }
@@ -97,11 +98,11 @@ module _ {A K : Type 0} where
         system = refl;
         senders = refl;
         first = first;
-        first' = record { number = first.number; registrar = record { pass = pass; run_queue = first.registrar.run_queue; owed = first.registrar.owed; told = first.registrar.told } };
+        first' = record { number = first.number; registrar = record { pass = pass; run_queue = first.registrar.run_queue; owed = first.registrar.owed; told = first.registrar.told }; taken = first.taken };
         rest = parts.0;
         was = parts.1;
-        is = parts.2 (record { number = first.number; registrar = record { pass = pass; run_queue = first.registrar.run_queue; owed = first.registrar.owed; told = first.registrar.told } });
-        others = (refl, refl, refl);
+        is = parts.2 (record { number = first.number; registrar = record { pass = pass; run_queue = first.registrar.run_queue; owed = first.registrar.owed; told = first.registrar.told }; taken = first.taken });
+        others = (refl, refl, refl, refl);
         same_gates = ours;
         knew = refl;
         knows = refl;
@@ -176,6 +177,7 @@ module _ {A K : Type 0} where
           two.others.0 ∙ ap (λ (e : WorkerEnd A K). e.number) (sym first) ∙ one.others.0,
           two.others.1 ∙ ap (λ (e : WorkerEnd A K). e.registrar.run_queue) (sym first) ∙ one.others.1,
           two.others.2 ∙ ap (λ (e : WorkerEnd A K). e.registrar.owed) (sym first) ∙ one.others.2,
+          two.others.3 ∙ ap (λ (e : WorkerEnd A K). e.taken) (sym first) ∙ one.others.3,
         );
         same_gates = two.same_gates ∙ ap (λ (e : WorkerEnd A K). pass_id e.registrar.pass) (sym first) ∙ one.same_gates;
         knew = one.knew;

@@ -10,8 +10,8 @@ use Rattle.std.proofs.lemmas.List.Sorted.{All-permutation}
 use Rattle.std.proofs.lemmas.Option.{same_Some, slice_get_within}
 use Rattle.std.specs.Global.{Box}
 use Rattle.mb_msg.specs.declared.dead_letter.DeadLetter.{DeadLetter}
-use Rattle.mb_msg.specs.declared.dead_letter.Why.{Why}
-use Rattle.mb_msg.specs.declared.dead_letter.Why.TheVariants as why
+use Rattle.mb_msg.specs.declared.dead_letter.DeadLetterReason.{DeadLetterReason}
+use Rattle.mb_msg.specs.declared.dead_letter.DeadLetterReason.TheVariants as why
 use Rattle.mb_journal.specs.Accepted.{dead_letters}
 use Rattle.mb_gate.specs.Accessors.{first_home}
 use Rattle.mb_gate.specs.Rule.{IsPart}
@@ -61,7 +61,7 @@ seen-in id part log is seen =
     (list_any-append (finds_closed id) part is.after ∙ ap (λ b. b || list_any (finds_closed id) is.after) seen)
     ∙ or-true (list_any (finds_closed id) is.before)
 
-may-in : (a b : Bool) (w : Why) → (a ≡ true → b ≡ true) → may_be_dead a w ≡ true → may_be_dead b w ≡ true
+may-in : (a b : Bool) (w : DeadLetterReason) → (a ≡ true → b ≡ true) → may_be_dead a w ≡ true → may_be_dead b w ≡ true
 may-in a b why.Closed more may = more may
 may-in a b why.Full more may = refl
 may-in a b why.NoMemory more may = refl

@@ -7,8 +7,8 @@ use Rattle.std.specs.List.{list_all}
 use Rattle.std.proofs.lemmas.Bool.{eqb-true}
 use Rattle.std.proofs.lemmas.Option.{none-some, same_Some}
 use Rattle.mb_msg.specs.declared.dead_letter.DeadLetter.{DeadLetter}
-use Rattle.mb_msg.specs.declared.dead_letter.Why.{Why}
-use Rattle.mb_msg.specs.declared.dead_letter.Why.TheVariants as why
+use Rattle.mb_msg.specs.declared.dead_letter.DeadLetterReason.{DeadLetterReason}
+use Rattle.mb_msg.specs.declared.dead_letter.DeadLetterReason.TheVariants as why
 use Rattle.mb_msg.specs.declared.envelope.Envelope.{Envelope}
 use Rattle.mb_journal.specs.Entry.{Entry}
 use Rattle.mb_journal.specs.Accepted.{NumbersCountUpFrom, accepted, dead_letters, queued, to_actor}
@@ -74,7 +74,7 @@ names-numbered by n (e ∷ es) names =
     (ap (λ (x : ℕ × ℕ). x.0) first, ap (λ (x : ℕ × ℕ). x.1) first, names-numbered by (n + 1) es rest)
 
 -- a queue that may have refused an envelope is there; as full, where it has a bound
-queue-there : (o : Option Queue) (w : Why) → may_be_refused o w ≡ true → (q : Queue) × (o ≡ Some q) × (w ≡ why.Full → is_some q.main.capacity ≡ true)
+queue-there : (o : Option Queue) (w : DeadLetterReason) → may_be_refused o w ≡ true → (q : Queue) × (o ≡ Some q) × (w ≡ why.Full → is_some q.main.capacity ≡ true)
 queue-there None w t = absurd (cc t)
 queue-there (Some q) why.Full t = (q, refl, λ is. t)
 queue-there (Some q) why.Closed t = (q, refl, λ is. absurd (let no : why.Closed ≡ why.Full = is in cc no))

@@ -4,8 +4,8 @@ use Rattle.std.proofs.Common.{subst, arith, append-nil, Some}
 use Rattle.std.specs.Prelude.{All, slice_get}
 use Rattle.std.proofs.lemmas.List.Elements.{All-weaker}
 use Rattle.mb_msg.specs.declared.dead_letter.DeadLetter.{DeadLetter}
-use Rattle.mb_msg.specs.declared.dead_letter.Why.{Why}
-use Rattle.mb_msg.specs.declared.dead_letter.Why.TheVariants as why
+use Rattle.mb_msg.specs.declared.dead_letter.DeadLetterReason.{DeadLetterReason}
+use Rattle.mb_msg.specs.declared.dead_letter.DeadLetterReason.TheVariants as why
 use Rattle.mb_actor.specs.Behaviour.{Moment, Reply}
 use Rattle.mb_journal.specs.Accepted.{NumbersCountUpFrom, accepted, dead_letters, queued, to_actor}
 use Rattle.mb_journal.specs.Tells.{told}
@@ -45,7 +45,7 @@ module _ (directory : List DirectoryEntry) (Shut : ℕ → Type 0) where
     pub dead_is : p.sent.1 ≡ dead_letters p.postings
     pub reasons : All HasReason (dead_letters p.postings)
 
-  full-bounded : (r : List DirectoryEntry) (w : Why) (to : ℕ) → r ≡ directory → IsReason r w to → w ≡ why.Full → IsBounded directory to
+  full-bounded : (r : List DirectoryEntry) (w : DeadLetterReason) (to : ℕ) → r ≡ directory → IsReason r w to → w ≡ why.Full → IsBounded directory to
   full-bounded r why.Full to same is full = subst (λ l. IsBounded l to) same is
   full-bounded r why.Closed to same is full = absurd (let no : why.Closed ≡ why.Full = full in cc no)
   full-bounded r why.NoMemory to same is full = absurd (let no : why.NoMemory ≡ why.Full = full in cc no)

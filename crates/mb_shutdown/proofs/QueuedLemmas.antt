@@ -1,14 +1,14 @@
 -- What a sender was answered "queued" for is what it was answered for, without its dead letters.
 use Rattle.std.proofs.Common.{◌≡◌, ◌==◌, ℕ, ◌+◌, true, cond, List, [], ◌∷◌, refl, sym, ap, ◌∙◌, arith, Option, Some, None}
 use Rattle.std.proofs.lemmas.Bool.Decides.{nat_tests}
-use Rattle.mb_msg.specs.declared.dead_letter.Why.{Why}
+use Rattle.mb_msg.specs.declared.dead_letter.DeadLetterReason.{DeadLetterReason}
 use Rattle.mb_msg.specs.declared.envelope.Envelope.{Envelope}
 use Rattle.mb_queue.proofs.Bags.{filter-swap}
 use Rattle.mb_journal.specs.Accepted.{NumbersCountUpFrom, accepted, dead_letters, envelopes_of, queued, sent_by, to_actor, without_named}
 use Rattle.mb_journal.specs.declared.sent_envelope.SentEnvelope.{SentEnvelope}
 use Rattle.mb_journal.proofs.Naming.{kept-in-order}
 
-mine-more : (by : ℕ) (e : Envelope) (refused : Option Why) (ps : List SentEnvelope) → e.by.0 ≡ by → sent_by by (queued ps) ≡ queued ps
+mine-more : (by : ℕ) (e : Envelope) (refused : Option DeadLetterReason) (ps : List SentEnvelope) → e.by.0 ≡ by → sent_by by (queued ps) ≡ queued ps
     → sent_by by (queued (record { envelope = e; refused = refused } ∷ ps)) ≡ queued (record { envelope = e; refused = refused } ∷ ps)
 mine-more by e None ps is rest =
     let yes : (e.by.0 == by) ≡ true = grind (arith, nat_tests) in λ i. cond (yes i) (e ∷ rest i) (rest i)

@@ -5,8 +5,8 @@ use Rattle.std.specs.Prelude.{All}
 use Rattle.std.proofs.lemmas.List.Elements.{All-nil, All-cons, All-head, All-tail, All-append, All-weaker}
 use Rattle.std.proofs.lemmas.Option.{slice_get_within}
 use Rattle.mb_msg.specs.declared.dead_letter.DeadLetter.{DeadLetter}
-use Rattle.mb_msg.specs.declared.dead_letter.Why.{Why}
-use Rattle.mb_msg.specs.declared.dead_letter.Why.TheVariants as why
+use Rattle.mb_msg.specs.declared.dead_letter.DeadLetterReason.{DeadLetterReason}
+use Rattle.mb_msg.specs.declared.dead_letter.DeadLetterReason.TheVariants as why
 use Rattle.mb_msg.specs.declared.envelope.Envelope.{Envelope}
 use Rattle.mb_msg.specs.declared.id.ActorId.{ActorId}
 use Rattle.mb_actor.specs.ActorList.{has}
@@ -62,7 +62,7 @@ letters-too P (p ∷ postings) all =
     All-append (λ (d : DeadLetter). P d.envelope) (letters p.envelope p.refused) (dead_letters postings)
     (one p.refused (All-head P p.envelope (accepted postings) all)) (letters-too P postings (All-tail P p.envelope (accepted postings) all))
   where
-    one : (o : Option Why) → P p.envelope → All (λ (d : DeadLetter). P d.envelope) (letters p.envelope o)
+    one : (o : Option DeadLetterReason) → P p.envelope → All (λ (d : DeadLetter). P d.envelope) (letters p.envelope o)
     one None h = All-nil (λ (d : DeadLetter). P d.envelope)
     one (Some w) h =
         All-cons (λ (d : DeadLetter). P d.envelope) (record { envelope = p.envelope; why = w }) [] h (All-nil (λ (d : DeadLetter). P d.envelope))
@@ -98,7 +98,7 @@ among-closed (d ∷ dead) =
     (λ (x : DeadLetter). x.why ≡ why.Closed → IsAmong x.envelope.to.0 (closed_receivers (d ∷ dead)))
     (λ x among is. more d.why x.envelope.to.0 (among is)) dead (among-closed dead))
   where
-    more : (w : Why) (to : ℕ) → IsAmong to (closed_receivers dead) → IsAmong to (receiver_if_closed w d.envelope.to.0 ++ closed_receivers dead)
+    more : (w : DeadLetterReason) (to : ℕ) → IsAmong to (closed_receivers dead) → IsAmong to (receiver_if_closed w d.envelope.to.0 ++ closed_receivers dead)
     more w to among =
         record {
           before = receiver_if_closed w d.envelope.to.0 ++ among.before;

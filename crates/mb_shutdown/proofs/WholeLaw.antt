@@ -5,8 +5,8 @@ use Rattle.std.specs.Prelude.{All, Contains, if◌then◌else◌, slice_get}
 use Rattle.std.proofs.lemmas.List.Elements.{All-contains, All-head, All-weaker}
 use Rattle.std.proofs.lemmas.Option.{get_or_from_slice_get, same_Some}
 use Rattle.mb_msg.specs.declared.dead_letter.DeadLetter.{DeadLetter}
-use Rattle.mb_msg.specs.declared.dead_letter.Why.{Why}
-use Rattle.mb_msg.specs.declared.dead_letter.Why.TheVariants as why
+use Rattle.mb_msg.specs.declared.dead_letter.DeadLetterReason.{DeadLetterReason}
+use Rattle.mb_msg.specs.declared.dead_letter.DeadLetterReason.TheVariants as why
 use Rattle.mb_msg.specs.declared.envelope.Envelope.{Envelope}
 use Rattle.mb_actor.specs.Behaviour.{Moment, Reply}
 use Rattle.mb_actor.specs.declared.message.Message.{Message}
@@ -71,7 +71,7 @@ none-at-end who [] open_yet = refl
 none-at-end who (e ∷ before) open_yet = ap (λ (b : Bool). if b then length (aside who before) else 0) open_yet
 
 -- an actor's dead letters are never cleaned-up ones
-never-cleaned : (directory : List DirectoryEntry) (w : Why) (to : ℕ) → IsReason directory w to → w ≡ why.Cleaned → ⊥
+never-cleaned : (directory : List DirectoryEntry) (w : DeadLetterReason) (to : ℕ) → IsReason directory w to → w ≡ why.Cleaned → ⊥
 never-cleaned directory why.Closed to is same = absurd (let no : why.Closed ≡ why.Cleaned = same in cc no)
 never-cleaned directory why.Full to is same = absurd (let no : why.Full ≡ why.Cleaned = same in cc no)
 never-cleaned directory why.NoMemory to is same = absurd (let no : why.NoMemory ≡ why.Cleaned = same in cc no)

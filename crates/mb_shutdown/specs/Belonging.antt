@@ -66,6 +66,7 @@ module _ {A K : Type 0} where
     pub was : old.ends.items ≡ (first ∷ rest)
     pub is : new.ends.items ≡ (first' ∷ rest)
     pub others : (first'.number ≡ first.number) × (first'.registrar.run_queue ≡ first.registrar.run_queue) × (first'.registrar.owed ≡ first.registrar.owed)
+        × (first'.taken ≡ first.taken)
     pub same_gates : pass_id first'.registrar.pass ≡ pass_id first.registrar.pass
     pub knew : pass_view first.registrar.pass ≡ before
     pub knows : pass_view first'.registrar.pass ≡ after

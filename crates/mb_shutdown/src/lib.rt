@@ -14,23 +14,23 @@
 //! sender's order, and so do all others; and control messages are left before all others.
 #![tactic(auto)]
 
-mod apart;
+mod actor_reports;
 mod boxed_home;
 mod collecting;
 mod draining;
 mod ending;
 mod finished_sender;
 mod gather;
+mod home_parts;
 mod idle;
 mod joining;
 mod laws;
+mod left_envelopes;
 mod mismatch;
 mod missing;
 mod numbered;
 mod report;
-mod rest;
 mod room;
-mod showing;
 mod unfinished;
 
 pub use collecting::join_and_drain;

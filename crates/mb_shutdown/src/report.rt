@@ -8,13 +8,13 @@ ghost use Rattle.mb_shutdown.specs.Rooms.{IsRoom, counted_in};
 ghost use Rattle.mb_shutdown.specs.Seen.{ReportExtendsAll};
 ghost use Rattle.mb_shutdown.specs.CompleteReport.{IsCompleteReport};
 
-use crate::apart::{add_outside, take_apart};
+use crate::actor_reports::report_on;
 use crate::boxed_home::BoxedHome;
 use crate::finished_sender::FinishedSender;
+use crate::home_parts::{add_outside, take_apart};
+use crate::left_envelopes::take_rests;
 use crate::mismatch::Mismatch;
-use crate::rest::take_rests;
 use crate::room::Room;
-use crate::showing::report_on;
 use mb_actor::{Actor, Behaviours};
 use mb_gate::{Gates, Pass};
 use mb_report::Report;

@@ -8,6 +8,7 @@ ghost use Rattle.mb_shutdown.specs.Rooms.{AreCounted, HasOnlyCounted, IsEmptyWit
 use crate::boxed_home::BoxedHome;
 use mb_actor::{Actor, Behaviours};
 use mb_cell::Cell;
+use mb_dead_letters::KeptList;
 use mb_gate::{Gates, MailboxState, Pass, ReturnedActor};
 use mb_msg::{ActorId, Envelope};
 use mb_queue::{SendPass, TakePass};
@@ -18,7 +19,7 @@ use std::alloc::{AllocError, Global};
 #[derive(Drop)]
 pub(crate) struct Ended<A: Actor, K: Behaviours> {
     pub(crate) cell: Cell<A, K>,
-    pub(crate) cleaned: Vec<Envelope>,
+    pub(crate) cleaned: KeptList<Envelope>,
     pub(crate) dead_system: u64,
 }
 

@@ -51,6 +51,7 @@ module _ {A K : Type 0} (gates : Gates (Box Contents)) where
         settled = owes-over v (pass_view e.registrar.pass) (pass_view p) owed created.1 mine.settled;
         unclaimed = got ∙ ap (λ l. v.got ++ l) mine.unclaimed ∙ append-nil v.got ∙ none;
         none_released = released ∙ ap (λ l. v.releases ++ l) mine.none_released ∙ append-nil v.releases ∙ none_released;
+        no_claims = mine.no_claims;
       }
 
   pub first-led : (ends : List (WorkerEnd A K)) (d e : WorkerEnd A K) (p : Pass (Box Contents)) (v : View) → e ≡ get_or ends 0 d

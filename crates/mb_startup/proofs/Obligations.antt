@@ -1,11 +1,11 @@
 -- What the ends of a new system owe.
 use Rattle.std.proofs.Common.{◌≡◌, ◌==◌, ◌||◌, ℕ, Bool, true, false, [], if◌then◌else◌, refl, ap, ◌∙◌, arith}
 use Rattle.std.proofs.lemmas.Bool.Decides.{nat_tests}
-use Rattle.mb_core.specs.declared.debt.WakeObligation.{WakeObligation}
+use Rattle.mb_core.specs.declared.wake_obligation.WakeObligation.{WakeObligation}
 use Rattle.mb_core.specs.Actor.{nothing}
 use Rattle.mb_msg.specs.declared.system.SysMsg.{SysMsg}
 use Rattle.mb_gate.specs.View.{View, added_obligations, obligation_of, either_obligation, enlisting, obligation_to}
-use Rattle.mb_gate.proofs.Parting.{debt_of-added}
+use Rattle.mb_gate.proofs.Parting.{obligation_by-added}
 use Rattle.mb_startup.specs.Begun.{OwesFirstRun, HasNoObligations}
 
 or-false : (b : Bool) → (b || false) ≡ b
@@ -34,4 +34,4 @@ owes-over v mine w is first none = (at 0 ∙ first.0, λ id other. at id ∙ fir
   where
     at : (id : ℕ) → obligation_to id w ≡ obligation_to id v
     at id =
-        ap (obligation_of id) is ∙ debt_of-added id v.obligations mine.obligations ∙ ap (either_obligation (obligation_to id v)) (none id) ∙ either-nothing (obligation_to id v)
+        ap (obligation_of id) is ∙ obligation_by-added id v.obligations mine.obligations ∙ ap (either_obligation (obligation_to id v)) (none id) ∙ either-nothing (obligation_to id v)

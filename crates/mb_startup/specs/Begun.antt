@@ -51,6 +51,10 @@ HasNoObligations view = (id : ℕ) → obligation_to id view ≡ nothing
 abbrev pub OwesFirstRun : View → Type 0
 OwesFirstRun view = (obligation_to 0 view ≡ record nothing { system = true }) × ((id : ℕ) → id ≢ 0 → obligation_to id view ≡ nothing)
 
+-- No claim went into the end's run queue, none was refused, and the end took none.
+abbrev pub HasNoClaims : {A K : Type 0} → WorkerEnd A K → Type 0
+HasNoClaims e = (e.registrar.run_queue.pushed ≡ []) × (e.registrar.run_queue.refused ≡ []) × (e.taken ≡ [])
+
 module _ {A K : Type 0} (gates : Gates (Box Contents)) where
   -- A new sender of this number: it sent no envelope and no system message, was answered nothing, saw nothing, got no claim, gave no cell back, owes
   -- nobody anything, and pushes by these passes.
@@ -72,7 +76,8 @@ module _ {A K : Type 0} (gates : Gates (Box Contents)) where
   AreNewSenders number (sends ∷ rows) (s ∷ senders) = IsNewSender number sends s × AreNewSenders (number + 1) rows senders
   AreNewSenders number _ _ = ⊥
 
-  -- A new worker's end of this number, which saw nothing, got no claim, gave no cell back and owes nobody anything.
+  -- A new worker's end of this number, which saw nothing, got and took no claim, gave no cell back and owes nobody anything. Nothing went into its run
+  -- queue, and nothing was refused.
   pub record IsNewEnd (number : ℕ) (e : WorkerEnd A K) : Type 0 where
     pub same_gates : IsEndOf gates e.registrar
     pub number_is : e.number ≡ number
@@ -81,6 +86,7 @@ module _ {A K : Type 0} (gates : Gates (Box Contents)) where
     pub blank : (pass_view e.registrar.pass).log ≡ []
     pub unclaimed : (pass_view e.registrar.pass).got ≡ []
     pub none_released : (pass_view e.registrar.pass).releases ≡ []
+    pub no_claims : HasNoClaims e
 
   -- New ends, numbered on from this one.
   abbrev pub AreNewEnds : ℕ → List (WorkerEnd A K) → Type 0
@@ -99,6 +105,7 @@ module _ {A K : Type 0} (gates : Gates (Box Contents)) where
     pub settled : OwesFirstRun (pass_view end.registrar.pass)
     pub unclaimed : (pass_view end.registrar.pass).got ≡ []
     pub none_released : (pass_view end.registrar.pass).releases ≡ []
+    pub no_claims : HasNoClaims end
 
 -- A new system of this plan. The actors' homes are as the plan says, its queues are of the plan's kinds and empty, and its pool is of the plan's
 -- kind. Its ends and its senders are unused; they have the ends and feeds of that pool, by which nothing was pushed or taken. One Create, to the

@@ -77,7 +77,7 @@ fn assemble<A: Actor, K: Behaviours, R: Wait>(
     let EndsAndSenders {
         ends,
         senders: outside,
-    } = open(rt, alloc, &gates, pass, ends, feeds, outside)?;
+    } = open(rt, alloc, &gates, pass, ends, feeds, outside, journal)?;
     let system = System {
         workers,
         senders,

@@ -12,10 +12,12 @@ ghost use Rattle.mb_startup.specs.Shared.{KeepsWhole};
 ghost use Rattle.mb_system.specs.Shares.{shares_of_ends, shares_of_senders};
 
 use mb_actor::{Actor, Behaviours};
+use mb_dead_letters::DeadLetters;
 use mb_gate::{Gates, MailboxState, Pass};
+use mb_ghost::Log;
 use mb_home::BoxedHome;
 use mb_msg::limits::ACTORS;
-use mb_msg::{ActorId, SenderId, SysMsg};
+use mb_msg::{ActorId, JournalMode, SenderId, SysMsg};
 use mb_pool::{Feed, FeedPort, WorkerPort};
 use mb_queue::SendPass;
 use mb_register::{Owed, Registrar, Told};
@@ -44,6 +46,7 @@ pub(crate) fn open<A: Actor, K: Behaviours, R: Wait>(
     ends: Vec<mb_pool::PoolEnd<BoxedHome<A, K>>>,
     feeds: Vec<Feed<BoxedHome<A, K>>>,
     outside: Vec<Vec<SendPass>>,
+    journal: JournalMode,
 ) -> Result<EndsAndSenders<A, K>, AllocError>
     requires same_gates { pass_id pass ≡ gates_id gates.now }
     requires nothing_done { ((pass_view pass).log ≡ []) × ((pass_view pass).got ≡ []) × ((pass_view pass).obligations ≡ [])
@@ -63,19 +66,20 @@ pub(crate) fn open<A: Actor, K: Behaviours, R: Wait>(
     ensures ports { IfOk result (λ opened. (pool_ends_of opened.ends.items ≡ ends.items) × (pool_feeds_of opened.senders.items ≡ feeds.items)) }
 {
     start(rt, alloc, gates, &mut pass)?;
-    let senders = open_senders(alloc, gates, &mut pass, feeds, outside)?;
+    let senders = open_senders(alloc, gates, &mut pass, feeds, outside, journal)?;
     let mut ends = open_ends(alloc, gates, &mut pass, ends)?;
     give_first(gates, &mut ends, pass);
     Ok(EndsAndSenders { ends, senders })
 }
 
-// The senders outside, each with a pass of its own.
+// The senders outside, each with a pass of its own. Of the dead letters of each as much is kept as a journal of this mode keeps.
 fn open_senders<A: Actor, K: Behaviours>(
     alloc: Global,
     gates: &Gates<BoxedHome<A, K>>,
     pass: &mut Pass<BoxedHome<A, K>>,
     feeds: Vec<Feed<BoxedHome<A, K>>>,
     outside: Vec<Vec<SendPass>>,
+    journal: JournalMode,
 ) -> Result<Vec<Sender<A, K>>, AllocError>
     requires same_gates { (pass_id pass.old ≡ gates_id gates.now) × (actors_of gates.now ≤ 64) }
     requires feeds { All (λ f. gates_of f ≡ Some (origin_of gates.now)) feeds.items }
@@ -92,6 +96,7 @@ fn open_senders<A: Actor, K: Behaviours>(
     let mut senders = Vec::with_capacity(alloc, feeds.len())?;
     let mut outside = outside.into_iter();
     for feed in feeds {
+        let dead = DeadLetters::of_mode(alloc, journal)?;
         let Some(sends) = outside.next() else {
             unreachable!();
         };
@@ -102,7 +107,7 @@ fn open_senders<A: Actor, K: Behaviours>(
             told: Told::none(),
         };
         let by = SenderId(ACTORS + senders.len() as u32);
-        let inner = mb_send::GatesSender::new(alloc, by, registrar, sends);
+        let inner = mb_send::GatesSender::new(alloc, by, registrar, sends, dead);
         senders.push(Sender { inner })?;
     }
     Ok(senders)
@@ -134,7 +139,11 @@ fn open_ends<A: Actor, K: Behaviours>(
             told: Told::none(),
         };
         let number = opened.len() as u32;
-        opened.push(WorkerEnd { number, registrar })?;
+        opened.push(WorkerEnd {
+            number,
+            registrar,
+            taken: Log::new(),
+        })?;
     }
     Ok(opened)
 }

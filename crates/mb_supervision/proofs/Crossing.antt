@@ -7,7 +7,7 @@ use Rattle.mb_msg.proofs.system.SysMsg.TheSendSync as message
 use Rattle.mb_actor.proofs.phase.Phase.TheSendSync as phase
 use Rattle.mb_syslist.proofs.Crossing.{node_send}
 use Rattle.mb_journal.proofs.failed_by.FailedBy.TheSendSync as failed_by
-use Rattle.mb_supervision.proofs.task.Task.TheSendSync as task
+use Rattle.mb_supervision.proofs.queued_act.QueuedAct.TheSendSync as act
 use Rattle.mb_supervision.specs.contracts.act_queue.ActQueue as act_queue
 use Rattle.mb_supervision.specs.contracts.act_queue.ActQueue.TheInside as queue_inside
 use Rattle.mb_supervision.specs.contracts.cell_state.CellState as cell_state
@@ -17,7 +17,7 @@ act_queue_send : IsSend act_queue.the_row
 act_queue_send = view_send _ _ _ _ _ (declared_send queue_inside.the_type (
   search (sendable, heap_send) depth 20,
   (
-    search (sendable, std_crosses, task.the_send) depth 20,
+    search (sendable, std_crosses, act.the_send) depth 20,
     (search sendable, (search (sendable, std_crosses, node_send) depth 20, (search sendable, tt))),
   ),
 ))

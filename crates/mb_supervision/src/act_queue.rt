@@ -1,10 +1,10 @@
 //! The queue of a cell's acts.
 ghost use Rattle.std.specs.Prelude.{◌≡◌, ◌+◌, ◌-◌, ◌<◌, ◌≤◌, ◌^◌, [], ◌∷◌, ◌++◌, length, map, option_to_list, vec_len, IfNone, IsOk, OnOk, OnErr};
 ghost use Rattle.mb_journal.specs.Acts.{to_each};
-ghost use Rattle.mb_supervision.specs.ActQueue.{act_of, task_act};
+ghost use Rattle.mb_supervision.specs.ActQueue.{act_of, queued_act};
 
 use crate::act::Act;
-use crate::task::Task;
+use crate::queued_act::QueuedAct;
 use mb_msg::{ActorId, SysMsg};
 use mb_syslist::Node;
 use std::alloc::{AllocError, Global};
@@ -17,7 +17,7 @@ use std::marker::Model;
 #[derive(Drop)]
 pub(crate) struct ActQueue {
     alloc: Global,
-    tasks: Vec<Task>,
+    queued: Vec<QueuedAct>,
     next: usize,
     nodes: Vec<Node>,
     room: usize,
@@ -29,9 +29,9 @@ impl Model for ActQueue {
 
     ghost Value = { ActQueueView };
 
-    ghost use Rattle.mb_supervision.specs.ActQueue.{task_act, IsActQueue};
+    ghost use Rattle.mb_supervision.specs.ActQueue.{queued_act, IsActQueue};
 
-    ghost view = { λ q. record { acts = map task_act (drop q.next q.tasks.items); room = q.room } };
+    ghost view = { λ q. record { acts = map queued_act (drop q.next q.queued.items); room = q.room } };
 
     ghost invariant = { IsActQueue };
 }
@@ -43,7 +43,7 @@ impl ActQueue {
     {
         ActQueue {
             alloc,
-            tasks: Vec::new(alloc),
+            queued: Vec::new(alloc),
             next: 0,
             nodes: Vec::new(alloc),
             room: 0,
@@ -64,8 +64,8 @@ impl ActQueue {
         if most <= self.room {
             return Ok(());
         }
-        self.tasks.reserve(most)?;
-        let waiting = self.tasks.len() - self.next;
+        self.queued.reserve(most)?;
+        let waiting = self.queued.len() - self.next;
         if self.nodes.len() < waiting + most {
             make_nodes(self.alloc, &mut self.nodes, waiting + most)?;
         }
@@ -73,11 +73,11 @@ impl ActQueue {
         Ok(())
     }
 
-    pub(crate) fn push(&mut self, task: Task)
+    pub(crate) fn push(&mut self, act: QueuedAct)
         requires { 0 < self.old.room }
-        ensures { self.new ≡ record { acts = self.old.acts ++ task_act task ∷ []; room = self.old.room - 1 } }
+        ensures { self.new ≡ record { acts = self.old.acts ++ queued_act act ∷ []; room = self.old.room - 1 } }
     {
-        self.tasks.push_reserved(task);
+        self.queued.push_reserved(act);
         self.room -= 1;
     }
 
@@ -87,7 +87,7 @@ impl ActQueue {
         ensures { self.new ≡ record { acts = self.old.acts ++ to_each message list.now; room = self.old.room - length list.now } }
     {
         for id in list {
-            self.push(Task::Sys(*id, message));
+            self.push(QueuedAct::Sys(*id, message));
         }
     }
 
@@ -106,22 +106,22 @@ impl ActQueue {
         ensures none { IfNone result (self.old.acts ≡ []) }
         ensures room { self.new.room ≡ self.old.room }
     {
-        let task = *self.tasks.get(self.next)?;
+        let act = *self.queued.get(self.next)?;
         self.next += 1;
-        if self.next == self.tasks.len() {
-            self.tasks.clear();
+        if self.next == self.queued.len() {
+            self.queued.clear();
             self.next = 0;
         }
-        let act = match task {
-            Task::Tell(to, body) => Act::Tell(to, body),
-            Task::Sys(to, message) => {
+        let act = match act {
+            QueuedAct::Tell(to, body) => Act::Tell(to, body),
+            QueuedAct::Sys(to, message) => {
                 let mut node = self.nodes.pop().unwrap();
                 node.set(message);
                 Act::Sys(to, node)
             }
-            Task::SuspendSelf => Act::SuspendSelf,
-            Task::ResumeSelf => Act::ResumeSelf,
-            Task::CloseSelf => Act::CloseSelf,
+            QueuedAct::SuspendSelf => Act::SuspendSelf,
+            QueuedAct::ResumeSelf => Act::ResumeSelf,
+            QueuedAct::CloseSelf => Act::CloseSelf,
         };
         Some(act)
     }

@@ -7,7 +7,7 @@ ghost use Rattle.mb_journal.specs.Watching.{watching_after, due_after};
 
 use crate::act_queue::ActQueue;
 use crate::actor_list::{has, join, leave};
-use crate::task::Task;
+use crate::queued_act::QueuedAct;
 use mb_actor::Effect;
 use mb_msg::{ActorId, Body, SysMsg};
 
@@ -45,10 +45,10 @@ pub(crate) fn carry_out_last(effects: &[Effect], acts: &mut ActQueue)
     for effect in effects {
         match *effect {
             Effect::Tell { to, kind, value } => {
-                acts.push(Task::Tell(to, Body::User { kind, value }));
+                acts.push(QueuedAct::Tell(to, Body::User { kind, value }));
             }
             Effect::Control { to, kind, value } => {
-                acts.push(Task::Tell(to, Body::Control { kind, value }));
+                acts.push(QueuedAct::Tell(to, Body::Control { kind, value }));
             }
             _ => {}
         }
@@ -79,19 +79,22 @@ fn carry_out_one(
     ensures watching_capacity { vec_capacity watching.old ≤ vec_capacity watching.new }
 {
     match effect {
-        Effect::Tell { to, kind, value } => acts.push(Task::Tell(to, Body::User { kind, value })),
+        Effect::Tell { to, kind, value } => acts.push(QueuedAct::Tell(
+            to,
+            Body::User { kind, value },
+        )),
         Effect::Control { to, kind, value } => {
-            acts.push(Task::Tell(to, Body::Control { kind, value }));
+            acts.push(QueuedAct::Tell(to, Body::Control { kind, value }));
         }
         Effect::Watch(id) => watch(this, id, acts, watching),
         Effect::Unwatch(id) => {
             unwatch(this, id, acts, watching);
             leave(due, id);
         }
-        Effect::Stop(id) => acts.push(Task::Sys(id, SysMsg::Terminate)),
+        Effect::Stop(id) => acts.push(QueuedAct::Sys(id, SysMsg::Terminate)),
         Effect::Spawn(id) => {
             children.push(id).unwrap();
-            acts.push(Task::Sys(id, SysMsg::Create));
+            acts.push(QueuedAct::Sys(id, SysMsg::Create));
         }
     }
 }
@@ -111,7 +114,7 @@ fn watch(this: ActorId, id: ActorId, acts: &mut ActQueue, watching: &mut Vec<Act
         return;
     }
     join(watching, id);
-    acts.push(Task::Sys(id, SysMsg::Watch(this)));
+    acts.push(QueuedAct::Sys(id, SysMsg::Watch(this)));
 }
 
 /// This actor no longer watches another.
@@ -127,6 +130,6 @@ fn unwatch(this: ActorId, id: ActorId, acts: &mut ActQueue, watching: &mut Vec<A
     let watched = has(watching, id);
     leave(watching, id);
     if watched {
-        acts.push(Task::Sys(id, SysMsg::Unwatch(this)));
+        acts.push(QueuedAct::Sys(id, SysMsg::Unwatch(this)));
     }
 }

@@ -8,7 +8,7 @@ ghost use Rattle.mb_supervision.specs.ActorIdentity.{identity_at};
 use crate::act_queue::ActQueue;
 use crate::effects::carry_out_last;
 use crate::identity::ActorIdentity;
-use crate::task::Task;
+use crate::queued_act::QueuedAct;
 use mb_actor::Effect;
 use mb_msg::{ActorId, SysMsg};
 
@@ -24,12 +24,12 @@ pub(crate) fn end(
     ensures acts { acts.new.acts ≡ acts.old.acts ++ end_acts (identity_at place.now) watchers.now effects.now }
 {
     carry_out_last(effects, acts);
-    acts.push(Task::CloseSelf);
+    acts.push(QueuedAct::CloseSelf);
     let died = SysMsg::Died(place.this);
     match place.parent {
         None => acts.push_each(died, watchers),
         Some(parent) => {
-            acts.push(Task::Sys(parent, died));
+            acts.push(QueuedAct::Sys(parent, died));
             tell_all_but(parent, died, watchers, acts);
         }
     }
@@ -42,7 +42,7 @@ fn tell_all_but(parent: ActorId, message: SysMsg, watchers: &[ActorId], acts: &m
 {
     for watcher in watchers {
         if parent.0 != watcher.0 {
-            acts.push(Task::Sys(*watcher, message));
+            acts.push(QueuedAct::Sys(*watcher, message));
         }
     }
 }

@@ -9,7 +9,7 @@ ghost use Rattle.mb_supervision.specs.ActorIdentity.{identity_at};
 use crate::act_queue::ActQueue;
 use crate::actor_list::has;
 use crate::identity::ActorIdentity;
-use crate::task::Task;
+use crate::queued_act::QueuedAct;
 use mb_journal::FailedBy;
 use mb_msg::{ActorId, Cause, SysMsg};
 
@@ -36,7 +36,7 @@ pub(crate) fn fail(
     };
     *failed = by;
     *count += 1;
-    acts.push(Task::SuspendSelf);
+    acts.push(QueuedAct::SuspendSelf);
     suspend_all_but(except, children, acts);
     report_failure(place, cause, acts);
 }
@@ -49,7 +49,7 @@ fn suspend_all_but(except: &[ActorId], children: &[ActorId], acts: &mut ActQueue
 {
     for child in children {
         if !has(except, *child) {
-            acts.push(Task::Sys(*child, SysMsg::Suspend));
+            acts.push(QueuedAct::Sys(*child, SysMsg::Suspend));
         }
     }
 }
@@ -60,7 +60,7 @@ fn report_failure(place: &ActorIdentity, cause: Cause, acts: &mut ActQueue)
     ensures acts { acts.new.acts ≡ acts.old.acts ++ report (identity_at place.now) cause ∷ [] }
 {
     match place.parent {
-        Some(parent) => acts.push(Task::Sys(parent, SysMsg::Failed(place.this, cause))),
-        None => acts.push(Task::Sys(place.this, SysMsg::Terminate)),
+        Some(parent) => acts.push(QueuedAct::Sys(parent, SysMsg::Failed(place.this, cause))),
+        None => acts.push(QueuedAct::Sys(place.this, SysMsg::Terminate)),
     }
 }

@@ -13,8 +13,8 @@ mod effects;
 mod end;
 mod fail;
 mod identity;
+mod queued_act;
 mod retries;
-mod task;
 
 pub use act::Act;
 pub use cell_state::CellState;

@@ -14,6 +14,7 @@ use Rattle.mb_actor.specs.declared.actor.Actor as actor
 use Rattle.mb_actor.specs.declared.behaviours.Behaviours as behaviours
 use Rattle.mb_gate.specs.contracts.mailbox_state.BoxMailboxState.TheImpl as box_state
 use Rattle.mb_gate.specs.declared.mailbox_state.MailboxState as mailbox_state
+use Rattle.mb_ghost.proofs.Crossing.{log_send}
 use Rattle.mb_gate.proofs.Crossing.{gates_sync}
 use Rattle.mb_home.specs.contracts.home.Home as home
 use Rattle.mb_home.specs.contracts.home.mailbox_state.HomeMailboxState.TheImpl as home_state
@@ -55,7 +56,7 @@ module _ (A K : RattleType) (gA : actor.Ghosts A.Denot) (gK : behaviours.Ghosts 
     (
       registrar_send (ThePlace A K gA gK) (worker_port.the_row (ThePlace A K gA gK) (place_ghosts A K gA gK)) place_send
           (worker_port_send (ThePlace A K gA gK) (place_ghosts A K gA gK) place_send),
-      tt,
+      (search (sendable, log_send) depth 20, tt),
     ),
   )
 

@@ -54,6 +54,10 @@ pub none-still : {X : Type 0} (A B : Type 0) (r : Option X) → (A → B) → If
 none-still A B None f h = f h
 none-still A B (Some x) f h = tt
 
+pub none-with : {X : Type 0} (A B C : Type 0) (r : Option X) → (A → B → C) → IfNone r A → IfNone r B → IfNone r C
+none-with A B C None f g h = f g h
+none-with A B C (Some x) f g h = tt
+
 -- it was looked at nobody, at one actor more, at some of a set, or at one after another
 pub only-none : (v : View) → OnlyLooks v v
 only-none = among-none (λ id. true)

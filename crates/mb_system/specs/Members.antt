@@ -2,6 +2,7 @@
 use Rattle.std.specs.Prelude.{◌≡◌, ℕ, ◌+◌, ◌<◌, false, List, All, drop, map, vec_len}
 use Rattle.std.specs.Global.{Box}
 use Rattle.std.specs.List.{AllZip}
+use Rattle.mb_gate.specs.declared.claim.Claim.{Claim}
 use Rattle.mb_gate.specs.declared.gates.Gates.{Gates}
 use Rattle.mb_gate.specs.Accessors.{actors_of, first_home, pass_view}
 use Rattle.mb_gate.specs.Rule.{IsPart}
@@ -41,6 +42,10 @@ sender_caller registrar = caller_of (λ (run_queue : FeedPort (Box Contents)). p
     (λ (run_queue : FeedPort (Box Contents)). map (λ claim. claim.value) run_queue.refused) registrar
 
 module _ {A K : Type 0} where
+  -- The claims that the end took, in order.
+  abbrev pub claims_taken : WorkerEnd A K → List (Claim (Box Contents))
+  claims_taken end = map (λ claim. claim.value) end.taken
+
   -- The numbers of these ends.
   abbrev pub ends_numbers : List (WorkerEnd A K) → List ℕ
   ends_numbers = map (λ (e : WorkerEnd A K). e.number)

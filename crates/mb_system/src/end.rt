@@ -1,5 +1,5 @@
 //! The end of a worker in a system.
-ghost use Rattle.std.specs.Prelude.{◌≡◌, ◌<◌, ℕ, [], false, true, All, IfNone, IfSome, IsErrOf, MatchResult, OnErr, OnOk};
+ghost use Rattle.std.specs.Prelude.{◌≡◌, ◌<◌, ◌++◌, ℕ, [], false, true, All, IfNone, IfSome, IsErrOf, MatchResult, OnErr, OnOk, map, option_to_list};
 ghost use Rattle.mb_core.specs.Actor.{nothing};
 ghost use Rattle.mb_gate.specs.Accessors.{actors_of, pass_view};
 ghost use Rattle.mb_gate.specs.Rule.{IsPart};
@@ -15,19 +15,21 @@ ghost use Rattle.mb_register.specs.Views.{LooksAfter};
 ghost use Rattle.mb_register.specs.Registering.{HandsClaimOn, IsRegistered, LosesNoClaim, StopsAt};
 ghost use Rattle.mb_register.specs.declared.hint.Hint.TheVariants as hint;
 ghost use Rattle.mb_system.specs.Obligations.{AreDischargedOrOwed, KeepsObligations};
-ghost use Rattle.mb_system.specs.Members.{end_caller, IsEndOf};
+ghost use Rattle.mb_system.specs.Members.{claims_taken, end_caller, IsEndOf};
 ghost use Rattle.mb_system.specs.OnlyLooks.{OnlyLooks};
 ghost use Rattle.mb_system.specs.Registered.{AreRegistered};
 
 use crate::failure::RunError;
-use crate::parting::pass_of;
+use crate::kept_parts::pass_of;
 use crate::system::System;
 use mb_actor::{Actor, Behaviours};
-use mb_gate::{Claim, Pass};
+use mb_gate::{Claim, MailboxState, Pass};
+use mb_ghost::Log;
 use mb_home::BoxedHome;
 use mb_msg::ActorId;
 use mb_pool::WorkerPort;
 use mb_register::{Hint, Registrar};
+use std::snapshot::Snapshot;
 use std::sync::Wait;
 
 /// The end of a worker in a system: its port of the run queue, what it knows of the actors, and to which actors it owes a look.
@@ -37,6 +39,8 @@ pub struct WorkerEnd<A: Actor, K: Behaviours> {
     pub number: u32,
     /// What it knows of the actors, its port of the run queue, and the actors to which it owes a look.
     pub registrar: Registrar<BoxedHome<A, K>, WorkerPort<BoxedHome<A, K>>>,
+    /// The claims that it took out of its port, in order, for proofs alone.
+    pub taken: Log<Snapshot<Claim<BoxedHome<A, K>>>>,
 }
 
 impl<A: Actor, K: Behaviours> Drop for WorkerEnd<A, K> {
@@ -53,6 +57,7 @@ impl<A: Actor, K: Behaviours> WorkerEnd<A, K> {
         let WorkerEnd {
             number: _,
             registrar,
+            taken: _,
         } = self;
         pass_of(registrar)
     }
@@ -81,6 +86,7 @@ impl<A: Actor, K: Behaviours> WorkerEnd<A, K> {
         ensures due { GotOnlyDue hint (pass_view self.old.registrar.pass) (pass_view self.new.registrar.pass) }
         ensures leaves { LeavesCaller (end_caller self.old.registrar) (end_caller self.new.registrar) }
         ensures number { self.new.number ≡ self.old.number }
+        ensures log { self.new.taken ≡ self.old.taken }
     {
         self.registrar.register(rt, &system.gates, id, hint, false)
     }
@@ -97,6 +103,7 @@ impl<A: Actor, K: Behaviours> WorkerEnd<A, K> {
         ensures log_kept { IsPart (pass_view self.old.registrar.pass).log (pass_view self.new.registrar.pass).log }
         ensures registered { AreRegistered (end_caller self.old.registrar) (actors_of system.now.gates) (end_caller self.new.registrar) }
         ensures due { GotOnlyDue hint.None (pass_view self.old.registrar.pass) (pass_view self.new.registrar.pass) }
+        ensures log { self.new.taken ≡ self.old.taken }
     {
         for number in 0..system.gates.actors() {
             self.register(rt, system, ActorId(number as u16), Hint::None);
@@ -114,8 +121,12 @@ impl<A: Actor, K: Behaviours> WorkerEnd<A, K> {
             × All (WasEmpty (IsFreshClaim K.gives)) (ports_of self.old.registrar.run_queue.end)) }
         ensures same { (self.new.registrar.pass ≡ self.old.registrar.pass) × (self.new.registrar.owed ≡ self.old.registrar.owed)
             × (gates_of self.new.registrar.run_queue.end ≡ gates_of self.old.registrar.run_queue.end) × (self.new.number ≡ self.old.number) }
+        ensures log { claims_taken self.new ≡ claims_taken self.old ++ option_to_list result }
+        ensures account { (end_caller self.new.registrar).account ≡ (end_caller self.old.registrar).account }
     {
-        self.registrar.run_queue.take(rt)
+        let next = self.registrar.run_queue.take(rt);
+        note_taken(&mut self.taken, &next);
+        next
     }
 
     /// Takes the claim that its port keeps, or else the claim of an actor out of the pool by one attempt, as it was pushed, and no
@@ -128,8 +139,12 @@ impl<A: Actor, K: Behaviours> WorkerEnd<A, K> {
         ensures none { IfNone result ((self.new ≡ self.old) × (self.old.registrar.run_queue.next ≡ [])) }
         ensures same { (self.new.registrar.pass ≡ self.old.registrar.pass) × (self.new.registrar.owed ≡ self.old.registrar.owed)
             × (gates_of self.new.registrar.run_queue.end ≡ gates_of self.old.registrar.run_queue.end) × (self.new.number ≡ self.old.number) }
+        ensures log { claims_taken self.new ≡ claims_taken self.old ++ option_to_list result }
+        ensures account { (end_caller self.new.registrar).account ≡ (end_caller self.old.registrar).account }
     {
-        self.registrar.run_queue.try_take()
+        let next = self.registrar.run_queue.try_take();
+        note_taken(&mut self.taken, &next);
+        next
     }
 
     /// Registers each actor again to which the end owes a look.
@@ -153,8 +168,20 @@ impl<A: Actor, K: Behaviours> WorkerEnd<A, K> {
         ensures handed { LosesNoClaim (end_caller self.old.registrar).account (end_caller self.new.registrar).account
             (pass_view self.old.registrar.pass) (pass_view self.new.registrar.pass) }
         ensures due { GotOnlyDue hint.None (pass_view self.old.registrar.pass) (pass_view self.new.registrar.pass) }
+        ensures log { self.new.taken ≡ self.old.taken }
     {
         self.registrar.retry_refused(rt, &system.gates)?;
         Ok(())
+    }
+}
+
+// For proofs alone: adds the claim that was taken, if there is one.
+#[inline(always)]
+fn note_taken<H: MailboxState>(taken: &mut Log<Snapshot<Claim<H>>>, next: &Option<Claim<H>>)
+    ensures log { map (λ claim. claim.value) taken.new ≡ map (λ claim. claim.value) taken.old ++ option_to_list next.now }
+    ensures none { IfNone next.now (taken.new ≡ taken.old) }
+{
+    if let Some(claim) = next {
+        taken.add(Snapshot::of(claim));
     }
 }

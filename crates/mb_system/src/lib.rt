@@ -8,7 +8,7 @@
 mod built;
 mod end;
 mod failure;
-mod parting;
+mod kept_parts;
 mod run_activity;
 mod sender;
 mod system;

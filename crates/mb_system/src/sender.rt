@@ -19,7 +19,7 @@ ghost use Rattle.mb_system.specs.OnlyLooks.{OnlyLooks};
 ghost use Rattle.mb_register.specs.Views.{GivesBackUnchanged};
 
 use crate::failure::RunError;
-use crate::parting::parts_of;
+use crate::kept_parts::parts_of;
 use crate::system::System;
 use mb_actor::{Actor, Behaviours};
 use mb_gate::Pass;
@@ -27,7 +27,7 @@ use mb_home::BoxedHome;
 use mb_msg::{ActorId, Payload};
 use mb_pool::FeedPort;
 use mb_queue::SendPass;
-use mb_send::{Look, Put, SendError, SendLog, Ticket};
+use mb_send::{Look, SendError, SendLog, SendOutcome, Ticket};
 use std::sync::Wait;
 
 /// A sender outside the actors of a system. A thread of its own may have it.
@@ -74,14 +74,14 @@ impl<A: Actor, K: Behaviours> Sender<A, K> {
     ///
     /// It answers `NoMemory` if there was no room for the dead letter that it might become, or if the sender's last number is
     /// used up: then nothing is sent, and no number is used. It owes a new look only to the receiver, and only if the run queue
-    /// refused its claim.
+    /// refused its claim. No claim is lost.
     pub fn put<R: Wait>(
         &mut self,
         rt: &R,
         system: &System<A, K>,
         ticket: Ticket,
         payload: Payload,
-    ) -> Result<Put, SendError>
+    ) -> Result<SendOutcome, SendError>
         requires same_gates { IsSenderOf system.now.gates self.old.inner }
         requires present { (0 < (receiver_of ticket).0) × ((receiver_of ticket).0 < actors_of system.now.gates) }
         ensures same_gates { IsSenderOf system.now.gates self.new.inner }
@@ -95,6 +95,8 @@ impl<A: Actor, K: Behaviours> Sender<A, K> {
             ⊎ (is_owed self.new.inner.registrar.owed (receiver_of ticket).0 ≡ true)) }
         ensures still { (id : ℕ) → is_owed self.old.inner.registrar.owed id ≡ true → is_owed self.new.inner.registrar.owed id ≡ true }
         ensures registered { RegistersAtMost (receiver_of ticket).0 (sender_caller self.old.inner.registrar).account (sender_caller self.new.inner.registrar).account }
+        ensures handed { LosesNoClaim (sender_caller self.old.inner.registrar).account (sender_caller self.new.inner.registrar).account
+            (pass_view self.old.inner.registrar.pass) (pass_view self.new.inner.registrar.pass) }
     {
         self.inner.put(rt, &system.gates, ticket, payload)
     }
@@ -103,7 +105,8 @@ impl<A: Actor, K: Behaviours> Sender<A, K> {
     /// letter.
     ///
     /// It answers `NoSuchActor` as a look does, and else `NoMemory` as a put does: then nothing is sent, and no number is used,
-    /// but what was seen stays seen. It owes a new look only to the receiver, and only if the run queue refused its claim.
+    /// but what was seen stays seen. It owes a new look only to the receiver, and only if the run queue refused its claim. No claim
+    /// is lost.
     #[inline(always)]
     pub fn tell<R: Wait>(
         &mut self,
@@ -111,7 +114,7 @@ impl<A: Actor, K: Behaviours> Sender<A, K> {
         system: &System<A, K>,
         to: ActorId,
         payload: Payload,
-    ) -> Result<Put, SendError>
+    ) -> Result<SendOutcome, SendError>
         requires same_gates { IsSenderOf system.now.gates self.old.inner }
         ensures same_gates { IsSenderOf system.now.gates self.new.inner }
         ensures same_sender { self.new.inner.send_log.by ≡ self.old.inner.send_log.by }
@@ -127,6 +130,8 @@ impl<A: Actor, K: Behaviours> Sender<A, K> {
             ⊎ (is_owed self.new.inner.registrar.owed to.0 ≡ true)) }
         ensures still { (id : ℕ) → is_owed self.old.inner.registrar.owed id ≡ true → is_owed self.new.inner.registrar.owed id ≡ true }
         ensures registered { RegistersAtMost to.0 (sender_caller self.old.inner.registrar).account (sender_caller self.new.inner.registrar).account }
+        ensures handed { LosesNoClaim (sender_caller self.old.inner.registrar).account (sender_caller self.new.inner.registrar).account
+            (pass_view self.old.inner.registrar.pass) (pass_view self.new.inner.registrar.pass) }
     {
         self.inner.tell(rt, &system.gates, to, payload)
     }
@@ -135,7 +140,7 @@ impl<A: Actor, K: Behaviours> Sender<A, K> {
     /// is ended: then the message went nowhere.
     ///
     /// It answers `NoSuchActor` for a number that no actor has, and else `NoMemory` if memory was refused: then nothing has
-    /// changed. It owes a new look only to this actor, and only if the run queue refused its claim.
+    /// changed. It owes a new look only to this actor, and only if the run queue refused its claim. No claim is lost.
     pub fn stop<R: Wait>(
         &mut self,
         rt: &R,
@@ -153,6 +158,8 @@ impl<A: Actor, K: Behaviours> Sender<A, K> {
             ⊎ (is_owed self.new.inner.registrar.owed id.0 ≡ true)) }
         ensures still { (other : ℕ) → is_owed self.old.inner.registrar.owed other ≡ true → is_owed self.new.inner.registrar.owed other ≡ true }
         ensures registered { RegistersAtMost id.0 (sender_caller self.old.inner.registrar).account (sender_caller self.new.inner.registrar).account }
+        ensures handed { LosesNoClaim (sender_caller self.old.inner.registrar).account (sender_caller self.new.inner.registrar).account
+            (pass_view self.old.inner.registrar.pass) (pass_view self.new.inner.registrar.pass) }
     {
         self.inner.stop(rt, &system.gates, id)
     }

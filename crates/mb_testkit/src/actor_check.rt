@@ -170,7 +170,7 @@ fn is_rest_right(actor: &ActorReport) -> bool {
     if actor.phase == Phase::Ended {
         return actor.count == 0 && actor.aside.is_empty();
     }
-    actor.cleaned.is_empty()
+    actor.cleaned.len() == 0
         && actor.dead_system == 0
         && (actor.count > 0 || (actor.left.is_empty() && actor.aside.is_empty()))
 }

@@ -3,7 +3,7 @@ ghost use Rattle.std.specs.Prelude.{◌≡◌, ◌<◌, Some, IfSome};
 ghost use Rattle.mb_gate.specs.Accessors.{gates_id, pass_id, actors_of};
 ghost use Rattle.mb_gate.specs.Untouched.{origin_of, IsUntouched};
 
-use mb_gate::{Claim, Gates, MailboxState, Pass, Tried};
+use mb_gate::{Claim, Gates, MailboxState, Pass, ScheduleOutcome};
 use mb_msg::ActorId;
 
 /// Tries to schedule the actor: its claim, where that succeeds.
@@ -19,8 +19,8 @@ pub fn attempt<H: MailboxState>(
         (IsUntouched H.is_of H.facts (Some (origin_of gates.now))) }
 {
     match gates.try_schedule(pass, id) {
-        Tried::Got(claim) => Some(claim),
-        Tried::Already | Tried::Closed | Tried::Lost(_) => None,
+        ScheduleOutcome::Got(claim) => Some(claim),
+        ScheduleOutcome::Already | ScheduleOutcome::Closed | ScheduleOutcome::Lost(_) => None,
     }
 }
 

@@ -3,7 +3,9 @@
 use crate::actor_check::has_ended;
 use crate::sent::{Sent, all_sent};
 use mb_journal::Received;
-use mb_msg::{ActorId, Body, DeadLetter, Envelope, MailboxType, Order, Plan, SenderId, Why};
+use mb_msg::{
+    ActorId, Body, DeadLetter, DeadLetterReason, Envelope, MailboxType, Order, Plan, SenderId,
+};
 use mb_report::{ActorReport, Report};
 use std::alloc::{AllocError, Global};
 
@@ -38,7 +40,7 @@ fn are_senders_right(report: &Report, plan: &Plan, all: &[Sent]) -> bool {
     }
     for (sender, sent) in report.senders.iter().zip(all) {
         if sender.sent != sent.envelopes.len() as u64
-            || !are_letters_right(report, plan, sent.by, &sender.dead)
+            || !are_letters_right(report, plan, sent.by, sender.dead.kept())
         {
             return false;
         }
@@ -61,9 +63,9 @@ fn are_letters_right(report: &Report, plan: &Plan, by: SenderId, dead: &[DeadLet
 fn is_dead_for_a_reason(report: &Report, plan: &Plan, letter: &DeadLetter) -> bool {
     let to = letter.envelope.to;
     match letter.why {
-        Why::Closed => has_ended(report, to),
-        Why::Full => matches!(mailbox_of(plan, to), Some(MailboxType::Bounded(_))),
-        Why::NoMemory | Why::Cleaned => false,
+        DeadLetterReason::Closed => has_ended(report, to),
+        DeadLetterReason::Full => matches!(mailbox_of(plan, to), Some(MailboxType::Bounded(_))),
+        DeadLetterReason::NoMemory | DeadLetterReason::Cleaned => false,
     }
 }
 
@@ -125,7 +127,7 @@ fn push_fates_of(fates: &mut Vec<Envelope>, actor: &ActorReport) -> Result<(), A
             fates.push(envelope)?;
         }
     }
-    fates.extend_from_slice(&actor.cleaned)?;
+    fates.extend_from_slice(actor.cleaned.kept())?;
     fates.extend_from_slice(&actor.left)
 }
 
@@ -199,7 +201,7 @@ fn push_fates(stood: &mut Vec<Envelope>, report: &Report) -> Result<(), AllocErr
 
 fn push_dead(stood: &mut Vec<Envelope>, report: &Report) -> Result<(), AllocError> {
     for sender in &report.senders {
-        for letter in &sender.dead {
+        for letter in sender.dead.kept() {
             stood.push(letter.envelope)?;
         }
     }

@@ -2,7 +2,7 @@
 use Rattle.std.specs.Prelude.{ℕ, ◌+◌, if◌then◌else◌, Bool, true, false, List, [], ◌∷◌, ◌++◌}
 use Rattle.std.specs.List.{flat_map}
 use Rattle.mb_msg.specs.declared.dead_letter.DeadLetter.{DeadLetter}
-use Rattle.mb_msg.specs.declared.dead_letter.Why.TheVariants.{Cleaned}
+use Rattle.mb_msg.specs.declared.dead_letter.DeadLetterReason.TheVariants.{Cleaned}
 use Rattle.mb_msg.specs.declared.envelope.Envelope.{Envelope}
 use Rattle.mb_msg.specs.declared.system.SysMsg.{SysMsg}
 use Rattle.mb_report.specs.declared.report.ActorReport.{ActorReport}
@@ -30,14 +30,14 @@ shows_system_messages _ = false
 abbrev pub where_shown : Filter → ℕ → List ℕ → List ℕ
 where_shown f actor lines = if shows_actor f.actors.now actor then lines else []
 
--- the envelopes of a sender that were refused
+-- the envelopes of a sender that were refused, as far as they are kept
 abbrev pub refused_text : List (List ℕ) → Filter → SenderReport → List ℕ
 refused_text names f sender =
-    flat_map (λ (d : DeadLetter). where_shown f d.envelope.to.0 (letter_text names d.envelope d.why)) sender.dead.items
+    flat_map (λ (d : DeadLetter). where_shown f d.envelope.to.0 (letter_text names d.envelope d.why)) sender.dead.kept
 
--- those that were still queued when the actor ended
+-- those that were still queued when the actor ended, as far as they are kept
 abbrev pub cleaned_text : List (List ℕ) → Filter → ActorReport → List ℕ
-cleaned_text names f reported = flat_map (λ (e : Envelope). where_shown f e.to.0 (letter_text names e Cleaned)) reported.cleaned.items
+cleaned_text names f reported = flat_map (λ (e : Envelope). where_shown f e.to.0 (letter_text names e Cleaned)) reported.cleaned.kept
 
 -- those that are left in its queue
 abbrev pub queued_text : List (List ℕ) → Filter → ActorReport → List ℕ

@@ -3,7 +3,7 @@ ghost use Rattle.std.specs.Prelude.{◌≡◌, Some, map, string_bytes};
 ghost use Rattle.mb_trace.specs.Ends.{addressed_text, aside_text, letter_text, left_text, why_text};
 
 use crate::words::{EnvelopeWords, SystemWords, name_of};
-use mb_msg::{ActorId, Envelope, SysMsg, Why};
+use mb_msg::{ActorId, DeadLetterReason, Envelope, SysMsg};
 use std::fmt;
 
 /// An envelope, and for whom it was.
@@ -31,7 +31,7 @@ impl fmt::Display for Addressed<'_> {
 pub(crate) struct LetterLine<'a> {
     pub(crate) names: &'a [String],
     pub(crate) envelope: Envelope,
-    pub(crate) why: Why,
+    pub(crate) why: DeadLetterReason,
 }
 
 impl fmt::Display for LetterLine<'_> {
@@ -47,14 +47,14 @@ impl fmt::Display for LetterLine<'_> {
 }
 
 /// The word for why an envelope is dead.
-fn reason(why: Why) -> &'static str
+fn reason(why: DeadLetterReason) -> &'static str
     ensures { result.now ≡ why_text why }
 {
     match why {
-        Why::Closed => "closed",
-        Why::Full => "full",
-        Why::NoMemory => "no memory",
-        Why::Cleaned => "cleaned",
+        DeadLetterReason::Closed => "closed",
+        DeadLetterReason::Full => "full",
+        DeadLetterReason::NoMemory => "no memory",
+        DeadLetterReason::Cleaned => "cleaned",
     }
 }
 

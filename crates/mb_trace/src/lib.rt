@@ -23,7 +23,6 @@ mod on_threads;
 mod output;
 mod parts;
 mod quiet;
-mod rest;
 mod rules;
 mod standing;
 mod state;
@@ -33,6 +32,7 @@ mod suspensions;
 mod text;
 mod title_line;
 mod trace;
+mod undelivered;
 mod words;
 
 pub use coverage::cover_journals;

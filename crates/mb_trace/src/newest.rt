@@ -9,7 +9,7 @@ use crate::error::TraceError;
 use crate::filter::{EntryKinds, Filter, is_of};
 use crate::output::{write_lines, write_whole};
 use crate::parts::write_title;
-use crate::rest::write_rest;
+use crate::undelivered::write_rest;
 use mb_journal::{EntryRef, Journal};
 use mb_msg::ActorId;
 use mb_report::{ActorReport, Report};

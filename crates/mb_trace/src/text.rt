@@ -7,8 +7,8 @@ use crate::error::TraceError;
 use crate::filter::Filter;
 use crate::on_threads::write_on_threads;
 use crate::quiet::write_quiet;
-use crate::rest::write_rest;
 use crate::trace::Trace;
+use crate::undelivered::write_rest;
 use std::alloc::Global;
 use std::io::Write;
 

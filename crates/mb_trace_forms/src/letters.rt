@@ -6,7 +6,7 @@ ghost use Rattle.mb_report.specs.declared.report.SenderReport.{SenderReport as S
 ghost use Rattle.mb_trace_forms.specs.Letters.{all_letters, cleaned, letters_in, refused};
 
 use crate::kinds::shows_envelopes;
-use mb_msg::{DeadLetter, Envelope, Why};
+use mb_msg::{DeadLetter, DeadLetterReason, Envelope};
 use mb_report::{ActorReport, Report, SenderReport};
 use mb_trace::Filter;
 use std::alloc::{AllocError, Global};
@@ -44,11 +44,11 @@ fn refused_of(
     filter: &Filter<'_>,
     senders: &[SenderReport],
 ) -> Result<Vec<DeadLetter>, AllocError>
-    ensures { IfOk result (λ letters. letters.items ≡ flat_map (λ (s : Sent). refused filter.now s.dead.items) senders.now) }
+    ensures { IfOk result (λ letters. letters.items ≡ flat_map (λ (s : Sent). refused filter.now s.dead.kept) senders.now) }
 {
     let mut letters = Vec::new(alloc);
     for sender in senders {
-        add_refused(&mut letters, filter, &sender.dead)?;
+        add_refused(&mut letters, filter, sender.dead.kept())?;
     }
     Ok(letters)
 }
@@ -59,10 +59,10 @@ fn add_all_cleaned(
     filter: &Filter<'_>,
     actors: &[ActorReport],
 ) -> Result<(), AllocError>
-    ensures { OnOk result (letters.new.items ≡ letters.old.items ++ flat_map (λ (r : Reported). cleaned filter.now r.cleaned.items) actors.now) }
+    ensures { OnOk result (letters.new.items ≡ letters.old.items ++ flat_map (λ (r : Reported). cleaned filter.now r.cleaned.kept) actors.now) }
 {
     for actor in actors {
-        add_cleaned(letters, filter, &actor.cleaned)?;
+        add_cleaned(letters, filter, actor.cleaned.kept())?;
     }
     Ok(())
 }
@@ -95,7 +95,7 @@ fn add_cleaned(
         if filter.has_actor(envelope.to.0) {
             letters.push(DeadLetter {
                 envelope: *envelope,
-                why: Why::Cleaned,
+                why: DeadLetterReason::Cleaned,
             })?;
         }
     }

@@ -2,8 +2,8 @@
 use Rattle.std.specs.Prelude.{ℕ, List, codes}
 use Rattle.serde_json.specs.Data.{Data, number, string, object, unsigned, member, no_members}
 use Rattle.mb_msg.specs.declared.dead_letter.DeadLetter.{DeadLetter}
-use Rattle.mb_msg.specs.declared.dead_letter.Why.{Why}
-use Rattle.mb_msg.specs.declared.dead_letter.Why.TheVariants as why
+use Rattle.mb_msg.specs.declared.dead_letter.DeadLetterReason.{DeadLetterReason}
+use Rattle.mb_msg.specs.declared.dead_letter.DeadLetterReason.TheVariants as why
 use Rattle.mb_msg.specs.declared.envelope.Envelope.{Envelope}
 use Rattle.mb_msg.specs.declared.system.SysMsg.{SysMsg}
 use Rattle.mb_trace_json.specs.Messages.{body_data, system_data}
@@ -11,7 +11,7 @@ use Rattle.mb_trace_json.specs.Names.{name_data}
 use Rattle.mb_trace_json.specs.Version.{version_data}
 
 -- Why an envelope is dead.
-abbrev pub why_text : Why → List ℕ
+abbrev pub why_text : DeadLetterReason → List ℕ
 why_text why.Closed = codes "closed"
 why_text why.Full = codes "full"
 why_text why.NoMemory = codes "no memory"

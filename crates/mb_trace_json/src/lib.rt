@@ -9,8 +9,8 @@ mod entry;
 mod line;
 mod message;
 mod names;
-mod rest;
 mod standing;
+mod undelivered;
 mod version;
 
 pub use line::{dead_letter_line, entry_line, left_line, set_aside_line};

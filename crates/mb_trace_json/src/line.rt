@@ -11,7 +11,7 @@ ghost use Rattle.mb_trace_json.specs.Rest.{aside_data, left_data, letter_data};
 ghost use Rattle.mb_trace_json.specs.Telling.{TellsEntry};
 
 use crate::entry::{Place, entry_value};
-use crate::rest::{dead_letter_value, left_value, set_aside_value};
+use crate::undelivered::{dead_letter_value, left_value, set_aside_value};
 use mb_journal::EntryRef;
 use mb_msg::{ActorId, DeadLetter, Envelope, SysMsg};
 use mb_trace::Standing;

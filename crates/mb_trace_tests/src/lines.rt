@@ -2,7 +2,7 @@
 use crate::made::{envelope, live, names};
 use mb_actor::{Answer, Effect, Phase};
 use mb_journal::{EntryRef, Received};
-use mb_msg::{ActorId, Body, Cause, DeadLetter, SysMsg, Why};
+use mb_msg::{ActorId, Body, Cause, DeadLetter, DeadLetterReason, SysMsg};
 use mb_trace::Standing;
 use mb_trace_json::{dead_letter_line, entry_line, left_line, set_aside_line};
 use std::alloc::AllocError;
@@ -150,7 +150,7 @@ fn the_rest_has_its_lines(rt: HostRuntime) -> Result<(), Fail> {
     let kill = envelope(2, 8, Body::Kill);
     let letter = DeadLetter {
         envelope: kill,
-        why: Why::NoMemory,
+        why: DeadLetterReason::NoMemory,
     };
     let line = dead_letter_line(rt.alloc(), &names, &letter)?;
     assert!(rt;

@@ -2,9 +2,12 @@
 ghost use Rattle.std.specs.Prelude.{◌≡◌, ◌≤◌, IfSome, length};
 
 use mb_actor::{Answer, Effect, Phase};
+use mb_dead_letters::{DeadLetters, KeptList};
 use mb_diagram::PictureEntry;
 use mb_journal::Journal;
-use mb_msg::{ActorId, Body, Cause, DeadLetter, Envelope, JournalMode, SenderId, SysMsg, Why};
+use mb_msg::{
+    ActorId, Body, Cause, DeadLetter, DeadLetterReason, Envelope, JournalMode, SenderId, SysMsg,
+};
 use mb_report::{ActorReport, Report, SenderReport};
 use mb_trace::Standing;
 use std::alloc::Global;
@@ -41,7 +44,7 @@ fn actor(alloc: Global, phase: Phase, state: Option<i64>, journal: Journal) -> A
         journal,
         aside: Vec::new(alloc),
         left: Vec::new(alloc),
-        cleaned: Vec::new(alloc),
+        cleaned: KeptList::keeping_all(alloc),
         dead_system: 0,
     }
 }
@@ -93,7 +96,8 @@ fn third(alloc: Global) -> Option<ActorReport> {
     journal.ready().ok()?;
     journal.push_system(1, SysMsg::Terminate, None, &[]);
     let mut actor = actor(alloc, Phase::Ended, Some(0), journal);
-    actor.cleaned.push(user(3, 1_005)).ok()?;
+    actor.cleaned.reserve(1).ok()?;
+    actor.cleaned.push(user(3, 1_005));
     Some(actor)
 }
 
@@ -109,15 +113,15 @@ pub fn names(alloc: Global) -> Option<Vec<String>> {
 pub fn letters(alloc: Global) -> Option<Vec<DeadLetter>> {
     let first = DeadLetter {
         envelope: user(3, 1_006),
-        why: Why::Closed,
+        why: DeadLetterReason::Closed,
     };
     let second = DeadLetter {
         envelope: user(3, 1_007),
-        why: Why::Closed,
+        why: DeadLetterReason::Closed,
     };
     let third = DeadLetter {
         envelope: user(3, 1_005),
-        why: Why::Cleaned,
+        why: DeadLetterReason::Cleaned,
     };
     vec![in alloc; first, second, third].ok()
 }
@@ -137,7 +141,7 @@ pub fn report(alloc: Global) -> Option<Report> {
 }
 
 fn senders(alloc: Global) -> Option<Vec<SenderReport>> {
-    let dead = Vec::new(alloc);
+    let dead = DeadLetters::keeping_all(alloc);
     vec![in alloc; SenderReport { sent: 1_008, dead }].ok()
 }
 

@@ -1,6 +1,7 @@
 //! The merged order of journals that were made by hand. What is wanted was found by hand too.
 use mb_actor::{Answer, Effect, Phase};
 use mb_causal_order::{Place, merged_order};
+use mb_dead_letters::KeptList;
 use mb_journal::Journal;
 use mb_msg::{
     ActorId, ActorPlan, Body, Envelope, JournalMode, MailboxType, Order, OrderKind, Plan, PoolKind,
@@ -58,7 +59,7 @@ fn actor_with(alloc: Global, mode: JournalMode, came: &[Came<'_>]) -> Option<Act
         journal,
         aside: Vec::new(alloc),
         left: Vec::new(alloc),
-        cleaned: Vec::new(alloc),
+        cleaned: KeptList::keeping_all(alloc),
         dead_system: 0,
     })
 }

@@ -1,9 +1,7 @@
 //! A relay of two stations: a sender outside tells the first, which tells the second.
 #![tactic(auto)]
 
-ghost use Rattle.std.specs.Prelude.{◌≡◌, pos};
-
-use heddleorange::{ActorId, ActorPlan, Error, Order, PlannedSystem, Report, SETTINGS, state};
+use heddleorange::{ActorId, ActorPlan, Error, NewSystem, Order, Report, SETTINGS, Unused, state};
 use relay_actors::{PARCEL, Station};
 use std::alloc::Global;
 use std::sync::Wait;
@@ -15,18 +13,16 @@ const FIRST: ActorId = ActorId(1);
 
 const SECOND: ActorId = ActorId(2);
 
+/// A station to which nothing came yet, as its type says.
+fn station(next: Option<ActorId>) -> Unused<Station> {
+    Unused::new(Station::new(next))
+}
+
 /// Runs both stations. The sender tells the first a 3 and a 4.
-fn run_relay<R: Threads + Wait + Sync>(
-    rt: &R,
-    alloc: Global,
-    first: Station,
-    second: Station,
-) -> Result<Report, Error>
-    requires unused { (first.sum ≡ pos 0) × (second.sum ≡ pos 0) }
-{
-    let mut relay = PlannedSystem::new(alloc, SETTINGS);
-    relay.add(ActorPlan::child_of(alloc, GUARDIAN), first)?;
-    relay.add(ActorPlan::child_of(alloc, GUARDIAN), second)?;
+fn run_relay<R: Threads + Wait + Sync>(rt: &R, alloc: Global) -> Result<Report, Error> {
+    let mut relay = NewSystem::new(alloc, SETTINGS);
+    relay.add(ActorPlan::child_of(alloc, GUARDIAN), station(Some(SECOND)))?;
+    relay.add(ActorPlan::child_of(alloc, GUARDIAN), station(None))?;
     let orders = vec![in alloc;
         Order::tell(FIRST, PARCEL, 3),
         Order::tell(FIRST, PARCEL, 4),
@@ -36,8 +32,7 @@ fn run_relay<R: Threads + Wait + Sync>(
 }
 
 fn main(rt: HostRuntime) -> anyhow::Result<()> {
-    let (first, second) = (Station::new(Some(SECOND)), Station::new(None));
-    let report = run_relay(&rt, rt.alloc(), first, second)?;
+    let report = run_relay(&rt, rt.alloc())?;
     if let (Some(first), Some(second)) = (state(&report, FIRST), state(&report, SECOND)) {
         println!(rt; "first {first}, second {second}")?;
     }

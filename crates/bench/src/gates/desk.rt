@@ -3,7 +3,7 @@ ghost use Rattle.std.specs.Prelude.{◌≡◌, ◌<◌, [], IfOk, IfSome};
 ghost use Rattle.mb_gate.specs.Accessors.{gates_id, pass_id, claim_id, actors_of, held_actor, taken_with, given_to, recorded_by};
 
 use crate::status::open;
-use mb_gate::{Claim, Gates, MailboxState, Pass, Tried};
+use mb_gate::{Claim, Gates, MailboxState, Pass, ScheduleOutcome};
 use mb_msg::ActorId;
 use mb_status::Status;
 use std::alloc::{AllocError, Global};
@@ -83,8 +83,8 @@ pub fn attempt(
     ensures begun { IfSome result (λ claim. (taken_with claim ≡ []) × (recorded_by claim ≡ [])) }
 {
     match gates.try_schedule(pass, id) {
-        Tried::Got(claim) => Some(claim),
-        Tried::Already | Tried::Closed | Tried::Lost(_) => None,
+        ScheduleOutcome::Got(claim) => Some(claim),
+        ScheduleOutcome::Already | ScheduleOutcome::Closed | ScheduleOutcome::Lost(_) => None,
     }
 }
 

@@ -4,7 +4,7 @@ ghost use Rattle.mb_core.specs.declared.event.Step.TheVariants.{Sent, Unsent, Ta
 ghost use Rattle.mb_core.specs.Run.{Change, IsCarriedOut};
 
 use crate::actor::ActorState;
-use crate::debt::WakeObligation;
+use crate::wake_obligation::WakeObligation;
 use mb_msg::Envelope;
 use std::alloc::AllocError;
 
@@ -15,12 +15,12 @@ impl ActorState {
         ensures { Change self.old party Sent self.new }
     {
         self.waiting = self.waiting.wrapping_add(1);
-        let debt = self.debt(party);
+        let obligation = self.obligation(party);
         self.owe(
             party,
             WakeObligation {
                 sending: true,
-                ..debt
+                ..obligation
             },
         );
     }
@@ -31,8 +31,8 @@ impl ActorState {
         requires { party < length self.old.owed }
         ensures { IsCarriedOut self.old party Unsent self.new result }
     {
-        let debt = self.debt(party);
-        if !debt.sending {
+        let obligation = self.obligation(party);
+        if !obligation.sending {
             return false;
         }
         self.waiting = self.waiting.wrapping_sub(1);
@@ -41,7 +41,7 @@ impl ActorState {
             WakeObligation {
                 message: true,
                 sending: false,
-                ..debt
+                ..obligation
             },
         );
         true
@@ -64,12 +64,12 @@ impl ActorState {
         ensures { Change self.old party Count self.new }
     {
         if self.waiting == 0 {
-            let debt = self.debt(party);
+            let obligation = self.obligation(party);
             self.owe(
                 party,
                 WakeObligation {
                     message: false,
-                    ..debt
+                    ..obligation
                 },
             );
         }

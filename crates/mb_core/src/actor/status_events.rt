@@ -4,7 +4,7 @@ ghost use Rattle.mb_core.specs.declared.event.Step.TheVariants.{Read, Schedule, 
 ghost use Rattle.mb_core.specs.Run.{Change, IsCarriedOut, after_reading};
 
 use crate::actor::ActorState;
-use crate::debt::WakeObligation;
+use crate::wake_obligation::WakeObligation;
 use mb_msg::SysMsg;
 use mb_status::{MOST_SUSPENSIONS, Status};
 use std::alloc::{AllocError, Global};
@@ -15,8 +15,8 @@ impl ActorState {
         requires { party < length self.old.owed }
         ensures { Change self.old party Read self.new }
     {
-        let debt = after_reading(self.status, self.debt(party));
-        self.owe(party, debt);
+        let obligation = after_reading(self.status, self.obligation(party));
+        self.owe(party, obligation);
     }
 
     /// `Schedule`: the party holds the actor and owes it nothing. Refused where it is closed or scheduled already.
@@ -52,13 +52,13 @@ impl ActorState {
         }
         self.status = self.status.idle();
         self.holder = None;
-        let debt = self.debt(party);
+        let obligation = self.obligation(party);
         self.owe(
             party,
             WakeObligation {
                 system: true,
                 message: true,
-                ..debt
+                ..obligation
             },
         );
         Ok(true)
@@ -99,8 +99,8 @@ impl ActorState {
 }
 
 /// What a party that owed this still owes once it has read this status.
-fn after_reading(status: Status, debt: WakeObligation) -> WakeObligation
-    ensures { result ≡ after_reading status debt }
+fn after_reading(status: Status, obligation: WakeObligation) -> WakeObligation
+    ensures { result ≡ after_reading status obligation }
 {
     if status.closed() || status.scheduled() {
         WakeObligation::NOTHING
@@ -108,13 +108,13 @@ fn after_reading(status: Status, debt: WakeObligation) -> WakeObligation
         WakeObligation {
             message: false,
             sending: false,
-            ..debt
+            ..obligation
         }
     } else {
         WakeObligation {
-            message: debt.message || debt.sending,
+            message: obligation.message || obligation.sending,
             sending: false,
-            ..debt
+            ..obligation
         }
     }
 }

@@ -4,7 +4,7 @@ ghost use Rattle.mb_core.specs.declared.event.Step.TheVariants.{SysAdd, SysRead,
 ghost use Rattle.mb_core.specs.Run.{Change, IsCarriedOut};
 
 use crate::actor::ActorState;
-use crate::debt::WakeObligation;
+use crate::wake_obligation::WakeObligation;
 use mb_msg::SysMsg;
 use std::alloc::AllocError;
 
@@ -19,12 +19,12 @@ impl ActorState {
             return Ok(false);
         };
         listed.push(message)?;
-        let debt = self.debt(party);
+        let obligation = self.obligation(party);
         self.owe(
             party,
             WakeObligation {
                 system: true,
-                ..debt
+                ..obligation
             },
         );
         Ok(true)
@@ -36,12 +36,12 @@ impl ActorState {
         ensures { Change self.old party SysRead self.new }
     {
         if !self.has_work() {
-            let debt = self.debt(party);
+            let obligation = self.obligation(party);
             self.owe(
                 party,
                 WakeObligation {
                     system: false,
-                    ..debt
+                    ..obligation
                 },
             );
         }

@@ -3,7 +3,7 @@ ghost use Rattle.std.specs.Prelude.{◌≡◌, ◌<◌, ◌%◌, ◌^◌, [], le
 ghost use Rattle.mb_gate.specs.Accessors.{gates_id, pass_id, claim_id, actors_of, held_actor, taken_with, given_to, recorded_by};
 
 use crate::sends::desk::OpenHome;
-use mb_gate::{Claim, Gates, Pass, Tried};
+use mb_gate::{Claim, Gates, Pass, ScheduleOutcome};
 use mb_msg::ActorId;
 use mb_syslist::Chain;
 use std::sync::Wait;
@@ -20,12 +20,12 @@ pub fn close<R: Wait>(
     ensures same_gates { pass_id pass.new ≡ pass_id pass.old }
 {
     match gates.try_schedule(pass, id) {
-        Tried::Got(mut claim) => {
+        ScheduleOutcome::Got(mut claim) => {
             end_list(rt, gates, &mut claim);
             give(gates, claim, pass);
             true
         }
-        Tried::Already | Tried::Closed | Tried::Lost(_) => false,
+        ScheduleOutcome::Already | ScheduleOutcome::Closed | ScheduleOutcome::Lost(_) => false,
     }
 }
 

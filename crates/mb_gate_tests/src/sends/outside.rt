@@ -8,11 +8,12 @@ use crate::sends::closing::close;
 use crate::sends::desk::{FIRST, OpenHome, SECOND, gates_of_three};
 use crate::sends::one_place::OnePlace;
 use crate::sends::sending::{HELLO, SendStep};
+use mb_dead_letters::DeadLetters;
 use mb_gate::{Gates, Pass};
 use mb_msg::{ActorId, MailboxType, SenderId};
 use mb_queue::{MailQueue, SendPass};
 use mb_register::{Owed, Registrar, Told};
-use mb_send::{GatesSender, Look, Put, SendError, Ticket};
+use mb_send::{GatesSender, Look, SendError, SendOutcome, Ticket};
 use std::alloc::Global;
 use std::sync::Wait;
 use std::test::Fail;
@@ -82,7 +83,7 @@ impl Outside {
             owed: Owed::none(),
             told: Told::none(),
         };
-        let sender = GatesSender::new(alloc, ME, registrar, sends);
+        let sender = GatesSender::new(alloc, ME, registrar, sends, DeadLetters::keeping_all(alloc));
         Ok(Outside {
             gates,
             sender,
@@ -105,7 +106,7 @@ impl Outside {
     }
 
     // Sends by the ticket that is kept, if one is.
-    fn put_first<R: Wait>(&mut self, rt: &R) -> Option<Result<Put, SendError>> {
+    fn put_first<R: Wait>(&mut self, rt: &R) -> Option<Result<SendOutcome, SendError>> {
         let ticket = self.ticket?;
         if ticket.receiver().0 != FIRST.0 {
             return None;
@@ -133,7 +134,7 @@ impl Outside {
                 self.sender.registrar.owed.contains(actor.id()) == is_owed
             }
             SendStep::Sent(count) => self.sender.send_log.sent == count,
-            SendStep::Dead(place, letter) => self.sender.send_log.dead.get(place).copied()
+            SendStep::Dead(place, letter) => self.sender.send_log.dead.kept().get(place).copied()
                 == letter,
         }
     }

@@ -2,8 +2,8 @@
 
 use crate::sends::desk::{FIRST, GUARDIAN, NOBODY, SECOND, Target};
 use crate::sends::outside::{ME, Outside};
-use mb_msg::{ActorId, Body, DeadLetter, Envelope, Payload, Why};
-use mb_send::{Put, SendError};
+use mb_msg::{ActorId, Body, DeadLetter, DeadLetterReason, Envelope, Payload};
+use mb_send::{SendError, SendOutcome};
 use std::alloc::Global;
 use std::process::Abort;
 use std::sync::Wait;
@@ -15,9 +15,9 @@ pub enum SendStep {
     /// Looks whether the receiver is open: for whom the ticket is, if it is.
     Look(ActorId, Result<Option<ActorId>, SendError>),
     /// Sends an envelope to the receiver.
-    Tell(ActorId, Result<Put, SendError>),
+    Tell(ActorId, Result<SendOutcome, SendError>),
     /// Sends an envelope to the first actor, by the ticket that a look gave.
-    PutFirst(Result<Put, SendError>),
+    PutFirst(Result<SendOutcome, SendError>),
     /// Stops the actor.
     Stop(ActorId, Result<bool, SendError>),
     /// Ends the actor, where it is not held: whether it is.
@@ -48,7 +48,7 @@ const FULL: DeadLetter = DeadLetter {
         number: 4,
         body: HELLO_BODY,
     },
-    why: Why::Full,
+    why: DeadLetterReason::Full,
 };
 
 const TOLD: [SendStep; 21] = [
@@ -61,9 +61,9 @@ const TOLD: [SendStep; 21] = [
     SendStep::Sent(0),
     // Envelopes are numbered over all receivers, and counted.
     SendStep::Look(FIRST, Ok(Some(FIRST))),
-    SendStep::Tell(FIRST, Ok(Put::Queued(0))),
-    SendStep::Tell(SECOND, Ok(Put::Queued(1))),
-    SendStep::PutFirst(Ok(Put::Queued(2))),
+    SendStep::Tell(FIRST, Ok(SendOutcome::Queued(0))),
+    SendStep::Tell(SECOND, Ok(SendOutcome::Queued(1))),
+    SendStep::PutFirst(Ok(SendOutcome::Queued(2))),
     SendStep::Sent(3),
     SendStep::Waiting(Target::First, 2),
     SendStep::Waiting(Target::Second, 1),
@@ -71,9 +71,9 @@ const TOLD: [SendStep; 21] = [
     SendStep::Owes(Target::First, false),
     SendStep::Owes(Target::Second, true),
     // What finds the queue full is a dead letter.
-    SendStep::Tell(SECOND, Ok(Put::Queued(3))),
-    SendStep::Tell(SECOND, Ok(Put::Dead(4, Why::Full))),
-    SendStep::Tell(FIRST, Ok(Put::Queued(5))),
+    SendStep::Tell(SECOND, Ok(SendOutcome::Queued(3))),
+    SendStep::Tell(SECOND, Ok(SendOutcome::Dead(4, DeadLetterReason::Full))),
+    SendStep::Tell(FIRST, Ok(SendOutcome::Queued(5))),
     SendStep::Dead(0, Some(FULL)),
     SendStep::Dead(1, None),
     SendStep::Waiting(Target::Second, 2),
@@ -87,7 +87,7 @@ const CLOSED: DeadLetter = DeadLetter {
         number: 0,
         body: HELLO_BODY,
     },
-    why: Why::Closed,
+    why: DeadLetterReason::Closed,
 };
 
 const ENDED: [SendStep; 15] = [
@@ -95,12 +95,12 @@ const ENDED: [SendStep; 15] = [
     SendStep::Look(FIRST, Ok(Some(FIRST))),
     SendStep::Close(Target::First, true),
     SendStep::Look(FIRST, Ok(None)),
-    SendStep::Tell(FIRST, Ok(Put::Dead(0, Why::Closed))),
+    SendStep::Tell(FIRST, Ok(SendOutcome::Dead(0, DeadLetterReason::Closed))),
     SendStep::Dead(0, Some(CLOSED)),
-    SendStep::Tell(SECOND, Ok(Put::Queued(1))),
+    SendStep::Tell(SECOND, Ok(SendOutcome::Queued(1))),
     SendStep::Waiting(Target::First, 0),
     // A ticket from before may be used still.
-    SendStep::PutFirst(Ok(Put::Queued(2))),
+    SendStep::PutFirst(Ok(SendOutcome::Queued(2))),
     SendStep::Owes(Target::First, false),
     // An actor is told to stop, the guardian too, unless its list is ended.
     SendStep::HasSystem(Target::Guardian, false),

@@ -1,6 +1,6 @@
 //! What becomes of messages that are left when an actor ends (`Mailbox.cleanUp`).
 
-ghost use Rattle.std.specs.Prelude.{◌≡◌, ◌+◌, ◌%◌, ◌^◌, ◌++◌, [], true, is_some, if◌then◌else◌, option_to_list, IfNone, OnErr, IfOk, MatchBool};
+ghost use Rattle.std.specs.Prelude.{◌≡◌, ◌+◌, ◌<◌, ◌%◌, ◌^◌, ◌++◌, [], true, false, length, IsOk, is_some, if◌then◌else◌, option_to_list, IfNone, OnErr, IfOk, MatchBool};
 ghost use Rattle.mb_journal.specs.Life.{closed};
 ghost use Rattle.mb_home.specs.AgreesWithJournal.{AgreesWithJournal};
 ghost use Rattle.mb_home.specs.Steps.{Cleans, FindsNone};
@@ -30,19 +30,21 @@ impl<A: Actor, K: Behaviours> Home<A, K> {
     }
 
     /// Takes the next envelope that is still queued for an actor that ended, which is then cleaned up; `false` if none was
-    /// there. A place is reserved first: it answers `AllocError` if that was refused, and then nothing has changed.
+    /// there. A place is reserved first: it answers `AllocError` if that was refused, and then nothing has changed. Where the journal does not
+    /// keep all, this asks for no memory: it answers `AllocError` only if 2^64 - 1 envelopes were cleaned up.
     pub fn clean_next<R: Wait>(&mut self, rt: &R) -> Result<bool, AllocError>
         requires ended { closed self.old.cell.who self.old.cell.journal ≡ true }
         requires settled { AgreesWithJournal (K.gives self.old.cell.who.this.0) self.old.cell.acts self.old }
         ensures cleaned { IfOk result (λ some. MatchBool some (Cleans self.old self.new) (FindsNone self.old self.new)) }
         ensures refused { OnErr result (self.new ≡ self.old) }
+        ensures never_short { self.old.cell.who.is_kept ≡ false → length self.old.cleaned + 1 < 2 ^ 64 → IsOk result }
         ensures settled { AgreesWithJournal (K.gives self.new.cell.who.this.0) self.new.cell.acts self.new }
     {
         self.cleaned.reserve(1)?;
         let Some(envelope) = self.take.take(rt) else {
             return Ok(false);
         };
-        self.cleaned.push_reserved(envelope);
+        self.cleaned.push(envelope);
         Ok(true)
     }
 }

@@ -1,7 +1,7 @@
 //! The acts of a message, and the envelopes that an actor tells.
 
 ghost use Rattle.std.specs.Prelude.{◌≡◌, ◌+◌, ◌-◌, ◌%◌, ◌^◌, ◌<◌, [], ◌∷◌, ◌++◌, false, map, option_to_list, IfErr, IfNone, MatchResult};
-ghost use Rattle.mb_msg.specs.declared.dead_letter.Why.TheVariants.{Closed};
+ghost use Rattle.mb_msg.specs.declared.dead_letter.DeadLetterReason.TheVariants.{Closed};
 ghost use Rattle.mb_journal.specs.Acts.Act.{Tell};
 ghost use Rattle.mb_supervision.specs.ActQueue.{act_of};
 ghost use Rattle.mb_queue.specs.Rule.{given_back};
@@ -11,7 +11,7 @@ ghost use Rattle.mb_home.specs.Steps.{Pushes, RecordsDeadLetter, RefusesPush, ne
 use super::Home;
 use mb_actor::{Actor, Behaviours};
 use mb_cell::Act;
-use mb_msg::{ActorId, Body, DeadLetter, Envelope, SenderId, Why};
+use mb_msg::{ActorId, Body, DeadLetter, DeadLetterReason, Envelope, SenderId};
 use mb_queue::PushError;
 use std::sync::Wait;
 
@@ -78,11 +78,11 @@ impl<A: Actor, K: Behaviours> Home<A, K> {
         ensures settled { AgreesWithJournal (K.gives self.new.cell.who.this.0) self.new.cell.acts self.new }
     {
         let envelope = self.next_envelope(to, body);
-        self.record_dead_letter(envelope, Why::Closed);
+        self.record_dead_letter(envelope, DeadLetterReason::Closed);
     }
 
     /// Makes the next envelope a dead letter. Room for others is made before the next message.
-    fn record_dead_letter(&mut self, envelope: Envelope, why: Why)
+    fn record_dead_letter(&mut self, envelope: Envelope, why: DeadLetterReason)
         requires { 0 < self.old.room }
         ensures same { self.new ≡ record self.old {
           cell = record self.old.cell { is_ready = false };
@@ -93,17 +93,17 @@ impl<A: Actor, K: Behaviours> Home<A, K> {
         ensures room { self.old.room ≡ self.new.room + 1 }
     {
         self.cell.forget_room();
-        self.dead.push_reserved(DeadLetter { envelope, why });
+        self.dead.push(DeadLetter { envelope, why });
         self.sent = self.sent.wrapping_add(1);
     }
 }
 
 /// Why a refused envelope is a dead letter.
-fn reason(refused: &PushError) -> Why
+fn reason(refused: &PushError) -> DeadLetterReason
     ensures { result ≡ reason_of refused.now }
 {
     match refused {
-        PushError::Full(_) => Why::Full,
-        PushError::NoMemory(_) => Why::NoMemory,
+        PushError::Full(_) => DeadLetterReason::Full,
+        PushError::NoMemory(_) => DeadLetterReason::NoMemory,
     }
 }

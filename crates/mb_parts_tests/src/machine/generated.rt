@@ -84,9 +84,9 @@ fn is_lawful(actor: &ActorState) -> bool {
 fn what_is_owed(owed: &[WakeObligation]) -> (bool, bool) {
     let mut system = false;
     let mut message = false;
-    for debt in owed {
-        system |= debt.system;
-        message |= debt.message || debt.sending;
+    for obligation in owed {
+        system |= obligation.system;
+        message |= obligation.message || obligation.sending;
     }
     (system, message)
 }

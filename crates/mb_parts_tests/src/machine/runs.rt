@@ -33,10 +33,10 @@ fn are_listed(alloc: Global, messages: &str, names: &str) -> Option<bool> {
 }
 
 /// What this party owes an actor once the other has begun to send to the first.
-fn debt_of(alloc: Global, party: usize, actor: ActorId) -> Option<Option<WakeObligation>> {
+fn obligation_by(alloc: Global, party: usize, actor: ActorId) -> Option<Option<WakeObligation>> {
     let events = events_of(alloc, "1 sent")?;
     let model = replay(alloc, &[4, 0], 2, &events).ok()??;
-    Some(model.debt(party, actor))
+    Some(model.obligation(party, actor))
 }
 
 #[test]
@@ -70,7 +70,7 @@ fn what_is_owed_to_whom(rt: HostRuntime) {
     let alloc = rt.alloc();
     assert!(rt;
         matches!(
-            debt_of(alloc, 1, ACTOR),
+            obligation_by(alloc, 1, ACTOR),
             Some(Some(WakeObligation { sending: true, .. }))
         )
     );
@@ -80,7 +80,7 @@ fn what_is_owed_to_whom(rt: HostRuntime) {
 
 /// Whether this party owes this to the actor of this number, if both are there.
 fn is_owed(alloc: Global, party: usize, actor: u16, due: Option<WakeObligation>) -> bool {
-    debt_of(alloc, party, ActorId(actor)) == Some(due)
+    obligation_by(alloc, party, ActorId(actor)) == Some(due)
 }
 
 /// A sender sends again and again, and each second envelope is refused and its count taken back.

@@ -214,14 +214,14 @@ fn holder(actor: &ActorState) -> &'static str {
 /// What this party owes; nothing of a party that there is not.
 fn owed_by(actor: &ActorState, party: usize) -> &'static str {
     match actor.owed().get(party) {
-        Some(debt) => owed(debt),
+        Some(obligation) => owed(obligation),
         None => "",
     }
 }
 
 /// What one party owes.
-fn owed(debt: &WakeObligation) -> &'static str {
-    match (debt.system, debt.message, debt.sending) {
+fn owed(obligation: &WakeObligation) -> &'static str {
+    match (obligation.system, obligation.message, obligation.sending) {
         (false, false, false) => "-",
         (true, false, false) => "s",
         (false, true, false) => "m",

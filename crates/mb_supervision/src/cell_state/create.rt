@@ -9,7 +9,7 @@ use crate::cell_state::aside::forget;
 use crate::effects::carry_out;
 use crate::fail::fail;
 use crate::identity::ActorIdentity;
-use crate::task::Task;
+use crate::queued_act::QueuedAct;
 use mb_actor::{Answer, Effect, Phase};
 use mb_journal::FailedBy;
 use mb_msg::{Cause, SysMsg};
@@ -27,7 +27,7 @@ impl CellState {
         self.ready = false;
         self.count = self.count.saturating_sub(1);
         self.phase = Phase::Live;
-        self.acts.push(Task::ResumeSelf);
+        self.acts.push(QueuedAct::ResumeSelf);
         carry_out(
             place.this,
             effects,
@@ -63,7 +63,7 @@ impl CellState {
         self.ready = false;
         self.count = self.count.saturating_sub(1);
         self.phase = Phase::Live;
-        self.acts.push(Task::ResumeSelf);
+        self.acts.push(QueuedAct::ResumeSelf);
         self.acts.push_each(SysMsg::Create, &place.prepared);
         self.children.extend_from_slice(&place.prepared).unwrap();
     }

@@ -9,7 +9,7 @@ use crate::cell_state::CellState;
 use crate::cell_state::aside::forget;
 use crate::end::end;
 use crate::identity::ActorIdentity;
-use crate::task::Task;
+use crate::queued_act::QueuedAct;
 use mb_actor::{Effect, Phase};
 use mb_msg::{ActorId, Body};
 
@@ -25,7 +25,8 @@ impl CellState {
         self.ready = false;
         if has(&self.watching, id) {
             join(&mut self.due, id);
-            self.acts.push(Task::Tell(place.this, Body::Terminated(id)));
+            self.acts
+                .push(QueuedAct::Tell(place.this, Body::Terminated(id)));
         }
         leave(&mut self.watching, id);
         leave(&mut self.children, id);
@@ -41,7 +42,8 @@ impl CellState {
         self.ready = false;
         if has(&self.watching, id) {
             join(&mut self.due, id);
-            self.acts.push(Task::Tell(place.this, Body::Terminated(id)));
+            self.acts
+                .push(QueuedAct::Tell(place.this, Body::Terminated(id)));
         }
         leave(&mut self.watching, id);
         leave(&mut self.children, id);

@@ -13,8 +13,8 @@ use crate::cell_state::CellState;
 use crate::cell_state::aside::forget;
 use crate::fail::fail;
 use crate::identity::ActorIdentity;
+use crate::queued_act::QueuedAct;
 use crate::retries::ask;
-use crate::task::Task;
 use mb_journal::FailedBy;
 use mb_msg::{ActorId, Cause, Directive, SysMsg, by_default};
 
@@ -36,7 +36,7 @@ impl CellState {
         match directive_of(place, cause) {
             Directive::Resume => self
                 .acts
-                .push(Task::Sys(child, SysMsg::Resume { of_failure: true })),
+                .push(QueuedAct::Sys(child, SysMsg::Resume { of_failure: true })),
             Directive::Restart => {
                 if ask(place.strategy.retries, meant, &mut self.retries) {
                     restart_each(child, cause, meant, &mut self.acts);
@@ -83,8 +83,8 @@ fn restart_each(failing: ActorId, cause: Cause, children: &[ActorId], acts: &mut
 {
     for child in children {
         if child.0 != failing.0 {
-            acts.push(Task::Sys(*child, SysMsg::Suspend));
+            acts.push(QueuedAct::Sys(*child, SysMsg::Suspend));
         }
-        acts.push(Task::Sys(*child, SysMsg::Recreate(cause)));
+        acts.push(QueuedAct::Sys(*child, SysMsg::Recreate(cause)));
     }
 }

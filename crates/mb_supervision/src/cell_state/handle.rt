@@ -17,7 +17,7 @@ use crate::cell_state::CellState;
 use crate::effects::carry_out;
 use crate::fail::fail;
 use crate::identity::ActorIdentity;
-use crate::task::Task;
+use crate::queued_act::QueuedAct;
 use mb_actor::{Answer, Effect};
 use mb_journal::FailedBy;
 use mb_msg::{ActorId, Body, Cause, SysMsg};
@@ -96,7 +96,8 @@ impl CellState {
         ensures { self.new ≡ poisoned (identity_at place.now) self.old }
     {
         self.ready = false;
-        self.acts.push(Task::Sys(place.this, SysMsg::Terminate));
+        self.acts
+            .push(QueuedAct::Sys(place.this, SysMsg::Terminate));
     }
 
     /// An envelope that is dropped.

@@ -9,7 +9,7 @@ use crate::cell_state::aside::forget;
 use crate::effects::carry_out;
 use crate::fail::fail;
 use crate::identity::ActorIdentity;
-use crate::task::Task;
+use crate::queued_act::QueuedAct;
 use mb_actor::{Answer, Effect, Phase};
 use mb_journal::FailedBy;
 use mb_msg::{Cause, SysMsg};
@@ -35,7 +35,7 @@ impl CellState {
         self.ready = false;
         self.count = self.count.saturating_sub(1);
         self.failed = FailedBy::Nobody;
-        self.acts.push(Task::ResumeSelf);
+        self.acts.push(QueuedAct::ResumeSelf);
         let survivors = self.children.len();
         carry_out(
             place.this,

@@ -8,7 +8,7 @@ ghost use Rattle.mb_supervision.specs.Rows.{resumed};
 use crate::act_queue::ActQueue;
 use crate::cell_state::CellState;
 use crate::cell_state::aside::forget;
-use crate::task::Task;
+use crate::queued_act::QueuedAct;
 use mb_journal::FailedBy;
 use mb_msg::{ActorId, SysMsg};
 
@@ -23,7 +23,7 @@ impl CellState {
         forget(&mut self.aside, number);
         self.ready = false;
         self.count = self.count.saturating_sub(1);
-        self.acts.push(Task::ResumeSelf);
+        self.acts.push(QueuedAct::ResumeSelf);
         resume_each(of_failure, self.failed, &self.children, &mut self.acts);
         if of_failure {
             self.failed = FailedBy::Nobody;
@@ -37,7 +37,7 @@ fn resume_each(of_failure: bool, failed: FailedBy, children: &[ActorId], acts: &
 {
     for child in children {
         let of_failure = of_failure && is_child(failed, *child);
-        acts.push(Task::Sys(*child, SysMsg::Resume { of_failure }));
+        acts.push(QueuedAct::Sys(*child, SysMsg::Resume { of_failure }));
     }
 }
 

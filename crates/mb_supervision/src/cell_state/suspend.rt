@@ -4,7 +4,7 @@ ghost use Rattle.mb_supervision.specs.Rows.{suspended};
 
 use crate::cell_state::CellState;
 use crate::cell_state::aside::forget;
-use crate::task::Task;
+use crate::queued_act::QueuedAct;
 use mb_msg::SysMsg;
 
 impl CellState {
@@ -18,7 +18,7 @@ impl CellState {
         forget(&mut self.aside, number);
         self.ready = false;
         self.count += 1;
-        self.acts.push(Task::SuspendSelf);
+        self.acts.push(QueuedAct::SuspendSelf);
         self.acts.push_each(SysMsg::Suspend, &self.children);
     }
 }

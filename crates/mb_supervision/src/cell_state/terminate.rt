@@ -8,7 +8,7 @@ use crate::cell_state::CellState;
 use crate::cell_state::aside::forget;
 use crate::end::end;
 use crate::identity::ActorIdentity;
-use crate::task::Task;
+use crate::queued_act::QueuedAct;
 use mb_actor::{Effect, Phase};
 use mb_journal::FailedBy;
 use mb_msg::SysMsg;
@@ -30,7 +30,7 @@ impl CellState {
         self.acts
             .push_each(SysMsg::Unwatch(place.this), &self.watching);
         self.acts.push_each(SysMsg::Terminate, &self.children);
-        self.acts.push(Task::SuspendSelf);
+        self.acts.push(QueuedAct::SuspendSelf);
         self.watching.clear();
         self.due.clear();
     }

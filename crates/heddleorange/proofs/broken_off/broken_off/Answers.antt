@@ -18,10 +18,10 @@ error_of-error-requires-clause-full g c = λ is.
     (subst (λ (l : List (Option UnfinishedActor)). ShowFull c.args.limit l ⊎ LackOne l) (sym c.deref.ensures.value)
     (shows-full g.K.Behaviours.gives c.args.built c.args.limit c.in-Ok.actors.items c.in-Ok.ensures (c.requires.full is)))
 
-pub returns-in-Ok : goal.returns-in-Ok
-returns-in-Ok g c =
+pub returns-in-Ok-clause-left : goal.returns-in-Ok-clause-left
+returns-in-Ok-clause-left g c =
     inl (
       c.in-Ok.ensures,
       subst (λ (l : List (Option UnfinishedActor)). IsToldAs c.args.fault c.args.limit l c.error_of-error.result) c.deref.ensures.value
-          c.error_of-error.ensures,
+          c.error_of-error.ensures.told,
     )

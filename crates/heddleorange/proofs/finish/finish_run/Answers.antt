@@ -26,7 +26,7 @@ without_report-requires-clause-own_ends g c =
 pub returns-in-Err-clause-refused : goal.returns-in-Err-clause-refused
 returns-in-Err-clause-refused g c = λ plan actors orders right ran.
     untold g.K.Behaviours.gives plan ran.first ran.begun c.args.built ran.system actors orders c.in-Err.error c.without_report.result right
-    c.requires.together.ends c.in-Err.ensures.refused c.in-Err.ensures.disagreement c.without_report.ensures
+    c.requires.together.ends c.in-Err.ensures.refused c.in-Err.ensures.disagreement c.without_report.ensures.why
 
 pub returns-in-Ok-clause-seen : goal.returns-in-Ok-clause-seen
 returns-in-Ok-clause-seen g c = c.in-Ok.ensures.seen.0

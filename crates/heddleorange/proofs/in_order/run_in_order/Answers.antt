@@ -89,3 +89,9 @@ returns-clause-kept g c =
     from-report (KeepsAsPlanned plan) result
     (kept-of after gives plan orders (report_of result)
     (to-report (IsReportOfRun after gives plan orders) result c.run_planned_in_order.ensures.story))
+
+pub returns-clause-which : goal.returns-clause-which
+returns-clause-which g c = c.run_planned_in_order.ensures.which
+
+pub returns-clause-back : goal.returns-clause-back
+returns-clause-back g c = c.run_planned_in_order.ensures.back

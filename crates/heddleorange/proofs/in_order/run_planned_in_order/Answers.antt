@@ -1,11 +1,15 @@
-use Rattle.std.proofs.Common.{◌≤◌, ◌<◌, ◌+◌, ap, arith, length, sym, subst, ◌∙◌}
+use Rattle.std.proofs.Common.{[], ◌≤◌, ◌<◌, ◌+◌, ap, arith, length, sym, subst, ◌∙◌}
 use Rattle.std.specs.Prelude.{All}
 use Rattle.mb_dispatch.specs.Runs.{turns_in}
 use Rattle.mb_msg.specs.Limits.{most_actors}
 use Rattle.mb_startup.proofs.There.{senders-there, some-end}
 use Rattle.heddleorange.specs.Orders.{lists_of, senders_for}
 use Rattle.heddleorange.specs.Sent.{BreaksOff, HaveSent}
-use Rattle.heddleorange.proofs.Breaking.{full-seen, may-break, own-ends}
+use Rattle.heddleorange.proofs.Breaking.{full-seen, may-break, own-ends, somebody}
+use Rattle.heddleorange.specs.GivesBack.{GivesBack}
+use Rattle.heddleorange.specs.NamedOrder.{NamesInRow}
+use Rattle.heddleorange.proofs.GivesBack.{begun-in-row, none-back}
+use Rattle.heddleorange.proofs.Sent.{err-of}
 use Rattle.heddleorange.proofs.HasRunLemmas.{complete, has-run}
 use Rattle.heddleorange.proofs.Identified.{as-planned}
 use Rattle.heddleorange.proofs.InOrder.{from-many, length-lists}
@@ -80,7 +84,7 @@ returns-in-Err-clause-refused g c =
     may-break gives plan first now begun.begun c.in-Err.ensures.system (length c.args.actors.items) (lists_of plan.senders sends) begun.right
     c.in-Err.error c.broken_off.result
     (subst (λ n. BreaksOff gives first.system now.ends.items (lists_of n sends) c.in-Err.error) (senders-there gives plan first begun.begun).0
-    c.in-Err.ensures.fault) c.broken_off.ensures
+    c.in-Err.ensures.fault) c.broken_off.ensures.left
 
 pub returns-in-Ok-finish_run-clause-turns : goal.returns-in-Ok-finish_run-clause-turns
 returns-in-Ok-finish_run-clause-turns g c =
@@ -103,3 +107,36 @@ returns-in-Ok-finish_run-clause-covers g c =
     covers-of plan report (turns_in turns) (many ∙ ap (λ n. n + 1) (sym (as-planned plan actors begun.right.0)))
     (turns-of gives plan first begun.begun (turns_in turns) went.turns)
     (went.covers begun.begun.whole (changed-none gives plan first begun.begun) report ended.seen ended.releases)
+
+pub broken_off-requires-clause-somebody : goal.broken_off-requires-clause-somebody
+broken_off-requires-clause-somebody g c =
+    let begun = c.in_ok-built.ensures in let gives = g.K.Behaviours.gives in let plan = c.args.plan in let sends = c.args.sends.now in
+    let first = c.in_ok-built.built in let now = c.send_in_order_and_run.new.built in
+    somebody gives plan first now begun.begun c.in-Err.ensures.system (length c.args.actors.items) (lists_of plan.senders sends) begun.right
+    c.in-Err.error
+    (subst (λ n. BreaksOff gives first.system now.ends.items (lists_of n sends) c.in-Err.error) (senders-there gives plan first begun.begun).0
+    c.in-Err.ensures.fault)
+
+pub returns-in-Err-clause-which : goal.returns-in-Err-clause-which
+returns-in-Err-clause-which g c =
+    begun-in-row c.args.plan.senders (length c.args.actors.items) c.args.sends.now c.broken_off.result.error c.broken_off.ensures.back.was_begun
+
+pub returns-in-Err-clause-back : goal.returns-in-Err-clause-back
+returns-in-Err-clause-back g c = none-back c.args.plan c.args.actors.items c.broken_off.result c.broken_off.ensures.back
+
+pub returns-in-Err-finish_run-clause-which : goal.returns-in-Err-finish_run-clause-which
+returns-in-Err-finish_run-clause-which g c =
+    begun-in-row c.args.plan.senders (length c.args.actors.items) c.args.sends.now c.in-Err-finish_run.error.error c.in-Err-finish_run.ensures.back.was_begun
+
+pub returns-in-Err-finish_run-clause-back : goal.returns-in-Err-finish_run-clause-back
+returns-in-Err-finish_run-clause-back g c = none-back c.args.plan c.args.actors.items c.in-Err-finish_run.error c.in-Err-finish_run.ensures.back
+
+pub returns-in_err-built-clause-which : goal.returns-in_err-built-clause-which
+returns-in_err-built-clause-which g c =
+    err-of (λ failed. NamesInRow c.args.plan.senders (length c.args.actors.items) c.args.sends.now failed.error) c.from_residual.result
+    c.in_err-built.field-0.0 c.from_residual.ensures.1 c.in_err-built.ensures.which
+
+pub returns-in_err-built-clause-back : goal.returns-in_err-built-clause-back
+returns-in_err-built-clause-back g c =
+    err-of (GivesBack c.args.plan c.args.actors.items []) c.from_residual.result c.in_err-built.field-0.0 c.from_residual.ensures.1
+    c.in_err-built.ensures.back

@@ -51,3 +51,9 @@ pub returns-clause-kept : goal.returns-clause-kept
 returns-clause-kept g c =
     kept-of (after_at c.args.actors.items g.A.Actor.after) (gives_at c.args.actors.items g.A.Actor.gives) c.args.plan (orders_of c.args.sends.now)
     c.run_planned.result c.run_planned.ensures.story
+
+pub returns-clause-which : goal.returns-clause-which
+returns-clause-which g c = c.run_planned.ensures.which
+
+pub returns-clause-back : goal.returns-clause-back
+returns-clause-back g c = c.run_planned.ensures.back

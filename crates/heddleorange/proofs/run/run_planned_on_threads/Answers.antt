@@ -1,11 +1,14 @@
-use Rattle.std.proofs.Common.{length, sym, ◌∙◌, Vec}
+use Rattle.std.proofs.Common.{[], length, sym, ◌∙◌, Vec}
 use Rattle.std.specs.Global.{Global}
 use Rattle.mb_shutdown.proofs.Lists.{length-mapped}
 use Rattle.mb_msg.specs.declared.order.Order.{Order}
 use Rattle.mb_startup.proofs.There.{senders-there, some-end}
-use Rattle.heddleorange.proofs.Breaking.{full-seen, may-break, own-ends}
+use Rattle.heddleorange.proofs.Breaking.{full-seen, may-break, own-ends, somebody}
+use Rattle.heddleorange.specs.GivesBack.{GivesBack}
+use Rattle.heddleorange.specs.NamedOrder.{NamesInLists}
+use Rattle.heddleorange.proofs.GivesBack.{begun-in-lists, none-back, none-in-lists, none-of}
 use Rattle.heddleorange.proofs.HasRunLemmas.{complete, has-run, storied, unstoried}
-use Rattle.heddleorange.proofs.Sent.{orders_of}
+use Rattle.heddleorange.proofs.Sent.{err-of, orders_of}
 use Rattle.heddleorange.proofs.run.run_planned_on_threads.Goals as goal
 
 pub run_together-requires-clause-same_count : goal.run_together-requires-clause-same_count
@@ -54,4 +57,33 @@ returns-in-Err-clause-refused g c =
     let went = c.in-Err.ensures in
     may-break g.K.Behaviours.gives c.args.plan c.in_ok-built.built c.run_together.new.built c.in_ok-built.ensures.begun went.system
     (length c.args.actors.items) (orders_of c.args.sends.now) c.in_ok-built.ensures.right c.in-Err.error c.broken_off.result went.fault
-    c.broken_off.ensures
+    c.broken_off.ensures.left
+
+pub broken_off-requires-clause-somebody : goal.broken_off-requires-clause-somebody
+broken_off-requires-clause-somebody g c =
+    let went = c.in-Err.ensures in
+    somebody g.K.Behaviours.gives c.args.plan c.in_ok-built.built c.run_together.new.built c.in_ok-built.ensures.begun went.system
+    (length c.args.actors.items) (orders_of c.args.sends.now) c.in_ok-built.ensures.right c.in-Err.error went.fault
+
+pub returns-in-Err-clause-which : goal.returns-in-Err-clause-which
+returns-in-Err-clause-which g c =
+    begun-in-lists (length c.args.actors.items) (orders_of c.args.sends.now) c.broken_off.result.error c.broken_off.ensures.back.was_begun
+
+pub returns-in-Err-clause-back : goal.returns-in-Err-clause-back
+returns-in-Err-clause-back g c = none-back c.args.plan c.args.actors.items c.broken_off.result c.broken_off.ensures.back
+
+pub returns-clause-which : goal.returns-clause-which
+returns-clause-which g c = none-in-lists (length c.args.actors.items) (orders_of c.args.sends.now) c.finish_run.result c.finish_run.ensures.back
+
+pub returns-clause-back : goal.returns-clause-back
+returns-clause-back g c = none-of c.args.plan c.args.actors.items c.finish_run.result c.finish_run.ensures.back
+
+pub returns-in_err-built-clause-which : goal.returns-in_err-built-clause-which
+returns-in_err-built-clause-which g c =
+    err-of (λ failed. NamesInLists (length c.args.actors.items) (orders_of c.args.sends.now) failed.error) c.from_residual.result c.in_err-built.field-0.0
+    c.from_residual.ensures.1 c.in_err-built.ensures.which
+
+pub returns-in_err-built-clause-back : goal.returns-in_err-built-clause-back
+returns-in_err-built-clause-back g c =
+    err-of (GivesBack c.args.plan c.args.actors.items []) c.from_residual.result c.in_err-built.field-0.0 c.from_residual.ensures.1
+    c.in_err-built.ensures.back

@@ -73,8 +73,8 @@ overflow_cast-len g c =
     at.yielded cell rest place all at.invariant.count in
     let few = c.requires.within_limit in omega (arith, number, lt, few)
 
-pub new-home-requires-clause-number : goal.new-home-requires-clause-number
-new-home-requires-clause-number g c =
+pub new-requires-clause-number : goal.new-requires-clause-number
+new-requires-clause-number g c =
     let at = c.loop-cell in let cells = c.args.cells.items in let made = c.requires.made in let all_takes = c.args.takes.items in
     let rows = map (λ row. row.items) (into_iter_items c.args.rows.now) in
     let cell = c.in-Some.cell in let rest = into_iter_items c.next.new.self in let place = length at.homes.items in
@@ -85,8 +85,8 @@ new-home-requires-clause-number g c =
     at.yielded cell rest place all at.invariant.count in
     ap id number ∙ sym planned.this
 
-pub new-home-requires-clause-untouched : goal.new-home-requires-clause-untouched
-new-home-requires-clause-untouched g c =
+pub new-requires-clause-untouched : goal.new-requires-clause-untouched
+new-requires-clause-untouched g c =
     let at = c.loop-cell in let cells = c.args.cells.items in let made = c.requires.made in let all_takes = c.args.takes.items in
     let rows = map (λ row. row.items) (into_iter_items c.args.rows.now) in
     let cell = c.in-Some.cell in let rest = into_iter_items c.next.new.self in let place = length at.homes.items in
@@ -96,8 +96,8 @@ new-home-requires-clause-untouched g c =
     at.yielded cell rest place all at.invariant.count in
     (ap (λ (x : CellView). x.journal) is, ap (λ (x : CellView). x.acts) is)
 
-pub new-home-requires-clause-none_taken : goal.new-home-requires-clause-none_taken
-new-home-requires-clause-none_taken g c =
+pub new-requires-clause-none_taken : goal.new-requires-clause-none_taken
+new-requires-clause-none_taken g c =
     let at = c.loop-cell in let cells = c.args.cells.items in let made = c.requires.made in let all_takes = c.args.takes.items in
     let rows = map (λ row. row.items) (into_iter_items c.args.rows.now) in
     let cell = c.in-Some.cell in let rest = into_iter_items c.next.new.self in let place = length at.homes.items in
@@ -110,8 +110,8 @@ new-home-requires-clause-none_taken g c =
     at.yielded cell rest place all at.invariant.count take' _ this in
     pass.taken
 
-pub new-home-requires-clause-none_pushed : goal.new-home-requires-clause-none_pushed
-new-home-requires-clause-none_pushed g c =
+pub new-requires-clause-none_pushed : goal.new-requires-clause-none_pushed
+new-requires-clause-none_pushed g c =
     let at = c.loop-cell in let cells = c.args.cells.items in let made = c.requires.made in let all_takes = c.args.takes.items in
     let rows = map (λ row. row.items) (into_iter_items c.args.rows.now) in
     let cell = c.in-Some.cell in let rest = into_iter_items c.next.new.self in let place = length at.homes.items in
@@ -125,8 +125,8 @@ new-home-requires-clause-none_pushed g c =
     at.yielded cell rest place all at.invariant.count sends.items _ row in
     subst (All (λ (p : SendPassView). p.pushed ≡ [])) (sym is) (all-unused (drop 1 all_takes) place)
 
-pub new-home-requires-clause-owner : goal.new-home-requires-clause-owner
-new-home-requires-clause-owner g c =
+pub new-requires-clause-owner : goal.new-requires-clause-owner
+new-requires-clause-owner g c =
     let at = c.loop-cell in let cells = c.args.cells.items in let made = c.requires.made in let all_takes = c.args.takes.items in
     let rows = map (λ row. row.items) (into_iter_items c.args.rows.now) in
     let cell = c.in-Some.cell in let rest = into_iter_items c.next.new.self in let place = length at.homes.items in
@@ -168,7 +168,7 @@ loop-cell-preserved g c =
     let lines : into_iter_items at.rows ≡ sends ∷ into_iter_items c.next-in-loop-cell-2.new.self = c.in-Some-next-2.ensures.cases.0 in
     let row : drop place rows ≡ sends.items ∷ map (λ r. r.items) (into_iter_items c.next-in-loop-cell-2.new.self) =
     drop-map (λ r. r.items) place (into_iter_items c.args.rows.now) ∙ ap (map (λ r. r.items)) (sym at.invariant.rows ∙ lines) in
-    let new = c.add.new.homes.items in let added = c.in_ok-add.ensures.added in let box = added.0 in let home = c.new-home.result in
+    let new = c.add.new.homes.items in let added = c.in_ok-add.ensures.added in let box = added.0 in let home = c.in_ok-home.home in
     let others = drop 1 all_takes in let directory = directory_of (whose cells) all_takes in
     let pushed : new ≡ at.homes.items ++ box ∷ [] = added.2 in
     let longer : length new ≡ place + 1 = ap length pushed ∙ length_push at.homes.items box in
@@ -184,9 +184,9 @@ loop-cell-preserved g c =
     let sum : place ≡ 0 + place = omega arith in
     let same : box.value ≡ home = added.1 in
     let settled = subst (λ n. AgreesWithJournal (g.K.Behaviours.gives n) [] home) (ap (λ (x : ActorId). x.0) planned.this ∙ sum)
-    c.new-home.ensures.settled in
+    c.in_ok-home.ensures.settled in
     let homes_first = first-more directory others 0 (whose at.yielded) cell.who (take place all_takes) take' at.homes.items box at.invariant.first
-    (as-made box.value home cell take' sends.items (passes_of others (0 + place)) _ directory cell.who same c.new-home.ensures.first is
+    (as-made box.value home cell take' sends.items (passes_of others (0 + place)) _ directory cell.who same c.in_ok-home.ensures.first is
     (passes ∙ ap (passes_of others) sum) c.requires.directory) in record {
       cells = append_assoc at.yielded (cell ∷ []) rest ∙ all;
       count = omega (arith, longer, further, count);
@@ -201,7 +201,7 @@ loop-cell-preserved g c =
           (sym (map_push (λ (x : CellView). x.who) at.yielded cell)) homes_first));
       settled = subst (λ (l : List (Box Contents)). AreSettled g.K.Behaviours.gives 0 l) (sym pushed)
           (settled-more g.K.Behaviours.gives 0 at.homes.items box at.invariant.settled
-          (subst (λ x. AgreesWithJournal (g.K.Behaviours.gives (0 + place)) [] x) (sym same) settled) (subst HasNoBacklog (sym same) c.new-home.ensures.no_backlog));
+          (subst (λ x. AgreesWithJournal (g.K.Behaviours.gives (0 + place)) [] x) (sym same) settled) (subst HasNoBacklog (sym same) c.in_ok-home.ensures.no_backlog));
     }
 
 pub returns-clause-first : goal.returns-clause-first
@@ -235,10 +235,19 @@ returns-clause-rest g c =
     at.invariant.rows ∙ ap (λ n. drop n (into_iter_items c.args.rows.now)) many
 
 pub returns-in_err-add-clause-first : goal.returns-in_err-add-clause-first
-returns-in_err-add-clause-first g c = if-none _ c.from_residual.result c.in_err-add.field-0.0 c.from_residual.ensures.1
+returns-in_err-add-clause-first g c = if-none _ c.from_residual-in_err-add.result c.in_err-add.field-0.0 c.from_residual-in_err-add.ensures.1
 
 pub returns-in_err-add-clause-fresh : goal.returns-in_err-add-clause-fresh
-returns-in_err-add-clause-fresh g c = if-none _ c.from_residual.result c.in_err-add.field-0.0 c.from_residual.ensures.1
+returns-in_err-add-clause-fresh g c = if-none _ c.from_residual-in_err-add.result c.in_err-add.field-0.0 c.from_residual-in_err-add.ensures.1
 
 pub returns-in_err-add-clause-rest : goal.returns-in_err-add-clause-rest
-returns-in_err-add-clause-rest g c = if-none _ c.from_residual.result c.in_err-add.field-0.0 c.from_residual.ensures.1
+returns-in_err-add-clause-rest g c = if-none _ c.from_residual-in_err-add.result c.in_err-add.field-0.0 c.from_residual-in_err-add.ensures.1
+
+pub returns-in_err-home-clause-first : goal.returns-in_err-home-clause-first
+returns-in_err-home-clause-first g c = if-none _ c.from_residual.result c.in_err-home.field-0.0 c.from_residual.ensures.1
+
+pub returns-in_err-home-clause-fresh : goal.returns-in_err-home-clause-fresh
+returns-in_err-home-clause-fresh g c = if-none _ c.from_residual.result c.in_err-home.field-0.0 c.from_residual.ensures.1
+
+pub returns-in_err-home-clause-rest : goal.returns-in_err-home-clause-rest
+returns-in_err-home-clause-rest g c = if-none _ c.from_residual.result c.in_err-home.field-0.0 c.from_residual.ensures.1

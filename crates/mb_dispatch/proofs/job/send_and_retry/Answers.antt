@@ -5,6 +5,7 @@ use Rattle.std.specs.Prelude.{IfErr}
 use Rattle.mb_system.specs.Members.{sender_caller}
 use Rattle.mb_dispatch.specs.Orders.{HasSent}
 use Rattle.mb_system.specs.Obligations.{OwesNobody}
+use Rattle.mb_register.proofs.ClaimCounts.{loses-then}
 use Rattle.mb_system.proofs.Obligations.{obligations-then}
 use Rattle.mb_dispatch.proofs.Breaking.{job-owes}
 use Rattle.mb_dispatch.proofs.Sending.{sent-still}
@@ -74,3 +75,9 @@ returns-clause-still g c =
 
 pub returns-in_err-send_all-clause-still : goal.returns-in_err-send_all-clause-still
 returns-in_err-send_all-clause-still g c = λ id lt was. inr (c.send_all.ensures.owed.still id was)
+
+pub returns-clause-claims : goal.returns-clause-claims
+returns-clause-claims g c = loses-then _ _ _ _ _ _ c.send_all.ensures.claims c.retry_refused.ensures.handed
+
+pub returns-in_err-send_all-clause-claims : goal.returns-in_err-send_all-clause-claims
+returns-in_err-send_all-clause-claims g c = c.send_all.ensures.claims

@@ -30,3 +30,6 @@ returns-clause-number g c = refl
 
 pub returns-clause-out_of_memory : goal.returns-clause-out_of_memory
 returns-clause-out_of_memory g c = c.run_mailbox.ensures.out_of_memory
+
+pub returns-clause-log : goal.returns-clause-log
+returns-clause-log g c = refl

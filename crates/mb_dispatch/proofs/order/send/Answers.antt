@@ -127,3 +127,15 @@ pub returns-in_err-stop-in-Stop-clause-unsent : goal.returns-in_err-stop-in-Stop
 returns-in_err-stop-in-Stop-clause-unsent g c =
     let old = c.args.sender.now in
     on_err c.from_residual-in_err-stop-in-Stop.result (subst (λ s. HasSent [] old s) (sym c.in_err-stop-in-Stop.ensures.refused.0) (sent-none old))
+
+pub returns-in_ok-tell-in-Tell-clause-claims : goal.returns-in_ok-tell-in-Tell-clause-claims
+returns-in_ok-tell-in-Tell-clause-claims g c = c.tell.ensures.handed
+
+pub returns-in_err-tell-in-Tell-clause-claims : goal.returns-in_err-tell-in-Tell-clause-claims
+returns-in_err-tell-in-Tell-clause-claims g c = c.tell.ensures.handed
+
+pub returns-in_ok-stop-in-Stop-clause-claims : goal.returns-in_ok-stop-in-Stop-clause-claims
+returns-in_ok-stop-in-Stop-clause-claims g c = c.stop.ensures.handed
+
+pub returns-in_err-stop-in-Stop-clause-claims : goal.returns-in_err-stop-in-Stop-clause-claims
+returns-in_err-stop-in-Stop-clause-claims g c = c.stop.ensures.handed

@@ -9,6 +9,7 @@ use Rattle.mb_dispatch.specs.Faults.{BreaksSending, StopsFor}
 use Rattle.mb_dispatch.specs.Orders.{HasSent}
 use Rattle.mb_dispatch.proofs.Breaking.{breaks-many}
 use Rattle.mb_register.proofs.CallerLemmas.{account-none, account-then}
+use Rattle.mb_register.proofs.ClaimCounts.{loses-none, loses-then}
 use Rattle.mb_system.proofs.Obligations.{obligations-same, obligations-then}
 use Rattle.mb_dispatch.proofs.Sending.{sent-none, sent-then, stops-for, stops-within}
 use Rattle.mb_dispatch.proofs.Sides.{on_err}
@@ -21,6 +22,7 @@ loop-order-init g c =
       sent-none first,
       obligations-same (actors_of c.args.system.now.gates) caller caller refl refl,
       account-none caller.account,
+      loses-none caller.account caller.view,
     )
 
 pub loop-order-preserved : goal.loop-order-preserved
@@ -33,6 +35,7 @@ loop-order-preserved g c =
       obligations-then (actors_of c.args.system.now.gates) (sender_caller c.args.sender.now.inner.registrar) (sender_caller at.sender.inner.registrar)
           (sender_caller c.send_often.new.sender.inner.registrar) at.invariant.2 one.obligations,
       account-then _ _ _ at.invariant.3 c.send_often.ensures.owed,
+      loses-then _ _ _ _ _ _ at.invariant.4 c.send_often.ensures.claims,
     )
 
 pub returns-clause-same_gates : goal.returns-clause-same_gates
@@ -90,3 +93,9 @@ returns-in_err-send_often-clause-stopped g c =
 pub returns-clause-sent : goal.returns-clause-sent
 returns-clause-sent g c =
     subst (λ xs. HasSent xs c.args.sender.now c.loop-order.sender) (take_all _ _ c.loop-order-test.false) c.loop-order.invariant.1
+
+pub returns-clause-claims : goal.returns-clause-claims
+returns-clause-claims g c = c.loop-order.invariant.4
+
+pub returns-in_err-send_often-clause-claims : goal.returns-in_err-send_often-clause-claims
+returns-in_err-send_often-clause-claims g c = loses-then _ _ _ _ _ _ c.loop-order.invariant.4 c.send_often.ensures.claims

@@ -2,6 +2,7 @@ use Rattle.std.proofs.Common.{◌≡◌, refl, ◌∙◌, ◌∷◌, [], arith, 
 use Rattle.mb_gate.specs.Accessors.{actors_of}
 use Rattle.mb_system.specs.Members.{sender_caller}
 use Rattle.mb_register.proofs.CallerLemmas.{account-none, account-then}
+use Rattle.mb_register.proofs.ClaimCounts.{loses-none, loses-then}
 use Rattle.mb_system.proofs.Obligations.{obligations-same, obligations-then}
 use Rattle.mb_dispatch.proofs.Sending.{sent-again, sent-never, sent-then}
 use Rattle.mb_dispatch.proofs.Sides.{on_err}
@@ -19,6 +20,7 @@ loop-init g c =
       sent-never c.args.order.to c.args.order.what first,
       obligations-same (actors_of c.args.system.now.gates) caller caller refl refl,
       account-none caller.account,
+      loses-none caller.account caller.view,
     )
 
 pub loop-preserved : goal.loop-preserved
@@ -29,6 +31,7 @@ loop-preserved g c =
       obligations-then (actors_of c.args.system.now.gates) (sender_caller c.args.sender.now.inner.registrar) (sender_caller c.loop.sender.inner.registrar)
           (sender_caller c.send.new.sender.inner.registrar) c.loop.invariant.2 one.obligations,
       account-then _ _ _ c.loop.invariant.3 c.send.ensures.owed,
+      loses-then _ _ _ _ _ _ c.loop.invariant.4 c.send.ensures.claims,
     )
 
 pub returns-clause-same_gates : goal.returns-clause-same_gates
@@ -87,3 +90,9 @@ returns-in_err-send-clause-stopped g c =
           c.in_err-send.ensures.unsent;
     } in
     on_err c.from_residual.result part
+
+pub returns-clause-claims : goal.returns-clause-claims
+returns-clause-claims g c = c.loop.invariant.4
+
+pub returns-in_err-send-clause-claims : goal.returns-in_err-send-clause-claims
+returns-in_err-send-clause-claims g c = loses-then _ _ _ _ _ _ c.loop.invariant.4 c.send.ensures.claims

@@ -15,9 +15,11 @@ use Rattle.mb_system.proofs.Obligations.{obligations-left, obligations-same, owe
 use Rattle.mb_system.proofs.Saw.{saw-then}
 use Rattle.mb_system.specs.OnlyLooks.{OnlyLooks}
 use Rattle.mb_system.specs.RunErrors.{of_ready}
+use Rattle.mb_dispatch.specs.Claims.{RunsEachClaim}
 use Rattle.mb_dispatch.specs.Faults.{BreaksQuietRun, BreaksWork}
 use Rattle.mb_dispatch.specs.Found.{FoundPoolEmpty}
 use Rattle.mb_dispatch.proofs.Breaking.{breaks-after, breaks-mailbox, breaks-retry}
+use Rattle.mb_dispatch.proofs.Claims.{none-then, claims-registered, claims-registered-all, tried-ran}
 use Rattle.mb_system.proofs.RunErrors.{on-error}
 use Rattle.mb_dispatch.specs.Runs.{MadeRuns, RanMailbox}
 use Rattle.mb_dispatch.proofs.Runs.{ran-mailbox, runs-looks, runs-more}
@@ -33,6 +35,7 @@ loop-init g c =
       subst (λ turns. MadeRuns g.K.Behaviours.gives (origin_of c.args.system.now.gates) c.args.system.now.throughput (pass_view c.args.end.now.registrar.pass) turns
           (pass_view c.register_all.new.self.registrar.pass))
           (sym {A = List Turn} c.new-turns.ensures.items) did.looks,
+      claims-registered-all c.args.end.now c.register_all.new.self (actors_of c.args.system.now.gates) did.registered did.log,
     )
 
 pub loop-preserved-in-Some-take : goal.loop-preserved-in-Some-take
@@ -54,6 +57,8 @@ loop-preserved-in-Some-take g c =
           (ran-mailbox gives (origin_of system.gates) system.throughput between.view new.view c.in-Some-take.claim turn
           (subst (λ (o : Option (Origin (Box Contents))). IsFreshClaim gives o c.in-Some-take.claim) c.loop.invariant.0.1 c.in-Some-take.ensures.untouched)
           c.in_ok-run_mailbox-in-Some-take.ensures.ran))),
+      tried-ran c.in-Some-take.claim c.args.end.now c.loop.end c.take.new.self c.run_mailbox.new.end c.take.result c.in-Some-take.is c.loop.invariant.5 same.0
+          c.take.ensures.account c.take.ensures.log did.claims did.log,
     )
 
 pub loop-preserved : goal.loop-preserved
@@ -70,6 +75,8 @@ loop-preserved g c =
       subst (λ turns. MadeRuns gives (origin_of system.gates) system.throughput first.view turns new.view) (sym {A = List Turn} c.reserve.ensures.items)
           (runs-looks gives (origin_of system.gates) system.throughput first.view old.view new.view c.loop.turns.items c.loop.invariant.4
           (subst (λ p. OnlyLooks (pass_view p) new.view) same.0 did.looks)),
+      none-then c.args.end.now c.loop.end c.take.new.self c.retry_refused.new.self c.in-None-take.ensures.none.0 c.loop.invariant.5
+          (claims-registered c.take.new.self c.retry_refused.new.self did.handed did.log),
     )
 
 pub returns-in_err-run_mailbox-in-Some-take-clause-log_kept : goal.returns-in_err-run_mailbox-in-Some-take-clause-log_kept
@@ -245,3 +252,21 @@ retry_refused-requires g c =
 pub push_reserved-requires : goal.push_reserved-requires
 push_reserved-requires g c =
     let room = c.reserve.ensures.ok in let went = c.if-is_err.false in let is = c.is_err.ensures in grind (arith, common_steps)
+
+pub returns-in_err-run_mailbox-in-Some-take-clause-claims : goal.returns-in_err-run_mailbox-in-Some-take-clause-claims
+returns-in_err-run_mailbox-in-Some-take-clause-claims g c =
+    let did = c.run_mailbox.ensures in let took = c.take.ensures in
+    tried-ran c.in-Some-take.claim c.args.end.now c.loop.end c.take.new.self c.run_mailbox.new.end c.take.result c.in-Some-take.is c.loop.invariant.5
+    took.same.0 took.account took.log did.claims did.log
+
+pub returns-in_err-retry_refused-in-None-take-clause-claims : goal.returns-in_err-retry_refused-in-None-take-clause-claims
+returns-in_err-retry_refused-in-None-take-clause-claims g c =
+    let did = c.retry_refused.ensures in
+    none-then c.args.end.now c.loop.end c.take.new.self c.retry_refused.new.self c.in-None-take.ensures.none.0 c.loop.invariant.5
+    (claims-registered c.take.new.self c.retry_refused.new.self did.handed did.log)
+
+pub returns-then-is_empty-clause-claims : goal.returns-then-is_empty-clause-claims
+returns-then-is_empty-clause-claims g c = subst (RunsEachClaim c.args.end.now) (sym c.in-None-take.ensures.none.0) c.loop.invariant.5
+
+pub returns-then-is_err-clause-claims : goal.returns-then-is_err-clause-claims
+returns-then-is_err-clause-claims g c = c.loop.invariant.5

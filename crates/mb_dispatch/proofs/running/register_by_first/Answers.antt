@@ -4,6 +4,7 @@ use Rattle.mb_system.specs.Members.{end_caller}
 use Rattle.mb_system.proofs.Obligations.{obligations-left, obligations-same}
 use Rattle.mb_system.proofs.Looking.{only-none}
 use Rattle.mb_system.proofs.Saw.{saw-same}
+use Rattle.mb_dispatch.proofs.Claims.{claims-none, claims-registered-all}
 use Rattle.mb_dispatch.proofs.Firsts.{first-discharged}
 use Rattle.mb_dispatch.proofs.Sides.{first_changed, zip_first, zip_same}
 use Rattle.mb_dispatch.proofs.running.register_by_first.Goals as goal
@@ -44,3 +45,12 @@ returns-in_default-clause-looks g c = zip_same _ (λ x. only-none (pass_view x.r
 pub register_all-requires : goal.register_all-requires
 register_all-requires g c =
     let one = c.in-len1-up.len_at_least in record { same_gates = c.requires 0 c.index-ends-0.result (omega (arith, one)) }
+
+pub returns-in-len1-up-clause-claims : goal.returns-in-len1-up-clause-claims
+returns-in-len1-up-clause-claims g c =
+    let did = c.register_all.ensures in
+    zip_first _ claims-none c.args.ends.now c.index-ends-0.result c.register_all.new.self
+    (claims-registered-all (get_or c.args.ends.now 0 c.index-ends-0.result) c.register_all.new.self (actors_of c.args.system.now.gates) did.registered did.log)
+
+pub returns-in_default-clause-claims : goal.returns-in_default-clause-claims
+returns-in_default-clause-claims g c = zip_same _ claims-none c.args.ends.now

@@ -1,4 +1,4 @@
-use Rattle.std.proofs.Common.{◌∙◌}
+use Rattle.std.proofs.Common.{◌∙◌, []}
 use Rattle.std.proofs.lemmas.Result.{on_ok_weaker}
 use Rattle.mb_gate.specs.Accessors.{actors_of}
 use Rattle.mb_system.specs.Members.{end_caller}
@@ -6,6 +6,7 @@ use Rattle.mb_system.proofs.Crossing.{end_send, passed_send, passed_sync, system
 use Rattle.mb_system.proofs.Obligations.{obligations-then}
 use Rattle.mb_system.proofs.Saw.{saw-then}
 use Rattle.mb_dispatch.proofs.Breaking.{breaks-run, runs-or-broke-then, worked-then}
+use Rattle.mb_dispatch.proofs.Claims.{claims-then}
 use Rattle.mb_dispatch.proofs.Crossing.{job_send}
 use Rattle.mb_dispatch.proofs.Sides.{all_after, as_many_after, ok_first, ok_rest, same_after, zip_then, zip_weaker}
 use Rattle.mb_dispatch.proofs.Firsts.{first-settled}
@@ -109,3 +110,10 @@ returns-clause-still g c = zip_weaker _ _ (λ old new kept. kept.3) _ _ c.both_i
 
 pub returns-clause-sends : goal.returns-clause-sends
 returns-clause-sends g c = same_after _ _ (λ old new kept. kept.4) _ _ c.both_in_parallel-of_jobs.ensures.keeps.0
+
+pub returns-clause-claims : goal.returns-clause-claims
+returns-clause-claims g c =
+    zip_then _ _ _ (λ x y z ran kept. claims-then [] x y z ran kept.5) _ _ _ c.register_by_first.ensures.claims c.both_in_parallel-of_jobs.ensures.keeps.1
+
+pub returns-clause-claims_of_jobs : goal.returns-clause-claims_of_jobs
+returns-clause-claims_of_jobs g c = zip_weaker _ _ (λ old new kept. kept.5) _ _ c.both_in_parallel-of_jobs.ensures.keeps.0

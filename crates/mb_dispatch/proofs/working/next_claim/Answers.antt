@@ -1,21 +1,23 @@
-use Rattle.std.proofs.Common.{◌∙◌, subst, sym, ap}
-use Rattle.std.proofs.lemmas.Result.{IfOk-from_err}
+use Rattle.std.proofs.Common.{◌≡◌, ◌∙◌, ◌++◌, subst, sym, ap}
+use Rattle.std.proofs.lemmas.Result.{IfOk-from_err, MatchResult-from_err}
 use Rattle.std.specs.Global.{Box}
-use Rattle.std.specs.Prelude.{IfErr, IfSome, Option}
+use Rattle.std.specs.Prelude.{IfErr, IfSome, Option, Some, option_to_list}
 use Rattle.mb_gate.specs.Accessors.{actors_of, pass_id, pass_view}
 use Rattle.mb_gate.specs.Rule.{IsPart}
 use Rattle.mb_gate.specs.Untouched.{Origin, origin_of}
 use Rattle.mb_home.specs.Contents.{Contents}
 use Rattle.mb_home.specs.Fresh.{IsFreshClaim}
 use Rattle.mb_register.specs.Owed.{is_owed}
-use Rattle.mb_system.specs.Members.{end_caller}
+use Rattle.mb_system.specs.Members.{claims_taken, end_caller}
 use Rattle.mb_system.specs.OnlyLooks.{OnlyLooks}
 use Rattle.mb_system.proofs.Looking.{only-none}
 use Rattle.mb_system.proofs.Obligations.{obligations-same, obligations-then}
 use Rattle.mb_system.proofs.RunErrors.{on-error}
 use Rattle.mb_system.proofs.Saw.{saw-same}
 use Rattle.mb_dispatch.specs.Faults.{BreaksWork}
+use Rattle.mb_dispatch.specs.Claims.{RunsEachClaim}
 use Rattle.mb_dispatch.proofs.Breaking.{breaks-retry}
+use Rattle.mb_dispatch.proofs.Claims.{claims-registered, claims-then, claims-took}
 use Rattle.mb_dispatch.proofs.Runs.{of-looks}
 use Rattle.mb_dispatch.proofs.Sides.{if_none}
 use Rattle.mb_dispatch.proofs.working.next_claim.Goals as goal
@@ -129,3 +131,23 @@ returns-clause-log_kept g c =
 
 pub returns-clause-fault : goal.returns-clause-fault
 returns-clause-fault g c = tt
+
+pub returns-in-Some-clause-claims : goal.returns-in-Some-clause-claims
+returns-in-Some-clause-claims g c =
+    let took = c.take.ensures in
+    claims-took (Some c.in-Some.claim) c.args.end.now c.take.new.self took.same.0 took.account
+    (subst (λ next. claims_taken c.take.new.self ≡ claims_taken c.args.end.now ++ option_to_list next) c.in-Some.is took.log)
+
+pub returns-in_err-retry_refused-clause-claims : goal.returns-in_err-retry_refused-clause-claims
+returns-in_err-retry_refused-clause-claims g c =
+    let took = c.take.ensures in let did = c.retry_refused.ensures in let first = c.args.end.now in let new = c.retry_refused.new.self in
+    let still : c.take.new.self ≡ first = c.in_default.ensures.none.0 in
+    MatchResult-from_err c.from_residual.result _ _ c.from_residual.ensures.0
+    (λ error. subst (λ e. RunsEachClaim e new) still (claims-registered c.take.new.self new did.handed did.log))
+
+pub returns-clause-claims : goal.returns-clause-claims
+returns-clause-claims g c =
+    let did = c.retry_refused.ensures in let first = c.args.end.now in let between = c.retry_refused.new.self in let new = c.wait-next.new.end in
+    let still : c.take.new.self ≡ first = c.in_default.ensures.none.0 in
+    claims-then (option_to_list c.wait-next.result) first between new
+    (subst (λ e. RunsEachClaim e between) still (claims-registered c.take.new.self between did.handed did.log)) c.wait-next.ensures.claims

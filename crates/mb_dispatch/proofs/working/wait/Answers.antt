@@ -1,18 +1,27 @@
-use Rattle.std.proofs.Common.{◌∙◌, subst, sym, refl}
+use Rattle.std.proofs.Common.{◌≡◌, ◌∙◌, [], ◌∷◌, ◌++◌, subst, sym, refl}
 use Rattle.std.specs.Global.{Box}
-use Rattle.std.specs.Prelude.{Option}
+use Rattle.std.specs.Prelude.{Option, Some, option_to_list}
 use Rattle.mb_gate.specs.Untouched.{Origin}
 use Rattle.mb_home.specs.Contents.{Contents}
 use Rattle.mb_home.specs.Fresh.{IsFreshClaim}
+use Rattle.mb_system.specs.Members.{claims_taken}
+use Rattle.mb_dispatch.specs.Claims.{RunsEachClaim}
 use Rattle.mb_dispatch.specs.Found.{FoundPoolEmpty}
+use Rattle.mb_dispatch.proofs.Claims.{claims-none, claims-then, claims-took}
 use Rattle.mb_dispatch.proofs.working.wait.Goals as goal
 
 pub loop-init : goal.loop-init
-loop-init g c = (refl, refl, refl, refl)
+loop-init g c = (refl, refl, refl, refl, claims-none c.args.end.now)
 
 pub loop-preserved : goal.loop-preserved
 loop-preserved g c =
-    let same = c.take.ensures.same in let at = c.loop.invariant in (same.0 ∙ at.0, same.1 ∙ at.1, same.2 ∙ at.2, same.3 ∙ at.3)
+    let same = c.take.ensures.same in let at = c.loop.invariant in (
+      same.0 ∙ at.0,
+      same.1 ∙ at.1,
+      same.2 ∙ at.2,
+      same.3 ∙ at.3,
+      subst (RunsEachClaim c.args.end.now) (sym c.in_default.ensures.none.0) at.4,
+    )
 
 pub returns-in-Some-take-clause-untouched : goal.returns-in-Some-take-clause-untouched
 returns-in-Some-take-clause-untouched g c =
@@ -35,3 +44,12 @@ returns-then-is_over-clause-empty g c =
 pub returns-then-is_over-clause-same : goal.returns-then-is_over-clause-same
 returns-then-is_over-clause-same g c =
     let same = c.take.ensures.same in let at = c.loop.invariant in (same.0 ∙ at.0, same.1 ∙ at.1, same.2 ∙ at.2, same.3 ∙ at.3)
+
+pub returns-in-Some-take-clause-claims : goal.returns-in-Some-take-clause-claims
+returns-in-Some-take-clause-claims g c =
+    let took = c.take.ensures in let claim = Some c.in-Some-take.claim in
+    claims-then (c.in-Some-take.claim ∷ []) c.args.end.now c.loop.end c.take.new.self c.loop.invariant.4
+    (claims-took claim c.loop.end c.take.new.self took.same.0 took.account (subst (λ next. claims_taken c.take.new.self ≡ claims_taken c.loop.end ++ option_to_list next) c.in-Some-take.is took.log))
+
+pub returns-then-is_over-clause-claims : goal.returns-then-is_over-clause-claims
+returns-then-is_over-clause-claims g c = subst (RunsEachClaim c.args.end.now) (sym c.in_default.ensures.none.0) c.loop.invariant.4

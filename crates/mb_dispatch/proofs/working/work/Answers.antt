@@ -20,3 +20,6 @@ returns-clause-fault g c = c.work_on-outcome.ensures.fault
 
 pub returns-clause-ran : goal.returns-clause-ran
 returns-clause-ran g c = c.work_on-outcome.ensures.ran
+
+pub returns-clause-claims : goal.returns-clause-claims
+returns-clause-claims g c = c.work_on-outcome.ensures.claims

@@ -1,7 +1,7 @@
-use Rattle.std.proofs.Common.{◌≡◌, ◌∙◌, ℕ, ap, refl, subst, sym}
+use Rattle.std.proofs.Common.{◌≡◌, ◌∙◌, ℕ, [], ap, refl, subst, sym}
 use Rattle.std.proofs.lemmas.Result.{IfOk-from_err}
 use Rattle.std.specs.Global.{Box}
-use Rattle.std.specs.Prelude.{IfNone, IfSome, None, Option, Some}
+use Rattle.std.specs.Prelude.{IfNone, IfSome, None, Option, Some, option_to_list}
 use Rattle.mb_actor.specs.Behaviour.{Moment, Reply}
 use Rattle.mb_gate.specs.Accessors.{actors_of, pass_id, pass_view}
 use Rattle.mb_gate.specs.Rule.{IsPart}
@@ -17,9 +17,11 @@ use Rattle.mb_system.specs.declared.system.System.{System}
 use Rattle.mb_system.proofs.Obligations.{obligations-left, obligations-same, obligations-then}
 use Rattle.mb_system.proofs.Saw.{saw-same, saw-then}
 use Rattle.mb_system.proofs.RunErrors.{on-error}
+use Rattle.mb_dispatch.specs.Claims.{RunsEachClaim, RunsEachClaimBut}
 use Rattle.mb_dispatch.specs.Faults.{BreaksWork}
 use Rattle.mb_dispatch.specs.Runs.{OnlyRuns}
 use Rattle.mb_dispatch.proofs.Breaking.{breaks-after, breaks-mailbox}
+use Rattle.mb_dispatch.proofs.Claims.{claims-none, claims-then, next-ran, tried-ran}
 use Rattle.mb_dispatch.proofs.Runs.{no-run, of-looks, one-run, ran-mailbox, runs-then}
 use Rattle.mb_dispatch.proofs.working.work_on.Goals as goal
 
@@ -39,6 +41,7 @@ module _ {A K : Type 0} (gives : ℕ → Moment → Reply → Type 0) (system : 
       IsEndOf system.gates end.registrar × (end.number ≡ first.number) × IsPart (pass_view first.registrar.pass).log (pass_view end.registrar.pass).log
       × KeepsObligations (actors_of system.gates) (end_caller first.registrar) (end_caller end.registrar)
       × OnlyRuns gives (origin_of system.gates) system.throughput (pass_view first.registrar.pass) (pass_view end.registrar.pass)
+      × RunsEachClaim first end
 
   kept-still : (at tried : WorkerEnd A K) → tried ≡ at → IsKept at → IsKept tried
   kept-still at tried still kept = subst IsKept (sym still) kept
@@ -54,6 +57,7 @@ loop-init g c =
       saw-same _,
       obligations-same (actors_of c.args.system.now.gates) caller caller refl refl,
       no-run g.K.Behaviours.gives (origin_of c.args.system.now.gates) c.args.system.now.throughput caller.view,
+      claims-none c.args.end.now,
     )
 
 pub run_mailbox-requires-clause-same_gates : goal.run_mailbox-requires-clause-same_gates
@@ -81,6 +85,8 @@ loop-preserved-in-Some-try_take g c =
           (one-run gives origin throughput between.view new.view turn
           (ran-mailbox gives origin throughput between.view new.view c.in-Some-try_take.claim turn
           (tried-fresh gives origin _ c.in-Some-try_take.claim at.0.1 c.in-Some-try_take.ensures.untouched) c.in_ok-run_mailbox.ensures.ran)),
+      tried-ran c.in-Some-try_take.claim c.args.end.now c.loop.end c.try_take.new.self c.run_mailbox.new.end c.try_take.result c.in-Some-try_take.is at.5 same.0
+          c.try_take.ensures.account c.try_take.ensures.log did.claims did.log,
     )
 
 pub returns-in_err-run_mailbox-clause-same_gates : goal.returns-in_err-run_mailbox-clause-same_gates
@@ -137,6 +143,8 @@ loop-preserved g c =
           (runs-then gives origin throughput first.view old.view between.view at.4 (of-looks gives origin throughput old.view between.view next.looks))
           (one-run gives origin throughput between.view new.view turn
           (ran-mailbox gives origin throughput between.view new.view c.in-Some-2.claim turn (fresh g.K.Behaviours.gives (origin_of c.args.system.now.gates) _ _ c.in-Some-2.is c.in_ok-claim.ensures.untouched) c.in_ok-run_mailbox-2.ensures.ran)),
+      next-ran c.in-Some-2.claim c.args.end.now c.try_take.new.self c.next_claim.new.end c.run_mailbox-in-loop.new.end c.in_ok-claim.field-0 c.in-Some-2.is at.5
+          c.in_ok-claim.ensures.claims did.claims did.log,
     )
 
 pub run_mailbox-requires-in-loop-clause-same_gates : goal.run_mailbox-requires-in-loop-clause-same_gates
@@ -266,3 +274,27 @@ returns-in_err-run_mailbox-2-clause-fault g c =
     (runs-then gives origin throughput start old between kept.4 (of-looks gives origin throughput old between c.next_claim.ensures.looks))
     (breaks-mailbox gives system between new c.in-Some-2.claim (fresh g.K.Behaviours.gives (origin_of c.args.system.now.gates) _ _ c.in-Some-2.is c.in_ok-claim.ensures.untouched) c.run_mailbox-in-loop.result error c.in_err-run_mailbox-2.was
     c.run_mailbox-in-loop.ensures.ran c.run_mailbox-in-loop.ensures.out_of_memory))
+
+pub returns-in_err-run_mailbox-clause-claims : goal.returns-in_err-run_mailbox-clause-claims
+returns-in_err-run_mailbox-clause-claims g c =
+    let did = c.run_mailbox.ensures in let took = c.try_take.ensures in
+    tried-ran c.in-Some-try_take.claim c.args.end.now c.loop.end c.try_take.new.self c.run_mailbox.new.end c.try_take.result c.in-Some-try_take.is
+    c.loop.invariant.5 took.same.0 took.account took.log did.claims did.log
+
+pub returns-in_default-2-clause-claims : goal.returns-in_default-2-clause-claims
+returns-in_default-2-clause-claims g c =
+    let kept = kept-still g.K.Behaviours.gives c.args.system.now c.args.end.now c.loop.end c.try_take.new.self c.in_default.ensures.none.0 c.loop.invariant in
+    claims-then [] c.args.end.now c.try_take.new.self c.next_claim.new.end kept.5
+    (subst (λ next. RunsEachClaimBut (option_to_list next) c.try_take.new.self c.next_claim.new.end) c.in_default-2.is c.in_ok-claim.ensures.claims)
+
+pub returns-in_err-claim-clause-claims : goal.returns-in_err-claim-clause-claims
+returns-in_err-claim-clause-claims g c =
+    let kept = kept-still g.K.Behaviours.gives c.args.system.now c.args.end.now c.loop.end c.try_take.new.self c.in_default.ensures.none.0 c.loop.invariant in
+    claims-then [] c.args.end.now c.try_take.new.self c.next_claim.new.end kept.5 c.in_err-claim.ensures.claims
+
+pub returns-in_err-run_mailbox-2-clause-claims : goal.returns-in_err-run_mailbox-2-clause-claims
+returns-in_err-run_mailbox-2-clause-claims g c =
+    let kept = kept-still g.K.Behaviours.gives c.args.system.now c.args.end.now c.loop.end c.try_take.new.self c.in_default.ensures.none.0 c.loop.invariant in
+    let did = c.run_mailbox-in-loop.ensures in
+    next-ran c.in-Some-2.claim c.args.end.now c.try_take.new.self c.next_claim.new.end c.run_mailbox-in-loop.new.end c.in_ok-claim.field-0 c.in-Some-2.is
+    kept.5 c.in_ok-claim.ensures.claims did.claims did.log

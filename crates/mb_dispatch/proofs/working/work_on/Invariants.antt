@@ -4,6 +4,7 @@ use Rattle.mb_gate.specs.Rule.{IsPart}
 use Rattle.mb_gate.specs.Untouched.{origin_of}
 use Rattle.mb_system.specs.Obligations.{KeepsObligations}
 use Rattle.mb_system.specs.Members.{IsEndOf, end_caller}
+use Rattle.mb_dispatch.specs.Claims.{RunsEachClaim}
 use Rattle.mb_dispatch.specs.Runs.{OnlyRuns}
 use Rattle.mb_dispatch.proofs.working.work_on.Given as goal
 
@@ -13,3 +14,4 @@ invariant-loop g l =
     × IsPart (pass_view l.fn.end.registrar.pass).log (pass_view l.end.registrar.pass).log
     × KeepsObligations (actors_of l.system.gates) (end_caller l.fn.end.registrar) (end_caller l.end.registrar)
     × OnlyRuns g.K.Behaviours.gives (origin_of l.system.gates) l.system.throughput (pass_view l.fn.end.registrar.pass) (pass_view l.end.registrar.pass)
+    × RunsEachClaim l.fn.end l.end

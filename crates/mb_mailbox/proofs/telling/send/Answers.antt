@@ -1,7 +1,7 @@
 use Rattle.std.proofs.Common.{◌≡◌, ◌==◌, false, [], ◌∷◌, None, Some, refl, sym, ap, ◌∙◌, subst}
 use Rattle.mb_msg.specs.declared.envelope.Envelope.{Envelope}
 use Rattle.mb_status.specs.Mailbox.{word_of}
-use Rattle.mb_msg.specs.declared.dead_letter.Why.TheVariants.{Closed}
+use Rattle.mb_msg.specs.declared.dead_letter.DeadLetterReason.TheVariants.{Closed}
 use Rattle.mb_journal.specs.Acts.Act.{Tell}
 use Rattle.mb_gate.specs.Accessors.{pass_view}
 use Rattle.mb_gate.specs.View.{View}

@@ -3,6 +3,6 @@ use Rattle.mb_refinement.proofs.kept_laws.interleavings_keep_what_runs_keep.Goal
 
 pub returns : goal.returns
 returns g c = λ first. holds_from_the_beginning (g.H.MailboxState.is_of first) g.H.MailboxState.facts c.every_run_keeps_holders.ensures
-    c.every_run_keeps_mailboxes.ensures c.every_run_keeps_debts.ensures c.step_keeps_holders.ensures.of_all c.step_keeps_mailboxes.ensures.of_all
-    c.step_keeps_debts.ensures.of_all c.split_keeps_debts.ensures.held c.split_keeps_debts.ensures.possible c.split_keeps_debts.ensures.settled
-    c.join_keeps_debts.ensures.held c.join_keeps_debts.ensures.possible c.join_keeps_debts.ensures.settled
+    c.every_run_keeps_mailboxes.ensures c.every_run_keeps_obligations.ensures c.step_keeps_holders.ensures.of_all c.step_keeps_mailboxes.ensures.of_all
+    c.step_keeps_obligations.ensures.of_all c.split_keeps_obligations.ensures.held c.split_keeps_obligations.ensures.possible c.split_keeps_obligations.ensures.settled
+    c.join_keeps_obligations.ensures.held c.join_keeps_obligations.ensures.possible c.join_keeps_obligations.ensures.settled

@@ -64,6 +64,11 @@ loop-end-preserved g c =
         blank = ap (λ (v : View). v.log) c.new_pass.ensures.known.1;
         unclaimed = ap (λ (v : View). v.got) c.new_pass.ensures.known.1;
         none_released = ap (λ (v : View). v.releases) c.new_pass.ensures.known.1;
+        no_claims = (
+          ap (λ (port : WorkerPortView _). port.pushed) c.new.ensures.value,
+          ap (λ (port : WorkerPortView _). port.refused) c.new.ensures.value,
+          c.new-in-loop-end.ensures,
+        );
       });
       ports = ap pool_ends_of pushed ∙ map_push (λ (e : WorkerEnd _ _). e.registrar.run_queue.end) at.opened.items _
           ∙ (λ i. at.invariant.ports i ++ ap (λ (port : WorkerPortView _). port.end) c.new.ensures.value i ∷ []);

@@ -4,6 +4,8 @@ use Rattle.std.specs.Vec.Iter.{into_iter_items}
 use Rattle.std.proofs.lemmas.List.{append-nil, drop-map, length_push, map_push, nil_from_length, take_all}
 use Rattle.std.proofs.lemmas.List.Elements.{All-head, All-rest}
 use Rattle.mb_msg.specs.Limits.{most_actors}
+use Rattle.mb_msg.specs.declared.dead_letter.DeadLetter.{DeadLetter}
+use Rattle.mb_dead_letters.specs.KeptListView.{KeptListView}
 use Rattle.mb_gate.specs.Accessors.{actors_of, first_home, pass_view, pass_id}
 use Rattle.mb_gate.specs.Untouched.{origin_of}
 use Rattle.mb_gate.specs.View.{View, obligation_to}
@@ -48,8 +50,8 @@ unreachable-requires g c =
     (place-left at.yielded rest c.args.feeds.items feed c.args.outside.items (length at.senders.items)
     (ap (λ l. at.yielded ++ l) (sym steps) ∙ at.invariant.whole) at.invariant.count c.requires.same_count.0)
 
-pub new-inner-requires : goal.new-inner-requires
-new-inner-requires g c =
+pub new-inner-requires-clause-routes : goal.new-inner-requires-clause-routes
+new-inner-requires-clause-routes g c =
     let at = c.loop-feed in let outside = c.args.outside.items in let sends = c.in-Some-next.sends in
     let rest = into_iter_items c.next-in-loop-feed.new.self in let place = length at.senders.items in
     let gates = c.args.gates.now in let queues = drop 1 (queues_of (first_home gates).value.directory) in
@@ -58,7 +60,10 @@ new-inner-requires g c =
     drop-map (λ r. r.items) place outside ∙ ap (map (λ r. r.items)) (sym at.invariant.rows ∙ lines) in
     let unused = unused-there queues (actors_of gates) most_actors (map (λ r. r.items) outside) place sends.items _ c.requires.outside row in
     let number : c.len-in-loop-feed.result ≡ place = search rules in
-    record { routes = subst (λ n. AreRoutes n [] sends.items) (sym (ap (λ n. most_actors + n) number)) unused.routes }
+    subst (λ n. AreRoutes n [] sends.items) (sym (ap (λ n. most_actors + n) number)) unused.routes
+
+pub new-inner-requires-clause-none : goal.new-inner-requires-clause-none
+new-inner-requires-clause-none g c = ap (λ (l : KeptListView DeadLetter). l.items) c.in_ok-dead.ensures.made
 
 pub loop-feed-preserved : goal.loop-feed-preserved
 loop-feed-preserved g c =
@@ -160,3 +165,9 @@ returns-in_err-push-clause-kept g c =
       ap (λ (v : View). v.obligations) known ∙ at.2,
       ap (λ (v : View). v.releases) known ∙ at.3,
     )
+
+pub returns-in_err-dead-clause-same_gates : goal.returns-in_err-dead-clause-same_gates
+returns-in_err-dead-clause-same_gates g c = c.loop-feed.invariant.same_gates
+
+pub returns-in_err-dead-clause-kept : goal.returns-in_err-dead-clause-kept
+returns-in_err-dead-clause-kept g c = c.loop-feed.invariant.kept

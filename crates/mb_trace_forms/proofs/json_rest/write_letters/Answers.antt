@@ -1,7 +1,7 @@
 use Rattle.std.proofs.Common.{get_or, map, pos, string_bytes}
 use Rattle.std.proofs.lemmas.List.{get_or_default}
 use Rattle.mb_msg.specs.declared.dead_letter.DeadLetter.{DeadLetter}
-use Rattle.mb_msg.specs.declared.dead_letter.Why.TheVariants as why
+use Rattle.mb_msg.specs.declared.dead_letter.DeadLetterReason.TheVariants as why
 use Rattle.mb_msg.specs.declared.envelope.Body.TheVariants as body
 use Rattle.mb_trace_forms.specs.JsonRest.{letter_json}
 use Rattle.mb_trace.proofs.Written.{appends-none, each-all, each-cut, each-more, err-written}

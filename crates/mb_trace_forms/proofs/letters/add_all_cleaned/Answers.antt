@@ -13,8 +13,8 @@ loop-actor-init c = sym (append-nil c.args.letters.now.items)
 pub loop-actor-preserved : goal.loop-actor-preserved
 loop-actor-preserved c =
     let at = c.loop-actor in let f = c.args.filter.now in
-    given-more (λ (r : ActorReport). cleaned f r.cleaned.items) c.args.actors.now at.actor-index c.actor-item.result _ _ _ c.loop-actor-test.true
-    c.actor-item.is at.invariant (c.in_ok-add_cleaned.ensures ∙ ap (λ l. at.letters.items ++ cleaned f l) c.deref.ensures.value)
+    given-more (λ (r : ActorReport). cleaned f r.cleaned.kept) c.args.actors.now at.actor-index c.actor-item.result _ _ _ c.loop-actor-test.true
+    c.actor-item.is at.invariant (c.in_ok-add_cleaned.ensures ∙ ap (λ l. at.letters.items ++ cleaned f l) c.kept.ensures.value)
 
 pub returns-in_err-add_cleaned : goal.returns-in_err-add_cleaned
 returns-in_err-add_cleaned c = IfOk-from_err c.from_residual.result _ c.from_residual.ensures.0
@@ -22,5 +22,5 @@ returns-in_err-add_cleaned c = IfOk-from_err c.from_residual.result _ c.from_res
 pub returns : goal.returns
 returns c =
     let actors = c.args.actors.now in let f = c.args.filter.now in
-    c.loop-actor.invariant ∙ ap (λ l. c.args.letters.now.items ++ flat_map (λ (r : ActorReport). cleaned f r.cleaned.items) l)
+    c.loop-actor.invariant ∙ ap (λ l. c.args.letters.now.items ++ flat_map (λ (r : ActorReport). cleaned f r.cleaned.kept) l)
     (take_all c.loop-actor.actor-index actors c.loop-actor-test.false)

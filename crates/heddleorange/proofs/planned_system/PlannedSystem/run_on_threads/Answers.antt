@@ -1,31 +1,24 @@
+use Rattle.std.proofs.Common.{length, subst, sym}
+use Rattle.heddleorange.specs.NamedOrder.{NamesInLists}
+use Rattle.heddleorange.specs.WholeRun.{gives_at}
+use Rattle.heddleorange.proofs.GivesBack.{named-back, named-failed}
+use Rattle.heddleorange.proofs.Sent.{orders_of}
 use Rattle.heddleorange.proofs.planned_system.PlannedSystem.run_on_threads.Goals as goal
 
 pub run_on_threads-requires-clause-unused : goal.run_on_threads-requires-clause-unused
 run_on_threads-requires-clause-unused g c κs within = c.requires.unused
 
-pub returns-clause-story : goal.returns-clause-story
-returns-clause-story g c = c.run_on_threads.ensures.story
+pub returns-in-Err-clause-refused : goal.returns-in-Err-clause-refused
+returns-in-Err-clause-refused g c =
+    let actors = c.args.self.actors.items in
+    named-failed (gives_at actors g.A.Actor.gives) c.args.self.plan (length actors) (orders_of c.args.sends.now) c.in-Err.failed c.with_names.result
+    c.with_names.ensures.error c.with_names.ensures.actors c.in-Err.ensures.refused
 
-pub returns-clause-right : goal.returns-clause-right
-returns-clause-right g c = c.run_on_threads.ensures.right
+pub returns-in-Err-clause-which : goal.returns-in-Err-clause-which
+returns-in-Err-clause-which g c =
+    subst (NamesInLists (length c.args.self.actors.items) (orders_of c.args.sends.now)) (sym c.with_names.ensures.error) c.in-Err.ensures.which
 
-pub returns-clause-refused : goal.returns-clause-refused
-returns-clause-refused g c = c.run_on_threads.ensures.refused
-
-pub returns-clause-states : goal.returns-clause-states
-returns-clause-states g c = c.run_on_threads.ensures.states
-
-pub returns-clause-lines : goal.returns-clause-lines
-returns-clause-lines g c = c.run_on_threads.ensures.lines
-
-pub returns-clause-ledger : goal.returns-clause-ledger
-returns-clause-ledger g c = c.run_on_threads.ensures.ledger
-
-pub returns-clause-headline : goal.returns-clause-headline
-returns-clause-headline g c = c.run_on_threads.ensures.headline
-
-pub returns-clause-counts : goal.returns-clause-counts
-returns-clause-counts g c = c.run_on_threads.ensures.counts
-
-pub returns-clause-kept : goal.returns-clause-kept
-returns-clause-kept g c = c.run_on_threads.ensures.kept
+pub returns-in-Err-clause-back : goal.returns-in-Err-clause-back
+returns-in-Err-clause-back g c =
+    named-back c.args.self.plan c.args.self.actors.items c.args.self.names.texts.items c.in-Err.failed c.with_names.result c.with_names.ensures.error
+    c.with_names.ensures.untouched c.with_names.ensures.names c.in-Err.ensures.back

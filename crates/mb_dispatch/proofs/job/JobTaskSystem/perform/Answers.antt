@@ -45,6 +45,7 @@ returns-clause-keeps g c =
           (sent-some c.deref.result.now old new (OwesNobody c.args.shared.now.gates new) c.send_and_retry-outcome.result did.sent did.stopped),
       did.still,
       refl,
+      did.claims,
     )
 
 pub returns-clause-done : goal.returns-clause-done

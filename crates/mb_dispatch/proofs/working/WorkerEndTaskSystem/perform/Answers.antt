@@ -10,6 +10,7 @@ returns-clause-keeps g c =
       did.log_kept,
       did.obligations,
       runs-or-breaks g.K.Behaviours.gives c.args.shared.now (pass_view c.args.self.now.registrar.pass) c.work.new.end c.work.result did.ran did.fault,
+      did.claims,
     )
 
 pub returns-clause-done : goal.returns-clause-done

@@ -17,6 +17,6 @@ invariant_of-self c =
       numbered = subst (λ qs. names_of (accepted qs) ≡ names_from by 0 (accepted qs)) (sym c.add.ensures)
           (numbered-more by ps p c.args.self.now.numbered (ap (λ (s : SenderId). s.0) c.requires.next.0) (c.requires.next.1
           ∙ c.args.self.now.counted));
-      dead_are = c.push_reserved.ensures.items ∙ ap (λ l. l ++ letter ∷ []) c.args.self.now.dead_are
+      dead_are = c.push.ensures.items ∙ ap (λ l. l ++ letter ∷ []) c.args.self.now.dead_are
           ∙ sym (dead-more ps c.args.envelope c.args.why) ∙ sym (ap dead_letters c.add.ensures);
     }

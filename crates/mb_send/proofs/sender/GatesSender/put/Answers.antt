@@ -11,8 +11,10 @@ use Rattle.mb_send.specs.Sends.{AreRoutes, receiving_queues}
 use Rattle.mb_send.specs.Bounded.{are_of_bounded, may_be_refused, queue_to}
 use Rattle.mb_send.proofs.Bounding.{bounded-queued, bounded-dead, may-find-full}
 use Rattle.mb_gate.specs.Accessors.{pass_view}
+use Rattle.mb_gate.specs.View.{View}
 use Rattle.mb_send.proofs.Answering.{why-told}
 use Rattle.mb_send.proofs.Failing.{after-any, no-answer}
+use Rattle.mb_send.proofs.Handing.{hands-later, loses-looked}
 use Rattle.mb_send.proofs.Obligations.{is-sending, place-within, still-registered, registers-nobody}
 use Rattle.mb_register.specs.Sending.{counts}
 use Rattle.mb_register.proofs.Views.{does-then, does-sending, does-unsending}
@@ -311,3 +313,21 @@ returns-in-Err-clause-same_gates g c = (
 
 pub returns-in-Err-clause-same : goal.returns-in-Err-clause-same
 returns-in-Err-clause-same g c = (c.record_dead.ensures.same_sender ∙ c.ready.ensures.same.0, refl)
+
+pub returns-in-Ok-clause-handed : goal.returns-in-Ok-clause-handed
+returns-in-Ok-clause-handed g c =
+    let known = c.note_sent.ensures.known in
+    hands-later c.args.ticket.to.0 _ _ _ (pass_view c.note_sent.new.pass) _ c.register.result (ap (λ (v : View). v.got) known)
+    (ap (λ (v : View). v.returned) known) c.register.ensures.handed
+
+pub returns-in-Err-clause-handed : goal.returns-in-Err-clause-handed
+returns-in-Err-clause-handed g c =
+    let known = c.note_sent.ensures.known in let back = c.note_unsent.ensures.known in
+    hands-later c.args.ticket.to.0 _ _ _ (pass_view c.note_unsent.new.pass) _ c.register-in-Err.result
+    (ap (λ (v : View). v.got) back ∙ ap (λ (v : View). v.got) known) (ap (λ (v : View). v.returned) back ∙ ap (λ (v : View). v.returned) known)
+    c.register-in-Err.ensures.handed
+
+pub returns-in_err-ready-clause-handed : goal.returns-in_err-ready-clause-handed
+returns-in_err-ready-clause-handed g c =
+    let registrar = c.args.self.now.registrar in
+    loses-looked g.W.RunQueue.pushed g.W.RunQueue.refused registrar registrar refl refl refl refl

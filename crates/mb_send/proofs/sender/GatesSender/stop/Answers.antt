@@ -6,6 +6,7 @@ use Rattle.mb_msg.specs.declared.system.SysMsg.TheVariants as system
 use Rattle.mb_register.proofs.Views.{does-enlisting, does-then}
 use Rattle.mb_journal.specs.Accepted.{dead_letters}
 use Rattle.mb_send.specs.SeenClosed.{were_seen_closed}
+use Rattle.mb_send.proofs.Handing.{hands-later, loses-looked}
 use Rattle.mb_send.proofs.Obligations.{registers-nobody}
 use Rattle.mb_send.proofs.SeenClosed.{was_seen_closed-seen, was_seen_closed-does}
 use Rattle.mb_send.proofs.sender.GatesSender.stop.Goals as goal
@@ -61,3 +62,25 @@ returns-clause-stopped g c =
     let a = pass_view c.args.self.now.registrar.pass in let b = pass_view c.sys_enqueue.new.pass in let d = pass_view c.register-2.new.self.pass in
     let listed = c.in-Ok-sys_enqueue.ensures.listed ∙ ap (λ m. enlisting id number m a) c.in-Ok.ensures in
     (number, does-then id _ _ a b d (does-enlisting id number system.Terminate a b listed) c.register-2.ensures.looks)
+
+pub returns-in_default-sys_enqueue-clause-handed : goal.returns-in_default-sys_enqueue-clause-handed
+returns-in_default-sys_enqueue-clause-handed g c =
+    let ended = c.in_default-sys_enqueue.ensures.ended.1 in
+    hands-later c.args.id.0 _ _ _ (pass_view c.sys_enqueue.new.pass) _ c.register.result (ap (λ (v : View). v.got) ended)
+    (ap (λ (v : View). v.returned) ended) c.register.ensures.handed
+
+pub returns-clause-handed : goal.returns-clause-handed
+returns-clause-handed g c =
+    let listed = c.in-Ok-sys_enqueue.ensures.listed in
+    hands-later c.args.id.0 _ _ _ (pass_view c.sys_enqueue.new.pass) _ c.register-2.result (ap (λ (v : View). v.got) listed)
+    (ap (λ (v : View). v.returned) listed) c.register-2.ensures.handed
+
+pub returns-then-id-len-clause-handed : goal.returns-then-id-len-clause-handed
+returns-then-id-len-clause-handed g c =
+    let registrar = c.args.self.now.registrar in
+    loses-looked g.W.RunQueue.pushed g.W.RunQueue.refused registrar registrar refl refl refl refl
+
+pub returns-in_default-clause-handed : goal.returns-in_default-clause-handed
+returns-in_default-clause-handed g c =
+    let registrar = c.args.self.now.registrar in
+    loses-looked g.W.RunQueue.pushed g.W.RunQueue.refused registrar registrar refl refl refl refl

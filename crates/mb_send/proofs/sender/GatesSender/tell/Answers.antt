@@ -4,13 +4,17 @@ use Rattle.mb_queue.specs.Passes.{SendPassView}
 use Rattle.mb_send.specs.Sends.{receiving_queues}
 use Rattle.mb_send.specs.declared.send_log.SendLog.{SendLog}
 use Rattle.mb_msg.specs.declared.id.ActorId.{ActorId}
+use Rattle.mb_gate.specs.Accessors.{pass_view}
+use Rattle.mb_gate.specs.View.{View}
 use Rattle.mb_register.specs.Owed.{is_owed}
 use Rattle.mb_register.specs.declared.owed.Owed.{Owed}
 use Rattle.mb_register.specs.declared.registrar.Registrar.{Registrar}
+use Rattle.mb_register.proofs.ClaimCounts.{loses-then}
 use Rattle.mb_send.specs.Answers.{AnswersLook}
 use Rattle.mb_send.specs.Asked.{RegistersAtMost, account_of}
 use Rattle.mb_send.specs.declared.ticket.Look.{Look}
 use Rattle.mb_send.proofs.Failing.{at-fault, not-unknown, only-looked}
+use Rattle.mb_send.proofs.Handing.{loses-looked}
 use Rattle.mb_send.proofs.Obligations.{registers-nobody, registers-since}
 use Rattle.mb_send.proofs.sender.GatesSender.tell.Goals as goal
 
@@ -145,3 +149,24 @@ returns-in-Closed-clause-same g c =
 
 pub returns-in-Closed-clause-queues : goal.returns-in-Closed-clause-queues
 returns-in-Closed-clause-queues g c = ap (λ (s : Vec SendPassView). receiving_queues s.items) (c.record_dead_letter.ensures.same.1 ∙ c.look.ensures.same.1)
+
+pub returns-in_err-look-clause-handed : goal.returns-in_err-look-clause-handed
+returns-in_err-look-clause-handed g c =
+    let same = c.look.ensures.same in let still = c.in_err-look.ensures.refused.0 in
+    loses-looked g.W.RunQueue.pushed g.W.RunQueue.refused c.args.self.now.registrar c.look.new.self.registrar same.3 same.2
+    (λ i. (pass_view (still i).registrar.pass).got) (λ i. (pass_view (still i).registrar.pass).returned)
+
+pub returns-in-Open-clause-handed : goal.returns-in-Open-clause-handed
+returns-in-Open-clause-handed g c =
+    let same = c.look.ensures.same in let read = c.in_ok-look.ensures.seen.2.read in
+    loses-then _ _ _ _ (pass_view c.look.new.self.registrar.pass) _
+    (loses-looked g.W.RunQueue.pushed g.W.RunQueue.refused c.args.self.now.registrar c.look.new.self.registrar same.3 same.2
+    (ap (λ (v : View). v.got) read) (ap (λ (v : View). v.returned) read)) c.put.ensures.handed
+
+pub returns-in-Closed-clause-handed : goal.returns-in-Closed-clause-handed
+returns-in-Closed-clause-handed g c =
+    let same = c.look.ensures.same in let read = c.in_ok-look.ensures.seen.2.read in let kept = c.record_dead_letter.ensures.same.0 in
+    loses-looked g.W.RunQueue.pushed g.W.RunQueue.refused c.args.self.now.registrar c.record_dead_letter.new.self.registrar
+    (ap (λ (w : Registrar _ _). w.run_queue) kept ∙ same.3) (ap (λ (w : Registrar _ _). w.owed) kept ∙ same.2)
+    (ap (λ (w : Registrar _ _). (pass_view w.pass).got) kept ∙ ap (λ (v : View). v.got) read)
+    (ap (λ (w : Registrar _ _). (pass_view w.pass).returned) kept ∙ ap (λ (v : View). v.returned) read)

@@ -36,3 +36,6 @@ returns-clause-handed g c = c.register.ensures.handed
 
 pub returns-clause-due : goal.returns-clause-due
 returns-clause-due g c = c.register.ensures.due
+
+pub returns-clause-log : goal.returns-clause-log
+returns-clause-log g c = refl

@@ -17,6 +17,7 @@ loop-number-init g c = (
   only-none (pass_view c.args.self.now.registrar.pass),
   nobody,
   got-none hint.None (pass_view c.args.self.now.registrar.pass) (pass_view c.args.self.now.registrar.pass) refl,
+  refl,
 )
 
 pub loop-number-preserved : goal.loop-number-preserved
@@ -30,6 +31,7 @@ loop-number-preserved g c =
       only-after at.number first.view old.view new.view at.invariant.4 did.looks,
       one_more at.number old new c.register.result at.invariant.5 did.handed,
       got-then hint.None first.view old.view new.view at.invariant.4.looks (did.looks.looks ++ []) at.invariant.4.log did.looks.log at.invariant.6 did.due,
+      did.log ∙ at.invariant.7,
     )
 
 pub returns-clause-discharged : goal.returns-clause-discharged
@@ -61,3 +63,6 @@ returns-clause-registered g c =
 
 pub returns-clause-due : goal.returns-clause-due
 returns-clause-due g c = c.loop-number.invariant.6
+
+pub returns-clause-log : goal.returns-clause-log
+returns-clause-log g c = c.loop-number.invariant.7

@@ -15,4 +15,4 @@ invariant-loop-number g l =
     × LeavesCaller (end_caller l.fn.self.registrar) (end_caller l.self.registrar) × AreDischargedOrOwed l.number (end_caller l.self.registrar)
     × OnlyLooks (pass_view l.fn.self.registrar.pass) (pass_view l.self.registrar.pass)
     × AreRegistered (end_caller l.fn.self.registrar) l.number (end_caller l.self.registrar)
-    × GotOnlyDue hint.None (pass_view l.fn.self.registrar.pass) (pass_view l.self.registrar.pass)
+    × GotOnlyDue hint.None (pass_view l.fn.self.registrar.pass) (pass_view l.self.registrar.pass) × (l.self.taken ≡ l.fn.self.taken)

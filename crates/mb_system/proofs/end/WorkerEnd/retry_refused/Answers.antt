@@ -80,3 +80,9 @@ returns-clause-due g c = c.retry_refused.ensures.due
 
 pub returns-in_err-retry_refused-clause-due : goal.returns-in_err-retry_refused-clause-due
 returns-in_err-retry_refused-clause-due g c = c.retry_refused.ensures.due
+
+pub returns-clause-log : goal.returns-clause-log
+returns-clause-log g c = refl
+
+pub returns-in_err-retry_refused-clause-log : goal.returns-in_err-retry_refused-clause-log
+returns-in_err-retry_refused-clause-log g c = refl

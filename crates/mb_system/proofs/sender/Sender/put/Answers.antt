@@ -39,3 +39,6 @@ returns-clause-registered g c = c.put.ensures.registered
 
 pub returns-clause-unsent : goal.returns-clause-unsent
 returns-clause-unsent g c = c.put.ensures.unsent
+
+pub returns-clause-handed : goal.returns-clause-handed
+returns-clause-handed g c = c.put.ensures.handed

@@ -34,3 +34,6 @@ returns-clause-still g c = c.stop.ensures.still
 
 pub returns-clause-registered : goal.returns-clause-registered
 returns-clause-registered g c = c.stop.ensures.registered
+
+pub returns-clause-handed : goal.returns-clause-handed
+returns-clause-handed g c = c.stop.ensures.handed

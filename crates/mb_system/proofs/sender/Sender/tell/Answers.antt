@@ -41,3 +41,6 @@ returns-clause-present g c = c.tell.ensures.present
 
 pub returns-clause-unknown : goal.returns-clause-unknown
 returns-clause-unknown g c unknown i = record { inner = c.tell.ensures.unknown unknown i }
+
+pub returns-clause-handed : goal.returns-clause-handed
+returns-clause-handed g c = c.tell.ensures.handed

@@ -1,0 +1,115 @@
+//! A planned system all of whose actors are new.
+ghost use Rattle.std.specs.Prelude.{◌≡◌, ◌⊎◌, ◌+◌, ◌<◌, ◌≤◌, ◌↔◌, ℤ, pos, [], All, IfErr, IfOk, IsErrOf, Some, List, OnOk, Option, length, map};
+ghost use Rattle.mb_actor.specs.declared.message.Message.{Message};
+ghost use Rattle.mb_actor.specs.declared.message.Message.TheVariants.{Terminated};
+ghost use Rattle.mb_msg.specs.declared.id.ActorId.{ActorId as Id};
+ghost use Rattle.mb_quantity.specs.Quantity.{AllConserve, Holding};
+ghost use Rattle.mb_build.specs.declared.check.PlanError.TheVariants.{Actors, Parent};
+ghost use Rattle.heddleorange.specs.Added.{IsAdded};
+ghost use Rattle.heddleorange.specs.Conservation.{IsConserved};
+ghost use Rattle.heddleorange.specs.GivesBack.{GivesBack};
+ghost use Rattle.heddleorange.specs.Kept.{KeepsAsPlanned};
+ghost use Rattle.heddleorange.specs.Ledger.{AddsUp, AddsUpByCounts};
+ghost use Rattle.heddleorange.specs.Names.{name_by_default, number_of};
+ghost use Rattle.heddleorange.specs.NamedOrder.{NamesInLists};
+ghost use Rattle.heddleorange.specs.NoReport.{IsErrorOfRun, IsRight};
+ghost use Rattle.heddleorange.specs.RunHeadline.{RunHeadline};
+ghost use Rattle.heddleorange.specs.States.{ShowsStates};
+ghost use Rattle.heddleorange.specs.WholeRun.{IsReportOfRun, after_at, gives_at};
+ghost use Rattle.heddleorange.specs.declared.error.Error.TheVariants.{BadPlan, NameTaken, NoMemory};
+
+use crate::error::Error;
+use crate::failed_run::FailedRun;
+use crate::planned_system::{PlannedSystem, Settings};
+use crate::unused::Unused;
+use mb_actor::Actor;
+use mb_msg::{ActorId, ActorPlan, Order};
+use mb_report::Report;
+use std::alloc::Global;
+use std::sync::Wait;
+use std::thread::Threads;
+
+/// A planned system to whose actors no message has come. That is known by its type: neither `add` nor `run` asks for it, so all its
+/// actors may be made and added in one function. A system of `Box<dyn Actor + Send>` has to be a `PlannedSystem`.
+#[derive(Drop)]
+pub struct NewSystem<A: Actor> {
+    /// The system.
+    pub system: PlannedSystem<A>,
+    /// No message came to any of its actors.
+    pub ghost unused: { All (λ actor. A.content actor ≡ A.after actor []) system.actors.items },
+}
+
+impl<A: Actor> NewSystem<A> {
+    /// A system of these settings, without an actor beside the guardian, as `PlannedSystem::new` makes it.
+    pub fn new(alloc: Global, settings: Settings) -> Self
+        ensures actors { result.system.actors.items ≡ [] }
+        ensures planned { result.system.plan.actors.items ≡ [] }
+        ensures named { result.system.names.texts.items ≡ [] }
+        ensures throughput { result.system.plan.throughput ≡ settings.throughput }
+        ensures workers { result.system.plan.workers ≡ settings.workers }
+        ensures pool { result.system.plan.pool ≡ settings.pool }
+        ensures senders { result.system.plan.senders ≡ settings.senders }
+        ensures journal { result.system.plan.journal ≡ settings.journal }
+        ensures journal_limit { result.system.plan.journal_limit ≡ settings.journal_limit }
+    {
+        NewSystem {
+            system: PlannedSystem::new(alloc, settings),
+        }
+    }
+
+    /// Adds an actor with its plan, as `PlannedSystem::add` does.
+    pub fn add(&mut self, plan: ActorPlan, actor: Unused<A>) -> Result<ActorId, Error>
+        ensures added { IsAdded self.old.system plan actor.actor (name_by_default (length self.old.system.actors.items + 1)) result self.new.system }
+        ensures errors { IfErr result (λ error. (error ≡ BadPlan Actors) ⊎ ((id : Id) × (error ≡ BadPlan (Parent id))) ⊎ (error ≡ NoMemory)) }
+    {
+        let Unused { actor } = actor;
+        self.system.add(plan, actor)
+    }
+
+    /// Adds an actor with its plan under this name, as `PlannedSystem::add_named` does.
+    pub fn add_named(
+        &mut self,
+        name: &str,
+        plan: ActorPlan,
+        actor: Unused<A>,
+    ) -> Result<ActorId, Error>
+        ensures added { IsAdded self.old.system plan actor.actor name.now result self.new.system }
+        ensures taken { (id : Id) → IsErrOf result (NameTaken id) ↔ ((length self.old.system.actors.items < 63)
+            × (plan.parent.0 ≤ length self.old.system.actors.items) × (number_of self.old.system.names.texts.items name.now ≡ Some id.0)) }
+        ensures errors { IfErr result (λ error. (error ≡ BadPlan Actors) ⊎ ((id : Id) × (error ≡ BadPlan (Parent id))) ⊎ (error ≡ NoMemory)
+            ⊎ ((id : Id) × (error ≡ NameTaken id))) }
+    {
+        let Unused { actor } = actor;
+        self.system.add_named(name, plan, actor)
+    }
+}
+
+impl<A: Actor + Send> NewSystem<A> {
+    /// Runs it, as `PlannedSystem::run` does: on this thread if it has one worker, and else with workers and senders on threads of
+    /// their own.
+    pub fn run<R: Threads + Wait + Sync>(
+        self,
+        rt: &R,
+        alloc: Global,
+        sends: &[Vec<Order>],
+    ) -> Result<Report, FailedRun<A>>
+        ensures story { IfOk result (IsReportOfRun (after_at self.system.actors.items A.after) (gives_at self.system.actors.items A.gives) self.system.plan
+            (map (λ orders. orders.items) sends.now)) }
+        ensures right { OnOk result (IsRight self.system.plan (length self.system.actors.items) (map (λ orders. orders.items) sends.now)) }
+        ensures refused { IfErr result (IsErrorOfRun (gives_at self.system.actors.items A.gives) self.system.plan (length self.system.actors.items)
+            (map (λ orders. orders.items) sends.now)) }
+        ensures which { IfErr result (λ failed. NamesInLists (length self.system.actors.items) (map (λ orders. orders.items) sends.now) failed.error) }
+        ensures back { IfErr result (GivesBack self.system.plan self.system.actors.items self.system.names.texts.items) }
+        ensures states { IfOk result (ShowsStates A.after self.system.actors.items self.system.plan) }
+        ensures lines { IfOk result (λ report. length report.actors.items ≡ length self.system.actors.items + 1) }
+        ensures headline { IfOk result (RunHeadline self.system.plan (map (λ orders. orders.items) sends.now)) }
+        ensures ledger { IfOk result (AddsUp self.system.plan (map (λ orders. orders.items) sends.now)) }
+        ensures counts { IfOk result AddsUpByCounts }
+        ensures kept { IfOk result (KeepsAsPlanned self.system.plan) }
+        ensures conserved { (worth : Message → ℤ) (holdings : List (Option Holding)) → ((ended : Id) → worth (Terminated ended) ≡ pos 0)
+            → AllConserve A.after A.gives worth holdings self.system.actors.items → IfOk result (IsConserved worth holdings (map (λ orders. orders.items) sends.now)) }
+    {
+        let NewSystem { system } = self;
+        system.run(rt, alloc, sends)
+    }
+}

@@ -1,5 +1,0 @@
-use Rattle.mb_core.proofs.SettledLemmas.{settled_run}
-use Rattle.mb_core.proofs.laws.every_run_keeps_debts.Goals as goal
-
-pub returns : goal.returns
-returns c = settled_run

@@ -1,0 +1,4 @@
+pub mod KeptListView
+pub mod KeptList
+pub mod Letters
+pub mod Tally

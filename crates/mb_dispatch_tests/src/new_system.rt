@@ -1,0 +1,114 @@
+//! Systems of actors that are new by their type, of two types: a run, and runs that give no report and name what is wrong.
+use crate::planned::orders_of;
+use heddleorange::{Error, FailedRun, NewSystem, OneOf, SETTINGS, Settings, Unused, state};
+use mb_msg::{ActorId, ActorPlan, Order};
+use mb_report::Report;
+use mb_testkit::{ADD, COUNTER, TestActor, tell};
+use std::alloc::Global;
+use std::process::Abort;
+use std::sync::Wait;
+use std::test::Fail;
+use std::thread::Threads;
+
+const GUARDIAN: ActorId = ActorId(0);
+
+/// A counter of the first or of the second type.
+type Counter = OneOf<TestActor, TestActor>;
+
+fn first() -> Unused<Counter> {
+    Unused::new(OneOf::First(TestActor::new(COUNTER)))
+}
+
+fn second() -> Unused<Counter> {
+    Unused::new(OneOf::Second(TestActor::new(COUNTER)))
+}
+
+/// Two counters, of which the first has a name.
+fn counters(alloc: Global, settings: Settings) -> Result<NewSystem<Counter>, Error> {
+    let mut system = NewSystem::new(alloc, settings);
+    system.add_named("left", ActorPlan::child_of(alloc, GUARDIAN), first())?;
+    system.add(ActorPlan::child_of(alloc, GUARDIAN), second())?;
+    Ok(system)
+}
+
+/// The report of their run with these orders, or why there is none.
+fn run<R: Threads + Wait + Sync>(
+    rt: &R,
+    alloc: Global,
+    settings: Settings,
+    orders: &[Order],
+) -> Result<Result<Report, FailedRun<Counter>>, Error> {
+    let sends = orders_of(alloc, orders)?;
+    let system = counters(alloc, settings)?;
+    Ok(system.run(rt, alloc, &sends))
+}
+
+#[test]
+fn actors_of_two_types_count(rt: HostRuntime) -> Result<(), Fail> {
+    let orders = [tell!(1, ADD, 3), tell!(2, ADD, 4)];
+    let Ok(report) = run(&rt, rt.alloc(), SETTINGS, &orders)? else {
+        assert!(&rt; false, "there is no report");
+        return Ok(());
+    };
+    assert!(&rt; state(&report, ActorId(1)) == Some(3));
+    assert!(&rt; state(&report, ActorId(2)) == Some(4));
+    Ok(())
+}
+
+/// The run has no report for this reason, of which its text tells; and so many actors come back.
+fn see_failed<R: Abort>(
+    rt: &R,
+    alloc: Global,
+    failed: &FailedRun<Counter>,
+    error: Error,
+    text: &str,
+    back: usize,
+) -> Result<(), Fail> {
+    assert!(rt; failed.error == error);
+    let told = format!(in alloc; "{failed}")?;
+    assert!(rt; told.as_str() == text);
+    let untouched = match &failed.untouched {
+        Some(untouched) => untouched.actors.len(),
+        None => 0,
+    };
+    assert!(rt; untouched == back);
+    Ok(())
+}
+
+#[test]
+fn an_order_for_nobody_is_named_and_the_actors_come_back(rt: HostRuntime) -> Result<(), Fail> {
+    let orders = [tell!(1, ADD, 3), tell!(3, ADD, 4)];
+    let Err(failed) = run(&rt, rt.alloc(), SETTINGS, &orders)? else {
+        assert!(&rt; false, "there is a report");
+        return Ok(());
+    };
+    let error = Error::NoSuchActor {
+        sender: 0,
+        place: 1,
+        to: ActorId(3),
+    };
+    let text = "order 1 of sender 0 cannot go to actor 3";
+    see_failed(&rt, rt.alloc(), &failed, error, text, 2)
+}
+
+#[test]
+fn a_full_journal_is_told_with_its_actors_name(rt: HostRuntime) -> Result<(), Fail> {
+    let settings = Settings {
+        journal_limit: 2,
+        ..SETTINGS
+    };
+    let orders = [tell!(1, ADD, 3), tell!(1, ADD, 4), tell!(2, ADD, 5)];
+    let Err(failed) = run(&rt, rt.alloc(), settings, &orders)? else {
+        assert!(&rt; false, "there is a report");
+        return Ok(());
+    };
+    let text = "the run was broken off: no more entries fit the journal of actor 1 (left)";
+    see_failed(
+        &rt,
+        rt.alloc(),
+        &failed,
+        Error::JournalFull(ActorId(1)),
+        text,
+        0,
+    )
+}
