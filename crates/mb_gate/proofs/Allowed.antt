@@ -755,14 +755,14 @@ module _ {H : Type 0} (is_of : ℕ → H → Type 0) (facts : H → HomeFacts) w
     pub joins_allowed : (v : View) (other : ℕ) (w : View) → w.claim ≡ None → w.list ≡ None → is_some_item w.share ≡ true → Joins (Rule n) id v other
         w (taking_over v w) blank
     joins_allowed v other w bare no_list share = joins word_offset slot_offset words_few slots_few n (F n) id v other w (taking_over v w) blank
-        (takes_over is_of facts n id v other w v.sent_system (inl refl) bare no_list share)
+        (takes_over is_of facts n id v other w v.sent_system (λ _ mine theirs. mine) bare no_list share)
 
     -- and a claim's seat takes in a pass
     pub takes_in_allowed : (v : View) (other : ℕ) (w : View) → w.claim ≡ None → w.list ≡ None → is_some_item w.share ≡ true
         → Joins (Rule n) id v other w (taking_in v w) blank
     takes_in_allowed v other w bare no_list share = joins word_offset slot_offset words_few slots_few n (F n) id v other w (taking_in v w) blank
         (takes_over
-        is_of facts n id v other w w.sent_system (inr refl) bare no_list share)
+        is_of facts n id v other w w.sent_system (λ _ mine theirs. theirs) bare no_list share)
 
 module _ {H : Type 0} (all_of : H → ℕ → H → Type 0) (first : Snapshot (Snapshot H)) (facts : H → HomeFacts) where
   abbrev G : ℕ → ℕ → Spot Word SlotName (Slot H) Ghost → List View → Type 0

@@ -10,6 +10,7 @@ pub mod Alike
 pub mod ListSteps
 pub mod ListBits
 pub mod Whole
+pub mod Together
 pub mod Allowed
 pub mod HeldStatus
 pub mod Wins

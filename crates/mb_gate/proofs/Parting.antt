@@ -269,9 +269,9 @@ module _ {H : Type 0} (is_of : ℕ → H → Type 0) (facts : H → HomeFacts) (
         seen = splits_seen (Knows actor x) vs id left right (knows actor x (f.seen id v at)) (knows_too actor x (f.seen id v at)) f.seen;
       }
 
-  -- a seat takes over the view of one that has no claim and no list, and what one of the two sent
-  pub takes_over : (id : ℕ) (v : View) (other : ℕ) (w : View) (sent_system : List SentSystem) → (sent_system ≡ v.sent_system) ⊎ (sent_system ≡ w.sent_system) → w.claim ≡ None
-      → w.list ≡ None →
+  -- a seat takes over the view of one that has no claim and no list, and of what the two sent whatever holds as they did
+  pub takes_over : (id : ℕ) (v : View) (other : ℕ) (w : View) (sent_system : List SentSystem)
+      → ((P : SentSystem → Type 0) → Each P v.sent_system → Each P w.sent_system → Each P sent_system) → w.claim ≡ None → w.list ≡ None →
       is_some_item w.share ≡ true
       → (actor : ℕ) (x : Place) (vs : List View) → get_elem? vs id ≡ some v → ¬ (other ≡ id)
       → get_elem? (set vs id (record (taking_over v w) { sent_system = sent_system })) other ≡ some w
@@ -318,7 +318,6 @@ module _ {H : Type 0} (is_of : ℕ → H → Type 0) (facts : H → HomeFacts) (
         seen = joins_seen (Knows actor x) vs id other both blank
             (record {
               seen = each_append (ObservationHolds actor x) w.log v.log (f.seen other w at_other).seen (f.seen id v at).seen;
-              sent_system = ⊎_elim (λ e. subst (Each (SentSystemHolds actor x)) (sym e) (f.seen id v at).sent_system) (λ e. subst (Each (SentSystemHolds actor x)) (sym e)
-                  (f.seen other w at_other).sent_system) whose;
+              sent_system = whose (SentSystemHolds actor x) (f.seen id v at).sent_system (f.seen other w at_other).sent_system;
             }) (record { seen = tt; sent_system = tt }) f.seen;
       }

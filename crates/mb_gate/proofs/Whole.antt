@@ -51,7 +51,7 @@ module _ {H : Type 0} (is_of : ℕ → H → Type 0) (facts : H → HomeFacts) (
   others_bare q u other there = f.bare q u there (alone (λ (z : View). z.share) vs id v at whole f.shares q u other there)
 
   -- its own account is the account of all
-  own_claims : claims_got actor v ≡ claims_returned actor v + claims_out x.ghost.holder
+  pub own_claims : claims_got actor v ≡ claims_returned actor v + claims_out x.ghost.holder
   own_claims = sym (total_alone (claims_got actor) vs id v at (λ q u other there. (others_bare q u other there).got))
       ∙ (f.claims_balance ∙ ap (λ k. k + claims_out x.ghost.holder) (total_alone (claims_returned actor) vs id v at (λ q u other there. (others_bare q u other
       there).back)))

@@ -20,5 +20,7 @@ pub mod Returned
 pub mod SentSystem
 pub mod SentSystemLog
 pub mod TwoClaims
+pub mod Together
+pub mod Looks
 pub mod FreeHome
 pub mod NotRun

@@ -25,6 +25,7 @@ mod laws;
 mod layout;
 mod list_word;
 mod lists;
+mod look_together;
 mod mailbox_state;
 mod new;
 mod pass;
