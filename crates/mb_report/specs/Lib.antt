@@ -1,3 +1,4 @@
 pub mod Counts
+pub mod Keeps
 pub mod Kept
 pub mod Lines

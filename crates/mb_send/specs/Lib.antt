@@ -1,3 +1,4 @@
+pub mod Keeps
 pub mod Posted
 pub mod Sends
 pub mod SeenClosed

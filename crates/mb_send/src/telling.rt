@@ -13,6 +13,7 @@ ghost use Rattle.mb_send.specs.Answers.{IsSent, IsDeadLetter, IsTold, reason, re
 ghost use Rattle.mb_send.specs.SeenClosed.{has_seen_closed};
 ghost use Rattle.mb_send.specs.Faults.{OnlyLooked, IsSameSendLog};
 ghost use Rattle.mb_send.specs.Asked.{RegistersAtMost, account_of};
+ghost use Rattle.mb_send.specs.Keeps.{keeps};
 
 use crate::send_error::SendError;
 use crate::send_outcome::SendOutcome;
@@ -55,6 +56,7 @@ impl<H: MailboxState, W: RunQueue<H>> GatesSender<H, W> {
             (pass_view self.old.registrar.pass) (pass_view self.new.registrar.pass) }
         ensures same_gates { (pass_id self.new.registrar.pass ≡ pass_id self.old.registrar.pass) × (W.origin self.new.registrar.run_queue ≡ W.origin self.old.registrar.run_queue) }
         ensures same { (self.new.send_log.by ≡ self.old.send_log.by) × (vec_len self.new.sends ≡ vec_len self.old.sends) }
+        ensures keeps { keeps self.new.send_log.dead ≡ keeps self.old.send_log.dead }
         ensures queues { receiving_queues self.new.sends.items ≡ receiving_queues self.old.sends.items }
     {
         self.send_log.ready()?;
@@ -112,6 +114,7 @@ impl<H: MailboxState, W: RunQueue<H>> GatesSender<H, W> {
             (pass_view self.old.registrar.pass) (pass_view self.new.registrar.pass) }
         ensures same_gates { (pass_id self.new.registrar.pass ≡ pass_id self.old.registrar.pass) × (W.origin self.new.registrar.run_queue ≡ W.origin self.old.registrar.run_queue) }
         ensures same { (self.new.send_log.by ≡ self.old.send_log.by) × (vec_len self.new.sends ≡ vec_len self.old.sends) }
+        ensures keeps { keeps self.new.send_log.dead ≡ keeps self.old.send_log.dead }
         ensures queues { receiving_queues self.new.sends.items ≡ receiving_queues self.old.sends.items }
     {
         let look = self.look(gates, to)?;
@@ -134,6 +137,7 @@ impl<H: MailboxState, W: RunQueue<H>> GatesSender<H, W> {
         ensures unsent { OnErr result (IsSameSendLog self.old.send_log self.new.send_log) }
         ensures is_dead_letter { IfOk result (IsDeadLetter self.old.send_log.by self.old.send_log.sent to (body_of payload) self.old.send_log.posted self.new.send_log.posted) }
         ensures same { (self.new.registrar ≡ self.old.registrar) × (self.new.sends ≡ self.old.sends) × (self.new.send_log.by ≡ self.old.send_log.by) }
+        ensures keeps { keeps self.new.send_log.dead ≡ keeps self.old.send_log.dead }
     {
         self.send_log.ready()?;
         let number = self.send_log.sent;

@@ -1,4 +1,4 @@
-use Rattle.std.proofs.Common.{◌≡◌, ◌+◌, ◌^◌, ◌<◌, List, IsOk, length, ap, subst, arith}
+use Rattle.std.proofs.Common.{◌+◌, ◌^◌, ◌<◌, List, IsOk, length, ap, subst, arith}
 use Rattle.mb_msg.specs.declared.dead_letter.DeadLetter.{DeadLetter}
 use Rattle.mb_send.proofs.Posting.{letters-few}
 use Rattle.mb_send.proofs.send_log.SendLog.ready.Goals as goal

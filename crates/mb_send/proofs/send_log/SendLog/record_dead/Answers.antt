@@ -20,3 +20,6 @@ invariant_of-self c =
       dead_are = c.push.ensures.items ∙ ap (λ l. l ++ letter ∷ []) c.args.self.now.dead_are
           ∙ sym (dead-more ps c.args.envelope c.args.why) ∙ sym (ap dead_letters c.add.ensures);
     }
+
+pub returns-clause-keeps : goal.returns-clause-keeps
+returns-clause-keeps c = λ i. (c.push.ensures.same.0 i, c.push.ensures.same.1 i)

@@ -1,4 +1,4 @@
-use Rattle.std.proofs.Common.{◌≡◌, ◌+◌, length, None, sym, ap, ◌∙◌, subst}
+use Rattle.std.proofs.Common.{◌≡◌, ◌+◌, length, None, refl, sym, ap, ◌∙◌, subst}
 use Rattle.mb_msg.specs.declared.id.SenderId.{SenderId}
 use Rattle.mb_journal.specs.Accepted.{accepted, dead_letters}
 use Rattle.mb_send.specs.Posted.{names_from, names_of, posting}
@@ -17,3 +17,6 @@ invariant_of-self c =
           ∙ c.args.self.now.counted));
       dead_are = c.args.self.now.dead_are ∙ sym (dead-queued ps c.args.envelope) ∙ sym (ap dead_letters c.add.ensures);
     }
+
+pub returns-clause-keeps : goal.returns-clause-keeps
+returns-clause-keeps c = refl

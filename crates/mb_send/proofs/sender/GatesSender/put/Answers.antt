@@ -164,7 +164,7 @@ returns-in-Err-clause-still g c = still-registered _ _ _ _ c.register-in-Err.ens
 pub returns-in_err-ready-clause-unsent : goal.returns-in_err-ready-clause-unsent
 returns-in_err-ready-clause-unsent g c =
     let same = c.ready.ensures.same in
-    after-any c.from_residual.result (record { by = same.0; sent = same.1; dead = same.2; posted = same.3 }, refl)
+    after-any c.from_residual.result (record { by = same.0; sent = same.1; dead = same.2; keeps_is = c.ready.ensures.keeps; posted = same.3 }, refl)
 
 pub returns-in-Ok-clause-registered : goal.returns-in-Ok-clause-registered
 returns-in-Ok-clause-registered g c = (c.register.result, c.register.ensures.registered)
@@ -331,3 +331,12 @@ pub returns-in_err-ready-clause-handed : goal.returns-in_err-ready-clause-handed
 returns-in_err-ready-clause-handed g c =
     let registrar = c.args.self.now.registrar in
     loses-looked g.W.RunQueue.pushed g.W.RunQueue.refused registrar registrar refl refl refl refl
+
+pub returns-in-Ok-clause-keeps : goal.returns-in-Ok-clause-keeps
+returns-in-Ok-clause-keeps g c = c.record_queued.ensures.keeps ∙ c.ready.ensures.keeps
+
+pub returns-in-Err-clause-keeps : goal.returns-in-Err-clause-keeps
+returns-in-Err-clause-keeps g c = c.record_dead.ensures.keeps ∙ c.ready.ensures.keeps
+
+pub returns-in_err-ready-clause-keeps : goal.returns-in_err-ready-clause-keeps
+returns-in_err-ready-clause-keeps g c = c.ready.ensures.keeps

@@ -34,7 +34,7 @@ invariant_of-self-2-clause-was_seen_closed g c =
 pub returns-in_err-ready-clause-unsent : goal.returns-in_err-ready-clause-unsent
 returns-in_err-ready-clause-unsent g c =
     let same = c.ready.ensures.same in
-    after-any c.from_residual.result (record { by = same.0; sent = same.1; dead = same.2; posted = same.3 })
+    after-any c.from_residual.result (record { by = same.0; sent = same.1; dead = same.2; keeps_is = c.ready.ensures.keeps; posted = same.3 })
 
 pub returns-in_err-ready-clause-refused : goal.returns-in_err-ready-clause-refused
 returns-in_err-ready-clause-refused g c = search rules
@@ -65,3 +65,9 @@ returns-clause-is_dead_letter g c = search rules
 
 pub returns-clause-same : goal.returns-clause-same
 returns-clause-same g c = (refl, refl, c.record_dead.ensures.same_sender ∙ c.ready.ensures.same.0)
+
+pub returns-in_err-ready-clause-keeps : goal.returns-in_err-ready-clause-keeps
+returns-in_err-ready-clause-keeps g c = c.ready.ensures.keeps
+
+pub returns-clause-keeps : goal.returns-clause-keeps
+returns-clause-keeps g c = c.record_dead.ensures.keeps ∙ c.ready.ensures.keeps
