@@ -18,6 +18,9 @@ returns-clause-same_gates g c =
 pub returns-clause-same_sender : goal.returns-clause-same_sender
 returns-clause-same_sender g c = c.put.ensures.same.0
 
+pub returns-clause-keeps : goal.returns-clause-keeps
+returns-clause-keeps g c = c.put.ensures.keeps
+
 pub put-requires-clause-present : goal.put-requires-clause-present
 put-requires-clause-present g c =
     let there = c.requires.present in let few = c.requires.same_gates.same_gates.2 in (there.0, there.1, omega (arith, there.1, few))

@@ -18,6 +18,9 @@ returns-clause-same_gates g c =
 pub returns-clause-same_sender : goal.returns-clause-same_sender
 returns-clause-same_sender g c = c.tell.ensures.same.0
 
+pub returns-clause-keeps : goal.returns-clause-keeps
+returns-clause-keeps g c = c.tell.ensures.keeps
+
 pub returns-clause-refused : goal.returns-clause-refused
 returns-clause-refused g c = c.tell.ensures.refused
 
