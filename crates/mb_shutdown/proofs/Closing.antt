@@ -1,6 +1,6 @@
 -- What is known of a system when all that belongs to it came together.
-use Rattle.std.proofs.Common.{◌≡◌, ℕ, ◌≤◌, List, length, map, sym, ap, ◌∙◌, subst}
-use Rattle.std.specs.Prelude.{All, IsPermutation}
+use Rattle.std.proofs.Common.{◌≡◌, ℕ, ◌-◌, ◌≤◌, List, length, map, sym, ap, ◌∙◌, subst, Some}
+use Rattle.std.specs.Prelude.{All, IsPermutation, slice_get}
 use Rattle.std.specs.Global.{Box}
 use Rattle.std.proofs.lemmas.List.Sorted.{All-permutation, IsPermutation-sym, length_permutation}
 use Rattle.std.proofs.lemmas.List.Elements.{All-weaker}
@@ -26,7 +26,7 @@ use Rattle.mb_system.specs.declared.system.System.{System}
 use Rattle.mb_shutdown.specs.Belonging.{AreAnswers, AreSendPasses, HasAllSeen, HasRead, AllFoundIdle, brings, brought}
 use Rattle.mb_shutdown.specs.Refused.{FindsIdle, IsComplete}
 use Rattle.mb_shutdown.proofs.Back.{all-seen, was-settled}
-use Rattle.mb_shutdown.proofs.Bringing.{answers, known-senders, outsiders, passes-in-place}
+use Rattle.mb_shutdown.proofs.Bringing.{answers, kept-in-place, known-senders, outsiders, passes-in-place}
 use Rattle.mb_shutdown.proofs.Gathered.{seen_by_end, seen_by_sender}
 use Rattle.mb_shutdown.proofs.Parts.{each-part}
 use Rattle.mb_shutdown.proofs.Places.{as-many-senders, outside-all}
@@ -92,6 +92,10 @@ module _ {A K : Type 0} (built : Built A K) (gates : Gates (Box Contents)) (log 
 
   pub came-answers : AreAnswers built.system.senders built.senders.items (map (λ (o : FinishedSender). o.send_log.posted) outside)
   came-answers = answers built.system.senders built.senders.items came.now outside now-many came.same in-places came.shown
+
+  pub came-kept : All (λ (s : Sender A K). slice_get (map (λ (o : FinishedSender). o.send_log.dead.is_kept) outside) (s.inner.send_log.by.0 - 64)
+      ≡ Some s.inner.send_log.dead.is_kept) built.senders.items
+  came-kept = kept-in-place built.system.senders built.senders.items came.now outside now-many came.same in-places came.shown
 
   pub came-passes : AreSendPasses built.system.senders built.senders.items (map (λ (o : FinishedSender). o.sends.items) outside)
   came-passes = passes-in-place built.system.senders built.senders.items came.now outside now-many came.same in-places came.shown

@@ -14,6 +14,7 @@ pub mod IdleLemmas
 pub mod JoinAndDrainLemmas
 pub mod JoinLemmas
 pub mod LeftLemmas
+pub mod Letters
 pub mod Lists
 pub mod Mismatches
 pub mod NotFinished

@@ -11,6 +11,7 @@ pub mod Mismatched
 pub mod NotFinished
 pub mod OutsideSenders
 pub mod Parts
+pub mod Letters
 pub mod Refused
 pub mod ReportedHomes
 pub mod Rest

@@ -1,5 +1,5 @@
 -- What a report shows of the parts of the homes.
-use Rattle.std.specs.Prelude.{◌≡◌, ◌≢◌, ◌⊎◌, ℕ, ◌<◌, ℤ, if◌then◌else◌, List, [], length, Some, None, slice_get}
+use Rattle.std.specs.Prelude.{◌≡◌, ◌≢◌, ◌⊎◌, ℕ, ◌<◌, ℤ, Bool, if◌then◌else◌, List, [], length, Some, None, slice_get}
 use Rattle.mb_msg.specs.declared.envelope.Envelope.{Envelope}
 use Rattle.mb_actor.specs.declared.message.Message.{Message}
 use Rattle.mb_actor.specs.declared.phase.Phase.TheVariants.{Ended as EndedPhase}
@@ -13,8 +13,8 @@ use Rattle.mb_report.specs.declared.report.ActorReport.{ActorReport}
 use Rattle.mb_shutdown.specs.Apart.{ended_of}
 use Rattle.mb_shutdown.specs.declared.room.Ended.{Ended}
 
--- The report shows this cell, and what was cleaned up, left and dead.
-pub record ShowsCell (after : ℕ → List Message → ℤ) (end : CellView × List Envelope × ℕ) (left : List Envelope) (a : ActorReport) : Type 0 where
+-- The report shows this cell, and what was cleaned up, left and dead. It keeps of the journal and of what was cleaned up what these kept.
+pub record ShowsCell (after : ℕ → List Message → ℤ) (end : CellView × List Envelope × ℕ × Bool) (left : List Envelope) (a : ActorReport) : Type 0 where
   pub phase_is : a.phase ≡ phase end.0.who end.0.journal
   pub count_is : a.count ≡ count end.0.who end.0.journal
   pub state_is : a.state ≡ (if is_guardian end.0.who then None else Some (after end.0.who.this.0 (messages end.0.who end.0.journal)))
@@ -22,6 +22,7 @@ pub record ShowsCell (after : ℕ → List Message → ℤ) (end : CellView × L
   pub kept_is : a.journal.is_kept ≡ end.0.who.is_kept
   pub aside_is : a.aside.items ≡ aside end.0.who end.0.journal
   pub cleaned_is : a.cleaned.items ≡ end.1
+  pub cleaned_kept : a.cleaned.is_kept ≡ end.3
   pub left_is : a.left.items ≡ left
   pub dead_is : a.dead_system ≡ end.2
 

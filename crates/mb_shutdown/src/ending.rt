@@ -6,6 +6,7 @@ ghost use Rattle.mb_gate.specs.View.{Observation};
 ghost use Rattle.mb_shutdown.specs.Rooms.{AreCounted, HasOnlyCounted, IsRoom, counted_in};
 ghost use Rattle.mb_shutdown.specs.Headline.{Headline};
 ghost use Rattle.mb_shutdown.specs.Idle.{WereReadIdle};
+ghost use Rattle.mb_shutdown.specs.Letters.{KeepsLetters};
 ghost use Rattle.mb_shutdown.specs.Seen.{ReportExtendsAll};
 ghost use Rattle.mb_shutdown.specs.CompleteReport.{IsCompleteReport};
 ghost use Rattle.mb_system.specs.Belonging.{BelongsTogether};
@@ -55,6 +56,7 @@ pub fn finish<A: Actor, K: Behaviours, R: Wait>(
     ensures whole { IfOk result (λ report. (log : List Observation) × HasAllSeen built log
         × ((answers : List (List SentEnvelope)) × AreAnswers built.system.senders built.senders.items answers
         × IsCompleteReport K.after K.gives (first_home built.system.gates).value.directory log answers report)) }
+    ensures letters { IfOk result (KeepsLetters built) }
     ensures headline { IfOk result (Headline K.after K.gives built) }
     ensures all_idle { IfOk result (λ _. IsComplete built × AllFoundIdle built) }
     ensures seen { IfOk result (λ report. All (λ e. ReportExtendsAll report (pass_view e.registrar.pass)) built.ends.items

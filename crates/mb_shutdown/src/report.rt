@@ -1,5 +1,5 @@
 //! The report on all actors and envelopes.
-ghost use Rattle.std.specs.Prelude.{◌≡◌, ◌<◌, ◌≤◌, IfErr, IfOk, length, map};
+ghost use Rattle.std.specs.Prelude.{◌≡◌, ◌<◌, ◌≤◌, ◌++◌, IfErr, IfOk, length, map};
 ghost use Rattle.mb_gate.specs.Accessors.{actors_of, first_home, gates_id, pass_view, pass_id};
 ghost use Rattle.mb_shutdown.specs.Homes.{HomesReturned, Disagrees};
 ghost use Rattle.mb_shutdown.specs.Mismatched.{of_whom};
@@ -39,6 +39,8 @@ pub fn build_report<A: Actor, K: Behaviours, R: Wait>(
     requires room { IsRoom (actors_of gates) (length outside.items) room }
     ensures whole { IfOk result (λ report.
         IsCompleteReport K.after K.gives (first_home gates).value.directory (pass_view pass).log (map (λ o. o.send_log.posted) outside.items) report) }
+    ensures letters { IfOk result (λ report. map (λ s. s.dead.is_kept) report.senders.items
+        ≡ map (λ e. e.who.is_kept) (first_home gates).value.directory ++ map (λ o. o.send_log.dead.is_kept) outside.items) }
     ensures seen { IfOk result (λ report. ReportExtendsAll report (pass_view pass)) }
     ensures home { IfOk result (HomesReturned K.gives (first_home gates).value (actors_of gates) (pass_view pass)) }
     ensures counted { IfOk result (λ report. map (λ a. length a.left.items) report.actors.items ≡ counted_in room) }

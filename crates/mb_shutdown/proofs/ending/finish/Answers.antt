@@ -15,6 +15,7 @@ use Rattle.mb_shutdown.specs.Belonging.{AreThere, HasRead, IsLeastMissing}
 use Rattle.mb_shutdown.proofs.Back.{counted-all, back-complete, back-ends, back-some, back-together, left-counted, settled-then-read, some-end}
 use Rattle.mb_shutdown.proofs.Closing.{as-many-outside, came-answers, came-known, came-outside, came-room, came-passes, gathered, goes-on}
 use Rattle.mb_shutdown.proofs.HeadlineLaw.{headline}
+use Rattle.mb_shutdown.proofs.Letters.{keeps-letters}
 use Rattle.mb_shutdown.proofs.OfAll.{of-all-before, put-adds-up, releases-add-up}
 use Rattle.mb_shutdown.proofs.Places.{as-many-senders}
 use Rattle.mb_shutdown.proofs.ending.finish.Goals as goal
@@ -154,6 +155,20 @@ returns-in-Ok-clause-whole g c =
             came.gates_are c.in-Ok.ensures.whole,
       ),
     )
+
+pub returns-in-Ok-clause-letters : goal.returns-in-Ok-clause-letters
+returns-in-Ok-clause-letters g c =
+    let built = c.args.built in let b1 = c.first_busy_of.new.built in let b2 = c.room_of.new.built in
+    let ends : AreThere built.system.workers (ends_numbers built.ends.items) =
+    subst (λ l. AreThere built.system.workers (ends_numbers l)) c.deref.ensures.value c.in_default.ensures in
+    let senders : AreThere built.system.senders (senders_numbers built.senders.items) =
+    subst (λ l. AreThere built.system.senders (senders_numbers l)) c.deref-2.ensures.value c.in_default-missing.ensures in
+    let settled : HasRead (WereReadIdle 0 (actors_of built.system.gates)) built b1 = c.in_default-first_busy_of.ensures in
+    let found = settled-then-read (actors_of built.system.gates) built b1 b2 settled c.room_of.ensures.read in
+    let gates = c.gather-gates.result.0 in let log = (pass_view c.gather-gates.result.1).log in
+    let outside = c.gather-gates.new.outside.items in
+    let came = gathered built b2 gates log outside found c.gather-gates.ensures.gates.0 c.gather-gates.ensures.of_all.seen c.gather-gates.ensures.outside in
+    keeps-letters built gates log outside c.requires.together (ends, senders) came c.in-Ok.report c.in-Ok.ensures.letters
 
 pub returns-in-Ok-clause-headline : goal.returns-in-Ok-clause-headline
 returns-in-Ok-clause-headline g c =

@@ -1,4 +1,4 @@
-use Rattle.std.proofs.Common.{rules, ◌≡◌, ◌<◌, ℕ, List, length, map, subst, sym, ap, ◌∙◌, arith, length-append}
+use Rattle.std.proofs.Common.{rules, ◌≡◌, ◌<◌, ◌++◌, ℕ, Bool, List, length, map, subst, sym, ap, ◌∙◌, arith, length-append}
 use Rattle.std.specs.Prelude.{IfErr, Vec}
 use Rattle.std.specs.Global.{Global}
 use Rattle.mb_gate.specs.Accessors.{actors_of, first_home, pass_view}
@@ -13,7 +13,7 @@ use Rattle.mb_shutdown.specs.Seen.{ReportExtendsAll}
 use Rattle.mb_shutdown.specs.Shown.{ShowsAll}
 use Rattle.mb_shutdown.specs.CompleteReport.{IsCompleteReport}
 use Rattle.mb_shutdown.proofs.Answered.{err-each, err-of, if-none, ok-each}
-use Rattle.mb_shutdown.proofs.EndLaw.{report-counted, report-home, report-seen, report-whole, rows-different, rows-queues}
+use Rattle.mb_shutdown.proofs.EndLaw.{report-counted, report-home, report-letters, report-seen, report-whole, rows-different, rows-queues}
 use Rattle.mb_shutdown.proofs.Lists.{length-mapped}
 use Rattle.mb_shutdown.proofs.Mismatches.{why-not-come, why-otherwise, why-too-much}
 use Rattle.mb_shutdown.proofs.Steps.{as-many, zip-empty, zip-many}
@@ -48,6 +48,25 @@ returns-in-Ok-clause-whole g c =
     (λ report. IsCompleteReport g.K.Behaviours.after g.K.Behaviours.gives first.directory v.log (map (λ o. o.send_log.posted) c.args.outside.items) report)
     (λ report s.
     report-whole g.K.Behaviours.gives first (actors_of c.args.gates) v c.finish-all.result.items
+    c.finish-all.ensures.left ended takes before c.take_apart.new.senders.items apart c.args.outside.items c.requires.within_limit.0 c.requires.directory
+    c.requires.outside c.add_outside.ensures.below_bound (λ r. r.items) c.add_outside.new.rows.items c.add_outside.ensures.rows g.K.Behaviours.after
+    c.requires.senders lefts c.in-Ok.ensures.taken c.deref.result.now waits report s.0
+    (ap (λ (w : Vec SenderReport Global). map sent_of w.items) s.1 ∙ c.add_outside.ensures.senders)) c.report_on.ensures.shows
+
+pub returns-in-Ok-clause-letters : goal.returns-in-Ok-clause-letters
+returns-in-Ok-clause-letters g c =
+    let apart = c.in_ok-take_apart.ensures.apart in let ended = c.take_apart.new.ended.items in
+    let takes = c.take_apart.new.takes.items in let before = map (λ r. r.items) c.take_apart.new.rows.items in
+    let lefts = map (λ l. l.items) c.take_rests.new.lefts.items in
+    let first = (first_home c.args.gates).value in let v = pass_view c.args.pass in
+    let same : c.deref.result.now ≡ c.args.room.waiting.items = search rules in
+    let waits : length c.deref.result.now ≡ actors_of c.args.gates = ap length same ∙ c.requires.room.counted in
+    ok-each c.report_on.result
+    (λ report. ShowsAll g.K.Behaviours.after ended lefts c.deref.result.now report.actors.items × (report.senders ≡ c.add_outside.new.senders))
+    (λ report. map (λ s. s.dead.is_kept) report.senders.items
+    ≡ map (λ e. e.who.is_kept) first.directory ++ map (λ o. o.send_log.dead.is_kept) c.args.outside.items)
+    (λ report s.
+    report-letters g.K.Behaviours.gives first (actors_of c.args.gates) v c.finish-all.result.items
     c.finish-all.ensures.left ended takes before c.take_apart.new.senders.items apart c.args.outside.items c.requires.within_limit.0 c.requires.directory
     c.requires.outside c.add_outside.ensures.below_bound (λ r. r.items) c.add_outside.new.rows.items c.add_outside.ensures.rows g.K.Behaviours.after
     c.requires.senders lefts c.in-Ok.ensures.taken c.deref.result.now waits report s.0
@@ -130,9 +149,9 @@ report_on-requires-clause-senders g c =
     (map (λ r. r.items) c.take_apart.new.rows.items) c.take_apart.new.senders.items apart in
     let senders = many.of_senders in let of = length-mapped sent_of c.add_outside.new.senders.items in
     let before = length-mapped sent_of c.take_apart.new.senders.items in
-    let outs = length-mapped {X = FinishedSender} {Y = ℕ × List DeadLetter} (λ o. (o.send_log.sent, o.send_log.dead.items)) c.args.outside.items in
+    let outs = length-mapped {X = FinishedSender} {Y = ℕ × List DeadLetter × Bool} (λ o. (o.send_log.sent, o.send_log.dead.items, o.send_log.dead.is_kept)) c.args.outside.items in
     let all = ap length c.add_outside.ensures.senders
-    ∙ length-append (map sent_of c.take_apart.new.senders.items) (map {A = FinishedSender} {B = ℕ × List DeadLetter} (λ o. (o.send_log.sent, o.send_log.dead.items)) c.args.outside.items) in
+    ∙ length-append (map sent_of c.take_apart.new.senders.items) (map {A = FinishedSender} {B = ℕ × List DeadLetter × Bool} (λ o. (o.send_log.sent, o.send_log.dead.items, o.send_log.dead.is_kept)) c.args.outside.items) in
     let few = c.requires.within_limit in let a = few.0 in let b = few.1 in omega (arith, senders, of, before, outs, all, n, a, b)
 
 pub returns-in_err-take_apart-clause-in_plan : goal.returns-in_err-take_apart-clause-in_plan
@@ -248,6 +267,12 @@ returns-in_err-take_apart-clause-whole g c = if-none _ c.from_residual.result c.
 
 pub returns-clause-whole : goal.returns-clause-whole
 returns-clause-whole g c = tt
+
+pub returns-in_err-take_apart-clause-letters : goal.returns-in_err-take_apart-clause-letters
+returns-in_err-take_apart-clause-letters g c = if-none _ c.from_residual.result c.in_err-take_apart.field-0.0 c.from_residual.ensures.1
+
+pub returns-clause-letters : goal.returns-clause-letters
+returns-clause-letters g c = tt
 
 pub returns-in_err-take_apart-clause-seen : goal.returns-in_err-take_apart-clause-seen
 returns-in_err-take_apart-clause-seen g c = if-none _ c.from_residual.result c.in_err-take_apart.field-0.0 c.from_residual.ensures.1
