@@ -1,5 +1,5 @@
 -- A new system.
-use Rattle.std.specs.Prelude.{◌≡◌, ◌≢◌, ℕ, ◌+◌, true, List, [], ◌∷◌, ◌++◌, length, slice_get, Some}
+use Rattle.std.specs.Prelude.{◌≡◌, ◌≢◌, ℕ, ◌+◌, true, List, [], ◌∷◌, ◌++◌, All, length, slice_get, Some}
 use Rattle.std.specs.Global.{Box}
 use Rattle.mb_ghost.specs.Shares.{IsWhole}
 use Rattle.mb_msg.specs.Limits.{most_actors}
@@ -9,6 +9,7 @@ use Rattle.mb_actor.specs.Behaviour.{Moment, Reply}
 use Rattle.mb_gate.specs.Accessors.{actors_of, first_home, pass_view}
 use Rattle.mb_gate.specs.View.{Pushed, View, obligation_to}
 use Rattle.mb_gate.specs.declared.gates.Gates.{Gates}
+use Rattle.mb_msg.specs.declared.journal_mode.JournalMode.{JournalMode}
 use Rattle.mb_msg.specs.declared.plan.Plan.{Plan}
 use Rattle.mb_pool.specs.Made.{AreUnused as AreUnusedWays, IsOfKind}
 use Rattle.mb_pool.specs.Places.{AreEnds, AreFeeds}
@@ -18,6 +19,7 @@ use Rattle.mb_home.specs.Contents.{Contents}
 use Rattle.mb_build.specs.NewHomes.{AreNewHomes}
 use Rattle.mb_build.specs.Planned.{actors_in}
 use Rattle.mb_build.specs.Kinds.{AreKindsOf}
+use Rattle.mb_send.specs.Keeps.{keeps, keeps_in}
 use Rattle.mb_send.specs.Sends.{AreRoutes, receiving_queues}
 use Rattle.mb_register.specs.Owed.{IsNobody}
 use Rattle.mb_system.specs.Members.{IsEndOf, IsSenderOf, pool_ends_of, pool_feeds_of}
@@ -54,6 +56,10 @@ OwesFirstRun view = (obligation_to 0 view ≡ record nothing { system = true }) 
 -- No claim went into the end's run queue, none was refused, and the end took none.
 abbrev pub HasNoClaims : {A K : Type 0} → WorkerEnd A K → Type 0
 HasNoClaims e = (e.registrar.run_queue.pushed ≡ []) × (e.registrar.run_queue.refused ≡ []) × (e.taken ≡ [])
+
+-- Each of these senders keeps of its dead letters what a journal of this mode keeps of its entries.
+abbrev pub KeepLettersIn : {A K : Type 0} → JournalMode → List (Sender A K) → Type 0
+KeepLettersIn {A} {K} mode senders = All (λ (s : Sender A K). keeps s.inner.send_log.dead ≡ keeps_in mode) senders
 
 module _ {A K : Type 0} (gates : Gates (Box Contents)) where
   -- A new sender of this number: it sent no envelope and no system message, was answered nothing, saw nothing, got no claim, gave no cell back, owes
@@ -108,7 +114,8 @@ module _ {A K : Type 0} (gates : Gates (Box Contents)) where
     pub no_claims : HasNoClaims end
 
 -- A new system of this plan. The actors' homes are as the plan says, its queues are of the plan's kinds and empty, and its pool is of the plan's
--- kind. Its ends and its senders are unused; they have the ends and feeds of that pool, by which nothing was pushed or taken. One Create, to the
+-- kind. Its ends and its senders are unused; they have the ends and feeds of that pool, by which nothing was pushed or taken. Its senders keep of their
+-- dead letters what the plan says that journals keep. One Create, to the
 -- guardian, is the only message that anybody put into a list: the first end put it there, and owes the guardian its first run. Nobody got a claim,
 -- gave a cell back or owes anything else, and there are no passes but those of these ends and senders. So each actor is new, in each state of the gates
 -- in which these ends and senders know what they know.
@@ -122,6 +129,7 @@ pub record IsBegun {A K : Type 0} (gives : ℕ → Moment → Reply → Type 0) 
   pub first : slice_get homes 0 ≡ Some (first_home built.system.gates)
   pub actors : actors_of built.system.gates ≡ length homes
   pub senders : AreNewSenders built.system.gates most_actors outside built.senders.items
+  pub keep_letters : KeepLettersIn plan.journal built.senders.items
   pub numbers : (built.system.workers ≡ plan.workers) × (built.system.senders ≡ plan.senders) × (built.system.throughput ≡ plan.throughput)
   pub pool : IsOfKind plan.pool built.system.pool
   pub of_pool : AreEnds built.system.pool (pool_ends_of built.ends.items) × AreFeeds built.system.pool (pool_feeds_of built.senders.items)

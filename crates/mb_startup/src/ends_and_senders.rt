@@ -6,7 +6,7 @@ ghost use Rattle.mb_gate.specs.Accessors.{actors_of, first_home, gates_id, pass_
 ghost use Rattle.mb_gate.specs.Untouched.{origin_of};
 ghost use Rattle.mb_home.specs.Directory.{queues_of};
 ghost use Rattle.mb_pool.specs.Places.{gates_of};
-ghost use Rattle.mb_startup.specs.Begun.{AreFirstEnds, AreNewEnds, AreNewSenders, AreUnused, IsCreated, OwesFirstRun};
+ghost use Rattle.mb_startup.specs.Begun.{AreFirstEnds, AreNewEnds, AreNewSenders, AreUnused, IsCreated, KeepLettersIn, OwesFirstRun};
 ghost use Rattle.mb_system.specs.Members.{pool_ends_of, pool_feeds_of};
 ghost use Rattle.mb_startup.specs.Shared.{KeepsWhole};
 ghost use Rattle.mb_system.specs.Shares.{shares_of_ends, shares_of_senders};
@@ -34,7 +34,8 @@ pub(crate) struct EndsAndSenders<A: Actor, K: Behaviours> {
     pub(crate) senders: Vec<Sender<A, K>>,
 }
 
-/// Makes the workers' ends and the senders of a new system. Its first end has put a Create into the guardian's list.
+/// Makes the workers' ends and the senders of a new system. Its first end has put a Create into the guardian's list. Of its dead letters each sender keeps
+/// what a journal of this mode keeps of its entries.
 ///
 /// The pass is the only one of these gates, and puts the Create there before the others are split off it: so nobody can have
 /// ended that list. The other passes know nothing of it.
@@ -62,6 +63,7 @@ pub(crate) fn open<A: Actor, K: Behaviours, R: Wait>(
     ensures same_count { IfOk result (λ opened. length opened.ends.items ≡ length ends.items) }
     ensures ends { IfOk result (λ opened. AreFirstEnds gates.now opened.ends.items) }
     ensures senders { IfOk result (λ opened. AreNewSenders gates.now most_actors (map (λ row. row.items) outside.items) opened.senders.items) }
+    ensures keep_letters { IfOk result (λ opened. KeepLettersIn journal opened.senders.items) }
     ensures whole { IfOk result (λ opened. IsWhole (shares_of_ends opened.ends.items ++ shares_of_senders opened.senders.items)) }
     ensures ports { IfOk result (λ opened. (pool_ends_of opened.ends.items ≡ ends.items) × (pool_feeds_of opened.senders.items ≡ feeds.items)) }
 {
@@ -91,6 +93,7 @@ fn open_senders<A: Actor, K: Behaviours>(
         × ((pass_view pass.new).obligations ≡ (pass_view pass.old).obligations) × ((pass_view pass.new).releases ≡ (pass_view pass.old).releases) }
     ensures shares { IfOk result (λ senders. KeepsWhole (pass_view pass.old).share (pass_view pass.new).share (shares_of_senders senders.items)) }
     ensures opened { IfOk result (λ senders. AreNewSenders gates.now most_actors (map (λ row. row.items) outside.items) senders.items) }
+    ensures keep_letters { IfOk result (λ senders. KeepLettersIn journal senders.items) }
     ensures ports { IfOk result (λ senders. pool_feeds_of senders.items ≡ feeds.items) }
 {
     let mut senders = Vec::with_capacity(alloc, feeds.len())?;

@@ -75,6 +75,7 @@ returns g c =
       first = housed.4;
       actors = housed.5;
       senders = opened.senders;
+      keep_letters = opened.keep_letters;
       numbers = (refl, refl, refl);
       pool = pool.kind_is;
       of_pool = (

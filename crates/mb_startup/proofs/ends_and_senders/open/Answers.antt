@@ -88,3 +88,6 @@ open_ends-requires-clause-within_limit g c = c.requires.not_empty.1
 
 pub returns-clause-senders : goal.returns-clause-senders
 returns-clause-senders g c = c.in_ok-senders.ensures.opened
+
+pub returns-clause-keep_letters : goal.returns-clause-keep_letters
+returns-clause-keep_letters g c = c.in_ok-senders.ensures.keep_letters

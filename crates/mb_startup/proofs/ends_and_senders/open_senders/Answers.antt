@@ -2,7 +2,7 @@ use Rattle.std.proofs.Common.{rules, ◌≡◌, ◌+◌, ◌++◌, ◌∷◌, []
 use Rattle.std.specs.Prelude.{All, Some, vec_len}
 use Rattle.std.specs.Vec.Iter.{into_iter_items}
 use Rattle.std.proofs.lemmas.List.{append-nil, drop-map, length_push, map_push, nil_from_length, take_all}
-use Rattle.std.proofs.lemmas.List.Elements.{All-head, All-rest}
+use Rattle.std.proofs.lemmas.List.Elements.{All-head, All-nil, All-push, All-rest}
 use Rattle.mb_msg.specs.Limits.{most_actors}
 use Rattle.mb_msg.specs.declared.dead_letter.DeadLetter.{DeadLetter}
 use Rattle.mb_dead_letters.specs.KeptListView.{KeptListView}
@@ -11,10 +11,11 @@ use Rattle.mb_gate.specs.Untouched.{origin_of}
 use Rattle.mb_gate.specs.View.{View, obligation_to}
 use Rattle.mb_home.specs.Directory.{queues_of}
 use Rattle.mb_pool.specs.Places.{gates_of}
+use Rattle.mb_send.specs.Keeps.{keeps, keeps_in}
 use Rattle.mb_send.specs.Sends.{AreRoutes, receiving_queues}
 use Rattle.mb_register.specs.Owed.{IsNobody}
 use Rattle.mb_build.proofs.DirectoryLemmas.{drop-next}
-use Rattle.mb_startup.specs.Begun.{AreNewSenders}
+use Rattle.mb_startup.specs.Begun.{AreNewSenders, KeepLettersIn}
 use Rattle.mb_system.specs.Members.{pool_feeds_of}
 use Rattle.mb_startup.specs.Shared.{KeepsWhole}
 use Rattle.mb_system.specs.Shares.{share_of_sender, shares_of_senders}
@@ -37,6 +38,8 @@ loop-feed-init g c =
           (keeps-none (pass_view c.args.pass.now).share);
       opened = subst (λ l. AreNewSenders c.args.gates.now most_actors (map (λ row. row.items) (take (length l) c.args.outside.items)) l)
           (sym none) tt;
+      keep_letters = subst (KeepLettersIn c.args.journal) (sym none)
+          (All-nil (λ (s : Sender _ _). keeps s.inner.send_log.dead ≡ keeps_in c.args.journal));
       ports = ap pool_feeds_of none;
     }
 
@@ -118,6 +121,9 @@ loop-feed-preserved g c =
         unclaimed = ap (λ w. (pass_view w.pass).got) parts.0 ∙ ap (λ (v : View). v.got) c.new_pass.ensures.known.1;
         none_released = ap (λ w. (pass_view w.pass).releases) parts.0 ∙ ap (λ (v : View). v.releases) c.new_pass.ensures.known.1;
       });
+      keep_letters = subst (KeepLettersIn c.args.journal) (sym pushed)
+          (All-push (λ (s : Sender _ _). keeps s.inner.send_log.dead ≡ keeps_in c.args.journal) at.senders.items _ at.invariant.keep_letters
+          (ap keeps send_log.3 ∙ ap keeps c.in_ok-dead.ensures.made));
       ports = ap pool_feeds_of pushed ∙ map_push (λ (s : Sender _ _). s.inner.registrar.run_queue.feed) at.senders.items _
           ∙ (λ i. at.invariant.ports i ++ (ap (λ w. w.run_queue.feed) parts.0 ∙ c.new.ensures) i ∷ []);
     }
@@ -138,6 +144,9 @@ returns-clause-ports g c =
     let none : into_iter_items at.feed-iterator ≡ [] =
     nil_from_length (into_iter_items at.feed-iterator) (sym at.feed-iterator.rest.ok.0 ∙ c.in-None.ensures.steps.0) in
     at.invariant.ports ∙ sym (append-nil at.yielded) ∙ ap (λ l. at.yielded ++ l) (sym none) ∙ at.invariant.whole
+
+pub returns-clause-keep_letters : goal.returns-clause-keep_letters
+returns-clause-keep_letters g c = c.loop-feed.invariant.keep_letters
 
 pub returns-clause-same_gates : goal.returns-clause-same_gates
 returns-clause-same_gates g c = c.loop-feed.invariant.same_gates

@@ -5,7 +5,7 @@ use Rattle.mb_msg.specs.Limits.{most_actors}
 use Rattle.mb_gate.specs.Accessors.{pass_view, pass_id}
 use Rattle.mb_gate.specs.Untouched.{origin_of}
 use Rattle.mb_pool.specs.Places.{gates_of}
-use Rattle.mb_startup.specs.Begun.{AreNewSenders}
+use Rattle.mb_startup.specs.Begun.{AreNewSenders, KeepLettersIn}
 use Rattle.mb_system.specs.Members.{pool_feeds_of}
 use Rattle.mb_startup.specs.Shared.{KeepsWhole}
 use Rattle.mb_system.specs.Shares.{shares_of_senders}
@@ -22,5 +22,6 @@ invariant-loop-feed g l = record {
       × ((pass_view l.pass).obligations ≡ (pass_view l.initial.pass).obligations) × ((pass_view l.pass).releases ≡ (pass_view l.initial.pass).releases);
   shares : KeepsWhole (pass_view l.initial.pass).share (pass_view l.pass).share (shares_of_senders l.senders.items);
   opened : AreNewSenders l.gates most_actors (map (λ row. row.items) (take (length l.senders.items) l.fn.outside.items)) l.senders.items;
+  keep_letters : KeepLettersIn l.fn.journal l.senders.items;
   ports : pool_feeds_of l.senders.items ≡ l.yielded;
 }
