@@ -5,7 +5,6 @@ use Rattle.std.specs.Global.{Box}
 use Rattle.mb_ghost.proofs.SummedLemmas.{total_append}
 use Rattle.mb_gate.specs.Accessors.{held_actor, pass_view}
 use Rattle.mb_gate.specs.ClaimCounts.{claims_got, claims_returned}
-use Rattle.mb_gate.specs.View.{View}
 use Rattle.mb_gate.specs.declared.claim.Claim.{Claim}
 use Rattle.mb_home.specs.Contents.{Contents}
 use Rattle.mb_register.specs.Caller.{Caller}

@@ -33,6 +33,7 @@ use Rattle.mb_register.proofs.Views.{looks-read}
 use Rattle.mb_queue.specs.Passes.{SendPassView}
 use Rattle.mb_send.specs.Answers.{FollowsLook, IsTold, Stops}
 use Rattle.mb_send.specs.Faults.{OnlyLooked}
+use Rattle.mb_send.specs.Keeps.{keeps}
 use Rattle.mb_send.specs.Posted.{envelope_of, posting}
 use Rattle.mb_send.specs.declared.send_outcome.SendOutcome.{SendOutcome}
 use Rattle.mb_send.specs.declared.send_error.SendError.{SendError}
@@ -87,6 +88,7 @@ module _ {A K : Type 0} where
   pub sent-none : (s : Sender A K) → HasSent [] s s
   sent-none s = record {
     by = refl;
+    keep_letters = refl;
     more = [];
     posted = sym (append-nil s.inner.send_log.posted);
     accepted_are = refl;
@@ -112,6 +114,7 @@ module _ {A K : Type 0} where
   pub sent-then : (xs ys : List Order) (a b c : Sender A K) → HasSent xs a b → HasSent ys b c → HasSent (xs ++ ys) a c
   sent-then xs ys a b c p q = record {
     by = q.by ∙ p.by;
+    keep_letters = q.keep_letters ∙ p.keep_letters;
     more = p.more ++ q.more;
     posted = q.posted ∙ ap (λ l. l ++ q.more) p.posted ∙ append_assoc a.inner.send_log.posted p.more q.more;
     accepted_are = accepted-append p.more q.more ∙ (λ i. p.accepted_are i ++ q.accepted_are i) ∙ sym (envelopes-append xs ys);
@@ -133,6 +136,7 @@ module _ {A K : Type 0} where
   sent-alike : (xs ys : List Order) (a b : Sender A K) → envelopes_of xs ≡ envelopes_of ys → terminates_of xs ≡ terminates_of ys → HasSent xs a b → HasSent ys a b
   sent-alike xs ys a b envelopes terminates p = record {
     by = p.by;
+    keep_letters = p.keep_letters;
     more = p.more;
     posted = p.posted;
     accepted_are = p.accepted_are ∙ envelopes;
@@ -189,6 +193,7 @@ module _ {A K : Type 0} where
       let logs = logs-then (pass_view a.inner.registrar.pass) (pass_view b.inner.registrar.pass) (pass_view c.inner.registrar.pass) (logs-of xs a b p)
       (looks-log (pass_view b.inner.registrar.pass) (pass_view c.inner.registrar.pass) only) in record {
         by = ap (λ k. k.by) send_log ∙ p.by;
+        keep_letters = ap (λ k. keeps k.dead) send_log ∙ p.keep_letters;
         more = p.more;
         posted = ap (λ k. k.posted) send_log ∙ p.posted;
         accepted_are = p.accepted_are;
@@ -282,13 +287,15 @@ module _ (by : SenderId) (number : ℕ) (to : ActorId) (body : Body) (posted pos
 
 module _ {A K : Type 0} where
   pub sent-told : (to : ActorId) (payload : Payload) (put : SendOutcome) (a b : Sender A K) → b.inner.send_log.by ≡ a.inner.send_log.by
+      → keeps b.inner.send_log.dead ≡ keeps a.inner.send_log.dead
       → IsTold a.inner.send_log.by a.inner.send_log.sent to (body_of payload) a.inner.send_log.posted b.inner.send_log.posted a.inner.sends.items
       (pass_view a.inner.registrar.pass) (pass_view b.inner.registrar.pass) put → HasSent (order_for to (Tell payload) 1 ∷ []) a b
-  sent-told to payload put a b by told =
+  sent-told to payload put a b by keep_letters told =
       let one = one-posted a.inner.send_log.by a.inner.send_log.sent to (body_of payload) a.inner.send_log.posted b.inner.send_log.posted a.inner.sends.items
       (pass_view a.inner.registrar.pass) (pass_view b.inner.registrar.pass) put told in
       record {
         by = by;
+        keep_letters = keep_letters;
         more = posting (envelope_of a.inner.send_log.by to a.inner.send_log.sent (body_of payload)) one.0.0 ∷ [];
         posted = one.0.1;
         accepted_are = refl;
@@ -310,6 +317,7 @@ module _ {A K : Type 0} (to : ActorId) (a b : Sender A K) where
       let read = does-at to.0 [] [] old new did (λ id measure. refl) (λ id. refl) in
       record {
         by = looked.send_log.by;
+        keep_letters = looked.send_log.keeps_is;
         more = [];
         posted = looked.send_log.posted ∙ sym (append-nil a.inner.send_log.posted);
         accepted_are = refl;
@@ -346,6 +354,7 @@ module _ {A K : Type 0} where
       → Stops to.0 (pass_view a.inner.registrar.pass) (pass_view b.inner.registrar.pass) stopped → HasSent (order_for to Stop 1 ∷ []) a b
   sent-stopped to stopped a b send_log s = let stop = sent-terminate to.0 (pass_view a.inner.registrar.pass) (pass_view b.inner.registrar.pass) stopped s in record {
     by = ap (λ k. k.by) send_log;
+    keep_letters = ap (λ k. keeps k.dead) send_log;
     more = [];
     posted = ap (λ k. k.posted) send_log ∙ sym (append-nil a.inner.send_log.posted);
     accepted_are = refl;

@@ -67,7 +67,7 @@ pub returns-in_ok-tell-in-Tell-clause-sent : goal.returns-in_ok-tell-in-Tell-cla
 returns-in_ok-tell-in-Tell-clause-sent g c =
     let to = c.args.to in let old = c.args.sender.now in let new = c.tell.new.self in
     subst (λ (what : OrderKind). HasSent (order_for to what 1 ∷ []) old new) (sym c.in-Tell.is)
-    (sent-told to c.in-Tell.payload _ old new c.tell.ensures.same_sender c.in_ok-tell-in-Tell.ensures.told)
+    (sent-told to c.in-Tell.payload _ old new c.tell.ensures.same_sender c.tell.ensures.keeps c.in_ok-tell-in-Tell.ensures.told)
 
 pub returns-in_ok-stop-in-Stop-clause-sent : goal.returns-in_ok-stop-in-Stop-clause-sent
 returns-in_ok-stop-in-Stop-clause-sent g c =
