@@ -1,5 +1,6 @@
 //! Sending all that is to be sent, and running what that leaves to run.
 ghost use Rattle.std.specs.Prelude.{◌≡◌, ◌≢◌, ◌<◌, [], All, Contains, IfErr, IfOk, OnOk, length, map};
+ghost use Rattle.mb_msg.specs.JournalMode.{keeps_all};
 ghost use Rattle.mb_gate.specs.Accessors.{actors_of, pass_view};
 ghost use Rattle.mb_gate.specs.Untouched.{origin_of};
 ghost use Rattle.mb_gate.specs.View.{View};
@@ -19,7 +20,7 @@ ghost use Rattle.heddleorange.specs.Workers.{AllOnlyRuns};
 
 use mb_actor::{Actor, Behaviours};
 use mb_dispatch::{Turns, run_quietly, send_all};
-use mb_msg::{Order, SenderOrder};
+use mb_msg::{JournalMode, Order, SenderOrder};
 use mb_system::{Built, RunError, Sender, System};
 use std::sync::Wait;
 
@@ -49,14 +50,17 @@ pub(crate) fn send_and_run<A: Actor, K: Behaviours, R: Wait>(
     ensures fault { IfErr result (BreaksOff K.gives built.old.system built.new.ends.items (map (λ orders. orders.items) sends.now)) }
 {
     send_each(rt, &built.system, &mut built.senders, sends)?;
-    run_first(rt, built)
+    // Nobody reads the turns.
+    run_first(rt, built, JournalMode::Counted)
 }
 
-/// The same, where the orders of all senders stand in one row: each is carried out in its turn, by its sender.
+/// The same, where the orders of all senders stand in one row: each is carried out in its turn, by its sender. As many turns are kept
+/// as a journal of the mode `keeps` has of its entries.
 pub(crate) fn send_in_order_and_run<A: Actor, K: Behaviours, R: Wait>(
     rt: &R,
     built: &mut Built<A, K>,
     sends: &[SenderOrder],
+    keeps: JournalMode,
 ) -> Result<Turns, RunError>
     requires together { BelongsTogether built.old }
     requires not_empty { built.old.ends.items ≢ [] }
@@ -76,16 +80,18 @@ pub(crate) fn send_in_order_and_run<A: Actor, K: Behaviours, R: Wait>(
     ensures stretches { IfOk result (λ turns. (report : ReportOf) → All (λ e. ReportExtendsAll report (pass_view e.registrar.pass)) built.new.ends.items
         → AreStretches report (turns_in turns)) }
     ensures covers { IfOk result (λ turns. AreAllTurns built.old built.new (turns_in turns)) }
+    ensures kept { IfOk result (λ turns. turns.list.is_kept ≡ keeps_all keeps) }
     ensures fault { IfErr result (BreaksOff K.gives built.old.system built.new.ends.items (lists_of (length built.old.senders.items) sends.now)) }
 {
     send_in_order(rt, &built.system, &mut built.senders, sends)?;
-    run_first(rt, built)
+    run_first(rt, built, keeps)
 }
 
 // Runs on this thread what there is to run: the first end does it.
 fn run_first<A: Actor, K: Behaviours, R: Wait>(
     rt: &R,
     built: &mut Built<A, K>,
+    keeps: JournalMode,
 ) -> Result<Turns, RunError>
     requires same_gates { AreEndsOf built.old.system.gates built.old.ends.items }
     requires not_empty { built.old.ends.items ≢ [] }
@@ -101,10 +107,11 @@ fn run_first<A: Actor, K: Behaviours, R: Wait>(
     ensures stretches { IfOk result (λ turns. (report : ReportOf) → All (λ e. ReportExtendsAll report (pass_view e.registrar.pass)) built.new.ends.items
         → AreStretches report (turns_in turns)) }
     ensures covers { IfOk result (λ turns. AreAllTurns built.old built.new (turns_in turns)) }
+    ensures kept { IfOk result (λ turns. turns.list.is_kept ≡ keeps_all keeps) }
     ensures fault { IfErr result (λ error. (start : View) × (end : EndOf A K) × Contains built.new.ends.items end
         × BreaksQuietRun K.gives built.old.system start end error) }
 {
-    run_quietly(rt, &built.system, &mut built.ends[0])
+    run_quietly(rt, &built.system, &mut built.ends[0], keeps)
 }
 
 // Has each of these in its turn carried out by its sender.

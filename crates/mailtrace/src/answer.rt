@@ -109,8 +109,8 @@ fn show_run<W: Write + Drop>(
 {
     let actors = numbers_of(alloc, &options.actors, &scenario.names)?;
     let lengths = match &run.turns {
-        Some(turns) => Some(turn_lengths(alloc, turns.as_slice())?),
-        None => None,
+        Some(turns) if turns.is_kept() => Some(turn_lengths(alloc, turns.kept())?),
+        Some(_) | None => None,
     };
     let trace = trace_of(scenario, run, lengths.as_deref());
     let filter = Filter {

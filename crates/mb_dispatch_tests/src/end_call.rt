@@ -3,7 +3,7 @@ ghost use Rattle.mb_system.specs.Members.{IsEndOf};
 
 use mb_actor::{Actor, Behaviours};
 use mb_dispatch::{RunError, System, Turn, Turns, WorkerEnd, run_mailbox, run_quietly, work};
-use mb_msg::ActorId;
+use mb_msg::{ActorId, JournalMode};
 use mb_register::Hint;
 use std::sync::Wait;
 
@@ -45,7 +45,12 @@ pub(crate) fn call_end<A: Actor, K: Behaviours, R: Wait>(
     ensures same_gates { IsEndOf system.now.gates end.new.registrar }
 {
     match call {
-        EndCall::RunQuietly => Some(EndAnswer::Turns(run_quietly(rt, system, end))),
+        EndCall::RunQuietly => Some(EndAnswer::Turns(run_quietly(
+            rt,
+            system,
+            end,
+            JournalMode::Kept,
+        ))),
         EndCall::Register(id) => register(rt, system, end, id),
         EndCall::Turn => match run_next(rt, system, end) {
             Some(turn) => Some(EndAnswer::Turned(turn)),

@@ -23,6 +23,8 @@ mod family;
 #[cfg(test)]
 mod farewell;
 #[cfg(test)]
+mod kept_turns;
+#[cfg(test)]
 mod limited;
 #[cfg(test)]
 mod meeting;

@@ -86,7 +86,7 @@ fn report_of<R: Abort + Threads + Wait + Sync>(
 }
 
 /// Whether as many are kept, of so many, as the mode says: all, none, or at least the last so many and at most twice as many.
-fn is_kept_as_due(journal: JournalMode, kept: usize, all: usize) -> bool {
+pub(crate) fn is_kept_as_due(journal: JournalMode, kept: usize, all: usize) -> bool {
     match journal {
         JournalMode::Kept => kept == all,
         JournalMode::Counted => kept == 0,

@@ -35,7 +35,7 @@ fn error_text(alloc: Global, error: Error) -> Option<String> {
 /// What an end answered: of each run its actor, its system messages and its envelopes; or why the runs were broken off.
 pub fn end_text(alloc: Global, answer: EndAnswer) -> Result<String, AllocError> {
     match answer {
-        EndAnswer::Turns(Ok(turns)) => turns_text(alloc, turns.as_slice()),
+        EndAnswer::Turns(Ok(turns)) => turns_text(alloc, turns.kept()),
         EndAnswer::Turns(Err(error)) => broken_off_text(alloc, error),
         EndAnswer::Registered(is_done) => done_text(alloc, is_done),
         EndAnswer::Turned(turn) => turn_text(alloc, &turn),

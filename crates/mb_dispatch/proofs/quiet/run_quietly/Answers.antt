@@ -1,4 +1,4 @@
-use Rattle.std.proofs.Common.{arith, List, [], ◌∷◌, ◌++◌, ◌∙◌, ap, refl, subst, sym, inl, inr}
+use Rattle.std.proofs.Common.{◌≡◌, arith, List, [], ◌∷◌, ◌++◌, ◌∙◌, ap, refl, subst, sym, inl, inr}
 use Rattle.std.specs.Prelude.{IfErr}
 use Rattle.std.proofs.lemmas.Result.{IfOk-from_err}
 use Rattle.std.proofs.lemmas.Grind.{common_steps}
@@ -9,6 +9,7 @@ use Rattle.std.specs.Prelude.{Option}
 use Rattle.mb_gate.specs.Untouched.{Origin, origin_of}
 use Rattle.mb_home.specs.Contents.{Contents}
 use Rattle.mb_home.specs.Fresh.{IsFreshClaim}
+use Rattle.mb_dead_letters.specs.KeptListView.{KeptListView}
 use Rattle.mb_mailbox.specs.declared.turn.Turn.{Turn}
 use Rattle.mb_system.specs.Members.{end_caller}
 use Rattle.mb_system.proofs.Obligations.{obligations-left, obligations-same, owes-nothing, discharged-still}
@@ -25,6 +26,9 @@ use Rattle.mb_dispatch.specs.Runs.{MadeRuns, RanMailbox}
 use Rattle.mb_dispatch.proofs.Runs.{ran-mailbox, runs-looks, runs-more}
 use Rattle.mb_dispatch.proofs.quiet.run_quietly.Goals as goal
 
+items-of : {old new : KeptListView Turn} → new ≡ old → new.items ≡ old.items
+items-of = ap (λ (l : KeptListView Turn). l.items)
+
 pub loop-init : goal.loop-init
 loop-init g c =
     let did = c.register_all.ensures in (
@@ -34,8 +38,10 @@ loop-init g c =
       did.discharged,
       subst (λ turns. MadeRuns g.K.Behaviours.gives (origin_of c.args.system.now.gates) c.args.system.now.throughput (pass_view c.args.end.now.registrar.pass) turns
           (pass_view c.register_all.new.self.registrar.pass))
-          (sym {A = List Turn} c.new-turns.ensures.items) did.looks,
+          (sym {A = List Turn} (items-of c.in-Ok.ensures.made)) did.looks,
       claims-registered-all c.args.end.now c.register_all.new.self (actors_of c.args.system.now.gates) did.registered did.log,
+      ap (λ (l : KeptListView Turn). l.is_kept) c.in-Ok.ensures.made,
+      ap (λ (l : KeptListView Turn). l.last) c.in-Ok.ensures.made,
     )
 
 pub loop-preserved-in-Some-take : goal.loop-preserved-in-Some-take
@@ -51,7 +57,7 @@ loop-preserved-in-Some-take g c =
           (discharged-still actors old between c.loop.invariant.3 (obligations-same actors old between (ap pass_view same.0) same.1))
           (obligations-left actors between new did.leaves),
       subst (λ turns. MadeRuns gives (origin_of system.gates) system.throughput first.view turns new.view)
-          (sym {A = List Turn} (◌∙◌ {A = List Turn} c.push_reserved.ensures.items (ap {A = List Turn} {B = List Turn} (λ turns. turns ++ turn ∷ []) c.reserve.ensures.items)))
+          (sym {A = List Turn} (◌∙◌ {A = List Turn} c.push.ensures.items (ap {A = List Turn} {B = List Turn} (λ turns. turns ++ turn ∷ []) (items-of c.reserve.ensures.same))))
           (runs-more gives (origin_of system.gates) system.throughput first.view old.view new.view c.loop.turns.items turn c.loop.invariant.4
           (subst (λ p. RanMailbox gives (origin_of system.gates) system.throughput (pass_view p) new.view turn) same.0
           (ran-mailbox gives (origin_of system.gates) system.throughput between.view new.view c.in-Some-take.claim turn
@@ -59,6 +65,8 @@ loop-preserved-in-Some-take g c =
           c.in_ok-run_mailbox-in-Some-take.ensures.ran))),
       tried-ran c.in-Some-take.claim c.args.end.now c.loop.end c.take.new.self c.run_mailbox.new.end c.take.result c.in-Some-take.is c.loop.invariant.5 same.0
           c.take.ensures.account c.take.ensures.log did.claims did.log,
+      c.push.ensures.same.0 ∙ ap (λ (l : KeptListView Turn). l.is_kept) c.reserve.ensures.same ∙ c.loop.invariant.6,
+      c.push.ensures.same.1 ∙ ap (λ (l : KeptListView Turn). l.last) c.reserve.ensures.same ∙ c.loop.invariant.7,
     )
 
 pub loop-preserved : goal.loop-preserved
@@ -72,11 +80,13 @@ loop-preserved g c =
       discharged-still actors between new
           (discharged-still actors old between c.loop.invariant.3 (obligations-same actors old between (ap pass_view same.0) same.1))
           did.obligations,
-      subst (λ turns. MadeRuns gives (origin_of system.gates) system.throughput first.view turns new.view) (sym {A = List Turn} c.reserve.ensures.items)
+      subst (λ turns. MadeRuns gives (origin_of system.gates) system.throughput first.view turns new.view) (sym {A = List Turn} (items-of c.reserve.ensures.same))
           (runs-looks gives (origin_of system.gates) system.throughput first.view old.view new.view c.loop.turns.items c.loop.invariant.4
           (subst (λ p. OnlyLooks (pass_view p) new.view) same.0 did.looks)),
       none-then c.args.end.now c.loop.end c.take.new.self c.retry_refused.new.self c.in-None-take.ensures.none.0 c.loop.invariant.5
           (claims-registered c.take.new.self c.retry_refused.new.self did.handed did.log),
+      ap (λ (l : KeptListView Turn). l.is_kept) c.reserve.ensures.same ∙ c.loop.invariant.6,
+      ap (λ (l : KeptListView Turn). l.last) c.reserve.ensures.same ∙ c.loop.invariant.7,
     )
 
 pub returns-in_err-run_mailbox-in-Some-take-clause-log_kept : goal.returns-in_err-run_mailbox-in-Some-take-clause-log_kept
@@ -113,7 +123,7 @@ returns-then-is_empty-clause-obligations g c =
 pub returns-then-is_empty-clause-runs : goal.returns-then-is_empty-clause-runs
 returns-then-is_empty-clause-runs g c =
     let gives = g.K.Behaviours.gives in let system = c.args.system.now in let first = pass_view c.args.end.now.registrar.pass in
-    subst (λ turns. MadeRuns gives (origin_of system.gates) system.throughput first turns (pass_view c.take.new.self.registrar.pass)) (sym {A = List Turn} c.reserve.ensures.items)
+    subst (λ turns. MadeRuns gives (origin_of system.gates) system.throughput first turns (pass_view c.take.new.self.registrar.pass)) (sym {A = List Turn} (items-of c.reserve.ensures.same))
     (subst (λ p. MadeRuns gives (origin_of system.gates) system.throughput first c.loop.turns.items (pass_view p)) (sym c.take.ensures.same.0) c.loop.invariant.4)
 
 pub returns-then-is_err-clause-runs : goal.returns-then-is_err-clause-runs
@@ -249,9 +259,9 @@ retry_refused-requires g c =
     let same = c.take.ensures.same in let ours = c.loop.invariant.0 in
     record { same_gates = (ap pass_id same.0 ∙ ours.0, same.2 ∙ ours.1, ours.2) }
 
-pub push_reserved-requires : goal.push_reserved-requires
-push_reserved-requires g c =
-    let room = c.reserve.ensures.ok in let went = c.if-is_err.false in let is = c.is_err.ensures in grind (arith, common_steps)
+pub push-requires : goal.push-requires
+push-requires g c =
+    let room = c.reserve.ensures.room in let went = c.if-is_err.false in let is = c.is_err.ensures in grind (arith, common_steps)
 
 pub returns-in_err-run_mailbox-in-Some-take-clause-claims : goal.returns-in_err-run_mailbox-in-Some-take-clause-claims
 returns-in_err-run_mailbox-in-Some-take-clause-claims g c =
@@ -270,3 +280,39 @@ returns-then-is_empty-clause-claims g c = subst (RunsEachClaim c.args.end.now) (
 
 pub returns-then-is_err-clause-claims : goal.returns-then-is_err-clause-claims
 returns-then-is_err-clause-claims g c = c.loop.invariant.5
+
+pub returns-then-is_err-clause-kept : goal.returns-then-is_err-clause-kept
+returns-then-is_err-clause-kept g c = tt
+
+pub returns-in_err-run_mailbox-in-Some-take-clause-kept : goal.returns-in_err-run_mailbox-in-Some-take-clause-kept
+returns-in_err-run_mailbox-in-Some-take-clause-kept g c = IfOk-from_err c.from_residual.result _ c.from_residual.ensures.0
+
+pub returns-in_err-retry_refused-in-None-take-clause-kept : goal.returns-in_err-retry_refused-in-None-take-clause-kept
+returns-in_err-retry_refused-in-None-take-clause-kept g c =
+    let left = c.from_residual-in_err-retry_refused-in-None-take in IfOk-from_err left.result _ left.ensures.0
+
+pub returns-then-is_empty-clause-kept : goal.returns-then-is_empty-clause-kept
+returns-then-is_empty-clause-kept g c = (
+  ap (λ (l : KeptListView Turn). l.is_kept) c.reserve.ensures.same ∙ c.loop.invariant.6,
+  ap (λ (l : KeptListView Turn). l.last) c.reserve.ensures.same ∙ c.loop.invariant.7,
+)
+
+pub returns-in_default-clause-same_gates : goal.returns-in_default-clause-same_gates
+returns-in_default-clause-same_gates g c = c.register_all.ensures.same_gates
+
+pub returns-in_default-clause-obligations : goal.returns-in_default-clause-obligations
+returns-in_default-clause-obligations g c = c.register_all.ensures.discharged
+
+pub returns-in_default-clause-claims : goal.returns-in_default-clause-claims
+returns-in_default-clause-claims g c =
+    let did = c.register_all.ensures in
+    claims-registered-all c.args.end.now c.register_all.new.self (actors_of c.args.system.now.gates) did.registered did.log
+
+pub returns-in_default-clause-number : goal.returns-in_default-clause-number
+returns-in_default-clause-number g c = c.register_all.ensures.number
+
+pub returns-in_default-clause-log_kept : goal.returns-in_default-clause-log_kept
+returns-in_default-clause-log_kept g c = c.register_all.ensures.log_kept
+
+pub returns-in_default-clause-fault : goal.returns-in_default-clause-fault
+returns-in_default-clause-fault g c = inl (refl, record { turns = []; made = c.register_all.ensures.looks })
