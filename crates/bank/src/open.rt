@@ -52,8 +52,8 @@ fn run<R: Threads + Wait + Sync>(
     bank.add(teller_plan, teller)?;
     bank.add(ActorPlan::child_of(alloc, TELLER), alice)?;
     bank.add(ActorPlan::child_of(alloc, TELLER), bob)?;
-    let report = bank.run(rt, alloc, sends)?;
-    Ok(report)
+    let done = bank.run(rt, alloc, sends)?;
+    Ok(done.report)
 }
 
 /// Opens a bank, each of whose two accounts has this much at first, and runs it with so many workers: on this thread if it is one.

@@ -45,8 +45,8 @@ pub(crate) fn run_ring<R: Threads + Wait + Sync>(
         ring.add(ActorPlan::child_of(alloc, GUARDIAN), Relay { next })?;
     }
     let sends = orders(alloc, messages)?;
-    let report = ring.run_on_threads(rt, alloc, &sends)?;
-    Ok(report)
+    let done = ring.run_on_threads(rt, alloc, &sends)?;
+    Ok(done.report)
 }
 
 /// What starts so many messages: as many as go round at once, each of which is handed on until its share of them is handled.

@@ -24,6 +24,7 @@ use Rattle.mb_quantity.proofs.Sums.{sum-append}
 use Rattle.mb_quantity.specs.Quantity.{AllConserve, Conserves, Holding, sum_of}
 use Rattle.mb_report.specs.declared.report.ActorReport.{ActorReport}
 use Rattle.mb_report.specs.declared.report.Report.{Report}
+use Rattle.heddleorange.specs.declared.named_report.NamedReport.{NamedReport}
 use Rattle.heddleorange.proofs.FromStory.{all-states}
 use Rattle.heddleorange.proofs.Held.{guardian-evenly, holds-what-it-took, told-evenly}
 use Rattle.heddleorange.proofs.Identified.{actor-at}
@@ -196,3 +197,13 @@ pub conserved-of : {A E : Type 0} (after : A → List Message → ℤ) (gives : 
 conserved-of after gives worth holdings actors plan orders (Ok report) notice conserve story right =
     conserved after gives worth notice report actors plan orders right story holdings conserve
 conserved-of after gives worth holdings actors plan orders (Err error) notice conserve story right = story
+
+-- and with the names of the actors
+pub named-conserved-of : {A E : Type 0} (after : A → List Message → ℤ) (gives : A → Moment → Reply → Type 0) (worth : Message → ℤ)
+    (holdings : List (Option Holding)) (actors : List A) (plan : Plan) (orders : List (List Order)) (result : Result NamedReport E)
+    → ((x : ActorId) → worth (Terminated x) ≡ pos 0) → AllConserve after gives worth holdings actors
+    → IfOk result (λ done. IsReportOfRun (after_at actors after) (gives_at actors gives) plan orders done.report) → OnOk result (IsRight plan (length actors) orders)
+    → IfOk result (λ done. IsConserved worth holdings orders done.report)
+named-conserved-of after gives worth holdings actors plan orders (Ok done) notice conserve story right =
+    conserved after gives worth notice done.report actors plan orders right story holdings conserve
+named-conserved-of after gives worth holdings actors plan orders (Err error) notice conserve story right = story

@@ -15,10 +15,10 @@ ghost use Rattle.heddleorange.specs.States.{ShowsStates};
 ghost use Rattle.heddleorange.specs.WholeRun.{IsReportOfRun, after_at, gives_at};
 
 use crate::failed_run::FailedRun;
+use crate::named_report::NamedReport;
 use crate::planned_system::PlannedSystem;
 use mb_actor::Actor;
 use mb_msg::Order;
-use mb_report::Report;
 use std::alloc::Global;
 use std::sync::Wait;
 use std::thread::Threads;
@@ -31,23 +31,24 @@ impl<A: Actor + Send> PlannedSystem<A> {
         rt: &R,
         alloc: Global,
         sends: &[Vec<Order>],
-    ) -> Result<Report, FailedRun<A>>
+    ) -> Result<NamedReport, FailedRun<A>>
         requires unused { All (λ actor. A.content actor ≡ A.after actor []) self.actors.items }
-        ensures story { IfOk result (IsReportOfRun (after_at self.actors.items A.after) (gives_at self.actors.items A.gives) self.plan
-            (map (λ orders. orders.items) sends.now)) }
+        ensures story { IfOk result (λ done. IsReportOfRun (after_at self.actors.items A.after) (gives_at self.actors.items A.gives) self.plan
+            (map (λ orders. orders.items) sends.now) done.report) }
         ensures right { OnOk result (IsRight self.plan (length self.actors.items) (map (λ orders. orders.items) sends.now)) }
         ensures refused { IfErr result (IsErrorOfRun (gives_at self.actors.items A.gives) self.plan (length self.actors.items)
             (map (λ orders. orders.items) sends.now)) }
         ensures which { IfErr result (λ failed. NamesInLists (length self.actors.items) (map (λ orders. orders.items) sends.now) failed.error) }
         ensures back { IfErr result (GivesBack self.plan self.actors.items self.names.texts.items) }
-        ensures states { IfOk result (ShowsStates A.after self.actors.items self.plan) }
-        ensures lines { IfOk result (λ report. length report.actors.items ≡ length self.actors.items + 1) }
-        ensures headline { IfOk result (RunHeadline self.plan (map (λ orders. orders.items) sends.now)) }
-        ensures ledger { IfOk result (AddsUp self.plan (map (λ orders. orders.items) sends.now)) }
-        ensures counts { IfOk result AddsUpByCounts }
-        ensures kept { IfOk result (KeepsAsPlanned self.plan) }
+        ensures states { IfOk result (λ done. ShowsStates A.after self.actors.items self.plan done.report) }
+        ensures lines { IfOk result (λ done. length done.report.actors.items ≡ length self.actors.items + 1) }
+        ensures headline { IfOk result (λ done. RunHeadline self.plan (map (λ orders. orders.items) sends.now) done.report) }
+        ensures ledger { IfOk result (λ done. AddsUp self.plan (map (λ orders. orders.items) sends.now) done.report) }
+        ensures counts { IfOk result (λ done. AddsUpByCounts done.report) }
+        ensures kept { IfOk result (λ done. KeepsAsPlanned self.plan done.report) }
+        ensures names { IfOk result (λ done. done.names.texts.items ≡ self.names.texts.items) }
         ensures conserved { (worth : Message → ℤ) (holdings : List (Option Holding)) → ((ended : Id) → worth (Terminated ended) ≡ pos 0)
-            → AllConserve A.after A.gives worth holdings self.actors.items → IfOk result (IsConserved worth holdings (map (λ orders. orders.items) sends.now)) }
+            → AllConserve A.after A.gives worth holdings self.actors.items → IfOk result (λ done. IsConserved worth holdings (map (λ orders. orders.items) sends.now) done.report) }
     {
         let workers = self.plan.workers;
         if workers == 1 {

@@ -19,6 +19,7 @@ mod failed_run;
 mod finish;
 mod in_order;
 mod laws;
+mod named_report;
 mod names;
 mod new_system;
 mod one_of;
@@ -54,6 +55,7 @@ pub use mb_typed::{
     Address, Command, Incoming, Packed, Typed, TypedActor, TypedCall,
     a_command_arrives_as_it_was_sent, actor_half, join_actor, join_halves, lower_half, upper_half,
 };
+pub use named_report::NamedReport;
 pub use names::Names;
 pub use new_system::NewSystem;
 pub use one_of::OneOf;

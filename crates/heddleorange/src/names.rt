@@ -1,8 +1,9 @@
 //! Names of actors beside their numbers.
-ghost use Rattle.std.specs.Prelude.{◌≡◌, ◌≤◌, [], IfOk, length, option_map};
-ghost use Rattle.heddleorange.specs.Names.{number_of, texts_of};
+ghost use Rattle.std.specs.Prelude.{◌≡◌, ◌≤◌, [], IfOk, length, option_copied, option_map, slice_get};
+ghost use Rattle.heddleorange.specs.Names.{names_by_number, number_of, texts_of};
 
-use mb_msg::ActorId;
+use mb_msg::limits::ACTORS;
+use mb_msg::{ActorId, SenderId};
 use std::alloc::{AllocError, Global};
 
 /// The name of the guardian, as a report's text has it.
@@ -43,7 +44,31 @@ impl Names {
         None
     }
 
-    /// The same names again, to be kept while the system runs, which takes its own. The only error: memory was refused.
+    /// The name of the actor of this number; `None` if there is no such actor. That of the guardian, whose number is 0, is `guardian`.
+    pub fn name_of(&self, id: ActorId) -> Option<&str>
+        ensures { option_copied result ≡ slice_get (names_by_number self.now.texts.items) id.0 }
+    {
+        if id.0 == 0 {
+            return Some(GUARDIAN);
+        }
+        match self.texts.get(id.0 as usize - 1) {
+            Some(text) => Some(text.as_str()),
+            None => None,
+        }
+    }
+
+    /// The name of the actor that sent an envelope by this number (`Envelope::by`); `None` for a sender outside the actors, whose
+    /// numbers are 64 and more.
+    pub fn name_of_sender(&self, by: SenderId) -> Option<&str>
+        ensures { option_copied result ≡ slice_get (names_by_number self.now.texts.items) by.0 }
+    {
+        if by.0 >= ACTORS {
+            return None;
+        }
+        self.name_of(ActorId(by.0 as u16))
+    }
+
+    /// The same names again. The only error: memory was refused.
     pub fn try_clone(&self, alloc: Global) -> Result<Names, AllocError>
         ensures texts { IfOk result (λ names. texts_of names.texts.items ≡ texts_of self.now.texts.items) }
         ensures count { IfOk result (λ names. length names.texts.items ≡ length self.now.texts.items) }

@@ -20,11 +20,11 @@ ghost use Rattle.heddleorange.specs.declared.error.Error.TheVariants.{BadPlan, N
 
 use crate::error::Error;
 use crate::failed_run::FailedRun;
+use crate::named_report::NamedReport;
 use crate::planned_system::{PlannedSystem, Settings};
 use crate::unused::Unused;
 use mb_actor::Actor;
 use mb_msg::{ActorId, ActorPlan, Order};
-use mb_report::Report;
 use std::alloc::Global;
 use std::sync::Wait;
 use std::thread::Threads;
@@ -92,22 +92,23 @@ impl<A: Actor + Send> NewSystem<A> {
         rt: &R,
         alloc: Global,
         sends: &[Vec<Order>],
-    ) -> Result<Report, FailedRun<A>>
-        ensures story { IfOk result (IsReportOfRun (after_at self.system.actors.items A.after) (gives_at self.system.actors.items A.gives) self.system.plan
-            (map (λ orders. orders.items) sends.now)) }
+    ) -> Result<NamedReport, FailedRun<A>>
+        ensures story { IfOk result (λ done. IsReportOfRun (after_at self.system.actors.items A.after) (gives_at self.system.actors.items A.gives) self.system.plan
+            (map (λ orders. orders.items) sends.now) done.report) }
         ensures right { OnOk result (IsRight self.system.plan (length self.system.actors.items) (map (λ orders. orders.items) sends.now)) }
         ensures refused { IfErr result (IsErrorOfRun (gives_at self.system.actors.items A.gives) self.system.plan (length self.system.actors.items)
             (map (λ orders. orders.items) sends.now)) }
         ensures which { IfErr result (λ failed. NamesInLists (length self.system.actors.items) (map (λ orders. orders.items) sends.now) failed.error) }
         ensures back { IfErr result (GivesBack self.system.plan self.system.actors.items self.system.names.texts.items) }
-        ensures states { IfOk result (ShowsStates A.after self.system.actors.items self.system.plan) }
-        ensures lines { IfOk result (λ report. length report.actors.items ≡ length self.system.actors.items + 1) }
-        ensures headline { IfOk result (RunHeadline self.system.plan (map (λ orders. orders.items) sends.now)) }
-        ensures ledger { IfOk result (AddsUp self.system.plan (map (λ orders. orders.items) sends.now)) }
-        ensures counts { IfOk result AddsUpByCounts }
-        ensures kept { IfOk result (KeepsAsPlanned self.system.plan) }
+        ensures states { IfOk result (λ done. ShowsStates A.after self.system.actors.items self.system.plan done.report) }
+        ensures lines { IfOk result (λ done. length done.report.actors.items ≡ length self.system.actors.items + 1) }
+        ensures headline { IfOk result (λ done. RunHeadline self.system.plan (map (λ orders. orders.items) sends.now) done.report) }
+        ensures ledger { IfOk result (λ done. AddsUp self.system.plan (map (λ orders. orders.items) sends.now) done.report) }
+        ensures counts { IfOk result (λ done. AddsUpByCounts done.report) }
+        ensures kept { IfOk result (λ done. KeepsAsPlanned self.system.plan done.report) }
+        ensures names { IfOk result (λ done. done.names.texts.items ≡ self.system.names.texts.items) }
         ensures conserved { (worth : Message → ℤ) (holdings : List (Option Holding)) → ((ended : Id) → worth (Terminated ended) ≡ pos 0)
-            → AllConserve A.after A.gives worth holdings self.system.actors.items → IfOk result (IsConserved worth holdings (map (λ orders. orders.items) sends.now)) }
+            → AllConserve A.after A.gives worth holdings self.system.actors.items → IfOk result (λ done. IsConserved worth holdings (map (λ orders. orders.items) sends.now) done.report) }
     {
         let NewSystem { system } = self;
         system.run(rt, alloc, sends)

@@ -16,13 +16,13 @@ ghost use Rattle.heddleorange.specs.WholeRun.{IsReportOfRun, after_at, gives_at}
 
 use crate::error::Error;
 use crate::failed_run::FailedRun;
+use crate::named_report::NamedReport;
 use crate::names::Names;
 use crate::run::{run_here, run_on_threads};
 use mb_actor::Actor;
 use mb_build::PlanError;
 use mb_msg::limits::ACTORS;
 use mb_msg::{ActorId, ActorPlan, JournalMode, Order, Plan, PoolKind};
-use mb_report::Report;
 use std::alloc::{AllocError, Global};
 use std::sync::Wait;
 use std::thread::Threads;
@@ -260,21 +260,22 @@ impl<A: Actor> PlannedSystem<A> {
         rt: &R,
         alloc: Global,
         sends: &[Vec<Order>],
-    ) -> Result<Report, FailedRun<A>>
+    ) -> Result<NamedReport, FailedRun<A>>
         requires unused { All (λ actor. A.content actor ≡ A.after actor []) self.actors.items }
-        ensures story { IfOk result (IsReportOfRun (after_at self.actors.items A.after) (gives_at self.actors.items A.gives) self.plan
-            (map (λ orders. orders.items) sends.now)) }
+        ensures story { IfOk result (λ done. IsReportOfRun (after_at self.actors.items A.after) (gives_at self.actors.items A.gives) self.plan
+            (map (λ orders. orders.items) sends.now) done.report) }
         ensures right { OnOk result (IsRight self.plan (length self.actors.items) (map (λ orders. orders.items) sends.now)) }
         ensures refused { IfErr result (IsErrorOfRun (gives_at self.actors.items A.gives) self.plan (length self.actors.items)
             (map (λ orders. orders.items) sends.now)) }
         ensures which { IfErr result (λ failed. NamesInLists (length self.actors.items) (map (λ orders. orders.items) sends.now) failed.error) }
         ensures back { IfErr result (GivesBack self.plan self.actors.items self.names.texts.items) }
-        ensures states { IfOk result (ShowsStates A.after self.actors.items self.plan) }
-        ensures lines { IfOk result (λ report. length report.actors.items ≡ length self.actors.items + 1) }
-        ensures headline { IfOk result (RunHeadline self.plan (map (λ orders. orders.items) sends.now)) }
-        ensures ledger { IfOk result (AddsUp self.plan (map (λ orders. orders.items) sends.now)) }
-        ensures counts { IfOk result AddsUpByCounts }
-        ensures kept { IfOk result (KeepsAsPlanned self.plan) }
+        ensures states { IfOk result (λ done. ShowsStates A.after self.actors.items self.plan done.report) }
+        ensures lines { IfOk result (λ done. length done.report.actors.items ≡ length self.actors.items + 1) }
+        ensures headline { IfOk result (λ done. RunHeadline self.plan (map (λ orders. orders.items) sends.now) done.report) }
+        ensures ledger { IfOk result (λ done. AddsUp self.plan (map (λ orders. orders.items) sends.now) done.report) }
+        ensures counts { IfOk result (λ done. AddsUpByCounts done.report) }
+        ensures kept { IfOk result (λ done. KeepsAsPlanned self.plan done.report) }
+        ensures names { IfOk result (λ done. done.names.texts.items ≡ self.names.texts.items) }
     {
         let PlannedSystem {
             plan,
@@ -282,7 +283,7 @@ impl<A: Actor> PlannedSystem<A> {
             names,
         } = self;
         match run_here::<A, R>(rt, alloc, plan, actors, sends) {
-            Ok(report) => Ok(report),
+            Ok(report) => Ok(NamedReport { report, names }),
             Err(failed) => Err(failed.with_names(names)),
         }
     }
@@ -295,21 +296,22 @@ impl<A: Actor + Send> PlannedSystem<A> {
         rt: &R,
         alloc: Global,
         sends: &[Vec<Order>],
-    ) -> Result<Report, FailedRun<A>>
+    ) -> Result<NamedReport, FailedRun<A>>
         requires unused { All (λ actor. A.content actor ≡ A.after actor []) self.actors.items }
-        ensures story { IfOk result (IsReportOfRun (after_at self.actors.items A.after) (gives_at self.actors.items A.gives) self.plan
-            (map (λ orders. orders.items) sends.now)) }
+        ensures story { IfOk result (λ done. IsReportOfRun (after_at self.actors.items A.after) (gives_at self.actors.items A.gives) self.plan
+            (map (λ orders. orders.items) sends.now) done.report) }
         ensures right { OnOk result (IsRight self.plan (length self.actors.items) (map (λ orders. orders.items) sends.now)) }
         ensures refused { IfErr result (IsErrorOfRun (gives_at self.actors.items A.gives) self.plan (length self.actors.items)
             (map (λ orders. orders.items) sends.now)) }
         ensures which { IfErr result (λ failed. NamesInLists (length self.actors.items) (map (λ orders. orders.items) sends.now) failed.error) }
         ensures back { IfErr result (GivesBack self.plan self.actors.items self.names.texts.items) }
-        ensures states { IfOk result (ShowsStates A.after self.actors.items self.plan) }
-        ensures lines { IfOk result (λ report. length report.actors.items ≡ length self.actors.items + 1) }
-        ensures headline { IfOk result (RunHeadline self.plan (map (λ orders. orders.items) sends.now)) }
-        ensures ledger { IfOk result (AddsUp self.plan (map (λ orders. orders.items) sends.now)) }
-        ensures counts { IfOk result AddsUpByCounts }
-        ensures kept { IfOk result (KeepsAsPlanned self.plan) }
+        ensures states { IfOk result (λ done. ShowsStates A.after self.actors.items self.plan done.report) }
+        ensures lines { IfOk result (λ done. length done.report.actors.items ≡ length self.actors.items + 1) }
+        ensures headline { IfOk result (λ done. RunHeadline self.plan (map (λ orders. orders.items) sends.now) done.report) }
+        ensures ledger { IfOk result (λ done. AddsUp self.plan (map (λ orders. orders.items) sends.now) done.report) }
+        ensures counts { IfOk result (λ done. AddsUpByCounts done.report) }
+        ensures kept { IfOk result (λ done. KeepsAsPlanned self.plan done.report) }
+        ensures names { IfOk result (λ done. done.names.texts.items ≡ self.names.texts.items) }
     {
         let PlannedSystem {
             plan,
@@ -317,7 +319,7 @@ impl<A: Actor + Send> PlannedSystem<A> {
             names,
         } = self;
         match run_on_threads::<A, R>(rt, alloc, plan, actors, sends) {
-            Ok(report) => Ok(report),
+            Ok(report) => Ok(NamedReport { report, names }),
             Err(failed) => Err(failed.with_names(names)),
         }
     }

@@ -35,7 +35,7 @@ fn run_both<R: Wait>(
     let mut planned = PlannedSystem::new(alloc, SETTINGS);
     planned.add(ActorPlan::child_of(alloc, ActorId(0)), first)?;
     planned.add(ActorPlan::child_of(alloc, ActorId(0)), second)?;
-    Ok(planned.run_here(rt, alloc, sends)?)
+    Ok(planned.run_here(rt, alloc, sends)?.report)
 }
 
 #[test]

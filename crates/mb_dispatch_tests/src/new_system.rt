@@ -1,8 +1,9 @@
 //! Systems of actors that are new by their type, of two types: a run, and runs that give no report and name what is wrong.
 use crate::planned::orders_of;
-use heddleorange::{Error, FailedRun, NewSystem, OneOf, SETTINGS, Settings, Unused, state};
-use mb_msg::{ActorId, ActorPlan, Order};
-use mb_report::Report;
+use heddleorange::{
+    Error, FailedRun, NamedReport, NewSystem, OneOf, SETTINGS, Settings, Unused, state,
+};
+use mb_msg::{ActorId, ActorPlan, Order, SenderId};
 use mb_testkit::{ADD, COUNTER, TestActor, tell};
 use std::alloc::Global;
 use std::process::Abort;
@@ -37,7 +38,7 @@ fn run<R: Threads + Wait + Sync>(
     alloc: Global,
     settings: Settings,
     orders: &[Order],
-) -> Result<Result<Report, FailedRun<Counter>>, Error> {
+) -> Result<Result<NamedReport, FailedRun<Counter>>, Error> {
     let sends = orders_of(alloc, orders)?;
     let system = counters(alloc, settings)?;
     Ok(system.run(rt, alloc, &sends))
@@ -46,12 +47,37 @@ fn run<R: Threads + Wait + Sync>(
 #[test]
 fn actors_of_two_types_count(rt: HostRuntime) -> Result<(), Fail> {
     let orders = [tell!(1, ADD, 3), tell!(2, ADD, 4)];
-    let Ok(report) = run(&rt, rt.alloc(), SETTINGS, &orders)? else {
+    let Ok(done) = run(&rt, rt.alloc(), SETTINGS, &orders)? else {
         assert!(&rt; false, "there is no report");
         return Ok(());
     };
-    assert!(&rt; state(&report, ActorId(1)) == Some(3));
-    assert!(&rt; state(&report, ActorId(2)) == Some(4));
+    assert!(&rt; state(&done.report, ActorId(1)) == Some(3));
+    assert!(&rt; state(&done.report, ActorId(2)) == Some(4));
+    Ok(())
+}
+
+/// What a run of the two counters comes to.
+const TEXT: &str = "\
+guardian live state - suspended 0 handled 0 left 0 dead 0 restarts 0
+left live state 3 suspended 0 handled 1 left 0 dead 0 restarts 0
+$2 live state 4 suspended 0 handled 1 left 0 dead 0 restarts 0
+sent 2 handled 2 left 0 dead 0
+";
+
+#[test]
+fn names_come_back_with_the_report(rt: HostRuntime) -> Result<(), Fail> {
+    let orders = [tell!(1, ADD, 3), tell!(2, ADD, 4)];
+    let Ok(done) = run(&rt, rt.alloc(), SETTINGS, &orders)? else {
+        assert!(&rt; false, "there is no report");
+        return Ok(());
+    };
+    assert!(&rt; done.text(rt.alloc())?.as_str() == TEXT);
+    assert!(&rt; done.names.name_of(ActorId(0)) == Some("guardian"));
+    assert!(&rt; done.names.name_of(ActorId(1)) == Some("left"));
+    assert!(&rt; done.names.name_of(ActorId(2)) == Some("$2"));
+    assert!(&rt; done.names.name_of(ActorId(3)).is_none());
+    assert!(&rt; done.names.name_of_sender(SenderId(1)) == Some("left"));
+    assert!(&rt; done.names.name_of_sender(SenderId(64)).is_none());
     Ok(())
 }
 

@@ -172,8 +172,8 @@ fn report_of<R: Threads + Wait + Sync>(
     requires unused { All (λ actor. actor.sum ≡ pos 0) planned.actors.items }
 {
     match mode {
-        RunMode::Here => Ok(planned.run_here(rt, alloc, sends)?),
-        RunMode::OnThreads => Ok(planned.run_on_threads(rt, alloc, sends)?),
+        RunMode::Here => Ok(planned.run_here(rt, alloc, sends)?.report),
+        RunMode::OnThreads => Ok(planned.run_on_threads(rt, alloc, sends)?.report),
     }
 }
 

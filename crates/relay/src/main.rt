@@ -1,7 +1,9 @@
 //! A relay of two stations: a sender outside tells the first, which tells the second.
 #![tactic(auto)]
 
-use heddleorange::{ActorId, ActorPlan, Error, NewSystem, Order, Report, SETTINGS, Unused, state};
+use heddleorange::{
+    ActorId, ActorPlan, Error, NamedReport, NewSystem, Order, SETTINGS, Unused, state,
+};
 use relay_actors::{PARCEL, Station};
 use std::alloc::Global;
 use std::sync::Wait;
@@ -19,7 +21,7 @@ fn station(next: Option<ActorId>) -> Unused<Station> {
 }
 
 /// Runs both stations. The sender tells the first a 3 and a 4.
-fn run_relay<R: Threads + Wait + Sync>(rt: &R, alloc: Global) -> Result<Report, Error> {
+fn run_relay<R: Threads + Wait + Sync>(rt: &R, alloc: Global) -> Result<NamedReport, Error> {
     let mut relay = NewSystem::new(alloc, SETTINGS);
     relay.add(ActorPlan::child_of(alloc, GUARDIAN), station(Some(SECOND)))?;
     relay.add(ActorPlan::child_of(alloc, GUARDIAN), station(None))?;
@@ -27,13 +29,14 @@ fn run_relay<R: Threads + Wait + Sync>(rt: &R, alloc: Global) -> Result<Report, 
         Order::tell(FIRST, PARCEL, 3),
         Order::tell(FIRST, PARCEL, 4),
     ]?;
-    let report = relay.run(rt, alloc, &vec![in alloc; orders]?)?;
-    Ok(report)
+    let done = relay.run(rt, alloc, &vec![in alloc; orders]?)?;
+    Ok(done)
 }
 
 fn main(rt: HostRuntime) -> anyhow::Result<()> {
-    let report = run_relay(&rt, rt.alloc())?;
-    if let (Some(first), Some(second)) = (state(&report, FIRST), state(&report, SECOND)) {
+    let done = run_relay(&rt, rt.alloc())?;
+    let report = &done.report;
+    if let (Some(first), Some(second)) = (state(report, FIRST), state(report, SECOND)) {
         println!(rt; "first {first}, second {second}")?;
     }
     Ok(())

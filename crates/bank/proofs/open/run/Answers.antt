@@ -3,4 +3,4 @@ use Rattle.bank.proofs.open.run.Goals as goal
 
 pub returns : goal.returns
 returns g c = let three = c.in_ok-add-3.ensures.actors in let two = c.in_ok-add-2.ensures.actors in let one = c.in_ok-add.ensures.actors in
-    let none = c.new-bank.ensures.actors in record { conserved = c.in_ok-report.ensures.conserved added_by (holdings c.args.opening) (λ x. (cc)) (simp (three, two, one, none) (c.requires.teller, (c.requires.alice, (c.requires.bob, tt)))) }
+    let none = c.new-bank.ensures.actors in record { conserved = c.in_ok-done.ensures.conserved added_by (holdings c.args.opening) (λ x. (cc)) (simp (three, two, one, none) (c.requires.teller, (c.requires.alice, (c.requires.bob, tt)))) }

@@ -33,5 +33,8 @@ returns-clause-counts g c = c.run.ensures.counts
 pub returns-clause-kept : goal.returns-clause-kept
 returns-clause-kept g c = c.run.ensures.kept
 
+pub returns-clause-names : goal.returns-clause-names
+returns-clause-names g c = c.run.ensures.names
+
 pub returns-clause-conserved : goal.returns-clause-conserved
 returns-clause-conserved g c = c.run.ensures.conserved

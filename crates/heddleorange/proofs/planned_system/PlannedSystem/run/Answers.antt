@@ -1,4 +1,4 @@
-use Rattle.heddleorange.proofs.Conserved.{conserved-of}
+use Rattle.heddleorange.proofs.Conserved.{named-conserved-of}
 use Rattle.heddleorange.proofs.Sent.{orders_of}
 use Rattle.heddleorange.proofs.planned_system.PlannedSystem.run.Goals as goal
 
@@ -15,8 +15,9 @@ returns-then-workers-eq1 g c = record {
   ledger = c.run_here.ensures.ledger;
   counts = c.run_here.ensures.counts;
   kept = c.run_here.ensures.kept;
+  names = c.run_here.ensures.names;
   conserved = λ worth holdings notice conserve.
-      conserved-of g.A.Actor.after g.A.Actor.gives worth holdings c.args.self.actors.items c.args.self.plan (orders_of c.args.sends.now) c.run_here.result
+      named-conserved-of g.A.Actor.after g.A.Actor.gives worth holdings c.args.self.actors.items c.args.self.plan (orders_of c.args.sends.now) c.run_here.result
       notice conserve c.run_here.ensures.story c.run_here.ensures.right;
 }
 
@@ -33,7 +34,8 @@ returns-else-workers-eq1 g c = record {
   ledger = c.run_on_threads.ensures.ledger;
   counts = c.run_on_threads.ensures.counts;
   kept = c.run_on_threads.ensures.kept;
+  names = c.run_on_threads.ensures.names;
   conserved = λ worth holdings notice conserve.
-      conserved-of g.A.Actor.after g.A.Actor.gives worth holdings c.args.self.actors.items c.args.self.plan (orders_of c.args.sends.now) c.run_on_threads.result
+      named-conserved-of g.A.Actor.after g.A.Actor.gives worth holdings c.args.self.actors.items c.args.self.plan (orders_of c.args.sends.now) c.run_on_threads.result
       notice conserve c.run_on_threads.ensures.story c.run_on_threads.ensures.right;
 }
