@@ -1,4 +1,4 @@
--- What the journals of a report keep, from its story.
+-- What a report keeps of its run, from its story.
 use Rattle.std.proofs.Common.{◌≡◌, ℕ, zero, suc, ◌+◌, ℤ, List, [], ◌∷◌, sym, ap, ◌∙◌, arith, Some}
 use Rattle.std.specs.Prelude.{Err, IfOk, Ok, Result, slice_get}
 use Rattle.std.proofs.lemmas.Option.{none-some, same_Some}
@@ -20,7 +20,7 @@ use Rattle.mb_shutdown.proofs.Lists.{each-place, mapped-to, there, within}
 use Rattle.heddleorange.specs.Kept.{KeepsAsPlanned}
 use Rattle.heddleorange.specs.WholeRun.{IsReportOfRun}
 
--- each actor's journal keeps what the plan says
+-- each actor keeps what the plan says
 keeps-of : (actors : ℕ) (mode : JournalMode) (limit : ℕ) (all : List ActorId) (number : ℕ) (parents : List ActorId) (strategies : List Strategy) (place : ℕ)
     (who : Identity) → slice_get (planned_from actors mode limit all number parents strategies) place ≡ Some who → who.is_kept ≡ keeps_all mode
 keeps-of actors mode limit all number [] [] place who is = absurd (none-some who is)
@@ -30,19 +30,28 @@ keeps-of actors mode limit all number (p ∷ parents) (s ∷ strategies) zero wh
 keeps-of actors mode limit all number (p ∷ parents) (s ∷ strategies) (suc place) who is =
     keeps-of actors mode limit all (number + 1) parents strategies place who is
 
-keeps-planned : (plan : Plan) (place : ℕ) (who : Identity) → slice_get (actors_in plan) place ≡ Some who → who.is_kept ≡ keeps_all plan.journal
+pub keeps-planned : (plan : Plan) (place : ℕ) (who : Identity) → slice_get (actors_in plan) place ≡ Some who → who.is_kept ≡ keeps_all plan.journal
 keeps-planned plan zero who is = ap (λ (w : Identity). w.is_kept) (sym (same_Some _ who is))
 keeps-planned plan (suc place) who is = keeps-of _ plan.journal plan.journal_limit _ 1 _ _ place who is
 
 keeps : (after : ℕ → List Message → ℤ) (gives : ℕ → Moment → Reply → Type 0) (plan : Plan) (orders : List (List Order)) (report : Report)
     → IsReportOfRun after gives plan orders report → KeepsAsPlanned plan report
-keeps after gives plan orders report story =
-    each-place (λ (a : ActorReport). a.journal.is_kept ≡ keeps_all plan.journal) report.actors.items
-    (λ id a at.
-    (let lt = within report.actors.items id a at in let same = story.whole.same_count.0 in
-    let row = there story.directory id (omega (arith, lt, same)) in
-    (story.whole.actors id row.0 a row.1 at).0.kept_is
-    ∙ keeps-planned plan id row.0.who (mapped-to (λ (d : DirectoryEntry). d.who) story.directory (actors_in plan) id row.0 story.planned.who row.1)))
+keeps after gives plan orders report story = record {
+  journals = each-place (λ (a : ActorReport). a.journal.is_kept ≡ keeps_all plan.journal) report.actors.items
+      (λ id a at. (let row = row-of id a at in (story.whole.actors id row.0 a row.1 at).0.kept_is ∙ of-row id row.0 row.1));
+  cleaned = each-place (λ (a : ActorReport). a.cleaned.is_kept ≡ keeps_all plan.journal) report.actors.items
+      (λ id a at. (let row = row-of id a at in (story.whole.actors id row.0 a row.1 at).0.cleaned_kept ∙ of-row id row.0 row.1));
+  letters = story.keep_letters;
+}
+  where
+    row-of : (id : ℕ) (a : ActorReport) → slice_get report.actors.items id ≡ Some a
+        → (e : DirectoryEntry) × (slice_get story.directory id ≡ Some e)
+    row-of id a at =
+        let lt = within report.actors.items id a at in let same = story.whole.same_count.0 in there story.directory id (omega (arith, lt, same))
+
+    of-row : (id : ℕ) (e : DirectoryEntry) → slice_get story.directory id ≡ Some e → e.who.is_kept ≡ keeps_all plan.journal
+    of-row id e is =
+        keeps-planned plan id e.who (mapped-to (λ (d : DirectoryEntry). d.who) story.directory (actors_in plan) id e story.planned.who is)
 
 -- and so of a call that gives the report
 pub kept-of : {E : Type 0} (after : ℕ → List Message → ℤ) (gives : ℕ → Moment → Reply → Type 0) (plan : Plan) (orders : List (List Order))

@@ -1,8 +1,9 @@
 -- A whole run, from the new system to its report.
-use Rattle.std.proofs.Common.{◌≡◌, ℤ, ℕ, zero, suc, ◌+◌, ◌-◌, List, [], ◌∷◌, ◌++◌, length, map, refl, sym, ap, ◌∙◌, subst, Some, arith}
+use Rattle.std.proofs.Common.{◌≡◌, ℤ, ℕ, zero, suc, ◌⊎◌, inl, inr, ◌+◌, ◌-◌, ◌<◌, ◌≤◌, Bool, List, [], ◌∷◌, ◌++◌, length, map, refl, sym, ap, ◌∙◌, subst, Some, arith}
 use Rattle.std.specs.Prelude.{All, reverse, slice_get}
 use Rattle.std.specs.Global.{Box}
 use Rattle.std.specs.List.{AllZip}
+use Rattle.std.proofs.lemmas.Bool.{cases_lt}
 use Rattle.std.proofs.lemmas.List.{append-nil}
 use Rattle.std.proofs.lemmas.List.Elements.{All-cons, All-head, All-map, All-nil}
 use Rattle.std.proofs.lemmas.Option.{get_or_from_slice_get, same_Some, slice_get_within}
@@ -18,15 +19,21 @@ use Rattle.mb_gate.specs.Untouched.{origin_of}
 use Rattle.mb_gate.specs.View.{Observation, View}
 use Rattle.mb_gate.specs.declared.gates.Gates.{Gates}
 use Rattle.mb_home.specs.Contents.{Contents}
+use Rattle.mb_home.specs.Directory.{DirectoryEntry}
+use Rattle.mb_msg.specs.JournalMode.{keeps_all}
 use Rattle.mb_msg.specs.declared.plan.Plan.{Plan}
 use Rattle.mb_queue.specs.Passes.{SendPassView}
 use Rattle.mb_report.specs.declared.report.ActorReport.{ActorReport}
 use Rattle.mb_report.specs.declared.report.Report.{Report}
+use Rattle.mb_report.specs.declared.report.SenderReport.{SenderReport}
 use Rattle.mb_build.specs.Numbers.{numbers}
+use Rattle.mb_build.specs.Planned.{actors_in}
+use Rattle.mb_send.specs.Keeps.{keeps, keeps_in}
+use Rattle.mb_shutdown.specs.Letters.{KeepsLetters}
 use Rattle.mb_shutdown.specs.Homes.{HomesReturned}
 use Rattle.mb_shutdown.specs.Seen.{ReportExtendsAll}
 use Rattle.mb_shutdown.specs.CompleteReport.{IsCompleteReport}
-use Rattle.mb_shutdown.proofs.Lists.{at-place, from-mapped, length-mapped, there}
+use Rattle.mb_shutdown.proofs.Lists.{at-place, each-place, from-mapped, length-mapped, mapped-to, there, within}
 use Rattle.mb_startup.specs.Begun.{AreNewEnds, AreNewSenders, IsBegun}
 use Rattle.mb_system.specs.Belonging.{senders_numbers}
 use Rattle.mb_system.specs.Members.{StillSee, ends_numbers}
@@ -37,7 +44,7 @@ use Rattle.mb_system.specs.declared.end.WorkerEnd.{WorkerEnd}
 use Rattle.mb_msg.specs.declared.order.Order.{Order}
 use Rattle.mb_system.specs.declared.sender.Sender.{Sender}
 use Rattle.mb_startup.proofs.Directories.{of-plan}
-use Rattle.mb_shutdown.specs.Belonging.{AreAnswers, AreThere, HasAllSeen}
+use Rattle.mb_shutdown.specs.Belonging.{AreAnswers, AreThere, HasAllSeen, directory_of}
 use Rattle.mb_shutdown.specs.Refused.{HasHomesReturned}
 use Rattle.mb_shutdown.proofs.Parts.{part-trans}
 use Rattle.mb_startup.proofs.There.{ends-there, length-numbers, number-at, senders-there}
@@ -46,6 +53,7 @@ use Rattle.heddleorange.specs.Sent.{HaveSent}
 use Rattle.heddleorange.specs.WholeRun.{CountsAllPutBy, DidOrders, IsReportOfRun}
 use Rattle.heddleorange.specs.Workers.{AllOnlyRuns, AreNewViews}
 use Rattle.mb_dispatch.specs.Runs.{OnlyRuns}
+use Rattle.heddleorange.proofs.Kept.{keeps-planned}
 use Rattle.heddleorange.proofs.Sent.{numbers-kept}
 
 -- numbers in a row are all there
@@ -134,17 +142,54 @@ module _ {A K : Type 0} (gives : ℕ → Moment → Reply → Type 0) (plan : Pl
           sent_system = ap (λ (v : View). addressed_system v.sent_system) (sym after.2) ∙ one.system_sent ∙ ap (λ l. terminates ++ addressed_system l) new.2 ∙ append-nil terminates;
         }
 
+    -- the dead letters of each sender are kept where the plan says so
+    keep-letters : (report : Report) → KeepsLetters now report → length report.senders.items ≡ length (directory_of now) + plan.senders
+        → All (λ (s : SenderReport). s.dead.is_kept ≡ keeps_all plan.journal) report.senders.items
+    keep-letters report kept many =
+        each-place (λ (s : SenderReport). s.dead.is_kept ≡ keeps_all plan.journal) report.senders.items
+        (λ i s found. by_sides i s found (cases_lt i (length (directory_of now))))
+      where
+        who-are : map (λ (d : DirectoryEntry). d.who) (directory_of now) ≡ actors_in plan
+        who-are =
+            ap (λ (g : Gates (Box Contents)). map (λ (d : DirectoryEntry). d.who) (first_home g).value.directory) (ap (λ s. s.gates) system)
+            ∙ (of-plan gives plan built begun).who
+
+        by_sides : (i : ℕ) (s : SenderReport) → slice_get report.senders.items i ≡ Some s
+            → (i < length (directory_of now)) ⊎ (length (directory_of now) ≤ i) → s.dead.is_kept ≡ keeps_all plan.journal
+        by_sides i s found (inl lt) =
+            let e = there (directory_of now) i lt in
+            kept.actors i e.0 s e.1 found
+            ∙ keeps-planned plan i e.0.who (mapped-to (λ (d : DirectoryEntry). d.who) (directory_of now) (actors_in plan) i e.0 who-are e.1)
+        by_sides i s found (inr le) =
+            let n = length (directory_of now) in let place = i - n in let below = within report.senders.items i s found in
+            let there_are = (senders-there gives plan built begun).0 in let as_many = sent.same_count in
+            let after = there now.senders.items place (omega (arith, below, many, le, there_are, as_many)) in
+            let before = there built.senders.items place (omega (arith, below, many, le, there_are)) in
+            let of = there orders place (omega (arith, below, many, le, right)) in
+            let new = new-at built.system.gates most_actors begun.outside built.senders.items place before.0 begun.senders before.1 in
+            let one = (sent.each place of.0 before.0 after.0 of.1 before.1 after.1).0 in
+            let by = ap (λ n. n.0) one.by ∙ new.0 in
+            let at : n + (after.0.inner.send_log.by.0 - most_actors) ≡ i = omega (arith, by, le) in
+            let began = at-place (λ (o : Sender A K). keeps o.inner.send_log.dead ≡ keeps_in plan.journal) built.senders.items place before.0
+            begun.keep_letters before.1 in
+            at-place (λ (o : Sender A K). (s : SenderReport)
+            → slice_get report.senders.items (length (directory_of now) + (o.inner.send_log.by.0 - most_actors)) ≡ Some s
+            → s.dead.is_kept ≡ o.inner.send_log.dead.is_kept) now.senders.items place after.0 kept.outside after.1 s
+            (ap (slice_get report.senders.items) at ∙ found)
+            ∙ ap (λ (k : Bool × ℕ). k.0) one.keep_letters ∙ ap (λ (k : Bool × ℕ). k.0) began
+
     pub story : (after : ℕ → List Message → ℤ) (report : Report) (log : List Observation) (answers : List (List SentEnvelope))
         → StillSee built.ends.items now.ends.items
         → AllOnlyRuns gives (origin_of built.system.gates) plan.throughput built.ends.items now.ends.items → HasAllSeen now log
         → AreAnswers now.system.senders now.senders.items answers
         → IsCompleteReport after gives (first_home now.system.gates).value.directory log answers report
+        → KeepsLetters now report
         → All (λ (e : WorkerEnd A K). ReportExtendsAll report (pass_view e.registrar.pass)) now.ends.items
         → All (λ (s : Sender A K). ReportExtendsAll report (pass_view s.inner.registrar.pass)) now.senders.items
         → HasHomesReturned gives now report
         → ((id : ℕ) (a : ActorReport) → slice_get report.actors.items id ≡ Some a → ReleasesAddUp id a.journal.entries (views_of now))
         → CountsAllPutBy plan report (views_of now) → AllGetAskedFor plan orders report → IsReportOfRun after gives plan orders report
-    story after report log answers saw runs seen answered whole ends_seen senders_seen home releases put asked =
+    story after report log answers saw runs seen answered whole letters ends_seen senders_seen home releases put asked =
         let knows = λ (s : Sender A K). pass_view s.inner.registrar.pass in
         let knew = λ (e : WorkerEnd A K). pass_view e.registrar.pass in
         let IsTold = λ (v : View). IsPart v.log log × ReportExtendsAll report v in record {
@@ -187,5 +232,8 @@ module _ {A K : Type 0} (gives : ℕ → Moment → Reply → Type 0) (plan : Pl
                 (led log begun.end begun.others now.ends.items (subst (λ l. StillSee l now.ends.items) begun.ends_are saw) seen.0),
           );
           asked = asked;
+          keep_letters = keep-letters report letters
+              (whole.same_count.1
+              ∙ ap (λ k. length (directory_of now) + k) (answered.length_is ∙ ap (λ s. s.senders) system ∙ begun.numbers.1));
           did = did-orders answers answered;
         }

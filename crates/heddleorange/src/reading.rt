@@ -34,8 +34,8 @@ pub fn handled(report: &Report, id: ActorId) -> Option<usize>
 /// The envelopes that this actor sent and that were refused when it sent them, in order. `None` where there is no such actor.
 /// The senders outside come behind the actors: the first has the number after the last actor's.
 ///
-/// They can be read where the plan says that journals keep their entries, and the newest where journals keep the newest; their numbers, also by
-/// receiver and by reason, always.
+/// All can be read where the plan says that journals keep their entries (the clause `kept` of a run), and the newest where journals keep the newest;
+/// their numbers, also by receiver and by reason, always.
 pub fn dead_letters(report: &Report, id: ActorId) -> Option<&DeadLetters>
     ensures { option_copied result ≡ dead_in report.now id.0 }
 {

@@ -1,6 +1,7 @@
 //! Running a scenario and showing its run.
-ghost use Rattle.std.specs.Prelude.{◌≡◌, All, IfOk, false, true};
+ghost use Rattle.std.specs.Prelude.{◌≡◌, IfOk, false, true};
 ghost use Rattle.mb_msg.specs.JournalMode.{keeps_all};
+ghost use Rattle.mb_report.specs.Keeps.{KeepsAllIf};
 
 use crate::argument_error::ArgumentError;
 use crate::details::details_of;
@@ -39,14 +40,14 @@ pub(crate) fn show<T: Threads + Wait + Sync, R: Read, W: Write + Drop>(
     show_run(alloc, &scenario, &ran.run, options, writer)
 }
 
-/// Runs the scenario of this text, with journals of this mode.
+/// Runs the scenario of this text, with journals of this mode; of dead letters, and of what is cleaned up, as much is kept.
 fn run<T: Threads + Wait + Sync>(
     rt: &T,
     alloc: Global,
     text: &[u8],
     mode: JournalMode,
 ) -> Result<ScenarioRun, Failure>
-    ensures kept { IfOk result (λ ran. All (λ a. a.journal.is_kept ≡ keeps_all mode) ran.run.report.actors.items) }
+    ensures kept { IfOk result (λ ran. KeepsAllIf (keeps_all mode) ran.run.report) }
 {
     match run_scenario(rt, alloc, text, mode) {
         Ok(ran) => Ok(ran),
@@ -105,7 +106,7 @@ fn show_run<W: Write + Drop>(
     options: &Options,
     writer: W,
 ) -> Result<(), Failure>
-    requires kept { All (λ actor. actor.journal.is_kept ≡ true) run.now.report.actors.items }
+    requires kept { KeepsAllIf true run.now.report }
 {
     let actors = numbers_of(alloc, &options.actors, &scenario.names)?;
     let lengths = match &run.turns {
@@ -127,7 +128,7 @@ fn trace_of<'a>(
     run: &'a FinishedRun,
     turns: Option<&'a [TurnLength]>,
 ) -> Trace<'a>
-    requires kept { All (λ actor. actor.journal.is_kept ≡ true) run.now.report.actors.items }
+    requires kept { KeepsAllIf true run.now.report }
 {
     Trace {
         names: scenario.names.as_slice(),

@@ -1,13 +1,13 @@
 -- What the program answers to its input (this project's own profile).
-use Rattle.std.specs.Prelude.{◌≡◌, ℕ, ◌<◌, All, Bool, false, IsTrue, List, Option}
+use Rattle.std.specs.Prelude.{◌≡◌, ℕ, ◌<◌, Bool, false, IsTrue, List, Option}
 use Rattle.std.specs.Io.KnownBytes.{Appends}
 use Rattle.mb_scenario.specs.Plans.{ScenarioData}
 use Rattle.mb_scenario.specs.Reading.{IsReadAs, Refuses}
 use Rattle.mb_scenario.specs.declared.read_error.ReadError.TheVariants.{NoMemory, NotToml, BadScenario}
 use Rattle.mb_msg.specs.JournalMode.{keeps_all}
 use Rattle.mb_msg.specs.declared.journal_mode.JournalMode.{JournalMode}
+use Rattle.mb_report.specs.Keeps.{KeepsAllIf}
 use Rattle.mb_report.specs.Lines.{report_text_of}
-use Rattle.mb_report.specs.declared.report.ActorReport.{ActorReport}
 use Rattle.mb_report.specs.declared.report.Report.{Report}
 use Rattle.mb_streams.specs.declared.fault.RunFault.{RunFault}
 use Rattle.mb_streams.specs.ProgramError.{exit_status}
@@ -18,11 +18,12 @@ use Rattle.mb_streams.specs.declared.program_error.ProgramError.{ProgramError}
 use Rattle.mb_streams.specs.declared.program_error.ProgramError.TheVariants.{Os, Arguments, Run, Input}
 use Rattle.mb_program.specs.Scenario.{EndsIn, IsOfScenario}
 
--- These bytes are the text of the report of a run of the scenario, whose journals keep their entries where the mode says so.
+-- These bytes are the text of the report of a run of the scenario, which keeps all entries, all that was cleaned up and all dead letters exactly where the
+-- mode says so.
 pub record IsTextOfRun (journal : JournalMode) (scenario : ScenarioData) (bytes : List ℕ) : Type 0 where
   pub report : Report
   pub ran : IsOfScenario scenario report
-  pub keeps : All (λ (a : ActorReport). a.journal.is_kept ≡ keeps_all journal) report.actors.items
+  pub keeps : KeepsAllIf (keeps_all journal) report
   pub text : bytes ≡ report_text_of scenario.names report
 
 -- The text is a scenario, and this is the report of a run of it with such journals.

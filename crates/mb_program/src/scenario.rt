@@ -1,8 +1,9 @@
 //! A scenario, from its text to what its run came to.
-ghost use Rattle.std.specs.Prelude.{◌≡◌, All, IfErr, IfOk, map, string_bytes};
+ghost use Rattle.std.specs.Prelude.{IfErr, IfOk, map, string_bytes};
 ghost use Rattle.mb_msg.specs.JournalMode.{keeps_all};
 ghost use Rattle.mb_program.specs.Answer.{IsRefused};
 ghost use Rattle.mb_program.specs.RunOf.{IsRunOf};
+ghost use Rattle.mb_report.specs.Keeps.{KeepsAllIf};
 
 use crate::fault::fault_of;
 use crate::running::{FinishedRun, run};
@@ -22,7 +23,7 @@ pub struct ScenarioRun {
     pub run: FinishedRun,
 }
 
-/// Reads the text of a scenario and runs it, with journals that keep this. Its errors are those of reading the text and of running it.
+/// Reads the text of a scenario and runs it, with journals that keep this; of dead letters, and of what is cleaned up, as much is kept. Its errors are those of reading the text and of running it.
 pub fn run_scenario<R: Threads + Wait + Sync>(
     rt: &R,
     alloc: Global,
@@ -30,7 +31,7 @@ pub fn run_scenario<R: Threads + Wait + Sync>(
     journal: JournalMode,
 ) -> Result<ScenarioRun, ProgramError>
     ensures run_of { IfOk result (λ ran. IsRunOf text.now (map string_bytes ran.names.items) ran.run) }
-    ensures kept { IfOk result (λ ran. All (λ a. a.journal.is_kept ≡ keeps_all journal) ran.run.report.actors.items) }
+    ensures kept { IfOk result (λ ran. KeepsAllIf (keeps_all journal) ran.run.report) }
     ensures refused { IfErr result (IsRefused text.now) }
 {
     let Scenario {

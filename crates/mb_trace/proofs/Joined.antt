@@ -1,6 +1,6 @@
 -- Each entry of a journal stands once among those that are shown, in its journal's order.
 use Rattle.std.proofs.Common.{◌≡◌, ℕ, zero, suc, ◌+◌, ◌<◌, ◌≤◌, Bool, true, false, cond, List, [], ◌∷◌, ◌++◌, length, reverse, take, drop, slice_get, refl, ap, sym, ◌∙◌, inl, inr, ◌⊎◌, eq-eqb, arith}
-use Rattle.std.specs.Prelude.{◌==◌, All, filter, if◌then◌else◌, Option, option_to_list}
+use Rattle.std.specs.Prelude.{◌==◌, All, if◌then◌else◌, Option, option_to_list}
 use Rattle.std.proofs.lemmas.Bool.{cases_lt, eqb-false, eqb-true, ne_eqb}
 use Rattle.std.proofs.lemmas.List.{append-nil, drop-drop, drop-take, reverse-append, take-append-drop, take-take, take_all}
 use Rattle.std.proofs.lemmas.List.Elements.{All-cons, All-head, All-nil, All-tail, filter-append}

@@ -1,4 +1,5 @@
 pub mod Written
+pub mod Readable
 pub mod Shown
 pub mod AsideLines
 pub mod NewestLines

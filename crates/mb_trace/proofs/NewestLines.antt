@@ -1,5 +1,5 @@
 -- The lines of the entries that are kept, of one actor more and of one entry more.
-use Rattle.std.proofs.Common.{◌≡◌, ℕ, ◌+◌, ◌-◌, ◌++◌, ◌<◌, ◌≤◌, List, ap, arith, drop, get_or, length, length-drop, reverse, sym, ◌∙◌}
+use Rattle.std.proofs.Common.{◌≡◌, ℕ, ◌+◌, ◌-◌, ◌++◌, ◌<◌, List, ap, arith, drop, get_or, length, length-drop, reverse, sym, ◌∙◌}
 use Rattle.std.specs.Prelude.{Some, slice_get}
 use Rattle.std.proofs.lemmas.List.{drop_more, get_or-drop, length-reverse}
 use Rattle.std.proofs.lemmas.Option.{get_or_from_slice_get}

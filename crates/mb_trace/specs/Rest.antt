@@ -1,6 +1,7 @@
 -- What stands at the end of a trace: dead letters, what is left, and what is set aside (this project's own profile).
 use Rattle.std.specs.Prelude.{ℕ, ◌+◌, if◌then◌else◌, Bool, true, false, List, [], ◌∷◌, ◌++◌}
 use Rattle.std.specs.List.{flat_map}
+use Rattle.mb_dead_letters.specs.KeptListView.{KeptListView}
 use Rattle.mb_msg.specs.declared.dead_letter.DeadLetter.{DeadLetter}
 use Rattle.mb_msg.specs.declared.dead_letter.DeadLetterReason.TheVariants.{Cleaned}
 use Rattle.mb_msg.specs.declared.envelope.Envelope.{Envelope}
@@ -30,14 +31,13 @@ shows_system_messages _ = false
 abbrev pub where_shown : Filter → ℕ → List ℕ → List ℕ
 where_shown f actor lines = if shows_actor f.actors.now actor then lines else []
 
--- the envelopes of a sender that were refused, as far as they are kept
-abbrev pub refused_text : List (List ℕ) → Filter → SenderReport → List ℕ
-refused_text names f sender =
-    flat_map (λ (d : DeadLetter). where_shown f d.envelope.to.0 (letter_text names d.envelope d.why)) sender.dead.kept
+-- these envelopes, which were refused
+abbrev pub letters_text : List (List ℕ) → Filter → List DeadLetter → List ℕ
+letters_text names f letters = flat_map (λ (d : DeadLetter). where_shown f d.envelope.to.0 (letter_text names d.envelope d.why)) letters
 
--- those that were still queued when the actor ended, as far as they are kept
-abbrev pub cleaned_text : List (List ℕ) → Filter → ActorReport → List ℕ
-cleaned_text names f reported = flat_map (λ (e : Envelope). where_shown f e.to.0 (letter_text names e Cleaned)) reported.cleaned.kept
+-- these envelopes, which were still queued when their actor ended
+abbrev pub cleaned_text : List (List ℕ) → Filter → List Envelope → List ℕ
+cleaned_text names f envelopes = flat_map (λ (e : Envelope). where_shown f e.to.0 (letter_text names e Cleaned)) envelopes
 
 -- those that are left in its queue
 abbrev pub queued_text : List (List ℕ) → Filter → ActorReport → List ℕ
@@ -53,14 +53,44 @@ abbrev pub all_aside_text : List (List ℕ) → Filter → ℕ → List ActorRep
 all_aside_text names f actor [] = []
 all_aside_text names f actor (r ∷ reported) = set_aside_text names f actor r ++ all_aside_text names f (actor + 1) reported
 
--- the dead letters, those of each sender and then those of each actor's end, and what is left
-abbrev pub envelopes_text : List (List ℕ) → Filter → Report → List ℕ
-envelopes_text names f report =
-    flat_map (refused_text names f) report.senders.items ++ flat_map (cleaned_text names f) report.actors.items
-    ++ flat_map (queued_text names f) report.actors.items
+-- what can be read of a list: all its items where it keeps all, else those that it keeps
+abbrev pub readable : {T : Type 0} → KeptListView T → List T
+readable list = if list.is_kept then list.items else list.kept
 
--- all of them, as far as the filter shows their kinds
+-- the dead letters of a sender that can be read
+abbrev pub readable_letters : SenderReport → List DeadLetter
+readable_letters sender = readable sender.dead
+
+-- the envelopes that were still queued when an actor ended and can be read
+abbrev pub readable_cleaned : ActorReport → List Envelope
+readable_cleaned reported = readable reported.cleaned
+
+-- the dead letters of each sender
+abbrev pub all_letters : SenderReport → List DeadLetter
+all_letters sender = sender.dead.items
+
+-- the envelopes that were still queued when an actor ended
+abbrev pub all_cleaned : ActorReport → List Envelope
+all_cleaned reported = reported.cleaned.items
+
+module _ (names : List (List ℕ)) (f : Filter) (letters_of : SenderReport → List DeadLetter) (cleaned_of : ActorReport → List Envelope) where
+  -- these dead letters of each sender, those that each actor's end left, and what is left
+  abbrev pub envelopes_text : Report → List ℕ
+  envelopes_text report =
+      flat_map (λ (s : SenderReport). letters_text names f (letters_of s)) report.senders.items
+      ++ flat_map (λ (r : ActorReport). cleaned_text names f (cleaned_of r)) report.actors.items
+      ++ flat_map (queued_text names f) report.actors.items
+
+  -- all of them, as far as the filter shows their kinds
+  abbrev pub end_text : Report → List ℕ
+  end_text report =
+      (if shows_envelopes f.only then envelopes_text report else [])
+      ++ (if shows_system_messages f.only then all_aside_text names f 0 report.actors.items else [])
+
+-- all that stands at the end
 abbrev pub rest_text : List (List ℕ) → Filter → Report → List ℕ
-rest_text names f report =
-    (if shows_envelopes f.only then envelopes_text names f report else [])
-    ++ (if shows_system_messages f.only then all_aside_text names f 0 report.actors.items else [])
+rest_text names f report = end_text names f all_letters all_cleaned report
+
+-- what of it can be read
+abbrev pub readable_rest_text : List (List ℕ) → Filter → Report → List ℕ
+readable_rest_text names f report = end_text names f readable_letters readable_cleaned report

@@ -1,12 +1,13 @@
 //! What a trace is made of.
-ghost use Rattle.std.specs.Prelude.{◌≡◌, All, true};
+ghost use Rattle.std.specs.Prelude.{true};
+ghost use Rattle.mb_report.specs.Keeps.{KeepsAllIf};
 
 use mb_msg::{ActorId, Plan, SenderOrder};
 use mb_report::Report;
 use mb_script::Script;
 
-/// A run whose journals keep their entries, and what is needed to tell of it in the words of its scenario. The actor n + 1 has the
-/// name, the plan and the script at the place n.
+/// A run whose report keeps all entries of journals, all that was cleaned up and all dead letters, and what is needed to tell of it in the
+/// words of its scenario. The actor n + 1 has the name, the plan and the script at the place n.
 #[derive(Clone, Copy)]
 pub struct Trace<'a> {
     /// The names of the actors beside the guardian.
@@ -21,8 +22,8 @@ pub struct Trace<'a> {
     pub report: &'a Report,
     /// The turns, in order, where the run was quiet. A run on threads has none.
     pub turns: Option<&'a [TurnLength]>,
-    /// The journals of the report keep their entries.
-    pub ghost kept: { All (λ actor. actor.journal.is_kept ≡ true) report.now.actors.items },
+    /// The report keeps all of these.
+    pub ghost kept: { KeepsAllIf true report.now },
 }
 
 /// How long a turn was, which is one run of a mailbox.

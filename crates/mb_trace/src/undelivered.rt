@@ -3,9 +3,11 @@ ghost use Rattle.std.specs.Prelude.{ℕ, ◌≡◌, ◌≤◌, [], if◌then◌e
 ghost use Rattle.std.specs.List.{flat_map};
 ghost use Rattle.mb_msg.specs.declared.dead_letter.DeadLetterReason.TheVariants.{Cleaned};
 ghost use Rattle.mb_msg.specs.declared.system.SysMsg.{SysMsg as SysMessage};
+ghost use Rattle.mb_report.specs.declared.report.ActorReport.{ActorReport as Reported};
+ghost use Rattle.mb_report.specs.declared.report.SenderReport.{SenderReport as Sent};
 ghost use Rattle.mb_trace.specs.Ends.{aside_text, left_text, letter_text};
 ghost use Rattle.mb_trace.specs.Output.{IsWritten};
-ghost use Rattle.mb_trace.specs.Rest.{all_aside_text, cleaned_text, envelopes_text, queued_text, refused_text, rest_text, set_aside_text, shows_envelopes, shows_system_messages, where_shown};
+ghost use Rattle.mb_trace.specs.Rest.{all_aside_text, cleaned_text, envelopes_text, letters_text, queued_text, readable_cleaned, readable_letters, readable_rest_text, set_aside_text, shows_envelopes, shows_system_messages, where_shown};
 
 use crate::end_lines::{AsideLine, LeftLine, LetterLine};
 use crate::error::TraceError;
@@ -18,7 +20,7 @@ use std::io::Write;
 
 /// Writes the dead letters, first those of each sender and then those that each actor's end left; then the envelopes that are left, and
 /// the system messages that are set aside, actor by actor. Envelopes are shown with entries of envelopes, and system messages with those
-/// of system messages.
+/// of system messages. Dead letters are all written where all are kept, else those that are kept.
 pub(crate) fn write_rest<W: Write>(
     alloc: Global,
     names: &[String],
@@ -26,7 +28,7 @@ pub(crate) fn write_rest<W: Write>(
     report: &Report,
     out: &mut W,
 ) -> Result<(), TraceError>
-    ensures { IsWritten (W.contents out.old) (W.contents out.new) result (rest_text (map string_bytes names.now) filter.now report.now) }
+    ensures { IsWritten (W.contents out.old) (W.contents out.new) result (readable_rest_text (map string_bytes names.now) filter.now report.now) }
 {
     if has_envelopes(filter.only) {
         write_envelopes(alloc, names, filter, report, out)?;
@@ -63,7 +65,8 @@ fn write_envelopes<W: Write>(
     report: &Report,
     out: &mut W,
 ) -> Result<(), TraceError>
-    ensures { IsWritten (W.contents out.old) (W.contents out.new) result (envelopes_text (map string_bytes names.now) filter.now report.now) }
+    ensures { IsWritten (W.contents out.old) (W.contents out.new) result
+        (envelopes_text (map string_bytes names.now) filter.now readable_letters readable_cleaned report.now) }
 {
     write_all_refused(alloc, names, filter, &report.senders, out)?;
     write_all_cleaned(alloc, names, filter, &report.actors, out)?;
@@ -79,7 +82,7 @@ fn write_all_refused<W: Write>(
     out: &mut W,
 ) -> Result<(), TraceError>
     ensures { IsWritten (W.contents out.old) (W.contents out.new) result
-        (flat_map (refused_text (map string_bytes names.now) filter.now) senders.now) }
+        (flat_map (λ (s : Sent). letters_text (map string_bytes names.now) filter.now (readable_letters s)) senders.now) }
 {
     for sender in senders {
         write_refused(alloc, names, filter, sender, out)?;
@@ -96,7 +99,7 @@ fn write_all_cleaned<W: Write>(
     out: &mut W,
 ) -> Result<(), TraceError>
     ensures { IsWritten (W.contents out.old) (W.contents out.new) result
-        (flat_map (cleaned_text (map string_bytes names.now) filter.now) actors.now) }
+        (flat_map (λ (r : Reported). cleaned_text (map string_bytes names.now) filter.now (readable_cleaned r)) actors.now) }
 {
     for actor in actors {
         write_cleaned(alloc, names, filter, actor, out)?;
@@ -129,7 +132,8 @@ fn write_refused<W: Write>(
     sender: &SenderReport,
     out: &mut W,
 ) -> Result<(), TraceError>
-    ensures { IsWritten (W.contents out.old) (W.contents out.new) result (refused_text (map string_bytes names.now) filter.now sender.now) }
+    ensures { IsWritten (W.contents out.old) (W.contents out.new) result
+        (letters_text (map string_bytes names.now) filter.now (readable_letters sender.now)) }
 {
     for letter in sender.dead.kept() {
         write_letter(alloc, names, filter, letter.envelope, letter.why, out)?;
@@ -145,7 +149,8 @@ fn write_cleaned<W: Write>(
     actor: &ActorReport,
     out: &mut W,
 ) -> Result<(), TraceError>
-    ensures { IsWritten (W.contents out.old) (W.contents out.new) result (cleaned_text (map string_bytes names.now) filter.now actor.now) }
+    ensures { IsWritten (W.contents out.old) (W.contents out.new) result
+        (cleaned_text (map string_bytes names.now) filter.now (readable_cleaned actor.now)) }
 {
     for envelope in actor.cleaned.kept() {
         write_letter(

@@ -27,11 +27,11 @@ cleaned_letter e = record { envelope = e; why = Cleaned }
 abbrev pub cleaned : Filter → List Envelope → List DeadLetter
 cleaned f envelopes = map cleaned_letter (filter (is_to_shown f) envelopes)
 
--- the dead letters, as far as they are kept: those of each sender, then those of each actor's end
+-- the dead letters: those of each sender, then those of each actor's end
 abbrev pub all_letters : Filter → Report → List DeadLetter
 all_letters f report =
-    flat_map (λ (s : SenderReport). refused f s.dead.kept) report.senders.items
-    ++ flat_map (λ (r : ActorReport). cleaned f r.cleaned.kept) report.actors.items
+    flat_map (λ (s : SenderReport). refused f s.dead.items) report.senders.items
+    ++ flat_map (λ (r : ActorReport). cleaned f r.cleaned.items) report.actors.items
 
 -- those that the filter leaves: they are shown with entries of envelopes
 abbrev pub letters_in : Filter → Report → List DeadLetter

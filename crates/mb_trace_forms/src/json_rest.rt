@@ -1,6 +1,7 @@
 //! The lines of JSON at the end of a trace: dead letters, what is left, and what is set aside.
-ghost use Rattle.std.specs.Prelude.{◌≤◌, ◌++◌, length, map, string_bytes};
+ghost use Rattle.std.specs.Prelude.{◌≤◌, ◌++◌, length, map, string_bytes, true};
 ghost use Rattle.std.specs.List.{flat_map};
+ghost use Rattle.mb_report.specs.Keeps.{KeepsAllIf};
 ghost use Rattle.mb_trace.specs.Output.{IsWritten};
 ghost use Rattle.mb_trace.specs.Rest.{where_shown};
 ghost use Rattle.mb_trace_forms.specs.JsonRest.{all_aside_json, all_left_json, aside_json, left_json, letter_json, queued_json, rest_json, set_aside_json};
@@ -22,6 +23,7 @@ pub(crate) fn write_rest<W: Write>(
     report: &Report,
     out: &mut W,
 ) -> Result<(), TraceError>
+    requires kept { KeepsAllIf true report.now }
     ensures { IsWritten (W.contents out.old) (W.contents out.new) result (rest_json (map string_bytes names.now) filter.now report.now) }
 {
     let letters = letters_of(alloc, filter, report)?;

@@ -1,6 +1,7 @@
 //! The dead letters that are shown.
-ghost use Rattle.std.specs.Prelude.{◌≡◌, ◌++◌, OnOk, IfOk};
+ghost use Rattle.std.specs.Prelude.{◌≡◌, ◌++◌, All, OnOk, IfOk, true};
 ghost use Rattle.std.specs.List.{flat_map};
+ghost use Rattle.mb_report.specs.Keeps.{KeepsAllIf};
 ghost use Rattle.mb_report.specs.declared.report.ActorReport.{ActorReport as Reported};
 ghost use Rattle.mb_report.specs.declared.report.SenderReport.{SenderReport as Sent};
 ghost use Rattle.mb_trace_forms.specs.Letters.{all_letters, cleaned, letters_in, refused};
@@ -11,13 +12,14 @@ use mb_report::{ActorReport, Report, SenderReport};
 use mb_trace::Filter;
 use std::alloc::{AllocError, Global};
 
-/// The dead letters that a filter leaves: those of each sender, then those of each actor's end. Kinds of entries other than envelopes have
-/// none.
+/// The dead letters that a filter leaves, where all are kept: those of each sender, then those of each actor's end. Kinds of entries
+/// other than envelopes have none.
 pub(crate) fn letters_of(
     alloc: Global,
     filter: &Filter<'_>,
     report: &Report,
 ) -> Result<Vec<DeadLetter>, AllocError>
+    requires kept { KeepsAllIf true report.now }
     ensures { IfOk result (λ letters. letters.items ≡ letters_in filter.now report.now) }
 {
     if shows_envelopes(filter.only) {
@@ -31,6 +33,7 @@ fn all_letters_of(
     filter: &Filter<'_>,
     report: &Report,
 ) -> Result<Vec<DeadLetter>, AllocError>
+    requires kept { KeepsAllIf true report.now }
     ensures { IfOk result (λ letters. letters.items ≡ all_letters filter.now report.now) }
 {
     let mut letters = refused_of(alloc, filter, &report.senders)?;
@@ -44,7 +47,8 @@ fn refused_of(
     filter: &Filter<'_>,
     senders: &[SenderReport],
 ) -> Result<Vec<DeadLetter>, AllocError>
-    ensures { IfOk result (λ letters. letters.items ≡ flat_map (λ (s : Sent). refused filter.now s.dead.kept) senders.now) }
+    requires kept { All (λ (s : Sent). s.dead.is_kept ≡ true) senders.now }
+    ensures { IfOk result (λ letters. letters.items ≡ flat_map (λ (s : Sent). refused filter.now s.dead.items) senders.now) }
 {
     let mut letters = Vec::new(alloc);
     for sender in senders {
@@ -59,7 +63,8 @@ fn add_all_cleaned(
     filter: &Filter<'_>,
     actors: &[ActorReport],
 ) -> Result<(), AllocError>
-    ensures { OnOk result (letters.new.items ≡ letters.old.items ++ flat_map (λ (r : Reported). cleaned filter.now r.cleaned.kept) actors.now) }
+    requires kept { All (λ (r : Reported). r.cleaned.is_kept ≡ true) actors.now }
+    ensures { OnOk result (letters.new.items ≡ letters.old.items ++ flat_map (λ (r : Reported). cleaned filter.now r.cleaned.items) actors.now) }
 {
     for actor in actors {
         add_cleaned(letters, filter, actor.cleaned.kept())?;

@@ -1,5 +1,6 @@
 //! The trace of a run of a program's own actors.
-ghost use Rattle.std.specs.Prelude.{◌≡◌, All, true};
+ghost use Rattle.std.specs.Prelude.{true};
+ghost use Rattle.mb_report.specs.Keeps.{KeepsAllIf};
 
 use crate::copied_plan::copied_plan;
 use crate::format::{TraceFormat, write_trace};
@@ -32,8 +33,8 @@ impl TracedSystem {
 
     /// Writes the trace of the system's run in this form: what came to each actor, what became of it, and how the actor stood then, in one
     /// order that agrees with what caused what. The orders are those of each sender outside the actors, as the run got them. What an actor
-    /// has as its state after each entry no journal tells, so the trace is without it. The journals of the report have to keep their entries
-    /// (`mb_trace::keeps_entries`).
+    /// has as its state after each entry no journal tells, so the trace is without it. The report has to keep all entries, all that was cleaned up
+    /// and all dead letters: that of a run of a plan whose journals keep their entries does, and `mb_trace::keeps_entries` tells it of any report.
     ///
     /// The errors: `NoMemory`, `Closed` where whoever reads the output has closed it, and `Os` where writing failed otherwise.
     pub fn write_trace<W: Write>(
@@ -44,7 +45,7 @@ impl TracedSystem {
         format: TraceFormat,
         out: &mut W,
     ) -> Result<(), TraceError>
-        requires kept { All (λ actor. actor.journal.is_kept ≡ true) report.now.actors.items }
+        requires kept { KeepsAllIf true report.now }
     {
         let sends = sends_of(alloc, orders)?;
         let all = Filter {
@@ -64,7 +65,7 @@ fn trace_of<'a>(
     sends: &'a [SenderOrder],
     report: &'a Report,
 ) -> Trace<'a>
-    requires kept { All (λ actor. actor.journal.is_kept ≡ true) report.now.actors.items }
+    requires kept { KeepsAllIf true report.now }
 {
     Trace {
         names,

@@ -9,7 +9,7 @@ pub returns-in-Ok-clause-story : goal.returns-in-Ok-clause-story
 returns-in-Ok-clause-story g c = λ plan orders right ran.
     (let end = c.in-Ok.ensures in
     story g.K.Behaviours.gives plan ran.first ran.begun orders c.args.built right ran.system ran.ends ran.sent g.K.Behaviours.after
-    c.in-Ok.report end.whole.0 end.whole.2.0 ran.log_kept ran.runs end.whole.1 end.whole.2.1 end.whole.2.2 end.seen.0 end.seen.1 end.home
+    c.in-Ok.report end.whole.0 end.whole.2.0 ran.log_kept ran.runs end.whole.1 end.whole.2.1 end.whole.2.2 end.letters end.seen.0 end.seen.1 end.home
     (all-released g.K.Behaviours.gives plan orders ran.first c.args.built ran.begun ran.system right ran.sent ran.runs c.in-Ok.report end.releases)
     (all-put-counted g.K.Behaviours.gives plan orders ran.first c.args.built ran.begun ran.system right ran.sent ran.runs c.in-Ok.report end.put)
     (all-get-asked g.K.Behaviours.gives plan orders ran.first c.args.built ran.begun ran.system right ran.sent ran.runs c.in-Ok.report

@@ -3,6 +3,6 @@ use Rattle.std.specs.Prelude.{All}
 use Rattle.mb_report.specs.declared.report.ActorReport.{ActorReport}
 use Rattle.mb_trace.proofs.kept.keep_entries.Given as goal
 
--- the journals so far keep their entries
+-- the actors so far keep their entries and what was cleaned up
 abbrev pub invariant-loop-actor : goal.invariant-loop-actor
-invariant-loop-actor l = All (λ (a : ActorReport). a.journal.is_kept ≡ true) (take l.actor-index l.actors)
+invariant-loop-actor l = All (λ (a : ActorReport). (a.journal.is_kept ≡ true) × (a.cleaned.is_kept ≡ true)) (take l.actor-index l.actors)

@@ -1,7 +1,6 @@
-use Rattle.std.proofs.Common.{◌≡◌, ℕ, ◌<◌, ◌≤◌, ap, arith, drop, length, map, reverse, string_bytes, sym}
+use Rattle.std.proofs.Common.{◌<◌, ◌≤◌, ap, arith, drop, length, map, reverse, string_bytes}
 use Rattle.std.specs.List.{flat_map}
-use Rattle.mb_journal.specs.Entry.{Entry}
-use Rattle.mb_journal.specs.JournalView.{entry_of, first_kept}
+use Rattle.mb_journal.specs.JournalView.{entry_of}
 use Rattle.mb_trace.specs.Newest.{entry_text}
 use Rattle.mb_trace.proofs.NewestLines.{kept-at, kept-length}
 use Rattle.mb_trace.proofs.Written.{appends-none, appends-same, begins-same, each-all, each-cut, each-more, err-written}

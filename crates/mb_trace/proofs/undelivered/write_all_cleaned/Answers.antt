@@ -1,5 +1,6 @@
 use Rattle.std.proofs.Common.{map, string_bytes}
-use Rattle.mb_trace.specs.Rest.{cleaned_text}
+use Rattle.mb_report.specs.declared.report.ActorReport.{ActorReport}
+use Rattle.mb_trace.specs.Rest.{cleaned_text, readable_cleaned}
 use Rattle.mb_trace.proofs.Written.{appends-none, each-all, each-cut, each-more, err-written}
 use Rattle.mb_trace.proofs.undelivered.write_all_cleaned.Goals as goal
 
@@ -11,7 +12,7 @@ loop-actor-preserved g c =
     let i = c.loop-actor.actor-index in
     let xs = c.args.actors.now in
     let x = c.actor-item.result in
-    each-more (cleaned_text (map string_bytes c.args.names.now) c.args.filter.now) xs i x _ _ _ c.loop-actor-test.true c.actor-item.is c.loop-actor.invariant c.in_ok-write_cleaned.ensures
+    each-more (λ (r : ActorReport). cleaned_text (map string_bytes c.args.names.now) c.args.filter.now (readable_cleaned r)) xs i x _ _ _ c.loop-actor-test.true c.actor-item.is c.loop-actor.invariant c.in_ok-write_cleaned.ensures
 
 pub returns-in_err-write_cleaned : goal.returns-in_err-write_cleaned
 returns-in_err-write_cleaned g c =
@@ -19,8 +20,8 @@ returns-in_err-write_cleaned g c =
     let xs = c.args.actors.now in
     let x = c.actor-item.result in
     err-written _ _ _ c.from_residual.result _ c.from_residual.ensures.1
-    (each-cut (cleaned_text (map string_bytes c.args.names.now) c.args.filter.now) xs i x _ _ _ c.loop-actor-test.true c.actor-item.is c.loop-actor.invariant c.in_err-write_cleaned.ensures)
+    (each-cut (λ (r : ActorReport). cleaned_text (map string_bytes c.args.names.now) c.args.filter.now (readable_cleaned r)) xs i x _ _ _ c.loop-actor-test.true c.actor-item.is c.loop-actor.invariant c.in_err-write_cleaned.ensures)
 
 pub returns : goal.returns
 returns g c =
-    each-all (cleaned_text (map string_bytes c.args.names.now) c.args.filter.now) c.args.actors.now c.loop-actor.actor-index _ _ c.loop-actor-test.false c.loop-actor.invariant
+    each-all (λ (r : ActorReport). cleaned_text (map string_bytes c.args.names.now) c.args.filter.now (readable_cleaned r)) c.args.actors.now c.loop-actor.actor-index _ _ c.loop-actor-test.false c.loop-actor.invariant
