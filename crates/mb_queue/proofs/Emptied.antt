@@ -17,7 +17,8 @@ use Rattle.mb_queue.specs.declared.take_order.TakeOrder.TheVariants.{FirstInFirs
 use Rattle.mb_queue.specs.Fates.{NothingLeft}
 use Rattle.mb_queue.specs.Representation.{IsTaking, envelopes_of, gone_of, taking_of, waiting_of}
 use Rattle.mb_queue.specs.Parts.{controls, others}
-use Rattle.mb_queue.specs.Steps.{Begins, IsStep, RankTakes}
+use Rattle.mb_queue.specs.Batches.{Begins}
+use Rattle.mb_queue.specs.Steps.{IsStep, RankTakes}
 use Rattle.mb_queue.specs.Takes.{AllBegin, AllOut, IsSameBag}
 use Rattle.mb_queue.proofs.Bags.{count-filter, filter-swap}
 use Rattle.mb_queue.proofs.Taken.{filter-more}

@@ -2,9 +2,12 @@ pub mod Bags
 pub mod Crossing
 pub mod Distinct
 pub mod Emptied
+pub mod Given
 pub mod Joins
 pub mod Keeps
 pub mod Lends
+pub mod ListCalls
+pub mod ListSteps
 pub mod Lists
 pub mod Moves
 pub mod NextTaken

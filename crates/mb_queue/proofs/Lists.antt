@@ -3,7 +3,7 @@ use Rattle.std.proofs.Common.{◌≡◌, ◌≢◌, ℕ, zero, suc, ◌==◌, Bo
 use Rattle.std.proofs.Common.{⊎_elim, ◌⊎◌, inl, inr, arith, Option, Some}
 use Rattle.std.specs.Bool.{Decides}
 use Rattle.std.proofs.lemmas.Bool.Decides.{nat_tests, Decides-eqb}
-use Rattle.std.proofs.lemmas.List.Elements.{filter-append, All-contains}
+use Rattle.std.proofs.lemmas.List.Elements.{filter-append, All-contains, All-tail}
 use Rattle.std.specs.List.{All, Contains}
 use Rattle.mb_queue.specs.Rule.{Belongs}
 use Rattle.std.proofs.lemmas.List.{append-nil}
@@ -92,3 +92,7 @@ none_known scope (e ∷ all) is known = let c : Belongs scope e = All-contains (
 
 pub none_within : (senders : List ℕ) (sender : ℕ) → senders ≡ [] → Contains senders sender → ⊥
 none_within senders sender is c = omega (arith, c.1, ap length is)
+
+pub All-behind : (P : Envelope → Type 0) (xs ys : List Envelope) → All P (xs ++ ys) → All P ys
+All-behind P [] ys h = h
+All-behind P (x ∷ xs) ys h = All-behind P xs ys (All-tail P x (xs ++ ys) h)

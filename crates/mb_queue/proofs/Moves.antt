@@ -1,6 +1,6 @@
 -- Each step of a fifo keeps its rule.
 use Rattle.std.proofs.Common.{◌≡◌, ◌≢◌, ℕ, ◌==◌, List, [], ◌∷◌, ◌++◌, length, set, sym, refl, ap, ◌∙◌, subst, ⊎_elim}
-use Rattle.std.proofs.Common.{append_assoc, arith, Some, None}
+use Rattle.std.proofs.Common.{append_assoc, arith, suc, ◌⊎◌, Some, None}
 use Rattle.std.specs.List.{All, Contains}
 use Rattle.std.proofs.lemmas.List.{append-nil}
 use Rattle.std.proofs.lemmas.List.Elements.{filter-append, All-contains, All-push, Contains-append_right}
@@ -13,10 +13,12 @@ use Rattle.mb_queue.specs.declared.ledger.Ledger.{Ledger}
 use Rattle.mb_queue.specs.declared.ledger.Scope.{Scope}
 use Rattle.mb_queue.specs.declared.ledger.Ledger.TheVariants.{Sender, Taker, Spent}
 use Rattle.mb_queue.specs.Ledger.{sent_by, lent, home, IsOfPart, IsSender, IsTaker, MayLend, MayPush, unsettled, pushing, taking, lending}
+use Rattle.mb_queue.specs.Batches.{pushing_all, taking_all, Begins, FoundAll}
 use Rattle.mb_queue.specs.Ledger.{borrowing, joining}
 use Rattle.mb_queue.specs.Rule.{Belongs, Fits, FifoHolds, FoundFull, FoundEmpty, FoundNext}
 use Rattle.mb_queue.proofs.Lists.{Each, each_set, each_more, at_end, handed, handed-same, handed-other, sent_by-mine, sent_by-other, account-cases}
-use Rattle.mb_queue.proofs.Lists.{none_known, none_within}
+use Rattle.mb_queue.proofs.Lists.{none_known, none_within, All-behind}
+use Rattle.crossbeam_queue.proofs.Lists.{set_again}
 
 module _ (scope : Scope) (holder : ℕ → ℕ) (taker : ℕ) (taken all : List Envelope) where
   abbrev Now : ℕ → Ledger → Type 0
@@ -217,3 +219,64 @@ empty port (Sender ours by pushed) is = absurd is
 empty port (Taker ours gone accounts) is = λ items views h at none s l its. let mine = h.fits port (Taker ours gone accounts) at in
     (mine.3 s l its).1 ∙ ap (λ y. sent_by s (h.taken ++ y)) (no_items items none) ∙ ap (sent_by s) (append-nil h.taken ∙ sym mine.2)
 empty port Spent is = absurd is
+
+-- several pushes and takes at once
+
+pushing_none : (v : Ledger) → pushing_all v [] ≡ v
+pushing_none (Sender scope by pushed) = ap (λ l. Sender scope by l) (append-nil pushed)
+pushing_none (Taker scope taken accounts) = refl
+pushing_none Spent = refl
+
+pushing_one : (v : Ledger) (e : Envelope) → pushing_all v (e ∷ []) ≡ pushing v e
+pushing_one (Sender scope by pushed) e = refl
+pushing_one (Taker scope taken accounts) e = refl
+pushing_one Spent e = refl
+
+-- none or one of these envelopes is pushed
+abbrev pub MayPushThese : List Envelope → Ledger → Type 0
+MayPushThese es v = (es ≡ []) ⊎ ((e : Envelope) × (es ≡ e ∷ []) × MayPush e v)
+
+pub pushes_these : (port : ℕ) (v : Ledger) (es : List Envelope) → MayPushThese es v → (items : List Envelope) (views : List Ledger) → FifoHolds items views
+    → get_elem? views port ≡ some v → FifoHolds (items ++ es) (set views port (pushing_all v es))
+pushes_these port v es may items views h at = ⊎_elim
+    (λ none. subst (λ (x : List Envelope). FifoHolds (items ++ x) (set views port (pushing_all v x))) (sym none)
+    (subst (λ (y : List Envelope × List Ledger). FifoHolds y.0 y.1)
+    (λ i. (sym (append-nil items) i, sym (ap (set views port) (pushing_none v) ∙ set_again views port v at) i)) h))
+    (λ one. let x : Envelope = one.0 in let r = pushes (suc (length items)) port v x one.2 items views (omega arith) h at in
+    subst (λ (y : List Envelope). FifoHolds (items ++ y) (set views port (pushing_all v y))) (sym one.1)
+    (subst (λ (w : Ledger). FifoHolds (items ++ x ∷ []) (set views port w)) (r.2 ∙ sym (pushing_one v x)) r.1))
+    may
+
+pub takes_all : (port : ℕ) (v : Ledger) → IsTaker v → (items : List Envelope) (views : List Ledger) → FifoHolds items views → get_elem? views port ≡ some v
+    → FifoHolds [] (set views port (taking_all v items)) × FoundAll v items
+takes_all port (Sender ours by pushed) is items views h at = absurd is
+takes_all port (Taker ours gone accounts) is items views h at =
+    let mine = h.fits port (Taker ours gone accounts) at in
+    let all : List Envelope = h.taken ++ items in
+    let none_left : all ≡ all ++ [] = sym (append-nil all) in
+    let F : List Envelope → ℕ → Ledger → Type 0 = λ l. Fits h.scope h.holder h.taker all l in (
+      record {
+        scope = h.scope;
+        holder = h.holder;
+        taker = h.taker;
+        taken = all;
+        known = subst (All (Belongs h.scope)) none_left h.known;
+        fits = subst (λ l. Each (F l) (set views port (Taker ours (gone ++ items) accounts))) none_left
+            (each_set (F all) views port (Taker ours (gone ++ items) accounts)
+            (mine.0, mine.1, ap (λ l. l ++ items) mine.2, mine.3)
+            (λ j u ne e. take_else h.scope h.holder h.taker h.taken all all port j u mine.1 ne (h.fits j u e)));
+      },
+      (
+        subst (λ (l : Scope). All (Belongs l) items) (sym mine.0) (All-behind (Belongs h.scope) h.taken items h.known),
+        λ s pushed its. (mine.3 s pushed its).1 ∙ ap (λ l. sent_by s (l ++ items)) (sym mine.2),
+      ),
+    )
+takes_all port Spent is items views h at = absurd is
+
+pub begun : (port : ℕ) (v : Ledger) → IsTaker v → Learns FifoHolds port v (λ _. Begins v)
+begun port (Sender ours by pushed) is = absurd is
+begun port (Taker ours gone accounts) is = λ items views h at s pushed its. let mine = h.fits port (Taker ours gone accounts) at in (
+  sent_by s items,
+  (mine.3 s pushed its).1 ∙ filter-append (λ (e : Envelope). e.by.0 == s) h.taken items ∙ ap (λ l. sent_by s l ++ sent_by s items) (sym mine.2),
+)
+begun port Spent is = absurd is

@@ -16,7 +16,8 @@ use Rattle.mb_queue.specs.Rank.{rank_of}
 use Rattle.mb_queue.specs.declared.priority_state.PriorityState.{PriorityState}
 use Rattle.mb_queue.specs.Representation.{scope_in}
 use Rattle.mb_queue.specs.Takes.{arrivals_from}
-use Rattle.mb_queue.specs.Steps.{taking_all, Begins, OneMore, TakesMore}
+use Rattle.mb_queue.specs.Batches.{taking_all, Begins}
+use Rattle.mb_queue.specs.Steps.{OneMore, TakesMore}
 
 taking_all-none : (l : Ledger) → taking_all l [] ≡ l
 taking_all-none (Sender scope by pushed) = refl

@@ -17,7 +17,8 @@ use Rattle.mb_queue.specs.declared.take_order.TakeOrder.{TakeOrder}
 use Rattle.mb_queue.specs.declared.take_order.TakeOrder.TheVariants.{FirstInFirstOut, ControlFirst, ByRank}
 use Rattle.mb_queue.specs.Representation.{IsTaking, Took, envelopes_of, gone_of, parted, scope_in, taking_of, discipline_in}
 use Rattle.mb_queue.specs.Parts.{accounts_of, controls, others, whole}
-use Rattle.mb_queue.specs.Steps.{Begins, IsStep, RankTakes, TakesOf, taking_all}
+use Rattle.mb_queue.specs.Batches.{Begins, taking_all}
+use Rattle.mb_queue.specs.Steps.{IsStep, RankTakes, TakesOf}
 use Rattle.mb_queue.specs.Takes.{AllBegin, AllOut, EachOnce, IsSameBag, IsTake, TakesByRank, arrivals_from}
 use Rattle.mb_queue.proofs.Bags.{all_chosen, all_held, bag_given, bag_none, once_by_rank, once_of_parts, once_of_whole}
 use Rattle.mb_queue.proofs.Taken.{all_begin, all_out, filter-more, filter-same, found_empty, found_next, settled, took_next, took_none}

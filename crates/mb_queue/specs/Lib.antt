@@ -1,8 +1,11 @@
 pub mod Arrival
+pub mod Batches
 pub mod Ends
 pub mod Fates
 pub mod Ledger
 pub mod Lent
+pub mod ListRule
+pub mod ListSteps
 pub mod Made
 pub mod Parts
 pub mod Passes
@@ -14,4 +17,5 @@ pub mod Representation
 pub mod Rule
 pub mod Steps
 pub mod Takes
+pub mod Unbounded
 pub mod WaitingHeap

@@ -1,8 +1,7 @@
 -- What a take does with the ports of the fifos.
 use Rattle.std.specs.Prelude.{◌≡◌, ◌+◌, ◌≤◌, ◌⊎◌, List, [], ◌∷◌, ◌++◌, length, Option, Some, None, IsPermutation, All}
 use Rattle.mb_msg.specs.declared.envelope.Envelope.{Envelope}
-use Rattle.mb_queue.specs.declared.ledger.Ledger.{Ledger}
-use Rattle.mb_queue.specs.declared.ledger.Ledger.TheVariants.{Sender, Taker, Spent}
+use Rattle.mb_queue.specs.Batches.{taking_all, Begins}
 use Rattle.mb_queue.specs.Ledger.{taking, IsTaker}
 use Rattle.mb_queue.specs.Port.{FifoPort}
 use Rattle.mb_queue.specs.Rule as fifo
@@ -13,18 +12,6 @@ use Rattle.mb_queue.specs.declared.take_order.TakeOrder.{TakeOrder}
 use Rattle.mb_queue.specs.declared.take_order.TakeOrder.TheVariants.{FirstInFirstOut, ControlFirst, ByRank}
 use Rattle.mb_queue.specs.Representation.{scope_in}
 use Rattle.mb_queue.specs.Takes.{arrivals_from, Chooses}
-
--- after several takes
-abbrev pub taking_all : Ledger → List Envelope → Ledger
-taking_all (Sender scope by pushed) es = Sender scope by pushed
-taking_all (Taker scope taken accounts) es = Taker scope (taken ++ es) accounts
-taking_all Spent es = Spent
-
--- each account that came back begins with what was taken from the fifo
-abbrev pub Begins : Ledger → Type 0
-Begins (Sender scope by pushed) = ⊥
-Begins (Taker scope taken accounts) = fifo.FifoAllBegin accounts taken
-Begins Spent = ⊥
 
 -- one take of one fifo
 abbrev pub TakesOf : FifoPort → Option Envelope → FifoPort → Type 0

@@ -1,14 +1,17 @@
 //! A fifo with a bound, over the bounded queue of `crossbeam_queue`.
-ghost use Rattle.std.specs.Prelude.{◌≡◌, ◌<◌, [], IfOk};
+ghost use Rattle.std.specs.Prelude.{◌≡◌, ◌<◌, [], ◌∷◌, IfOk, MatchOption};
 ghost use Rattle.crossbeam_queue.specs.Passes.{view, IsPassOf, ruled_capacity};
 ghost use Rattle.mb_queue.specs.declared.ledger.Ledger.TheVariants.{Taker};
+ghost use Rattle.mb_queue.specs.Batches.{taking_all, FoundBatch};
+ghost use Rattle.mb_queue.specs.Rule.{FoundEmpty};
 ghost use Rattle.mb_queue.specs.Ledger.{IsSender, IsTaker, IsUnused, MayLend, lending, borrowing, joining};
 
 use crate::ledger::Ledger;
-use crate::rule::{FifoRule, FifoScope, FifoSender, JoinAccount, LendAccount, OpenFifo};
+use crate::rule::{FifoRule, FifoScope, FifoSender, FifoTake, JoinAccount, LendAccount, OpenFifo};
 use crossbeam_queue::{Pass, RuledArrayQueue};
 use mb_msg::Envelope;
 use std::alloc::{AllocError, Global};
+use std::sync::Wait;
 
 #[derive(Drop)]
 /// A bounded queue under the fifo's rule.
@@ -62,5 +65,16 @@ impl BoundedFifo {
         ensures joined { (view pass.new) ≡ joining (view pass.old) (view other) }
     {
         self.queue.absorb::<JoinAccount>(pass, other);
+    }
+
+    /// Takes the first envelope. `None` only if the fifo was empty at a moment of the call.
+    pub fn take<R: Wait>(&self, rt: &R, pass: &mut BoundedFifoPass) -> Option<Envelope>
+        requires queue { IsPassOf self.now.queue pass.old }
+        requires taker { IsTaker (view pass.old) }
+        ensures queue { IsPassOf self.now.queue pass.new }
+        ensures taken { MatchOption result ((view pass.new ≡ view pass.old) × FoundEmpty (view pass.old))
+            (λ e. (view pass.new ≡ taking_all (view pass.old) (e ∷ [])) × FoundBatch (view pass.old) (e ∷ [])) }
+    {
+        self.queue.pop_as::<FifoTake, R>(rt, pass)
     }
 }

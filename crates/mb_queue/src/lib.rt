@@ -10,11 +10,15 @@
 //! each sender pushed.
 //!
 //! What a sender's port pushed is taken at the taker's port once and in the sender's order, or is still in the fifo.
-//! That is the fifo's rule. It holds between any two steps of any threads of the lock-free queues below.
+//! That is the fifo's rule. It holds between any two steps of any threads. A fifo with a bound is a lock-free queue. One without a bound
+//! is a list below a lock: a push appends to it, and the taker takes all that is in it at once, to give it envelope by envelope.
 #![tactic(auto)]
 
+mod batch;
 mod bounded_fifo;
+mod known;
 mod ledger;
+mod list_rule;
 mod make;
 mod port;
 mod priority_state;
@@ -25,6 +29,7 @@ mod rule;
 mod send_pass;
 mod take_order;
 mod take_pass;
+mod take_port;
 mod unbounded_fifo;
 mod waiting;
 

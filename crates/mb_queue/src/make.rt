@@ -14,6 +14,7 @@ use crate::ranks::Ranks;
 use crate::send_pass::SendPass;
 use crate::take_order::TakeOrder;
 use crate::take_pass::TakePass;
+use crate::take_port::TakePort;
 use mb_ghost::Log;
 use mb_msg::{ActorId, MailboxType, SenderId};
 use std::alloc::{AllocError, Global};
@@ -62,7 +63,7 @@ fn open(
             Ok(begin(main, TakeOrder::FirstInFirstOut))
         }
         MailboxType::Bounded(capacity) => {
-            let mut main = Port::bounded(alloc, capacity as usize)?;
+            let mut main = TakePort::bounded(alloc, capacity as usize)?;
             main.open(senders, to, QueuePart::Whole);
             Ok(begin(main, TakeOrder::FirstInFirstOut))
         }
@@ -85,23 +86,22 @@ fn open_fifo(
     to: ActorId,
     senders: &[SenderId],
     part: QueuePart,
-) -> Result<Port, AllocError>
+) -> Result<TakePort, AllocError>
     ensures { IfOk result (λ port. (port.fifo.capacity ≡ None) × (port.ledger ≡ Taker (scope_of senders.now to.0 part) [] [])) }
 {
-    let mut port = Port::unbounded(alloc)?;
+    let mut port = TakePort::unbounded(alloc)?;
     port.open(senders, to, part);
     Ok(port)
 }
 
 /// A take pass by which nothing was taken yet.
-fn begin(main: Port, order: TakeOrder) -> TakePass
+fn begin(main: TakePort, order: TakeOrder) -> TakePass
     requires { IsTaking main order [] [] }
     ensures { result ≡ taking_of main order [] [] }
 {
     TakePass {
         main,
         order,
-        found_none: false,
         taken: Log::new(),
         accounts: Log::new(),
     }
@@ -116,7 +116,6 @@ fn lend(take: TakePass, by: SenderId) -> Result<(TakePass, SendPass), AllocError
     let TakePass {
         mut main,
         mut order,
-        found_none,
         taken,
         mut accounts,
     } = take;
@@ -129,7 +128,6 @@ fn lend(take: TakePass, by: SenderId) -> Result<(TakePass, SendPass), AllocError
     let take = TakePass {
         main,
         order,
-        found_none,
         taken,
         accounts,
     };

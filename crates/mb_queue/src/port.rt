@@ -1,9 +1,11 @@
 //! A port of a fifo: it pushes for one sender, or it takes.
-ghost use Rattle.std.specs.Prelude.{◌≡◌, ◌<◌, [], Some, None, IfOk, IsTrue, MatchOption, MatchResult, IfErr};
+ghost use Rattle.std.specs.Prelude.{◌≡◌, ◌<◌, [], ◌∷◌, length, Some, None, IfOk, MatchOption, MatchResult, IfErr};
 ghost use Rattle.mb_queue.specs.declared.ledger.Ledger.TheVariants.{Taker};
-ghost use Rattle.mb_queue.specs.Ledger.{IsSender, IsTaker, IsUnused, MayLend, MayPush, pushing, scope_of, taking, lending, borrowing, joining};
-ghost use Rattle.mb_queue.specs.Rule.{FoundEmpty, FoundNext, IsFifoRefusal};
+ghost use Rattle.mb_queue.specs.Batches.{taking_all, Begins, FoundBatch};
+ghost use Rattle.mb_queue.specs.Ledger.{IsSender, IsTaker, IsUnused, MayLend, MayPush, pushing, scope_of, lending, borrowing, joining};
+ghost use Rattle.mb_queue.specs.Rule.{FoundEmpty, IsFifoRefusal};
 
+use crate::batch::Batch;
 use crate::bounded_fifo::{BoundedFifo, BoundedFifoPass};
 use crate::ledger::QueuePart;
 use crate::refused::Refusal;
@@ -55,10 +57,10 @@ impl Port {
     pub fn unbounded(alloc: Global) -> Result<Port, AllocError>
         ensures { IfOk result (λ port. (port.fifo.capacity ≡ None) × IsUnused port.ledger) }
     {
-        let (blocks, pass) = UnboundedFifo::new(alloc)?;
-        let blocks = Arc::new(alloc, blocks)?;
+        let (list, pass) = UnboundedFifo::new(alloc)?;
+        let list = Arc::new(alloc, list)?;
         Ok(Port {
-            end: End::Unbounded(blocks, pass),
+            end: End::Unbounded(list, pass),
         })
     }
 
@@ -77,8 +79,7 @@ impl Port {
 
     /// Pushes the envelope. Where it is refused, nothing has changed. It is lent, so that a caller that made it some steps ago has it
     /// in memory already: a copy right after it was written would wait for those writes.
-    // Not inlined: its answer fits a register, so that a call costs less than the code in each caller would. The queues
-    // are asked right here, as in `take`.
+    // Not inlined: its answer fits a register, so that a call costs less than the code in each caller would.
     #[inline(never)]
     pub fn push<R: Wait>(&mut self, rt: &R, envelope: &Envelope) -> Result<(), Refusal>
         requires { MayPush envelope.now self.old.ledger }
@@ -87,10 +88,7 @@ impl Port {
         ensures refused { IfErr result (IsFifoRefusal self.old.fifo.capacity self.old.ledger) }
     {
         match &mut self.end {
-            End::Unbounded(blocks, pass) => match blocks
-                .queue
-                .push_as::<FifoPush, R>(rt, pass, *envelope)
-            {
+            End::Unbounded(list, pass) => match list.push(rt, pass, envelope) {
                 Ok(()) => Ok(()),
                 Err(_) => Err(Refusal::NoMemory),
             },
@@ -103,37 +101,18 @@ impl Port {
         }
     }
 
-    /// Takes the first envelope. `None` only if the fifo was empty at a moment of the call.
-    // Inlined, and the queues are asked right here: each call that is saved is one copy of an envelope less. Of a fifo
-    // without a bound one attempt is made first: its answer is copied once less.
-    #[inline(always)]
-    pub fn take<R: Wait>(&mut self, rt: &R) -> Option<Envelope>
-        requires { IsTaker self.old.ledger }
-        ensures { MatchOption result ((self.new ≡ self.old) × FoundEmpty self.old.ledger)
-            (λ e. (self.new ≡ record self.old { ledger = taking self.old.ledger e }) × FoundNext self.old.ledger e) }
+    /// Takes the first envelope, and of a fifo without a bound all others too: they are in the batch then. `None` only if the fifo was
+    /// empty at a moment of the call.
+    pub fn take<R: Wait>(&mut self, rt: &R, batch: &mut Batch) -> Option<Envelope>
+        requires taker { IsTaker self.old.ledger }
+        requires empty { batch.old ≡ [] }
+        ensures { MatchOption result ((self.new ≡ self.old) × (batch.new ≡ []) × FoundEmpty self.old.ledger)
+            (λ e. (self.new ≡ record self.old { ledger = taking_all self.old.ledger (e ∷ batch.new) })
+            × FoundBatch self.old.ledger (e ∷ batch.new) × (0 < length batch.new → self.old.fifo.capacity ≡ None)) }
     {
         match &mut self.end {
-            End::Unbounded(blocks, pass) => {
-                let head = blocks.queue.head(pass);
-                match blocks.queue.try_pop_from::<FifoTake, R>(rt, pass, head) {
-                    Ok(popped) => return popped,
-                    Err(_) => return blocks.take_again::<R>(rt, pass),
-                }
-            }
-            End::Bounded(slots, pass) => slots.queue.pop_as::<FifoTake, R>(rt, pass),
-        }
-    }
-
-    /// Whether the fifo is empty: `true` only if it was so at a moment of the call.
-    #[inline(always)]
-    pub fn is_empty(&mut self) -> bool
-        requires { IsTaker self.old.ledger }
-        ensures same { self.new ≡ self.old }
-        ensures empty { IsTrue result → FoundEmpty self.old.ledger }
-    {
-        match &mut self.end {
-            End::Unbounded(blocks, pass) => blocks.queue.is_empty_as::<FifoTake>(pass),
-            End::Bounded(slots, pass) => slots.queue.is_empty_as::<FifoTake>(pass),
+            End::Unbounded(list, pass) => return batch.take_from(rt, list, pass),
+            End::Bounded(slots, pass) => return slots.take(rt, pass),
         }
     }
 
@@ -157,7 +136,7 @@ impl Port {
         let _ = to;
         let _ = part;
         match &mut self.end {
-            End::Unbounded(blocks, pass) => blocks.open::<S>(pass),
+            End::Unbounded(list, pass) => list.open::<S>(pass),
             End::Bounded(slots, pass) => slots.open::<S>(pass),
         }
     }
@@ -185,9 +164,9 @@ impl Port {
         // Only the contract uses it: `N` stands for it there.
         let _ = by;
         let end = match &mut self.end {
-            End::Unbounded(blocks, pass) => {
-                let shared = Arc::try_clone(blocks)?;
-                End::Unbounded(shared, blocks.lend::<N>(pass))
+            End::Unbounded(list, pass) => {
+                let shared = Arc::try_clone(list)?;
+                End::Unbounded(shared, list.lend::<N>(pass))
             }
             End::Bounded(slots, pass) => {
                 let shared = Arc::try_clone(slots)?;
@@ -202,11 +181,12 @@ impl Port {
         requires fifo { other.fifo ≡ self.old.fifo }
         requires taker { IsTaker self.old.ledger }
         requires sender { IsSender other.ledger }
-        ensures { self.new ≡ record self.old { ledger = joining self.old.ledger other.ledger } }
+        ensures joined { self.new ≡ record self.old { ledger = joining self.old.ledger other.ledger } }
+        ensures begins { self.old.fifo.capacity ≡ None → Begins self.new.ledger }
     {
         let Port { end } = other;
         match (&mut self.end, end) {
-            (End::Unbounded(blocks, pass), End::Unbounded(_, other)) => blocks.join(pass, other),
+            (End::Unbounded(list, pass), End::Unbounded(_, other)) => list.join(pass, other),
             (End::Bounded(slots, pass), End::Bounded(_, other)) => slots.join(pass, other),
             (End::Unbounded(_, _), End::Bounded(_, _)) => unreachable!(),
             (End::Bounded(_, _), End::Unbounded(_, _)) => unreachable!(),

@@ -3,8 +3,8 @@ ghost use Rattle.std.specs.Prelude.{◌≡◌, ◌+◌, ◌<◌, [], ◌∷◌, 
 ghost use Rattle.mb_queue.specs.Ledger.{IsTaker};
 ghost use Rattle.mb_queue.specs.Steps.{OneMore, NoMore, RankTakes, TakenIn};
 
-use crate::port::Port;
 use crate::ranks::Ranks;
+use crate::take_port::TakePort;
 use crate::waiting::{Arrival, Waiting};
 use mb_msg::Envelope;
 use std::alloc::{AllocError, Global};
@@ -41,7 +41,11 @@ impl PriorityState {
 /// Takes envelopes from the fifo until `HELD_AT_MOST` are held or the fifo was empty. Then gives the first of those
 /// held, by rank and then by arrival.
 #[inline(never)]
-pub fn take_first<R: Wait>(rt: &R, choice: &mut PriorityState, main: &mut Port) -> Option<Envelope>
+pub fn take_first<R: Wait>(
+    rt: &R,
+    choice: &mut PriorityState,
+    main: &mut TakePort,
+) -> Option<Envelope>
     requires { IsTaker main.old.ledger }
     ensures { RankTakes choice.old main.old result choice.new main.new }
 {
@@ -50,7 +54,7 @@ pub fn take_first<R: Wait>(rt: &R, choice: &mut PriorityState, main: &mut Port) 
     Some(first.envelope)
 }
 
-fn take_in<R: Wait>(rt: &R, choice: &mut PriorityState, main: &mut Port)
+fn take_in<R: Wait>(rt: &R, choice: &mut PriorityState, main: &mut TakePort)
     requires { IsTaker main.old.ledger }
     ensures { TakenIn choice.old main.old choice.new main.new }
 {
@@ -65,13 +69,13 @@ fn take_in<R: Wait>(rt: &R, choice: &mut PriorityState, main: &mut Port)
 }
 
 /// Takes one envelope from the fifo; whether there was one.
-fn take_one_in<R: Wait>(rt: &R, choice: &mut PriorityState, main: &mut Port) -> bool
+fn take_one_in<R: Wait>(rt: &R, choice: &mut PriorityState, main: &mut TakePort) -> bool
     requires taker { IsTaker main.old.ledger }
     requires room { length choice.old.waiting < 1024 }
     ensures { MatchBool result (OneMore choice.old main.old choice.new main.new) (NoMore choice.old main.old choice.new main.new) }
 {
     let Some(next) = choice.next.checked_add(1) else {
-        // No run comes here: the queue below waits for ever after 2^62 pushes.
+        // No run comes here: none takes 2^64 envelopes.
         for _ in rt.forever() {}
         unreachable!()
     };

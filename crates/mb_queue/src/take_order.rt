@@ -3,8 +3,8 @@ ghost use Rattle.std.specs.Prelude.{◌≡◌, MatchOption};
 ghost use Rattle.mb_queue.specs.Ledger.{IsTaker};
 ghost use Rattle.mb_queue.specs.Steps.{AllTake, IsStep, TakesOfTwo};
 
-use crate::port::Port;
 use crate::priority_state::{PriorityState, take_first};
+use crate::take_port::TakePort;
 use mb_msg::Envelope;
 use std::sync::Wait;
 
@@ -13,19 +13,13 @@ use std::sync::Wait;
 pub enum TakeOrder {
     FirstInFirstOut,
     /// The port of the fifo of control messages; the main fifo then has the others.
-    ControlFirst(Port),
+    ControlFirst(TakePort),
     ByRank(PriorityState),
 }
 
-/// Takes the next envelope. `found_none` says whether the take before found none: then the fifo is looked at first, which costs less
-/// than a take of nothing.
+/// Takes the next envelope.
 #[inline(always)]
-pub fn take_next<R: Wait>(
-    rt: &R,
-    main: &mut Port,
-    order: &mut TakeOrder,
-    found_none: &mut bool,
-) -> Option<Envelope>
+pub fn take_next<R: Wait>(rt: &R, main: &mut TakePort, order: &mut TakeOrder) -> Option<Envelope>
     requires { AllTake main.old order.old }
     ensures { IsStep main.old order.old result main.new order.new }
 {
@@ -34,22 +28,12 @@ pub fn take_next<R: Wait>(
         let next = take_by_order(rt, main, order);
         return next;
     };
-    if *found_none {
-        if main.is_empty() {
-            return None;
-        }
-        *found_none = false;
-    }
-    let next = main.take(rt);
-    if next.is_none() {
-        *found_none = true;
-    }
-    next
+    main.take(rt)
 }
 
 /// Takes the next envelope, in whatever order.
 #[inline(never)]
-fn take_by_order<R: Wait>(rt: &R, main: &mut Port, order: &mut TakeOrder) -> Option<Envelope>
+fn take_by_order<R: Wait>(rt: &R, main: &mut TakePort, order: &mut TakeOrder) -> Option<Envelope>
     requires { AllTake main.old order.old }
     ensures { IsStep main.old order.old result main.new order.new }
 {
@@ -62,7 +46,11 @@ fn take_by_order<R: Wait>(rt: &R, main: &mut Port, order: &mut TakeOrder) -> Opt
 
 /// Takes a control message, or another message where there is none.
 #[inline(never)]
-fn take_control_first<R: Wait>(rt: &R, control: &mut Port, main: &mut Port) -> Option<Envelope>
+fn take_control_first<R: Wait>(
+    rt: &R,
+    control: &mut TakePort,
+    main: &mut TakePort,
+) -> Option<Envelope>
     requires { IsTaker control.old.ledger × IsTaker main.old.ledger }
     ensures { TakesOfTwo control.old main.old result control.new main.new }
 {

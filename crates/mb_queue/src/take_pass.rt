@@ -6,9 +6,9 @@ ghost use Rattle.mb_queue.specs.Passes.{first_in_first_out, IsOfQueue};
 ghost use Rattle.mb_queue.specs.Takes.{EachOnce, IsTake};
 
 use crate::ledger::Account;
-use crate::port::Port;
 use crate::send_pass::SendPass;
 use crate::take_order::{TakeOrder, take_next};
+use crate::take_port::TakePort;
 use mb_ghost::Log;
 use mb_msg::Envelope;
 use std::marker::Model;
@@ -19,11 +19,9 @@ use std::sync::Wait;
 #[derive(Drop)]
 pub struct TakePass {
     /// The taker's port of the one fifo, or of the fifo of all but control messages.
-    pub(crate) main: Port,
+    pub(crate) main: TakePort,
     /// The order, with what it needs: another port, or the envelopes that are held.
     pub(crate) order: TakeOrder,
-    /// Whether the last take found none.
-    pub(crate) found_none: bool,
     /// What it gave, for proofs alone.
     pub(crate) taken: Log<Envelope>,
     /// The accounts of the senders, for proofs alone.
@@ -62,7 +60,7 @@ impl TakePass {
         ensures emptied { IfNone result (AllJoined self.new → NothingLeft self.new) }
         ensures ended { NothingLeft self.old → result ≡ None }
     {
-        let next = take_next(rt, &mut self.main, &mut self.order, &mut self.found_none);
+        let next = take_next(rt, &mut self.main, &mut self.order);
         add_taken(&mut self.taken, &next);
         next
     }

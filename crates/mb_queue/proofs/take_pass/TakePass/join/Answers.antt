@@ -16,11 +16,11 @@ use Rattle.mb_queue.proofs.take_pass.TakePass.join.Goals.{in-ControlFirst-Some, 
 pub invariant_of-self : goal.invariant_of-self
 invariant_of-self c =
     let i = c.self.inside in let p = c.pass.inside in let by : ℕ = p.by.0 in
-    let back : (order : TakeOrder) (now : Inside) → now ≡ record { main = c.join.new.self; order = order; found_none = i.found_none; taken = i.taken; accounts = i.accounts }
+    let back : (order : TakeOrder) (now : Inside) → now ≡ record { main = c.join.new.self; order = order; taken = i.taken; accounts = i.accounts }
     → c.match-self.self-inside ≡ now → IsTaking (joined i.main p.main) order i.taken (i.accounts ++ home by p.pushed ∷ [])
     → IsTakePass c.match-self.self-inside.main c.match-self.self-inside.order c.match-self.self-inside.taken c.add.new.self
     = λ order now is here kept. subst (λ (y : Inside × List Account). IsTakePass y.0.main y.0.order y.0.taken y.1) (λ k. (
-      sym (here ∙ is ∙ (λ l. record { main = c.join.ensures l; order = order; found_none = i.found_none; taken = i.taken; accounts = i.accounts })) k,
+      sym (here ∙ is ∙ (λ l. record { main = c.join.ensures l; order = order; taken = i.taken; accounts = i.accounts })) k,
       sym (c.add.ensures ∙ ap (λ (j : Inside). j.accounts ++ home by p.pushed ∷ []) (here ∙ is)) k,
     )) (kept, ours-joined i.main p.main i.order order i.taken c.self.invariant.1) in
     let sent : (control : Option FifoPort) → p.control ≡ control → IsSending by p.main control p.pushed
@@ -33,7 +33,6 @@ invariant_of-self c =
           back (ControlFirst (joined own his)) _ (λ k. record {
             main = c.join.new.self;
             order = ControlFirst (w.join-in-ControlFirst-Some.ensures k);
-            found_none = i.found_none;
             taken = i.taken;
             accounts = i.accounts;
           }) w.self-inside-is
@@ -43,7 +42,6 @@ invariant_of-self c =
           back FirstInFirstOut _ (λ k. record {
             main = c.join.new.self;
             order = w.in-FirstInFirstOut-None.is-0 k;
-            found_none = i.found_none;
             taken = i.taken;
             accounts =
                 i.accounts;
@@ -55,7 +53,6 @@ invariant_of-self c =
           back (ByRank choice) _ (λ k. record {
             main = c.join.new.self;
             order = w.in-ByRank-None.is-0 k;
-            found_none = i.found_none;
             taken = i.taken;
             accounts =
                 i.accounts;
