@@ -11,3 +11,7 @@ pub mod Together
 pub mod There
 pub mod Runs
 pub mod Claims
+pub mod AllTogether
+pub mod Rest
+pub mod Continuing
+pub mod SameSender

@@ -1,5 +1,5 @@
 -- What holds of each task, or of one of them, holds of all tasks that are done in parallel, or of one; and the first of two errors.
-use Rattle.std.proofs.Common.{◌≡◌, suc, List, [], ◌∷◌, length, get_or, map, set, refl, sym, ap, subst, inl, inr}
+use Rattle.std.proofs.Common.{◌≡◌, suc, List, [], ◌∷◌, length, get_or, map, set, refl, sym, ap, subst, inl, inr, arith}
 use Rattle.std.specs.Prelude.{All, Err, IfNone, MatchResult, None, Ok, OnErr, OnOk, Option, Result, Some}
 use Rattle.std.specs.Global.{Box}
 use Rattle.std.specs.List.{AllZip}
@@ -106,3 +106,8 @@ module _ {E : Type 0} where
 pub if_none : {T P : Type 0} (r : Option T) → P → IfNone r P
 if_none None p = p
 if_none (Some x) p = tt
+
+-- what holds of none holds of these, of which there is none
+pub none-there : {T : Type 0} (xs : List T) → length xs ≡ 0 → (P : List T → Type 0) → P [] → P xs
+none-there [] none P p = p
+none-there (x ∷ xs) none P p = absurd (omega (arith, none))

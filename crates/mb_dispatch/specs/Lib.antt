@@ -5,3 +5,7 @@ pub mod Jobs
 pub mod Faults
 pub mod Runs
 pub mod Claims
+pub mod Working
+pub mod AtRest
+pub mod Rest
+pub mod AtFirst

@@ -2,16 +2,21 @@
 //! its senders send what they are to send (`akka.dispatch.Dispatcher`).
 #![tactic(auto)]
 
+mod at_first;
 mod job;
+mod last_look;
+mod laws;
 mod mailbox;
 mod order;
 mod parallel;
 mod quiet;
 mod running;
+mod settling;
 mod turns;
 mod working;
 
 pub use job::Job;
+pub use laws::what_is_at_rest_has_nothing_to_run;
 pub use mailbox::run_mailbox;
 pub use mb_mailbox::Turn;
 pub use mb_send::{Look, SendError, SendOutcome, Ticket};

@@ -1,119 +1,105 @@
-use Rattle.std.proofs.Common.{◌∙◌, []}
+use Rattle.std.proofs.Common.{◌≡◌, ◌∙◌, [], length, map, sym, subst}
+use Rattle.std.specs.List.{AllZip}
 use Rattle.std.proofs.lemmas.Result.{on_ok_weaker}
 use Rattle.mb_gate.specs.Accessors.{actors_of}
 use Rattle.mb_system.specs.Members.{end_caller}
-use Rattle.mb_system.proofs.Crossing.{end_send, passed_send, passed_sync, system_sync}
 use Rattle.mb_system.proofs.Obligations.{obligations-then}
 use Rattle.mb_system.proofs.Saw.{saw-then}
-use Rattle.mb_dispatch.proofs.Breaking.{breaks-run, runs-or-broke-then, worked-then}
+use Rattle.mb_dispatch.specs.Claims.{SenderLosesNoClaim}
+use Rattle.mb_dispatch.specs.Jobs.{AreDone, AreJobsOf, ForgetsNobody, jobs_senders}
+use Rattle.mb_dispatch.specs.Orders.{HasSentSome}
 use Rattle.mb_dispatch.proofs.Claims.{claims-then}
-use Rattle.mb_dispatch.proofs.Crossing.{job_send}
-use Rattle.mb_dispatch.proofs.Sides.{all_after, as_many_after, ok_first, ok_rest, same_after, zip_then, zip_weaker}
-use Rattle.mb_dispatch.proofs.Firsts.{first-settled}
+use Rattle.mb_dispatch.proofs.Continuing.{done-after, first-still, ours-after, ran-of, ran-then, run-breaks, worked-then}
+use Rattle.mb_dispatch.proofs.Sides.{on_ok, same_after, zip_then}
 use Rattle.mb_dispatch.proofs.running.run.Goals as goal
 
-pub both_in_parallel-of_jobs-requires-sync-S : goal.both_in_parallel-of_jobs-requires-sync-S
-both_in_parallel-of_jobs-requires-sync-S g c κs within =
-    passed_sync 1 _ _ (system_sync _ _ g.A.Actor g.K.Behaviours c.type_bounds.send-A c.type_bounds.send-K)
+pub settle-requires-clause-ends : goal.settle-requires-clause-ends
+settle-requires-clause-ends g c = c.run_once.ensures.ends.0
 
-pub both_in_parallel-of_jobs-requires-send-T : goal.both_in_parallel-of_jobs-requires-send-T
-both_in_parallel-of_jobs-requires-send-T g c κs within =
-    passed_send 2 _ _ (job_send _ _ g.A.Actor g.K.Behaviours c.type_bounds.send-A c.type_bounds.send-K)
+pub settle-requires-clause-jobs : goal.settle-requires-clause-jobs
+settle-requires-clause-jobs g c = c.run_once.ensures.jobs.0
 
-pub both_in_parallel-of_jobs-requires-send-U : goal.both_in_parallel-of_jobs-requires-send-U
-both_in_parallel-of_jobs-requires-send-U g c κs within =
-    passed_send 3 _ _ (end_send _ _ g.A.Actor g.K.Behaviours c.type_bounds.send-A c.type_bounds.send-K)
+pub settle-requires-clause-worked : goal.settle-requires-clause-worked
+settle-requires-clause-worked g c =
+    (c.in_ok-run_once.ensures.discharged, c.in_ok-run_once.ensures.empty)
 
 pub returns-clause-ends : goal.returns-clause-ends
 returns-clause-ends g c =
-    let each = c.both_in_parallel-of_jobs.ensures.keeps.1 in (
-      all_after _ _ (λ old new kept. kept.0) _ _ each,
-      same_after _ _ (λ old new kept. kept.1) _ _ each ∙ c.register_by_first.ensures.ends.1,
-    )
+    let each = c.settle.ensures.ended.keeps in
+    (ours-after g.K.Behaviours.gives c.args.system.now _ _ each, same_after _ _ (λ o n k. k.number) _ _ each ∙ c.run_once.ensures.ends.1)
 
 pub returns-clause-jobs : goal.returns-clause-jobs
 returns-clause-jobs g c =
-    let each = c.both_in_parallel-of_jobs.ensures.keeps.0 in (all_after _ _ (λ old new kept. kept.0) _ _ each, as_many_after _ _ _ each)
+    subst (λ l. AreJobsOf c.args.system.now.gates l × (length l ≡ length c.args.jobs.now)) (sym c.settle.ensures.jobs) c.run_once.ensures.jobs
 
 pub returns-clause-same_sender : goal.returns-clause-same_sender
-returns-clause-same_sender g c = same_after _ _ (λ old new kept. kept.1) _ _ c.both_in_parallel-of_jobs.ensures.keeps.0
-
-pub returns-clause-discharged : goal.returns-clause-discharged
-returns-clause-discharged g c =
-    let of = c.both_in_parallel-of_jobs.result in
-    ok_first _ of.1 of.0 c.first_error.result c.first_error.ensures
-    (on_ok_weaker _ (all_after _ _ (λ old new did. did.0) _ _) c.both_in_parallel-of_jobs.ensures.done.1)
-
-pub returns-clause-done : goal.returns-clause-done
-returns-clause-done g c =
-    let of = c.both_in_parallel-of_jobs.result in
-    ok_rest _ of.1 of.0 c.first_error.result c.first_error.ensures c.both_in_parallel-of_jobs.ensures.done.0
-
-pub returns-clause-fault : goal.returns-clause-fault
-returns-clause-fault g c =
-    let of = c.both_in_parallel-of_jobs.result in let did = c.both_in_parallel-of_jobs.ensures in
-    breaks-run g.K.Behaviours.gives c.args.system.now _ _ _ _ _ of.1 of.0 c.first_error.result c.register_by_first.ensures.looks c.first_error.ensures
-    did.done.1 did.fails.1 did.fails.0
-
-pub returns-clause-runs : goal.returns-clause-runs
-returns-clause-runs g c =
-    zip_then _ _ _ (λ x y z looks kept. runs-or-broke-then g.K.Behaviours.gives c.args.system.now x y z looks kept.4) _ _ _ c.register_by_first.ensures.looks
-    c.both_in_parallel-of_jobs.ensures.keeps.1
-
-pub returns-clause-ran : goal.returns-clause-ran
-returns-clause-ran g c =
-    let of = c.both_in_parallel-of_jobs.result in
-    ok_first _ of.1 of.0 c.first_error.result c.first_error.ensures
-    (on_ok_weaker _
-    (zip_then _ _ _ (λ x y z looks worked. (worked-then g.K.Behaviours.gives c.args.system.now x y z looks worked).2) _ _ _ c.register_by_first.ensures.looks)
-    c.both_in_parallel-of_jobs.ensures.done.1)
+returns-clause-same_sender g c =
+    subst (λ l. jobs_senders l ≡ jobs_senders c.args.jobs.now) (sym c.settle.ensures.jobs) c.run_once.ensures.same_sender
 
 pub returns-clause-log_kept : goal.returns-clause-log_kept
 returns-clause-log_kept g c =
-    zip_then _ _ _ (λ x y z saw kept. saw-then _ _ _ saw kept.2) _ _ _ c.register_by_first.ensures.log_kept c.both_in_parallel-of_jobs.ensures.keeps.1
+    zip_then _ _ _ (λ x y z saw kept. saw-then _ _ _ saw kept.log_kept) _ _ _ c.run_once.ensures.log_kept c.settle.ensures.ended.keeps
+
+pub returns-clause-discharged : goal.returns-clause-discharged
+returns-clause-discharged g c =
+    on_ok_weaker c.settle.result (λ worked. (done-after g.K.Behaviours.gives c.args.system.now _ _ worked).0) c.settle.ensures.ended.done
 
 pub returns-clause-obligations : goal.returns-clause-obligations
 returns-clause-obligations g c =
     let actors = actors_of c.args.system.now.gates in
-    zip_then _ _ _ (λ x y z p kept. obligations-then actors (end_caller x.registrar) (end_caller y.registrar) (end_caller z.registrar) p kept.3) _ _ _
-    c.register_by_first.ensures.obligations c.both_in_parallel-of_jobs.ensures.keeps.1
-
-pub returns-clause-empty : goal.returns-clause-empty
-returns-clause-empty g c =
-    let of = c.both_in_parallel-of_jobs.result in
-    ok_first _ of.1 of.0 c.first_error.result c.first_error.ensures
-    (on_ok_weaker _ (all_after _ _ (λ old new did. did.1) _ _) c.both_in_parallel-of_jobs.ensures.done.1)
+    zip_then _ _ _ (λ x y z p kept. obligations-then actors (end_caller x.registrar) (end_caller y.registrar) (end_caller z.registrar) p kept.obligations) _ _ _
+    c.run_once.ensures.obligations c.settle.ensures.ended.keeps
 
 pub returns-clause-settled : goal.returns-clause-settled
 returns-clause-settled g c =
-    let of = c.both_in_parallel-of_jobs.result in let did = c.both_in_parallel-of_jobs.ensures in
-    ok_first _ of.1 of.0 c.first_error.result c.first_error.ensures
-    (on_ok_weaker _
-    (λ done. first-settled c.args.system.now.gates _ (λ x y kept. kept.3) _ _ c.register_by_first.ensures.discharged did.keeps.1
-    (all_after _ _ (λ old new did. did.0) _ _ done))
-    did.done.1)
+    let gives = g.K.Behaviours.gives in let system = c.args.system.now in let ended = c.settle.ensures.ended in
+    on_ok_weaker c.settle.result
+    (λ worked. first-still gives system _ _ c.in_ok-run_once.ensures.settled ended.keeps
+    (done-after gives system _ _ worked).0)
+    ended.done
 
-pub register_by_first-requires : goal.register_by_first-requires
-register_by_first-requires g c = c.requires.ends
-
-pub both_in_parallel-of_jobs-requires-clause-these_ready : goal.both_in_parallel-of_jobs-requires-clause-these_ready
-both_in_parallel-of_jobs-requires-clause-these_ready g c κs within = c.requires.jobs
-
-pub both_in_parallel-of_jobs-requires-clause-those_ready : goal.both_in_parallel-of_jobs-requires-clause-those_ready
-both_in_parallel-of_jobs-requires-clause-those_ready g c κs within = c.register_by_first.ensures.ends.0
-
-pub returns-clause-sent : goal.returns-clause-sent
-returns-clause-sent g c = zip_weaker _ _ (λ old new kept. kept.2) _ _ c.both_in_parallel-of_jobs.ensures.keeps.0
-
-pub returns-clause-still : goal.returns-clause-still
-returns-clause-still g c = zip_weaker _ _ (λ old new kept. kept.3) _ _ c.both_in_parallel-of_jobs.ensures.keeps.0
-
-pub returns-clause-sends : goal.returns-clause-sends
-returns-clause-sends g c = same_after _ _ (λ old new kept. kept.4) _ _ c.both_in_parallel-of_jobs.ensures.keeps.0
+pub returns-clause-empty : goal.returns-clause-empty
+returns-clause-empty g c =
+    on_ok_weaker c.settle.result (λ worked. (done-after g.K.Behaviours.gives c.args.system.now _ _ worked).1) c.settle.ensures.ended.done
 
 pub returns-clause-claims : goal.returns-clause-claims
 returns-clause-claims g c =
-    zip_then _ _ _ (λ x y z ran kept. claims-then [] x y z ran kept.5) _ _ _ c.register_by_first.ensures.claims c.both_in_parallel-of_jobs.ensures.keeps.1
+    zip_then _ _ _ (λ x y z ran kept. claims-then [] x y z ran kept.claims) _ _ _ c.run_once.ensures.claims c.settle.ensures.ended.keeps
 
 pub returns-clause-claims_of_jobs : goal.returns-clause-claims_of_jobs
-returns-clause-claims_of_jobs g c = zip_weaker _ _ (λ old new kept. kept.5) _ _ c.both_in_parallel-of_jobs.ensures.keeps.0
+returns-clause-claims_of_jobs g c =
+    subst (λ l. AllZip (λ o n. SenderLosesNoClaim o.sender n.sender) c.args.jobs.now l) (sym c.settle.ensures.jobs) c.run_once.ensures.claims_of_jobs
+
+pub returns-clause-runs : goal.returns-clause-runs
+returns-clause-runs g c =
+    zip_then _ _ _ (λ x y z ran kept. ran-then g.K.Behaviours.gives c.args.system.now x y z ran kept.runs) _ _ _
+    c.in_ok-run_once.ensures.ran c.settle.ensures.ended.keeps
+
+pub returns-clause-ran : goal.returns-clause-ran
+returns-clause-ran g c =
+    let gives = g.K.Behaviours.gives in let system = c.args.system.now in
+    let ran = c.in_ok-run_once.ensures.ran in
+    on_ok_weaker c.settle.result (λ worked. ran-of gives system _ _ (worked-then gives system _ _ _ ran worked)) c.settle.ensures.ended.done
+
+pub returns-clause-done : goal.returns-clause-done
+returns-clause-done g c =
+    on_ok c.settle.result
+    (subst (λ l. AreDone c.args.system.now.gates c.args.jobs.now l) (sym c.settle.ensures.jobs)
+    c.in_ok-run_once.ensures.done)
+
+pub returns-clause-sent : goal.returns-clause-sent
+returns-clause-sent g c =
+    subst (λ l. AllZip (λ o n. HasSentSome o.sends.items o.sender n.sender) c.args.jobs.now l) (sym c.settle.ensures.jobs) c.run_once.ensures.sent
+
+pub returns-clause-still : goal.returns-clause-still
+returns-clause-still g c =
+    subst (λ l. AllZip (λ o n. ForgetsNobody c.args.system.now.gates o.sender n.sender) c.args.jobs.now l) (sym c.settle.ensures.jobs) c.run_once.ensures.still
+
+pub returns-clause-sends : goal.returns-clause-sends
+returns-clause-sends g c =
+    subst (λ l. map (λ j. j.sends) l ≡ map (λ j. j.sends) c.args.jobs.now) (sym c.settle.ensures.jobs) c.run_once.ensures.sends
+
+pub returns-clause-fault : goal.returns-clause-fault
+returns-clause-fault g c =
+    run-breaks g.K.Behaviours.gives c.args.system.now _ _ _ c.in_ok-run_once.ensures.ran _ _ c.settle.result
+    c.settle.ensures.ended
