@@ -188,7 +188,7 @@ def definitions_page(file):
 
 def first_sentence(about):
     text = " ".join(about[: about.index("")] if "" in about else about)
-    return re.match(r".*?(?<!\w\.\w)[.:](?=\s|$)|.*", text)[0]
+    return re.match(r".*?(?<!\w\.\w)\.(?=\s|$)|.*", text)[0]
 
 
 def entry(goal, name, said):
@@ -198,7 +198,7 @@ def entry(goal, name, said):
 
 def index_page():
     """The index: each item with its methods, then the files of definitions. The search box leaves what has all words."""
-    first = '<a href="heddleorange.PlannedSystem.html"><code>PlannedSystem</code></a> and <a href="mb_actor.Actor.html"><code>Actor</code></a>'
+    first = '<a href="heddleorange.NewSystem.html"><code>NewSystem</code></a> and <a href="mb_actor.Actor.html"><code>Actor</code></a>'
     body = ["<h1>API reference</h1>", "<p>What a program of your own can use, and the definitions that the contracts cite.", f"Begin with {first}.</p>"]
     body.append('<p id="none" hidden>Nothing has all these words.</p>')
     found = sorted(links.items().values(), key=lambda item: (item.name.lower(), item.crate))
