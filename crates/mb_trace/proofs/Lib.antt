@@ -2,6 +2,7 @@ pub mod Written
 pub mod Readable
 pub mod Shown
 pub mod AsideLines
+pub mod GoneLines
 pub mod NewestLines
 pub mod PartLines
 pub mod TurnLines

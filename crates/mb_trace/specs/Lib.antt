@@ -12,5 +12,6 @@ pub mod Output
 pub mod Text
 pub mod Coverage
 pub mod Rest
+pub mod GoneLetters
 pub mod Newest
 pub mod Whole

@@ -8,6 +8,7 @@ use Rattle.mb_report.specs.declared.report.ActorReport.{ActorReport}
 use Rattle.mb_report.specs.declared.report.Report.{Report}
 use Rattle.mb_trace.specs.Entries.{arrival_text, effect_lines_text}
 use Rattle.mb_trace.specs.Filter.{is_of_kind}
+use Rattle.mb_trace.specs.GoneLetters.{gone_dead_letters_text}
 use Rattle.mb_trace.specs.Rest.{readable_rest_text, where_shown}
 use Rattle.mb_trace.specs.Text.{title_text}
 use Rattle.mb_trace.specs.declared.filter.EntryKinds.{EntryKinds}
@@ -48,8 +49,8 @@ abbrev pub all_actors_text : List (List ℕ) → Filter → ℕ → List ActorRe
 all_actors_text names f actor [] = []
 all_actors_text names f actor (r ∷ reported) = actor_text names f actor r ++ all_actors_text names f (actor + 1) reported
 
--- the newest entries of each actor, and then what of the end can be read
+-- the newest entries of each actor, then how many dead letters are not kept, and then what of the end can be read
 abbrev pub newest_text : List (List ℕ) → Filter → Report → List ℕ
 newest_text names f report =
     codes "newest entries: each actor by itself, in the order of its journal\n" ++ all_actors_text names f 0 report.actors.items
-    ++ readable_rest_text names f report
+    ++ gone_dead_letters_text names f report ++ readable_rest_text names f report

@@ -15,6 +15,7 @@ mod entry_kind;
 mod entry_line;
 mod error;
 mod filter;
+mod gone_letters;
 mod kept;
 mod laws;
 mod life;

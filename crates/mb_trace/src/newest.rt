@@ -7,6 +7,7 @@ ghost use Rattle.mb_trace.specs.Output.{IsWritten};
 use crate::entry_line::{GoneLine, NewestLines};
 use crate::error::TraceError;
 use crate::filter::{EntryKinds, Filter, is_of};
+use crate::gone_letters::write_gone_letters;
 use crate::output::{write_lines, write_whole};
 use crate::parts::write_title;
 use crate::undelivered::write_rest;
@@ -19,8 +20,8 @@ use std::io::Write;
 /// The first line.
 const NEWEST: &str = "newest entries: each actor by itself, in the order of its journal\n";
 
-/// Writes the entries that the journals keep, actor by actor, with a line that says how many before them are not kept; then the dead
-/// letters, what is left and what is set aside. Which entries of other actors came between, and how an actor stood after an entry, is found by
+/// Writes the entries that the journals keep, actor by actor, with a line that says how many before them are not kept; then how many dead
+/// letters of each sender, and of each actor's end, are not kept; then the others, what is left and what is set aside. Which entries of other actors came between, and how an actor stood after an entry, is found by
 /// going through whole journals, so this has neither. What the filter leaves out is not written; its limit has no part in it.
 ///
 /// The errors: `NoMemory`, `Closed` where whoever reads the output has closed it, and `Os` where writing failed otherwise. A beginning of
@@ -36,6 +37,7 @@ pub fn write_newest<W: Write>(
 {
     write_whole(out, NEWEST.as_bytes())?;
     write_actors(alloc, names, filter, &report.actors, out)?;
+    write_gone_letters(alloc, names, filter, report, out)?;
     write_rest(alloc, names, filter, report, out)
 }
 

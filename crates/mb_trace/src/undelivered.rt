@@ -38,7 +38,7 @@ pub(crate) fn write_rest<W: Write>(
 }
 
 /// Whether envelopes at the end are shown with these kinds of entries.
-fn has_envelopes(only: EntryKinds) -> bool
+pub(crate) fn has_envelopes(only: EntryKinds) -> bool
     ensures { result ≡ shows_envelopes only }
 {
     match only {

@@ -57,7 +57,7 @@ fn write_kind<W: fmt::Write>(
 }
 
 /// Words, and the name of an actor.
-fn write_of<W: fmt::Write>(
+pub(crate) fn write_of<W: fmt::Write>(
     f: &mut fmt::Formatter<W>,
     words: &str,
     names: &[String],
@@ -93,7 +93,7 @@ impl fmt::Display for EnvelopeWords<'_> {
 
 /// The name of a sender.
 #[tactic(auto, unfolding(crate::specs::Words::sender_text))]
-fn write_sender<W: fmt::Write>(
+pub(crate) fn write_sender<W: fmt::Write>(
     f: &mut fmt::Formatter<W>,
     names: &[String],
     by: SenderId,

@@ -1,0 +1,50 @@
+use Rattle.std.proofs.Common.{◌+◌, ◌++◌, ◌∙◌, [], ap, append_assoc, drop, map, refl, string_bytes, sym}
+use Rattle.std.proofs.lemmas.List.{append-nil, drop_all}
+use Rattle.mb_trace.specs.GoneLetters.{actor_gone_text, all_gone_cleaned_text}
+use Rattle.mb_trace.proofs.Written.{appends-both, appends-none, appends-same, begins-within, err-written}
+use Rattle.mb_trace.proofs.GoneLines.{actor-next}
+use Rattle.mb_trace.proofs.gone_letters.write_of_actors.Goals as goal
+
+pub loop-actor-init : goal.loop-actor-init
+loop-actor-init g c = record { number = refl; so_far = []; written = appends-none (g.W.Write.contents c.args.out.now); whole = refl }
+
+pub loop-actor-preserved : goal.loop-actor-preserved
+loop-actor-preserved g c =
+    let names = map string_bytes c.args.names.now in
+    let f = c.args.filter.now in
+    let i = c.loop-actor.actor-index in
+    let before = c.loop-actor.invariant in
+    let piece = actor_gone_text names f c.loop-actor.number c.actor-item.result in
+    record {
+      number = ap (λ n. n + 1) before.number;
+      so_far = before.so_far ++ piece;
+      written = appends-both _ _ _ before.so_far piece before.written c.in_ok-write_of_actor.ensures;
+      whole =
+          before.whole
+          ∙ (ap (λ l. before.so_far ++ l) (actor-next names f i c.loop-actor.number c.args.actors.now c.actor-item.result before.number c.loop-actor-test.true c.actor-item.is)
+          ∙ sym (append_assoc before.so_far piece (all_gone_cleaned_text names f (i + 1) (drop (i + 1) c.args.actors.now))));
+    }
+
+pub returns-in_err-write_of_actor : goal.returns-in_err-write_of_actor
+returns-in_err-write_of_actor g c =
+    let names = map string_bytes c.args.names.now in
+    let f = c.args.filter.now in
+    let i = c.loop-actor.actor-index in
+    let before = c.loop-actor.invariant in
+    let piece = actor_gone_text names f c.loop-actor.number c.actor-item.result in
+    let rest = all_gone_cleaned_text names f (i + 1) (drop (i + 1) c.args.actors.now) in
+    err-written _ _ _ c.from_residual.result _ c.from_residual.ensures.1
+    (begins-within _ _ _ before.so_far piece rest _ before.written c.in_err-write_of_actor.ensures
+    (before.whole
+    ∙ (ap (λ l. before.so_far ++ l) (actor-next names f i c.loop-actor.number c.args.actors.now c.actor-item.result before.number c.loop-actor-test.true c.actor-item.is)
+    ∙ sym (append_assoc before.so_far piece rest))))
+
+pub returns : goal.returns
+returns g c =
+    let names = map string_bytes c.args.names.now in
+    let f = c.args.filter.now in
+    let i = c.loop-actor.actor-index in
+    let before = c.loop-actor.invariant in
+    appends-same _ _ _ _
+    (sym (before.whole ∙ (ap (λ l. before.so_far ++ all_gone_cleaned_text names f i l) (drop_all i c.args.actors.now c.loop-actor-test.false) ∙ append-nil before.so_far)))
+    before.written
