@@ -6,13 +6,16 @@ use std::io;
 use std::io::ErrorKind;
 
 /// Why a trace was not written to its end.
-#[derive(Clone, Copy, Debug, PartialEq, Eq)]
+#[derive(Clone, Copy, Debug, PartialEq, Eq, thiserror::Error)]
 pub enum TraceError {
     /// Memory was refused.
+    #[error("memory was refused")]
     NoMemory,
     /// Whoever reads the output has closed it.
+    #[error("whoever reads the output has closed it")]
     Closed,
     /// Writing failed.
+    #[error("writing failed")]
     Os,
 }
 

@@ -10,36 +10,32 @@ use mb_trace::{EntryKinds, Filter, Trace, TraceError};
 use std::alloc::{AllocError, Global};
 use std::io::Write;
 
-/// What a trace tells of a system beside the report of its run. It is taken before the run, which takes the system.
+/// The plan of a system, of whose run there is to be a trace. It is taken before the run, which takes the system.
 #[derive(Drop)]
 pub struct TracedSystem {
     plan: Plan,
-    names: Vec<String>,
 }
 
 impl TracedSystem {
-    /// What it tells of a system with this plan, whose actors beside the guardian have these names, from number 1 on. The only error: memory
-    /// was refused.
-    pub fn of(alloc: Global, plan: &Plan, names: &[String]) -> Result<Self, AllocError> {
-        let mut texts = Vec::new(alloc);
-        for name in names {
-            texts.push(String::from_str(alloc, name.as_str())?)?;
-        }
+    /// A system with this plan. The only error: memory was refused.
+    pub fn of(alloc: Global, plan: &Plan) -> Result<Self, AllocError> {
         Ok(TracedSystem {
             plan: copied_plan(alloc, plan)?,
-            names: texts,
         })
     }
 
     /// Writes the trace of the system's run in this form: what came to each actor, what became of it, and how the actor stood then, in one
-    /// order that agrees with what caused what. The orders are those of each sender outside the actors, as the run got them. What an actor
-    /// has as its state after each entry no journal tells, so the trace is without it. The report has to keep all entries, all that was cleaned up
-    /// and all dead letters: that of a run of a plan whose journals keep their entries does, and `mb_trace::keeps_entries` tells it of any report.
+    /// order that agrees with what caused what. The names are those of the actors beside the guardian, from number 1 on, as a run answers
+    /// them with its report (`names.texts` of a `NamedReport`). The orders are those of each sender outside the actors, as the run got them.
+    /// What an actor has as its state after each entry no journal tells, so the trace is without it. The report has to keep all entries, all
+    /// that was cleaned up and all dead letters: that of a run of a plan whose journals keep their entries does, and `mb_trace::keeps_entries`
+    /// tells it of any report.
     ///
     /// The errors: `NoMemory`, `Closed` where whoever reads the output has closed it, and `Os` where writing failed otherwise.
     pub fn write_trace<W: Write>(
         &self,
         alloc: Global,
+        names: &[String],
         orders: &[Vec<Order>],
         report: &Report,
         format: TraceFormat,
@@ -53,7 +49,7 @@ impl TracedSystem {
             only: EntryKinds::All,
             limit: u64::MAX,
         };
-        let trace = trace_of(&self.names, &self.plan, &sends, report);
+        let trace = trace_of(names, &self.plan, &sends, report);
         write_trace(alloc, &trace, &all, format, out)
     }
 }

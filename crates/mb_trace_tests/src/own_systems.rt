@@ -3,9 +3,10 @@ use crate::orders::{Came, actor, child, envelope, plan};
 use mb_actor::Effect;
 use mb_msg::{ActorId, ActorPlan, Body, Order, Plan};
 use mb_report::Report;
-use mb_trace::keeps_entries;
+use mb_trace::{TraceError, keeps_entries};
 use mb_trace_forms::{TraceFormat, TracedSystem};
 use std::alloc::{AllocError, Global};
+use std::error::Error;
 use std::test::Fail;
 
 const TELLER: ActorId = ActorId(1);
@@ -87,12 +88,18 @@ fn report(alloc: Global) -> Option<Report> {
     Some(Report { actors, senders })
 }
 
-/// The trace of the transfer in this form.
-fn trace(alloc: Global, format: TraceFormat) -> Option<Vec<u8>> {
+/// The names of the teller and the accounts.
+fn names(alloc: Global) -> Option<Vec<String>> {
     let teller = String::from_str(alloc, "teller").ok()?;
     let alice = String::from_str(alloc, "alice").ok()?;
     let bob = String::from_str(alloc, "bob").ok()?;
-    let system = TracedSystem::of(alloc, &bank(alloc)?, &[teller, alice, bob]).ok()?;
+    vec![in alloc; teller, alice, bob].ok()
+}
+
+/// The trace of the transfer in this form.
+fn trace(alloc: Global, format: TraceFormat) -> Option<Vec<u8>> {
+    let system = TracedSystem::of(alloc, &bank(alloc)?).ok()?;
+    let names = names(alloc)?;
     let report = report(alloc)?;
     if !keeps_entries(&report) {
         return None;
@@ -101,7 +108,7 @@ fn trace(alloc: Global, format: TraceFormat) -> Option<Vec<u8>> {
     let orders = vec![in alloc; orders].ok()?;
     let mut out = Vec::new(alloc);
     system
-        .write_trace(alloc, &orders, &report, format, &mut out)
+        .write_trace(alloc, &names, &orders, &report, format, &mut out)
         .ok()?;
     Some(out)
 }
@@ -133,6 +140,24 @@ fn a_system_of_ones_own_is_shown_in_each_form(rt: HostRuntime) -> Result<(), Fai
             .filter(|part| *part == entry.as_bytes())
             .count();
         assert!(rt; found == entries, "{entry} {found}");
+    }
+    Ok(())
+}
+
+/// The text of an error of any type, as whoever hands it on takes it.
+fn text_of<E: Error>(alloc: Global, error: &E) -> Result<String, AllocError> {
+    error.to_string(alloc)
+}
+
+#[test]
+fn a_trace_error_is_an_error_with_a_text(rt: HostRuntime) -> Result<(), Fail> {
+    for (error, text) in [
+        (TraceError::NoMemory, "memory was refused"),
+        (TraceError::Closed, "whoever reads the output has closed it"),
+        (TraceError::Os, "writing failed"),
+    ] {
+        let told = text_of(rt.alloc(), &error)?;
+        assert!(rt; told.as_str() == text, "{text}");
     }
     Ok(())
 }
