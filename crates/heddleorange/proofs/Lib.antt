@@ -39,6 +39,7 @@ pub mod Started
 pub mod ArrivedLaw
 pub mod PassedOn
 pub mod Adding
+pub mod AddingAll
 pub mod ByCounts
 pub mod Kept
 pub mod First

@@ -19,3 +19,4 @@ pub mod Covering
 pub mod NamedOrder
 pub mod GivesBack
 pub mod Added
+pub mod AddedAll

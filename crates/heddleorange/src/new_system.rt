@@ -1,16 +1,17 @@
 //! A planned system all of whose actors are new.
-ghost use Rattle.std.specs.Prelude.{◌≡◌, ◌⊎◌, ◌+◌, ◌<◌, ◌≤◌, ◌↔◌, ℤ, pos, [], All, IfErr, IfOk, IsErrOf, Some, List, OnOk, Option, length, map};
+ghost use Rattle.std.specs.Prelude.{◌≡◌, ◌⊎◌, ◌+◌, ◌<◌, ◌≤◌, ◌↔◌, ℤ, pos, [], All, IfErr, IfOk, IsErrOf, None, Some, List, OnOk, Option, length, map};
 ghost use Rattle.mb_actor.specs.declared.message.Message.{Message};
 ghost use Rattle.mb_actor.specs.declared.message.Message.TheVariants.{Terminated};
 ghost use Rattle.mb_msg.specs.declared.id.ActorId.{ActorId as Id};
 ghost use Rattle.mb_quantity.specs.Quantity.{AllConserve, Holding};
 ghost use Rattle.mb_build.specs.declared.check.PlanError.TheVariants.{Actors, Parent};
 ghost use Rattle.heddleorange.specs.Added.{IsAdded};
+ghost use Rattle.heddleorange.specs.AddedAll.{AreAdded, first_taken, names_behind};
 ghost use Rattle.heddleorange.specs.Conservation.{IsConserved};
 ghost use Rattle.heddleorange.specs.GivesBack.{GivesBack};
 ghost use Rattle.heddleorange.specs.Kept.{KeepsAsPlanned};
 ghost use Rattle.heddleorange.specs.Ledger.{AddsUp, AddsUpByCounts};
-ghost use Rattle.heddleorange.specs.Names.{name_by_default, number_of};
+ghost use Rattle.heddleorange.specs.Names.{name_by_default, number_of, texts_of};
 ghost use Rattle.heddleorange.specs.NamedOrder.{NamesInLists};
 ghost use Rattle.heddleorange.specs.NoReport.{IsErrorOfRun, IsRight};
 ghost use Rattle.heddleorange.specs.RunHeadline.{RunHeadline};
@@ -81,6 +82,47 @@ impl<A: Actor> NewSystem<A> {
     {
         let Unused { actor } = actor;
         self.system.add_named(name, plan, actor)
+    }
+
+    /// Adds these actors with their plans, in order: all of them, or none. Their names are `$` and their numbers, as `add` gives them.
+    ///
+    /// It answers the error of the first actor that `add` refuses: `BadPlan(Actors)` if there are 63 actors before it; else
+    /// `BadPlan(Parent)` with its own number if its parent is neither the guardian nor an earlier actor; else `NoMemory` if memory was
+    /// refused. All these plans and actors are dropped then.
+    pub fn add_all(&mut self, actors: Vec<(ActorPlan, Unused<A>)>) -> Result<(), Error>
+        ensures added { AreAdded self.old.system (map (λ given. given.0) actors.items) (map (λ given. given.1.actor) actors.items)
+            (names_behind (length self.old.system.actors.items) (map (λ given. given.0) actors.items)) result self.new.system }
+        ensures errors { IfErr result (λ error. (error ≡ BadPlan Actors) ⊎ ((id : Id) × (error ≡ BadPlan (Parent id))) ⊎ (error ≡ NoMemory)) }
+    {
+        let there = self.system.actors.len();
+        for (plan, actor) in actors {
+            if let Err(error) = self.add(plan, actor) {
+                self.system.keep_first(there);
+                return Err(error);
+            }
+        }
+        Ok(())
+    }
+
+    /// Adds these actors with their plans under these names, in order: all of them, or none, as `add_all` does. It also answers the
+    /// `NameTaken` with which `add_named` refuses one of them: an actor that was there has its name, or an earlier one of these.
+    pub fn add_all_named(&mut self, actors: Vec<(&str, ActorPlan, Unused<A>)>) -> Result<(), Error>
+        ensures added { AreAdded self.old.system (map (λ given. given.1) actors.entry.items) (map (λ given. given.2.actor) actors.entry.items)
+            (map (λ given. given.0.now) actors.entry.items) result self.new.system }
+        ensures free { OnOk result (first_taken (texts_of self.old.system.names.texts.items) (map (λ given. given.0.now) actors.entry.items) ≡ None) }
+        ensures taken { (id : Id) → IsErrOf result (NameTaken id)
+            → first_taken (texts_of self.old.system.names.texts.items) (map (λ given. given.0.now) actors.entry.items) ≡ Some id.0 }
+        ensures errors { IfErr result (λ error. (error ≡ BadPlan Actors) ⊎ ((id : Id) × (error ≡ BadPlan (Parent id))) ⊎ (error ≡ NoMemory)
+            ⊎ ((id : Id) × (error ≡ NameTaken id))) }
+    {
+        let before = self.system.actors.len();
+        for (name, plan, actor) in actors {
+            if let Err(error) = self.add_named(name, plan, actor) {
+                self.system.keep_first(before);
+                return Err(error);
+            }
+        }
+        Ok(())
     }
 }
 

@@ -1,5 +1,5 @@
 //! A plan and its actors, added together.
-ghost use Rattle.std.specs.Prelude.{◌≡◌, ◌⊎◌, ◌+◌, ◌<◌, ◌≤◌, ◌↔◌, [], ◌∷◌, ◌++◌, All, IfErr, IfOk, IsErrOf, IsTrue, OnErr, OnOk, Some, length, map, string_bytes, vec_capacity};
+ghost use Rattle.std.specs.Prelude.{◌≡◌, ◌⊎◌, ◌+◌, ◌<◌, ◌≤◌, ◌↔◌, [], ◌∷◌, ◌++◌, All, IfErr, IfOk, IsErrOf, IsTrue, OnErr, OnOk, Some, length, map, string_bytes, take, vec_capacity};
 ghost use Rattle.mb_build.specs.declared.check.PlanError.TheVariants.{Actors, Parent};
 ghost use Rattle.mb_msg.specs.declared.pool_kind.PoolKind.TheVariants as pool_kind;
 ghost use Rattle.mb_msg.specs.declared.id.ActorId.{ActorId as Id};
@@ -252,6 +252,18 @@ impl<A: Actor> PlannedSystem<A> {
         self.plan.actors.reserve(1)?;
         self.actors.reserve(1)?;
         self.names.texts.reserve(1)
+    }
+
+    // Takes away all actors but the first so many, with their plans and names.
+    pub(crate) fn keep_first(&mut self, number: usize)
+        ensures actors { self.new.actors.items ≡ take number self.old.actors.items }
+        ensures planned { self.new.plan.actors.items ≡ take number self.old.plan.actors.items }
+        ensures named { self.new.names.texts.items ≡ take number self.old.names.texts.items }
+        ensures settings { self.new.plan ≡ record self.old.plan { actors = self.new.plan.actors } }
+    {
+        self.plan.actors.truncate(number);
+        self.actors.truncate(number);
+        self.names.texts.truncate(number);
     }
 
     /// Runs it on this thread, as `run_here` does.
