@@ -1,11 +1,11 @@
 //! Systems of actors that are new by their type, of two types: a run, and runs that give no report and name what is wrong.
 use crate::planned::orders_of;
 use heddleorange::{
-    Error, FailedRun, NamedReport, NewSystem, OneOf, SETTINGS, Settings, Unused, state,
+    Error, FailedRun, NamedReport, NewSystem, OneOf, PlanError, SETTINGS, Settings, Unused, state,
 };
 use mb_msg::{ActorId, ActorPlan, Order, SenderId};
 use mb_testkit::{ADD, COUNTER, TestActor, tell};
-use std::alloc::Global;
+use std::alloc::{AllocError, Global};
 use std::process::Abort;
 use std::sync::Wait;
 use std::test::Fail;
@@ -137,4 +137,80 @@ fn a_full_journal_is_told_with_its_actors_name(rt: HostRuntime) -> Result<(), Fa
         text,
         0,
     )
+}
+
+/// So many counters, children of the guardian.
+fn list(alloc: Global, number: u32) -> Result<Vec<(ActorPlan, Unused<Counter>)>, AllocError> {
+    let mut actors = Vec::new(alloc);
+    for _ in 0..number {
+        actors.push((ActorPlan::child_of(alloc, GUARDIAN), first()))?;
+    }
+    Ok(actors)
+}
+
+/// Two counters behind one that is there: of the last this actor is the parent.
+fn two_more(
+    alloc: Global,
+    parent: ActorId,
+) -> Result<Vec<(ActorPlan, Unused<Counter>)>, AllocError> {
+    let mut actors = list(alloc, 1)?;
+    actors.push((ActorPlan::child_of(alloc, parent), second()))?;
+    Ok(actors)
+}
+
+/// What a run of the three counters comes to.
+const LIST_TEXT: &str = "\
+guardian live state - suspended 0 handled 0 left 0 dead 0 restarts 0
+left live state 3 suspended 0 handled 1 left 0 dead 0 restarts 0
+$2 live state 4 suspended 0 handled 1 left 0 dead 0 restarts 0
+$3 live state 5 suspended 0 handled 1 left 0 dead 0 restarts 0
+sent 3 handled 3 left 0 dead 0
+";
+
+/// Two counters under these names.
+fn named(
+    alloc: Global,
+    one: &'static str,
+    other: &'static str,
+) -> Result<Vec<(&'static str, ActorPlan, Unused<Counter>)>, AllocError> {
+    let mut actors = Vec::new(alloc);
+    actors.push((one, ActorPlan::child_of(alloc, GUARDIAN), first()))?;
+    actors.push((other, ActorPlan::child_of(alloc, GUARDIAN), second()))?;
+    Ok(actors)
+}
+
+#[test]
+fn a_list_with_names_is_added_whole_or_not_at_all(rt: HostRuntime) -> Result<(), Fail> {
+    let alloc = rt.alloc();
+    let mut system = NewSystem::new(alloc, SETTINGS);
+    system.add_all_named(named(alloc, "left", "right")?)?;
+    let refused = system.add_all_named(named(alloc, "middle", "right")?);
+    assert!(&rt; refused == Err(Error::NameTaken(ActorId(2))));
+    let refused = system.add_all_named(named(alloc, "middle", "middle")?);
+    assert!(&rt; refused == Err(Error::NameTaken(ActorId(3))));
+    assert!(&rt; system.system.actors.len() == 2);
+    assert!(&rt; system.system.names.id_of("right") == Some(ActorId(2)));
+    assert!(&rt; system.system.names.id_of("middle").is_none());
+    Ok(())
+}
+
+#[test]
+fn a_list_of_actors_is_added_whole_or_not_at_all(rt: HostRuntime) -> Result<(), Fail> {
+    let alloc = rt.alloc();
+    let mut system = NewSystem::new(alloc, SETTINGS);
+    system.add_named("left", ActorPlan::child_of(alloc, GUARDIAN), first())?;
+    let refused = system.add_all(list(alloc, 63)?);
+    assert!(&rt; refused == Err(Error::BadPlan(PlanError::Actors)));
+    let refused = system.add_all(two_more(alloc, ActorId(3))?);
+    assert!(&rt; refused == Err(Error::BadPlan(PlanError::Parent(ActorId(3)))));
+    assert!(&rt; system.system.actors.len() == 1);
+    system.add_all(two_more(alloc, GUARDIAN)?)?;
+    let orders = [tell!(1, ADD, 3), tell!(2, ADD, 4), tell!(3, ADD, 5)];
+    let sends = orders_of(alloc, &orders)?;
+    let Ok(done) = system.run(&rt, alloc, &sends) else {
+        assert!(&rt; false, "there is no report");
+        return Ok(());
+    };
+    assert!(&rt; done.text(alloc)?.as_str() == LIST_TEXT);
+    Ok(())
 }
