@@ -81,7 +81,7 @@ left-of gives home who a same lawful shows = record {
   count_is = shows.count_is ∙ (λ i. count (same i) (sym shows.journal_is i));
   aside_is = shows.aside_is ∙ (λ i. aside (same i) (sym shows.journal_is i));
   lawful = subst (λ (p : Identity × List Entry). IsLawful p.0 gives p.1) (λ i. (same i, sym shows.journal_is i)) lawful;
-  kept_is = shows.kept_is ∙ ap (λ (w : Identity). w.is_kept) same;
+  kept_is = shows.kept_is ∙ ap (λ (w : Identity). w.retention) same;
 }
 
 module _ {A K : Type 0} (gives : ℕ → Moment → Reply → Type 0) (plan : Plan) (built : Built A K)

@@ -20,7 +20,7 @@ use Rattle.mb_gate.specs.View.{Observation, View}
 use Rattle.mb_gate.specs.declared.gates.Gates.{Gates}
 use Rattle.mb_home.specs.Contents.{Contents}
 use Rattle.mb_home.specs.Directory.{DirectoryEntry}
-use Rattle.mb_msg.specs.JournalMode.{keeps_all}
+use Rattle.mb_msg.specs.JournalMode.{retention_of}
 use Rattle.mb_msg.specs.declared.plan.Plan.{Plan}
 use Rattle.mb_queue.specs.Passes.{SendPassView}
 use Rattle.mb_report.specs.declared.report.ActorReport.{ActorReport}
@@ -28,7 +28,6 @@ use Rattle.mb_report.specs.declared.report.Report.{Report}
 use Rattle.mb_report.specs.declared.report.SenderReport.{SenderReport}
 use Rattle.mb_build.specs.Numbers.{numbers}
 use Rattle.mb_build.specs.Planned.{actors_in}
-use Rattle.mb_send.specs.Keeps.{keeps, keeps_in}
 use Rattle.mb_shutdown.specs.Letters.{KeepsLetters}
 use Rattle.mb_shutdown.specs.Homes.{HomesReturned}
 use Rattle.mb_shutdown.specs.Seen.{ReportExtendsAll}
@@ -144,9 +143,9 @@ module _ {A K : Type 0} (gives : ℕ → Moment → Reply → Type 0) (plan : Pl
 
     -- the dead letters of each sender are kept where the plan says so
     keep-letters : (report : Report) → KeepsLetters now report → length report.senders.items ≡ length (directory_of now) + plan.senders
-        → All (λ (s : SenderReport). s.dead.is_kept ≡ keeps_all plan.journal) report.senders.items
+        → All (λ (s : SenderReport). s.dead.retention ≡ retention_of plan.journal) report.senders.items
     keep-letters report kept many =
-        each-place (λ (s : SenderReport). s.dead.is_kept ≡ keeps_all plan.journal) report.senders.items
+        each-place (λ (s : SenderReport). s.dead.retention ≡ retention_of plan.journal) report.senders.items
         (λ i s found. by_sides i s found (cases_lt i (length (directory_of now))))
       where
         who-are : map (λ (d : DirectoryEntry). d.who) (directory_of now) ≡ actors_in plan
@@ -155,7 +154,7 @@ module _ {A K : Type 0} (gives : ℕ → Moment → Reply → Type 0) (plan : Pl
             ∙ (of-plan gives plan built begun).who
 
         by_sides : (i : ℕ) (s : SenderReport) → slice_get report.senders.items i ≡ Some s
-            → (i < length (directory_of now)) ⊎ (length (directory_of now) ≤ i) → s.dead.is_kept ≡ keeps_all plan.journal
+            → (i < length (directory_of now)) ⊎ (length (directory_of now) ≤ i) → s.dead.retention ≡ retention_of plan.journal
         by_sides i s found (inl lt) =
             let e = there (directory_of now) i lt in
             kept.actors i e.0 s e.1 found
@@ -170,13 +169,13 @@ module _ {A K : Type 0} (gives : ℕ → Moment → Reply → Type 0) (plan : Pl
             let one = (sent.each place of.0 before.0 after.0 of.1 before.1 after.1).0 in
             let by = ap (λ n. n.0) one.by ∙ new.0 in
             let at : n + (after.0.inner.send_log.by.0 - most_actors) ≡ i = omega (arith, by, le) in
-            let began = at-place (λ (o : Sender A K). keeps o.inner.send_log.dead ≡ keeps_in plan.journal) built.senders.items place before.0
+            let began = at-place (λ (o : Sender A K). o.inner.send_log.dead.retention ≡ retention_of plan.journal) built.senders.items place before.0
             begun.keep_letters before.1 in
             at-place (λ (o : Sender A K). (s : SenderReport)
             → slice_get report.senders.items (length (directory_of now) + (o.inner.send_log.by.0 - most_actors)) ≡ Some s
-            → s.dead.is_kept ≡ o.inner.send_log.dead.is_kept) now.senders.items place after.0 kept.outside after.1 s
+            → s.dead.retention ≡ o.inner.send_log.dead.retention) now.senders.items place after.0 kept.outside after.1 s
             (ap (slice_get report.senders.items) at ∙ found)
-            ∙ ap (λ (k : Bool × ℕ). k.0) one.keep_letters ∙ ap (λ (k : Bool × ℕ). k.0) began
+            ∙ one.keep_letters ∙ began
 
     pub story : (after : ℕ → List Message → ℤ) (report : Report) (log : List Observation) (answers : List (List SentEnvelope))
         → StillSee built.ends.items now.ends.items

@@ -39,7 +39,7 @@ pub record IsLeftOf (gives : Moment → Reply → Type 0) (who : Identity) (a : 
   pub count_is : a.count ≡ count who a.journal.entries
   pub aside_is : a.aside.items ≡ aside who a.journal.entries
   pub lawful : IsLawful who gives a.journal.entries
-  pub kept_is : a.journal.is_kept ≡ who.is_kept
+  pub kept_is : a.journal.retention ≡ who.retention
 
 -- This is left of the actors of a run of the plan, the guardian first: what the gates of its system gave back of each, whose journals go on from all
 -- that was seen. What is shown of an actor is left of the one that the plan has at its number.

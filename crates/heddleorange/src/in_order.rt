@@ -1,6 +1,6 @@
 //! A whole run on one thread, where the orders of all senders stand in one row.
 ghost use Rattle.std.specs.Prelude.{◌≡◌, ◌+◌, [], All, IfErr, IfOk, OnOk, length};
-ghost use Rattle.mb_msg.specs.JournalMode.{keeps_all};
+ghost use Rattle.mb_msg.specs.JournalMode.{retention_of};
 ghost use Rattle.mb_build.specs.BehavesAsPlanned.{BehaveAsPlanned};
 ghost use Rattle.mb_dispatch.specs.Runs.{turns_in};
 ghost use Rattle.heddleorange.specs.GivesBack.{GivesBack};
@@ -66,7 +66,7 @@ pub fn run_in_order<A: Actor, R: Wait>(
     ensures turns { IfOk result (λ run. AreTurnsOf plan (turns_in run.turns)) }
     ensures stretches { IfOk result (λ run. AreStretches run.report (turns_in run.turns)) }
     ensures covers { IfOk result (λ run. CoverJournals run.report (turns_in run.turns)) }
-    ensures kept_turns { IfOk result (λ run. run.turns.list.is_kept ≡ keeps_all plan.journal) }
+    ensures kept_turns { IfOk result (λ run. run.turns.list.retention ≡ retention_of plan.journal) }
 {
     run_planned_in_order::<A, Brand, R>(rt, alloc, plan, actors, sends)
 }
@@ -88,7 +88,7 @@ fn run_planned_in_order<A: Actor, K: Behaviours, R: Wait>(
     ensures turns { IfOk result (λ run. AreTurnsOf plan (turns_in run.turns)) }
     ensures stretches { IfOk result (λ run. AreStretches run.report (turns_in run.turns)) }
     ensures covers { IfOk result (λ run. CoverJournals run.report (turns_in run.turns)) }
-    ensures kept_turns { IfOk result (λ run. run.turns.list.is_kept ≡ keeps_all plan.journal) }
+    ensures kept_turns { IfOk result (λ run. run.turns.list.retention ≡ retention_of plan.journal) }
 {
     let (limit, keeps) = (plan.journal_limit, plan.journal);
     let mut built = begin_in_order::<A, K, R>(rt, alloc, plan, actors, sends)?;

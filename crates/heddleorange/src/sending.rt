@@ -1,6 +1,6 @@
 //! Sending all that is to be sent, and running what that leaves to run.
 ghost use Rattle.std.specs.Prelude.{◌≡◌, ◌≢◌, ◌<◌, [], All, Contains, IfErr, IfOk, OnOk, length, map};
-ghost use Rattle.mb_msg.specs.JournalMode.{keeps_all};
+ghost use Rattle.mb_msg.specs.JournalMode.{retention_of};
 ghost use Rattle.mb_gate.specs.Accessors.{actors_of, pass_view};
 ghost use Rattle.mb_gate.specs.Untouched.{origin_of};
 ghost use Rattle.mb_gate.specs.View.{View};
@@ -80,7 +80,7 @@ pub(crate) fn send_in_order_and_run<A: Actor, K: Behaviours, R: Wait>(
     ensures stretches { IfOk result (λ turns. (report : ReportOf) → All (λ e. ReportExtendsAll report (pass_view e.registrar.pass)) built.new.ends.items
         → AreStretches report (turns_in turns)) }
     ensures covers { IfOk result (λ turns. AreAllTurns built.old built.new (turns_in turns)) }
-    ensures kept { IfOk result (λ turns. turns.list.is_kept ≡ keeps_all keeps) }
+    ensures kept { IfOk result (λ turns. turns.list.retention ≡ retention_of keeps) }
     ensures fault { IfErr result (BreaksOff K.gives built.old.system built.new.ends.items (lists_of (length built.old.senders.items) sends.now)) }
 {
     send_in_order(rt, &built.system, &mut built.senders, sends)?;
@@ -107,7 +107,7 @@ fn run_first<A: Actor, K: Behaviours, R: Wait>(
     ensures stretches { IfOk result (λ turns. (report : ReportOf) → All (λ e. ReportExtendsAll report (pass_view e.registrar.pass)) built.new.ends.items
         → AreStretches report (turns_in turns)) }
     ensures covers { IfOk result (λ turns. AreAllTurns built.old built.new (turns_in turns)) }
-    ensures kept { IfOk result (λ turns. turns.list.is_kept ≡ keeps_all keeps) }
+    ensures kept { IfOk result (λ turns. turns.list.retention ≡ retention_of keeps) }
     ensures fault { IfErr result (λ error. (start : View) × (end : EndOf A K) × Contains built.new.ends.items end
         × BreaksQuietRun K.gives built.old.system start end error) }
 {

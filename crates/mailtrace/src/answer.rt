@@ -1,7 +1,7 @@
 //! Running a scenario and showing its run.
 ghost use Rattle.std.specs.Prelude.{◌≡◌, IfOk, false, true};
-ghost use Rattle.mb_msg.specs.JournalMode.{keeps_all};
-ghost use Rattle.mb_report.specs.Keeps.{KeepsAllIf};
+ghost use Rattle.mb_msg.specs.JournalMode.{retention_of};
+ghost use Rattle.mb_report.specs.Keeps.{Keeps, KeepsAllIf};
 
 use crate::argument_error::ArgumentError;
 use crate::details::details_of;
@@ -47,7 +47,7 @@ fn run<T: Threads + Wait + Sync>(
     text: &[u8],
     mode: JournalMode,
 ) -> Result<ScenarioRun, Failure>
-    ensures kept { IfOk result (λ ran. KeepsAllIf (keeps_all mode) ran.run.report) }
+    ensures kept { IfOk result (λ ran. Keeps (retention_of mode) ran.run.report) }
 {
     match run_scenario(rt, alloc, text, mode) {
         Ok(ran) => Ok(ran),

@@ -1,6 +1,6 @@
 -- Who the actors of a plan are (`akka.actor.ActorContext`: parent and children; that children are planned is this project's own profile).
 use Rattle.std.specs.Prelude.{◌≡◌, ℕ, ◌+◌, ◌<◌, ◌≤◌, ◌==◌, if◌then◌else◌, List, [], ◌∷◌, IfSome, Some, None, negsuc, false}
-use Rattle.mb_msg.specs.JournalMode.{keeps_all}
+use Rattle.mb_msg.specs.JournalMode.{retention_of}
 use Rattle.mb_msg.specs.Limits.{most_entries}
 use Rattle.mb_msg.specs.declared.id.ActorId.{ActorId}
 use Rattle.mb_msg.specs.declared.journal_mode.JournalMode.{JournalMode}
@@ -29,7 +29,7 @@ guardian actors mode limit parents = record {
   retries = negsuc 0;
   all_for_one = false;
   limit = limit;
-  is_kept = keeps_all mode;
+  retention = retention_of mode;
 }
 
 -- The actor of this number, parent and strategy.
@@ -43,7 +43,7 @@ planned actors mode limit parents number parent strategy = record {
   retries = strategy.retries;
   all_for_one = strategy.all_for_one;
   limit = limit;
-  is_kept = keeps_all mode;
+  retention = retention_of mode;
 }
 
 -- The actors of these parents and strategies, numbered on from this one.

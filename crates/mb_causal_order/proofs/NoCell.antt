@@ -14,7 +14,7 @@ no_cell = record {
     retries = pos 0;
     all_for_one = false;
     limit = 0;
-    is_kept = false;
+    retention = record { keeps_all = false; last = 0 };
   };
   journal = [];
   acts = [];

@@ -130,17 +130,17 @@ module _ (place : ActorIdentity) (old new : JournalView) (e : Entry) (after : Li
     (tray called : OutboxView) (own_after : List Message → ℤ) (own_gives : Moment → Reply → Type 0) (content : ℤ) (made : List Call)
     (new_after : List Message → ℤ) (new_gives : Moment → Reply → Type 0) (new_made : List Call) (call : Call) (a : Option Answer)
     (effects : List Effect) (added : new ≡ longer old e) (within : length new.entries ≤ new.limit)
-    (kept : Agrees (identity_of place old.limit old.is_kept) old.entries gives cell_state tray)
-    (plays : FollowsBehaviour (identity_of place old.limit old.is_kept) old.entries after gives own_after own_gives content made)
+    (kept : Agrees (identity_of place old.limit old.retention) old.entries gives cell_state tray)
+    (plays : FollowsBehaviour (identity_of place old.limit old.retention) old.entries after gives own_after own_gives content made)
     (came : IsCalled call a effects tray called own_after own_gives content made new_after new_gives new_made) (then : Queries)
-    (row : IsCallingRow (identity_of place old.limit old.is_kept) gives old.entries e call a effects cell_state new_cell_state then) where
+    (row : IsCallingRow (identity_of place old.limit old.retention) gives old.entries e call a effects cell_state new_cell_state then) where
   -- where the effects last
   pub calling-settled : (new_tray : OutboxView) (new_content : ℤ) → new_tray ≡ settled called →
-      then.unspawned ≡ filter (λ x. not (has (spawns_of effects) x)) (unspawned (identity_of place old.limit old.is_kept) old.entries) →
+      then.unspawned ≡ filter (λ x. not (has (spawns_of effects) x)) (unspawned (identity_of place old.limit old.retention) old.entries) →
       new_content ≡ new_after then.messages →
-      Agrees (identity_of place new.limit new.is_kept) new.entries gives new_cell_state new_tray
+      Agrees (identity_of place new.limit new.retention) new.entries gives new_cell_state new_tray
       × (new.is_ready ≡ true → new_cell_state.is_ready ≡ true)
-      × FollowsBehaviour (identity_of place new.limit new.is_kept) new.entries after gives new_after new_gives new_content new_made
+      × FollowsBehaviour (identity_of place new.limit new.retention) new.entries after gives new_after new_gives new_content new_made
   calling-settled new_tray new_content tray_is same_unspawned content_is =
       let within_before = length-added old new e added within in
       kept-called place old new e after gives new_cell_state new_tray new_after new_gives new_content new_made added
@@ -151,10 +151,10 @@ module _ (place : ActorIdentity) (old new : JournalView) (e : Entry) (after : Li
 
   -- where they do not: those of a stop
   pub calling-cleared : (new_tray : OutboxView) (new_content : ℤ) → new_tray ≡ record called { effects = [] } →
-      then.unspawned ≡ unspawned (identity_of place old.limit old.is_kept) old.entries → new_content ≡ new_after then.messages →
-      Agrees (identity_of place new.limit new.is_kept) new.entries gives new_cell_state new_tray
+      then.unspawned ≡ unspawned (identity_of place old.limit old.retention) old.entries → new_content ≡ new_after then.messages →
+      Agrees (identity_of place new.limit new.retention) new.entries gives new_cell_state new_tray
       × (new.is_ready ≡ true → new_cell_state.is_ready ≡ true)
-      × FollowsBehaviour (identity_of place new.limit new.is_kept) new.entries after gives new_after new_gives new_content new_made
+      × FollowsBehaviour (identity_of place new.limit new.retention) new.entries after gives new_after new_gives new_content new_made
   calling-cleared new_tray new_content tray_is same_unspawned content_is =
       let within_before = length-added old new e added within in
       kept-called place old new e after gives new_cell_state new_tray new_after new_gives new_content new_made added

@@ -1,6 +1,7 @@
 -- From the journal with an entry more to the cell with it.
 use Rattle.std.proofs.Common.{◌≡◌, ℕ, ◌+◌, ◌*◌, ◌^◌, ◌<◌, ◌≤◌, ℤ, List, ◌∷◌, length, Bool, true, false, refl, ap, sym, ◌∙◌, subst, arith}
 use Rattle.std.specs.Prelude.{MatchOption, Option, Some, None, if◌then◌else◌}
+use Rattle.mb_msg.specs.JournalMode.{Retention}
 use Rattle.mb_msg.specs.declared.envelope.Envelope.{Envelope}
 use Rattle.mb_msg.specs.declared.system.SysMsg.{SysMsg}
 use Rattle.mb_actor.specs.Behaviour.{Moment, Reply}
@@ -34,19 +35,19 @@ abbrev pub longer : JournalView → Entry → JournalView
 longer old e = record old { entries = e ∷ old.entries; is_ready = false }
 
 -- what holds of an entry more holds of the journal that was added to
-pub at-log : (P : ℕ → Bool → List Entry → Type 0) (old new : JournalView) (e : Entry) → new ≡ longer old e → P old.limit old.is_kept (e ∷ old.entries) →
-    P new.limit new.is_kept new.entries
-at-log P old new e added here = subst (λ (j : JournalView). P j.limit j.is_kept j.entries) (sym added) here
+pub at-log : (P : ℕ → Retention → List Entry → Type 0) (old new : JournalView) (e : Entry) → new ≡ longer old e → P old.limit old.retention (e ∷ old.entries) →
+    P new.limit new.retention new.entries
+at-log P old new e added here = subst (λ (j : JournalView). P j.limit j.retention j.entries) (sym added) here
 
 -- the cell, as contracts see it, with an entry more and its acts
 pub seen-added : (place : ActorIdentity) (old new : JournalView) (e : Entry) (old_acts new_acts : List Act) (now : CellView) → new ≡ longer old e →
-    (let seen : CellView = record { who = identity_of place old.limit old.is_kept; journal = old.entries; acts = old_acts; is_ready = old.is_ready } in seen ≡ now) →
-    new_acts ≡ acts (identity_of place old.limit old.is_kept) old.entries e →
-    (let seen : CellView = record { who = identity_of place new.limit new.is_kept; journal = new.entries; acts = new_acts; is_ready = new.is_ready } in
+    (let seen : CellView = record { who = identity_of place old.limit old.retention; journal = old.entries; acts = old_acts; is_ready = old.is_ready } in seen ≡ now) →
+    new_acts ≡ acts (identity_of place old.limit old.retention) old.entries e →
+    (let seen : CellView = record { who = identity_of place new.limit new.retention; journal = new.entries; acts = new_acts; is_ready = new.is_ready } in
     seen ≡ with_entry now e)
 seen-added place old new e old_acts new_acts now added view_is acts_are =
     (λ i. record {
-      who = identity_of place (added i).limit (added i).is_kept;
+      who = identity_of place (added i).limit (added i).retention;
       journal = (added i).entries;
       acts = acts_are i;
       is_ready = (added i).is_ready;
@@ -95,10 +96,10 @@ abbrev pub Kept : {A : Type 0} (place : ActorIdentity) (log : JournalView) (afte
     (tray : OutboxView) (unsent : ℕ) (actor : Option A) (own_after : A → List Message → ℤ) (own_gives : A → Moment → Reply → Type 0) (content : A → ℤ)
     (made : A → List Call) → Type 0
 Kept place log after gives cell_state tray unsent actor own_after own_gives content made =
-    Agrees (identity_of place log.limit log.is_kept) log.entries gives cell_state tray
+    Agrees (identity_of place log.limit log.retention) log.entries gives cell_state tray
     × (log.is_ready ≡ true → cell_state.is_ready ≡ true)
-    × MatchOption actor (is_guardian (identity_of place log.limit log.is_kept) ≡ true)
-    (λ a. FollowsBehaviour (identity_of place log.limit log.is_kept) log.entries after gives (own_after a) (own_gives a) (content a) (made a))
+    × MatchOption actor (is_guardian (identity_of place log.limit log.retention) ≡ true)
+    (λ a. FollowsBehaviour (identity_of place log.limit log.retention) log.entries after gives (own_after a) (own_gives a) (content a) (made a))
     × IsUnsent unsent log.entries
 
 not_ready : (old new : JournalView) (e : Entry) (P : Type 0) → new ≡ longer old e → new.is_ready ≡ true → P
@@ -107,20 +108,20 @@ not_ready old new e P added ready = let no : new.is_ready ≡ false = ap (λ (j 
 pub kept-silent : {A : Type 0} (place : ActorIdentity) (old new : JournalView) (e : Entry) (after : List Message → ℤ) (gives : Moment → Reply → Type 0)
     (cell_state new_cell_state : CellState) (tray new_tray : OutboxView) (unsent : ℕ) (actor : Option A) (own_after : A → List Message → ℤ)
     (own_gives : A → Moment → Reply → Type 0) (content : A → ℤ) (made : A → List Call) → new ≡ longer old e →
-    Agrees (identity_of place old.limit old.is_kept) (e ∷ old.entries) gives new_cell_state new_tray →
-    call_of (identity_of place old.limit old.is_kept) old.entries e ≡ None →
-    (is_guardian (identity_of place old.limit old.is_kept) ≡ false →
-    messages (identity_of place old.limit old.is_kept) (e ∷ old.entries) ≡ messages (identity_of place old.limit old.is_kept) old.entries) →
+    Agrees (identity_of place old.limit old.retention) (e ∷ old.entries) gives new_cell_state new_tray →
+    call_of (identity_of place old.limit old.retention) old.entries e ≡ None →
+    (is_guardian (identity_of place old.limit old.retention) ≡ false →
+    messages (identity_of place old.limit old.retention) (e ∷ old.entries) ≡ messages (identity_of place old.limit old.retention) old.entries) →
     Kept place old after gives cell_state tray unsent actor own_after own_gives content made → unsent ≡ 0 →
     Kept place new after gives new_cell_state new_tray unsent actor own_after own_gives content made
 kept-silent place old new e after gives cell_state new_cell_state tray new_tray unsent actor own_after own_gives content made added agrees silent same kept none = (
-  at-log (λ limit is_kept journal. Agrees (identity_of place limit is_kept) journal gives new_cell_state new_tray) old new e added agrees,
+  at-log (λ limit retention journal. Agrees (identity_of place limit retention) journal gives new_cell_state new_tray) old new e added agrees,
   not_ready old new e (new_cell_state.is_ready ≡ true) added,
   match-on actor _ _ _ _ (λ guardian. guardian)
       (λ a plays.
       at-log
-      (λ limit is_kept journal. FollowsBehaviour (identity_of place limit is_kept) journal after gives (own_after a) (own_gives a) (content a) (made a)) old new e added
-      (plays-on (identity_of place old.limit old.is_kept) old.entries e after gives (own_after a) (own_gives a) (content a) (made a) silent
+      (λ limit retention journal. FollowsBehaviour (identity_of place limit retention) journal after gives (own_after a) (own_gives a) (content a) (made a)) old new e added
+      (plays-on (identity_of place old.limit old.retention) old.entries e after gives (own_after a) (own_gives a) (content a) (made a) silent
       (same plays.no_guardian) plays))
       kept.2,
   is-unsent-none unsent new.entries none,
@@ -129,10 +130,10 @@ kept-silent place old new e after gives cell_state new_cell_state tray new_tray 
 -- a system message was taken
 pub taken-system : (place : ActorIdentity) (old new : JournalView) (number : ℕ) (m : SysMsg) (outcome : Outcome) (old_acts new_acts : List Act) (now : CellView) →
     new ≡ longer old (System number m outcome) →
-    (let seen : CellView = record { who = identity_of place old.limit old.is_kept; journal = old.entries; acts = old_acts; is_ready = old.is_ready } in seen ≡ now) →
-    new_acts ≡ acts (identity_of place old.limit old.is_kept) old.entries (System number m outcome) →
+    (let seen : CellView = record { who = identity_of place old.limit old.retention; journal = old.entries; acts = old_acts; is_ready = old.is_ready } in seen ≡ now) →
+    new_acts ≡ acts (identity_of place old.limit old.retention) old.entries (System number m outcome) →
     TakesSystem now
-    (record { who = identity_of place new.limit new.is_kept; journal = new.entries; acts = new_acts; is_ready = new.is_ready }) number m
+    (record { who = identity_of place new.limit new.retention; journal = new.entries; acts = new_acts; is_ready = new.is_ready }) number m
 taken-system place old new number m outcome old_acts new_acts now added view_is acts_are = record {
   outcome = outcome;
   adds = seen-added place old new (System number m outcome) old_acts new_acts now added view_is acts_are;
@@ -145,15 +146,15 @@ length-added old new e added within = subst (λ (j : JournalView). length j.entr
 
 pub kept-called : (place : ActorIdentity) (old new : JournalView) (e : Entry) (after : List Message → ℤ) (gives : Moment → Reply → Type 0) (new_cell_state : CellState)
     (new_tray : OutboxView) (own_after : List Message → ℤ) (own_gives : Moment → Reply → Type 0) (content : ℤ) (made : List Call) →
-    new ≡ longer old e → Agrees (identity_of place old.limit old.is_kept) (e ∷ old.entries) gives new_cell_state new_tray →
-    FollowsBehaviour (identity_of place old.limit old.is_kept) (e ∷ old.entries) after gives own_after own_gives content made →
-    Agrees (identity_of place new.limit new.is_kept) new.entries gives new_cell_state new_tray
+    new ≡ longer old e → Agrees (identity_of place old.limit old.retention) (e ∷ old.entries) gives new_cell_state new_tray →
+    FollowsBehaviour (identity_of place old.limit old.retention) (e ∷ old.entries) after gives own_after own_gives content made →
+    Agrees (identity_of place new.limit new.retention) new.entries gives new_cell_state new_tray
     × (new.is_ready ≡ true → new_cell_state.is_ready ≡ true)
-    × FollowsBehaviour (identity_of place new.limit new.is_kept) new.entries after gives own_after own_gives content made
+    × FollowsBehaviour (identity_of place new.limit new.retention) new.entries after gives own_after own_gives content made
 kept-called place old new e after gives new_cell_state new_tray own_after own_gives content made added agrees plays = (
-  at-log (λ limit is_kept journal. Agrees (identity_of place limit is_kept) journal gives new_cell_state new_tray) old new e added agrees,
+  at-log (λ limit retention journal. Agrees (identity_of place limit retention) journal gives new_cell_state new_tray) old new e added agrees,
   not_ready old new e (new_cell_state.is_ready ≡ true) added,
-  at-log (λ limit is_kept journal. FollowsBehaviour (identity_of place limit is_kept) journal after gives own_after own_gives content made) old new e added plays,
+  at-log (λ limit retention journal. FollowsBehaviour (identity_of place limit retention) journal after gives own_after own_gives content made) old new e added plays,
 )
 
 -- what holds of the cell's fields where the actor is there
@@ -182,15 +183,15 @@ within-forgotten mid new within forgot = subst (λ (j : JournalView). length j.e
 -- an envelope was taken
 pub taken-envelope : (place : ActorIdentity) (old new : JournalView) (e : Entry) (envelope : Envelope) (reading : ℕ) (old_acts new_acts : List Act) (now : CellView) →
     IsOf envelope reading e → IsLonger old new e →
-    (let seen : CellView = record { who = identity_of place old.limit old.is_kept; journal = old.entries; acts = old_acts; is_ready = old.is_ready } in seen ≡ now) →
-    new_acts ≡ acts (identity_of place old.limit old.is_kept) old.entries e →
+    (let seen : CellView = record { who = identity_of place old.limit old.retention; journal = old.entries; acts = old_acts; is_ready = old.is_ready } in seen ≡ now) →
+    new_acts ≡ acts (identity_of place old.limit old.retention) old.entries e →
     TakesEnvelope now
-    (record { who = identity_of place new.limit new.is_kept; journal = new.entries; acts = new_acts; is_ready = new.is_ready }) envelope reading
+    (record { who = identity_of place new.limit new.retention; journal = new.entries; acts = new_acts; is_ready = new.is_ready }) envelope reading
 taken-envelope place old new e envelope reading old_acts new_acts now of_it added view_is acts_are = record {
   entry = e;
   of_it = of_it;
   adds = (λ i. record {
-    who = identity_of place (added i).limit (added i).is_kept;
+    who = identity_of place (added i).limit (added i).retention;
     journal = (added i).entries;
     acts = acts_are i;
     is_ready = new.is_ready;

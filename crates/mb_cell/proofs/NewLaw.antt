@@ -1,6 +1,7 @@
 -- A cell to which nothing came.
 use Rattle.std.proofs.Common.{◌≡◌, ℕ, ◌≤◌, ℤ, List, [], length, false, refl, ap, sym, ◌∙◌, subst}
-use Rattle.std.specs.Prelude.{Bool, pos, negsuc, nat_lt}
+use Rattle.std.specs.Prelude.{pos, negsuc, nat_lt}
+use Rattle.mb_msg.specs.JournalMode.{Retention}
 use Rattle.mb_msg.specs.Limits.{most_entries}
 use Rattle.mb_msg.specs.declared.id.ActorId.{ActorId}
 use Rattle.mb_actor.specs.Behaviour.{Moment, Reply, AllowsSame}
@@ -70,48 +71,48 @@ none-counted : (limit : ℤ) (y : ActorId) → counts_of limit [] y ≡ 0
 none-counted (negsuc n) y = refl
 none-counted (pos n) y = if_same (nat_lt 0 n) 0
 
-pub agrees-new : (place : ActorIdentity) (log : JournalView) (limit : ℕ) (is_kept : Bool) (last : ℕ) (gives : Moment → Reply → Type 0) (cell_state : CellState) (tray : OutboxView) →
-    log ≡ record { entries = []; limit = limit; is_ready = false; is_kept = is_kept; last = last } → cell_state ≡ first_cell_state cell_state.fanout →
+pub agrees-new : (place : ActorIdentity) (log : JournalView) (limit : ℕ) (retention : Retention) (gives : Moment → Reply → Type 0) (cell_state : CellState) (tray : OutboxView) →
+    log ≡ record { entries = []; limit = limit; is_ready = false; retention = retention } → cell_state ≡ first_cell_state cell_state.fanout →
     cell_state.fanout ≡ length place.prepared.items →
     tray ≡ record { effects = []; actors = place.actors; unspawned = place.prepared.items } → limit ≤ most_entries →
-    length place.prepared.items ≤ 64 → Agrees (identity_of place log.limit log.is_kept) log.entries gives cell_state tray
-agrees-new place log limit is_kept last gives cell_state tray log_is is fanout_is tray_is small few =
-    subst (λ (l : JournalView). Agrees (identity_of place l.limit l.is_kept) l.entries gives cell_state tray) (sym log_is) (record {
-      lawful = lawful-none (identity_of place limit is_kept) gives;
+    length place.prepared.items ≤ 64 → Agrees (identity_of place log.limit log.retention) log.entries gives cell_state tray
+agrees-new place log limit retention gives cell_state tray log_is is fanout_is tray_is small few =
+    subst (λ (l : JournalView). Agrees (identity_of place l.limit l.retention) l.entries gives cell_state tray) (sym log_is) (record {
+      lawful = lawful-none (identity_of place limit retention) gives;
       booked =
           is
-          ∙ (first-at (identity_of place limit is_kept) cell_state.fanout
-          ∙ (λ i. cell_state_at (identity_of place limit is_kept) [] (ap (λ (b : CellState). b.retries) (sym is) i) (ap (λ (b : CellState). b.acts) (sym is) i)
+          ∙ (first-at (identity_of place limit retention) cell_state.fanout
+          ∙ (λ i. cell_state_at (identity_of place limit retention) [] (ap (λ (b : CellState). b.retries) (sym is) i) (ap (λ (b : CellState). b.acts) (sym is) i)
           cell_state.fanout (ap (λ (b : CellState). b.is_ready) (sym is) i)));
       outbox =
           tray_is
-          ∙ ap (λ u. record { effects = []; actors = place.actors; unspawned = u }) (sym (unspawned-none (identity_of place limit is_kept)));
+          ∙ ap (λ u. record { effects = []; actors = place.actors; unspawned = u }) (sym (unspawned-none (identity_of place limit retention)));
       fresh = λ e. record {
-        no_children = (blank-none (identity_of place limit is_kept)).0;
-        none_watched = (blank-none (identity_of place limit is_kept)).1;
-        none_due = (blank-none (identity_of place limit is_kept)).2;
-        not_failed = (blank-none (identity_of place limit is_kept)).3;
+        no_children = (blank-none (identity_of place limit retention)).0;
+        none_watched = (blank-none (identity_of place limit retention)).1;
+        none_due = (blank-none (identity_of place limit retention)).2;
+        not_failed = (blank-none (identity_of place limit retention)).3;
       };
       small_limit = small;
       few_prepared = few;
       fanout = fanout_is;
       counted =
           λ y. ap (λ (b : CellState). retry_count_of b.retries y) is
-          ∙ (sym (none-counted (identity_of place limit is_kept).retries y)
-          ∙ ap (λ l. counts_of (identity_of place limit is_kept).retries l y) (sym (requests-none (identity_of place limit is_kept))));
+          ∙ (sym (none-counted (identity_of place limit retention).retries y)
+          ∙ ap (λ l. counts_of (identity_of place limit retention).retries l y) (sym (requests-none (identity_of place limit retention))));
     })
 
-pub plays-new : (place : ActorIdentity) (log : JournalView) (limit : ℕ) (is_kept : Bool) (last : ℕ) (after : List Message → ℤ) (gives : Moment → Reply → Type 0) (own_after : List Message → ℤ)
+pub plays-new : (place : ActorIdentity) (log : JournalView) (limit : ℕ) (retention : Retention) (after : List Message → ℤ) (gives : Moment → Reply → Type 0) (own_after : List Message → ℤ)
     (own_gives : Moment → Reply → Type 0) (content : ℤ) (made : List Call) →
-    log ≡ record { entries = []; limit = limit; is_ready = false; is_kept = is_kept; last = last } → is_guardian (identity_of place limit is_kept) ≡ false → own_after ≡ after →
+    log ≡ record { entries = []; limit = limit; is_ready = false; retention = retention } → is_guardian (identity_of place limit retention) ≡ false → own_after ≡ after →
     AllowsSame own_gives gives → content ≡ own_after [] → made ≡ [] →
-    FollowsBehaviour (identity_of place log.limit log.is_kept) log.entries after gives own_after own_gives content made
-plays-new place log limit is_kept last after gives own_after own_gives content made log_is an_actor same_after same_gives content_is made_is =
-    subst (λ (l : JournalView). FollowsBehaviour (identity_of place l.limit l.is_kept) l.entries after gives own_after own_gives content made) (sym log_is) (record {
+    FollowsBehaviour (identity_of place log.limit log.retention) log.entries after gives own_after own_gives content made
+plays-new place log limit retention after gives own_after own_gives content made log_is an_actor same_after same_gives content_is made_is =
+    subst (λ (l : JournalView). FollowsBehaviour (identity_of place l.limit l.retention) l.entries after gives own_after own_gives content made) (sym log_is) (record {
       no_guardian = an_actor;
       same_after = same_after;
       same_gives = same_gives;
       same_content =
-          content_is ∙ (ap (λ f. f []) same_after ∙ ap after (sym (messages-none (identity_of place limit is_kept))));
-      same_calls = made_is ∙ sym (calls-none (identity_of place limit is_kept));
+          content_is ∙ (ap (λ f. f []) same_after ∙ ap after (sym (messages-none (identity_of place limit retention))));
+      same_calls = made_is ∙ sym (calls-none (identity_of place limit retention));
     })

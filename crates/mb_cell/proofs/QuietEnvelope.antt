@@ -45,11 +45,11 @@ module _ {A : Type 0} (place : ActorIdentity) (old new : JournalView) (e : Entry
     (own_gives : A → Moment → Reply → Type 0) (content : A → ℤ) (made : A → List Call) (now : CellView)
     (added : new ≡ longer old e) (within : length new.entries ≤ new.limit)
     (kept : Kept place old after gives cell_state tray unsent actor own_after own_gives content made)
-    (view_is : (let seen : CellView = record { who = identity_of place old.limit old.is_kept; journal = old.entries; acts = unsent_acts unsent old.entries ++ cell_state.acts; is_ready = old.is_ready } in
+    (view_is : (let seen : CellView = record { who = identity_of place old.limit old.retention; journal = old.entries; acts = unsent_acts unsent old.entries ++ cell_state.acts; is_ready = old.is_ready } in
     seen ≡ now))
-    (carried_out : now.acts ≡ []) (of_it : IsOf envelope reading e) (row : IsQuietEnvelope (identity_of place old.limit old.is_kept) gives old.entries e cell_state new_cell_state) where
+    (carried_out : now.acts ≡ []) (of_it : IsOf envelope reading e) (row : IsQuietEnvelope (identity_of place old.limit old.retention) gives old.entries e cell_state new_cell_state) where
   abbrev who : Identity
-  who = identity_of place old.limit old.is_kept
+  who = identity_of place old.limit old.retention
 
   none : unsent ≡ 0
   none = nothing-unsent unsent old.entries cell_state.acts kept.3 (ap (λ (s : CellView). s.acts) view_is ∙ carried_out)
@@ -67,7 +67,7 @@ module _ {A : Type 0} (place : ActorIdentity) (old new : JournalView) (e : Entry
       (λ an_actor. ap (λ (q : Queries). q.messages) (queries-fold who old.entries e ∙ row.step) ∙ row.same_messages) kept none
 
   pub takes : TakesEnvelope now
-      (record { who = identity_of place new.limit new.is_kept; journal = new.entries; acts = unsent_acts unsent new.entries ++ new_cell_state.acts; is_ready = new.is_ready }) envelope reading
+      (record { who = identity_of place new.limit new.retention; journal = new.entries; acts = unsent_acts unsent new.entries ++ new_cell_state.acts; is_ready = new.is_ready }) envelope reading
   takes =
       taken-envelope place old new e envelope reading (unsent_acts unsent old.entries ++ cell_state.acts)
       (unsent_acts unsent new.entries ++ new_cell_state.acts) now of_it (is-longer old new e added) view_is

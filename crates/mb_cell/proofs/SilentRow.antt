@@ -62,14 +62,14 @@ module _ {A : Type 0} (place : ActorIdentity) (old new : JournalView) (number : 
     (own_gives : A → Moment → Reply → Type 0) (content : A → ℤ) (made : A → List Call) (now : CellView)
     (added : new ≡ longer old (silent number m)) (within : length new.entries ≤ new.limit)
     (kept : Kept place old after gives cell_state tray unsent actor own_after own_gives content made)
-    (view_is : (let seen : CellView = record { who = identity_of place old.limit old.is_kept; journal = old.entries; acts = unsent_acts unsent old.entries ++ cell_state.acts; is_ready = old.is_ready } in
+    (view_is : (let seen : CellView = record { who = identity_of place old.limit old.retention; journal = old.entries; acts = unsent_acts unsent old.entries ++ cell_state.acts; is_ready = old.is_ready } in
     seen ≡ now))
     (asked : MayTake now number m) (applied : sets_aside now.who now.journal m ≡ false)
-    (row : IsSilentRow (identity_of place old.limit old.is_kept) old.entries number m cell_state new_cell_state) where
+    (row : IsSilentRow (identity_of place old.limit old.retention) old.entries number m cell_state new_cell_state) where
   abbrev who : Identity
-  who = identity_of place old.limit old.is_kept
+  who = identity_of place old.limit old.retention
 
-  may_take : MayTake (record { who = identity_of place old.limit old.is_kept; journal = old.entries; acts = unsent_acts unsent old.entries ++ cell_state.acts; is_ready = old.is_ready }) number m
+  may_take : MayTake (record { who = identity_of place old.limit old.retention; journal = old.entries; acts = unsent_acts unsent old.entries ++ cell_state.acts; is_ready = old.is_ready }) number m
   may_take = subst (λ (s : CellView). MayTake s number m) (sym view_is) asked
 
   none : unsent ≡ 0
@@ -94,7 +94,7 @@ module _ {A : Type 0} (place : ActorIdentity) (old new : JournalView) (number : 
       agrees row.calls_nothing same_messages kept none
 
   pub takes : TakesSystem now
-      (record { who = identity_of place new.limit new.is_kept; journal = new.entries; acts = unsent_acts unsent new.entries ++ new_cell_state.acts; is_ready = new.is_ready }) number m
+      (record { who = identity_of place new.limit new.retention; journal = new.entries; acts = unsent_acts unsent new.entries ++ new_cell_state.acts; is_ready = new.is_ready }) number m
   takes =
       taken-system place old new number m (Applied None []) (unsent_acts unsent old.entries ++ cell_state.acts)
       (unsent_acts unsent new.entries ++ new_cell_state.acts) now added view_is

@@ -2,7 +2,7 @@
 ghost use Rattle.std.specs.Prelude.{◌≡◌, ◌≢◌, ◌↔◌, ◌<◌, ◌≤◌, [], ◌∷◌, ◌++◌, length, map, option_to_list, true, false};
 ghost use Rattle.std.specs.Prelude.{IsTrue, IsSome, IsOk, IsErrOf, OnOk, OnErr, IfOk, IfNone, IfSome, MatchOption, not, is_some, filter, if◌then◌else◌};
 ghost use Rattle.std.specs.List.{All};
-ghost use Rattle.mb_msg.specs.JournalMode.{keeps_all};
+ghost use Rattle.mb_msg.specs.JournalMode.{keeps_all, retention_of};
 ghost use Rattle.mb_msg.specs.Limits.{most_actors, most_entries};
 ghost use Rattle.mb_actor.specs.Behaviour.{AllowsSame};
 ghost use Rattle.mb_actor.specs.OutboxView.{is_tell};
@@ -86,17 +86,17 @@ impl<A: Actor, K: Behaviours> Model for Cell<A, K> {
     ghost use Rattle.mb_supervision.specs.ActorIdentity.{identity_of};
 
     ghost view = { λ c. record {
-      who = identity_of c.place c.journal.limit c.journal.is_kept;
+      who = identity_of c.place c.journal.limit c.journal.retention;
       journal = c.journal.entries;
       acts = unsent_acts c.unsent c.journal.entries ++ c.cell_state.acts;
       is_ready = c.journal.is_ready;
     } };
 
     ghost invariant = { λ c.
-        Agrees (identity_of c.place c.journal.limit c.journal.is_kept) c.journal.entries (K.gives c.place.this.0) c.cell_state c.outbox
+        Agrees (identity_of c.place c.journal.limit c.journal.retention) c.journal.entries (K.gives c.place.this.0) c.cell_state c.outbox
         × (c.journal.is_ready ≡ true → c.cell_state.is_ready ≡ true)
-        × MatchOption c.actor (is_guardian (identity_of c.place c.journal.limit c.journal.is_kept) ≡ true)
-        (λ a. FollowsBehaviour (identity_of c.place c.journal.limit c.journal.is_kept) c.journal.entries (K.after c.place.this.0) (K.gives c.place.this.0)
+        × MatchOption c.actor (is_guardian (identity_of c.place c.journal.limit c.journal.retention) ≡ true)
+        (λ a. FollowsBehaviour (identity_of c.place c.journal.limit c.journal.retention) c.journal.entries (K.after c.place.this.0) (K.gives c.place.this.0)
         (A.after a.actor) (A.gives a.actor) (A.content a.actor) a.calls)
         × IsUnsent c.unsent c.journal.entries };
 }
@@ -136,7 +136,7 @@ impl<A: Actor, K: Behaviours> Cell<A, K> {
             retries = strategy.retries;
             all_for_one = strategy.all_for_one;
             limit = journal_limit;
-            is_kept = keeps_all journal_mode;
+            retention = retention_of journal_mode;
           };
           journal = [];
           acts = [];
@@ -257,8 +257,7 @@ impl<A: Actor, K: Behaviours> Cell<A, K> {
           entries = self.now.journal;
           limit = self.now.who.limit;
           is_ready = self.now.is_ready;
-          is_kept = self.now.who.is_kept;
-          last = result.now.last;
+          retention = self.now.who.retention;
         } }
         ensures lawful { IsLawful self.now.who (K.gives self.now.who.this.0) self.now.journal }
     {

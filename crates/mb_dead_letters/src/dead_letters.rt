@@ -1,6 +1,6 @@
 //! Dead letters, with their numbers.
 ghost use Rattle.std.specs.Prelude.{◌≡◌, ◌⊎◌, ◌+◌, ◌-◌, ◌*◌, ◌<◌, ◌≤◌, ◌^◌, [], ◌∷◌, ◌++◌, true, false, length, drop, count_by, IfOk, IsOk, OnOk};
-ghost use Rattle.mb_msg.specs.JournalMode.{keeps_all, keeps_last};
+ghost use Rattle.mb_msg.specs.JournalMode.{keeps_all, keeps_last, retention_of};
 ghost use Rattle.mb_msg.specs.Limits.{most_actors};
 ghost use Rattle.mb_dead_letters.specs.Letters.{is_for, is_to, reason_number};
 
@@ -50,7 +50,7 @@ impl DeadLetters {
     ///
     /// The only error: memory was refused. Where all are kept, or none, this takes none.
     pub fn new(alloc: Global, keeps_all: bool, last: usize) -> Result<Self, AllocError>
-        ensures made { IfOk result (λ letters. letters ≡ record { items = []; kept = []; is_kept = keeps_all; last = last; room = letters.room }) }
+        ensures made { IfOk result (λ letters. letters ≡ record { items = []; kept = []; retention = record { keeps_all = keeps_all; last = last }; room = letters.room }) }
         ensures never_short { ((keeps_all ≡ true) ⊎ (last ≡ 0)) → IsOk result }
     {
         Ok(DeadLetters {
@@ -62,7 +62,7 @@ impl DeadLetters {
 
     /// No dead letters yet, of which all are kept. This takes no memory yet.
     pub fn keeping_all(alloc: Global) -> Self
-        ensures { result ≡ record { items = []; kept = []; is_kept = true; last = 0; room = result.room } }
+        ensures { result ≡ record { items = []; kept = []; retention = record { keeps_all = true; last = 0 }; room = result.room } }
     {
         DeadLetters {
             letters: KeptList::keeping_all(alloc),
@@ -75,7 +75,7 @@ impl DeadLetters {
     ///
     /// The only error: memory was refused. Where all are kept, or none, this takes none.
     pub fn of_mode(alloc: Global, mode: JournalMode) -> Result<Self, AllocError>
-        ensures made { IfOk result (λ letters. letters ≡ record { items = []; kept = []; is_kept = keeps_all mode; last = keeps_last mode; room = letters.room }) }
+        ensures made { IfOk result (λ letters. letters ≡ record { items = []; kept = []; retention = retention_of mode; room = letters.room }) }
         ensures never_short { ((keeps_all mode ≡ true) ⊎ (keeps_last mode ≡ 0)) → IsOk result }
     {
         match mode {
@@ -109,14 +109,14 @@ impl DeadLetters {
 
     /// Whether all are kept.
     pub fn is_kept(&self) -> bool
-        ensures { result ≡ self.now.is_kept }
+        ensures { result ≡ self.now.retention.keeps_all }
     {
         self.letters.is_kept()
     }
 
     /// How many of the newest are kept at least, if not all are.
     pub fn last(&self) -> usize
-        ensures { result ≡ self.now.last }
+        ensures { result ≡ self.now.retention.last }
     {
         self.letters.last()
     }
@@ -124,11 +124,11 @@ impl DeadLetters {
     /// The dead letters that are kept, in order: all, or the newest, at least as many as `last` says and at most twice as many.
     pub fn kept(&self) -> &[DeadLetter]
         ensures value { result.now ≡ self.now.kept }
-        ensures all { self.now.is_kept ≡ true → self.now.kept ≡ self.now.items }
+        ensures all { self.now.retention.keeps_all ≡ true → self.now.kept ≡ self.now.items }
         ensures newest { self.now.kept ≡ drop (length self.now.items - length self.now.kept) self.now.items }
         ensures within { length self.now.kept ≤ length self.now.items }
-        ensures last { (self.now.last ≤ length self.now.kept) ⊎ (self.now.kept ≡ self.now.items) }
-        ensures most { self.now.is_kept ≡ false → length self.now.kept ≤ 2 * self.now.last }
+        ensures last { (self.now.retention.last ≤ length self.now.kept) ⊎ (self.now.kept ≡ self.now.items) }
+        ensures most { self.now.retention.keeps_all ≡ false → length self.now.kept ≤ 2 * self.now.retention.last }
     {
         self.letters.kept()
     }
@@ -139,7 +139,7 @@ impl DeadLetters {
         ensures room { OnOk result (additional ≤ self.new.room) }
         ensures same { self.new ≡ record self.old { room = self.new.room } }
         ensures grows { self.old.room ≤ self.new.room }
-        ensures never_short { self.old.is_kept ≡ false → length self.old.items + additional < 2 ^ 64 → IsOk result }
+        ensures never_short { self.old.retention.keeps_all ≡ false → length self.old.items + additional < 2 ^ 64 → IsOk result }
     {
         self.letters.reserve(additional)
     }
@@ -149,7 +149,7 @@ impl DeadLetters {
         requires room { 0 < self.old.room }
         ensures items { self.new.items ≡ self.old.items ++ letter ∷ [] }
         ensures room { self.old.room ≡ self.new.room + 1 }
-        ensures same { (self.new.is_kept ≡ self.old.is_kept) × (self.new.last ≡ self.old.last) }
+        ensures same { self.new.retention ≡ self.old.retention }
         ensures within { length self.new.items < 2 ^ 64 }
     {
         self.letters.push(letter);

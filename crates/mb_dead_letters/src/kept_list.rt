@@ -42,8 +42,7 @@ impl<T> Model for KeptList<T> {
     ghost view = { λ l. record {
       items = l.all;
       kept = l.kept.items;
-      is_kept = l.keeps_all;
-      last = l.last;
+      retention = record { keeps_all = l.keeps_all; last = l.last };
       room = if l.keeps_all then vec_capacity l.kept - vec_len l.kept else most_items - l.len;
     } };
 
@@ -55,7 +54,7 @@ impl<T: Copy> KeptList<T> {
     ///
     /// The only error: memory was refused. One that keeps all, or none, takes none.
     pub fn new(alloc: Global, keeps_all: bool, last: usize) -> Result<Self, AllocError>
-        ensures made { IfOk result (λ list. list ≡ record { items = []; kept = []; is_kept = keeps_all; last = last; room = list.room }) }
+        ensures made { IfOk result (λ list. list ≡ record { items = []; kept = []; retention = record { keeps_all = keeps_all; last = last }; room = list.room }) }
         ensures never_short { ((keeps_all ≡ true) ⊎ (last ≡ 0)) → IsOk result }
     {
         let places = places(keeps_all, last)?;
@@ -70,7 +69,7 @@ impl<T: Copy> KeptList<T> {
 
     /// An empty list that keeps all its items. It takes no memory yet.
     pub fn keeping_all(alloc: Global) -> Self
-        ensures { result ≡ record { items = []; kept = []; is_kept = true; last = 0; room = result.room } }
+        ensures { result ≡ record { items = []; kept = []; retention = record { keeps_all = true; last = 0 }; room = result.room } }
     {
         KeptList {
             keeps_all: true,
@@ -90,14 +89,14 @@ impl<T: Copy> KeptList<T> {
 
     /// Whether all its items are kept.
     pub fn is_kept(&self) -> bool
-        ensures { result ≡ self.now.is_kept }
+        ensures { result ≡ self.now.retention.keeps_all }
     {
         self.keeps_all
     }
 
     /// How many of the newest items it keeps at least, if it does not keep all.
     pub fn last(&self) -> usize
-        ensures { result ≡ self.now.last }
+        ensures { result ≡ self.now.retention.last }
     {
         self.last
     }
@@ -105,11 +104,11 @@ impl<T: Copy> KeptList<T> {
     /// The items that are kept, in order: all, or the newest, at least as many as `last` says and at most twice as many.
     pub fn kept(&self) -> &[T]
         ensures value { result.now ≡ self.now.kept }
-        ensures all { self.now.is_kept ≡ true → self.now.kept ≡ self.now.items }
+        ensures all { self.now.retention.keeps_all ≡ true → self.now.kept ≡ self.now.items }
         ensures newest { self.now.kept ≡ drop (length self.now.items - length self.now.kept) self.now.items }
         ensures within { length self.now.kept ≤ length self.now.items }
-        ensures last { (self.now.last ≤ length self.now.kept) ⊎ (self.now.kept ≡ self.now.items) }
-        ensures most { self.now.is_kept ≡ false → length self.now.kept ≤ 2 * self.now.last }
+        ensures last { (self.now.retention.last ≤ length self.now.kept) ⊎ (self.now.kept ≡ self.now.items) }
+        ensures most { self.now.retention.keeps_all ≡ false → length self.now.kept ≤ 2 * self.now.retention.last }
     {
         &self.kept
     }
@@ -120,7 +119,7 @@ impl<T: Copy> KeptList<T> {
         ensures room { OnOk result (additional ≤ self.new.room) }
         ensures same { self.new ≡ record self.old { room = self.new.room } }
         ensures grows { self.old.room ≤ self.new.room }
-        ensures never_short { self.old.is_kept ≡ false → length self.old.items + additional < 2 ^ 64 → IsOk result }
+        ensures never_short { self.old.retention.keeps_all ≡ false → length self.old.items + additional < 2 ^ 64 → IsOk result }
     {
         if self.keeps_all {
             return self.kept.reserve(additional);
@@ -136,7 +135,7 @@ impl<T: Copy> KeptList<T> {
         requires room { 0 < self.old.room }
         ensures items { self.new.items ≡ self.old.items ++ item ∷ [] }
         ensures room { self.old.room ≡ self.new.room + 1 }
-        ensures same { (self.new.is_kept ≡ self.old.is_kept) × (self.new.last ≡ self.old.last) }
+        ensures same { self.new.retention ≡ self.old.retention }
         ensures within { length self.new.items < 2 ^ 64 }
     {
         keep(&mut self.kept, self.keeps_all, self.last, item);

@@ -33,7 +33,6 @@ use Rattle.mb_register.proofs.Views.{looks-read}
 use Rattle.mb_queue.specs.Passes.{SendPassView}
 use Rattle.mb_send.specs.Answers.{FollowsLook, IsTold, Stops}
 use Rattle.mb_send.specs.Faults.{OnlyLooked}
-use Rattle.mb_send.specs.Keeps.{keeps}
 use Rattle.mb_send.specs.Posted.{envelope_of, posting}
 use Rattle.mb_send.specs.declared.send_outcome.SendOutcome.{SendOutcome}
 use Rattle.mb_send.specs.declared.send_error.SendError.{SendError}
@@ -193,7 +192,7 @@ module _ {A K : Type 0} where
       let logs = logs-then (pass_view a.inner.registrar.pass) (pass_view b.inner.registrar.pass) (pass_view c.inner.registrar.pass) (logs-of xs a b p)
       (looks-log (pass_view b.inner.registrar.pass) (pass_view c.inner.registrar.pass) only) in record {
         by = ap (λ k. k.by) send_log ∙ p.by;
-        keep_letters = ap (λ k. keeps k.dead) send_log ∙ p.keep_letters;
+        keep_letters = ap (λ k. k.dead.retention) send_log ∙ p.keep_letters;
         more = p.more;
         posted = ap (λ k. k.posted) send_log ∙ p.posted;
         accepted_are = p.accepted_are;
@@ -287,7 +286,7 @@ module _ (by : SenderId) (number : ℕ) (to : ActorId) (body : Body) (posted pos
 
 module _ {A K : Type 0} where
   pub sent-told : (to : ActorId) (payload : Payload) (put : SendOutcome) (a b : Sender A K) → b.inner.send_log.by ≡ a.inner.send_log.by
-      → keeps b.inner.send_log.dead ≡ keeps a.inner.send_log.dead
+      → b.inner.send_log.dead.retention ≡ a.inner.send_log.dead.retention
       → IsTold a.inner.send_log.by a.inner.send_log.sent to (body_of payload) a.inner.send_log.posted b.inner.send_log.posted a.inner.sends.items
       (pass_view a.inner.registrar.pass) (pass_view b.inner.registrar.pass) put → HasSent (order_for to (Tell payload) 1 ∷ []) a b
   sent-told to payload put a b by keep_letters told =
@@ -354,7 +353,7 @@ module _ {A K : Type 0} where
       → Stops to.0 (pass_view a.inner.registrar.pass) (pass_view b.inner.registrar.pass) stopped → HasSent (order_for to Stop 1 ∷ []) a b
   sent-stopped to stopped a b send_log s = let stop = sent-terminate to.0 (pass_view a.inner.registrar.pass) (pass_view b.inner.registrar.pass) stopped s in record {
     by = ap (λ k. k.by) send_log;
-    keep_letters = ap (λ k. keeps k.dead) send_log;
+    keep_letters = ap (λ k. k.dead.retention) send_log;
     more = [];
     posted = ap (λ k. k.posted) send_log ∙ sym (append-nil a.inner.send_log.posted);
     accepted_are = refl;

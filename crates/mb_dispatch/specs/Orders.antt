@@ -17,7 +17,6 @@ use Rattle.mb_gate.specs.View.{SentSystem, View}
 use Rattle.mb_gate.specs.Waiting.{off_by, on_by}
 use Rattle.mb_mailbox.specs.RunSends.{FindsEndedAsSent, PutsAsSent}
 use Rattle.mb_register.specs.Views.{GivesBackUnchanged}
-use Rattle.mb_send.specs.Keeps.{keeps}
 use Rattle.mb_system.specs.declared.sender.Sender.{Sender}
 
 -- the order to send this to that actor, so many times
@@ -70,7 +69,7 @@ module _ {A K : Type 0} where
   -- before, kept its share, and gave each cell back as it was taken. Of its dead letters it keeps what it kept before: all, or as many of the newest.
   pub record HasSent (orders : List Order) (old new : Sender A K) : Type 0 where
     pub by : new.inner.send_log.by ≡ old.inner.send_log.by
-    pub keep_letters : keeps new.inner.send_log.dead ≡ keeps old.inner.send_log.dead
+    pub keep_letters : new.inner.send_log.dead.retention ≡ old.inner.send_log.dead.retention
     pub more : List SentEnvelope
     pub posted : new.inner.send_log.posted ≡ old.inner.send_log.posted ++ more
     pub accepted_are : addressed (accepted more) ≡ envelopes_of orders

@@ -1,6 +1,6 @@
 //! Running actors on the calling thread alone.
 ghost use Rattle.std.specs.Prelude.{◌≡◌, IfErr, IfOk, OnOk};
-ghost use Rattle.mb_msg.specs.JournalMode.{keeps_all, keeps_last};
+ghost use Rattle.mb_msg.specs.JournalMode.{retention_of};
 ghost use Rattle.mb_gate.specs.Accessors.{actors_of, pass_view};
 ghost use Rattle.mb_gate.specs.Rule.{IsPart};
 ghost use Rattle.mb_gate.specs.Untouched.{origin_of};
@@ -40,7 +40,7 @@ pub fn run_quietly<A: Actor, K: Behaviours, R: Wait>(
     ensures settled { OnOk result (HasNoObligationTo (actors_of system.now.gates) (end_caller end.new.registrar)) }
     ensures runs { IfOk result (λ turns. MadeRuns K.gives (origin_of system.now.gates) system.now.throughput
         (pass_view end.old.registrar.pass) (turns_in turns) (pass_view end.new.registrar.pass)) }
-    ensures kept { IfOk result (λ turns. (turns.list.is_kept ≡ keeps_all keeps) × (turns.list.last ≡ keeps_last keeps)) }
+    ensures kept { IfOk result (λ turns. turns.list.retention ≡ retention_of keeps) }
     ensures empty { OnOk result (FoundPoolEmpty K.gives end.new) }
     ensures claims { RunsEachClaim end.old end.new }
     ensures number { end.new.number ≡ end.old.number }

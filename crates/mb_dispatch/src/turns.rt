@@ -1,6 +1,6 @@
 //! What a quiet run did, in order.
 ghost use Rattle.std.specs.Prelude.{◌≡◌, ◌⊎◌, ◌-◌, ◌≤◌, [], true, drop, IfOk, IsOk, length};
-ghost use Rattle.mb_msg.specs.JournalMode.{keeps_all, keeps_last};
+ghost use Rattle.mb_msg.specs.JournalMode.{keeps_all, keeps_last, retention_of};
 ghost use Rattle.mb_dispatch.specs.Runs.{turns_in};
 
 use mb_dead_letters::KeptList;
@@ -27,16 +27,16 @@ impl Turns {
 
     /// Whether all turns are kept.
     pub fn is_kept(&self) -> bool
-        ensures { result ≡ self.now.list.is_kept }
+        ensures { result ≡ self.now.list.retention.keeps_all }
     {
         self.list.is_kept()
     }
 
     /// The turns that are kept, the earliest first: all, or the newest.
     pub fn kept(&self) -> &[Turn]
-        ensures all { self.now.list.is_kept ≡ true → result.now ≡ turns_in self.now }
+        ensures all { self.now.list.retention.keeps_all ≡ true → result.now ≡ turns_in self.now }
         ensures newest { result.now ≡ drop (length (turns_in self.now) - length result.now) (turns_in self.now) }
-        ensures last { (self.now.list.last ≤ length result.now) ⊎ (result.now ≡ turns_in self.now) }
+        ensures last { (self.now.list.retention.last ≤ length result.now) ⊎ (result.now ≡ turns_in self.now) }
     {
         self.list.kept()
     }
@@ -46,7 +46,7 @@ impl Turns {
 ///
 /// The only error: memory was refused. Where all are kept, or none, this takes none.
 pub(crate) fn no_turns(alloc: Global, mode: JournalMode) -> Result<KeptList<Turn>, AllocError>
-    ensures made { IfOk result (λ turns. turns ≡ record { items = []; kept = []; is_kept = keeps_all mode; last = keeps_last mode; room = turns.room }) }
+    ensures made { IfOk result (λ turns. turns ≡ record { items = []; kept = []; retention = retention_of mode; room = turns.room }) }
     ensures never_short { ((keeps_all mode ≡ true) ⊎ (keeps_last mode ≡ 0)) → IsOk result }
 {
     match mode {

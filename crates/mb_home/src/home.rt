@@ -82,7 +82,7 @@ impl<A: Actor, K: Behaviours> Model for Home<A, K> {
 
     ghost invariant = { λ h. (h.id ≡ h.cell.who.this) × (h.cell.who.limit ≤ most_entries)
         × (h.cell.is_ready ≡ true → most_tells ≤ h.dead.room)
-        × (h.dead.is_kept ≡ h.cell.who.is_kept) × (h.cleaned.is_kept ≡ h.cell.who.is_kept) };
+        × (h.dead.retention ≡ h.cell.who.retention) × (h.cleaned.retention ≡ h.cell.who.retention) };
 }
 
 /// What a home leaves at the end of its system.
@@ -128,7 +128,7 @@ impl<A: Actor, K: Behaviours> Home<A, K> {
             (map (λ n. record { who = n.cell.value.who; queue = n.take.value.queue; discipline = n.take.value.discipline }) directory.now.items)) }
         ensures settled { IfOk result (λ home. AgreesWithJournal (K.gives cell.who.this.0) [] home) }
         ensures no_backlog { IfOk result (λ home. HasNoBacklog home) }
-        ensures never_short { cell.who.is_kept ≡ true → IsOk result }
+        ensures never_short { cell.who.retention.keeps_all ≡ true → IsOk result }
     {
         // Its contract shows that the journal is lawful.
         let journal = cell.journal();
@@ -150,7 +150,7 @@ impl<A: Actor, K: Behaviours> Home<A, K> {
     ) -> Self
         requires number { id ≡ cell.who.this }
         requires within_limit { cell.who.limit ≤ most_entries }
-        requires kept { (cleaned.is_kept ≡ cell.who.is_kept) × (dead.is_kept ≡ cell.who.is_kept) }
+        requires kept { (cleaned.retention ≡ cell.who.retention) × (dead.retention ≡ cell.who.retention) }
         requires none { (cleaned.items ≡ []) × (dead.items ≡ []) }
         ensures { result ≡ at_first cell take sends.items result.room
             (map (λ n. record { who = n.cell.value.who; queue = n.take.value.queue; discipline = n.take.value.discipline }) directory.now.items) }
@@ -185,7 +185,7 @@ impl<A: Actor, K: Behaviours> Home<A, K> {
         ensures passes { (result.take ≡ self.take) × (result.sends.items ≡ self.sends) }
         ensures sent { (result.sent ≡ self.sent) × (result.dead.items ≡ self.dead) }
         ensures cleaned { result.cleaned.items ≡ self.cleaned }
-        ensures kept { (result.dead.is_kept ≡ self.cell.who.is_kept) × (result.cleaned.is_kept ≡ self.cell.who.is_kept) }
+        ensures kept { (result.dead.retention ≡ self.cell.who.retention) × (result.cleaned.retention ≡ self.cell.who.retention) }
         ensures dead_system { result.dead_system ≡ (self.aside_dead + self.dropped) % 2 ^ 64 }
     {
         let Home {

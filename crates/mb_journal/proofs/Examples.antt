@@ -50,7 +50,7 @@ supervising rows retries all_for_one = record {
   retries = retries;
   all_for_one = all_for_one;
   limit = 100;
-  is_kept = true;
+  retention = record { keeps_all = true; last = 0 };
 }
 
 abbrev an_actor : List (Pattern × Directive) → Identity
@@ -127,7 +127,7 @@ the_guardian = record {
   retries = no_limit;
   all_for_one = false;
   limit = 100;
-  is_kept = true;
+  retention = record { keeps_all = true; last = 0 };
 }
 
 -- what the actor was given to handle

@@ -9,7 +9,7 @@ use Rattle.std.proofs.lemmas.Nat.{div-mul-add, div-add-mod', mod_below}
 use Rattle.mb_journal.specs.Entry.{Entry}
 use Rattle.mb_journal.specs.JournalView.{first_of_last}
 use Rattle.mb_journal.specs.LastEntries.{LastEntriesView}
-use Rattle.mb_journal.specs.Store.{first_of, is_kept, last_of, stored}
+use Rattle.mb_journal.specs.Store.{first_of, retention_in, stored}
 use Rattle.mb_journal.specs.declared.store.Store.{Store}
 use Rattle.mb_journal.specs.declared.store.Store.TheVariants.{Kept, Counted, Last}
 
@@ -120,8 +120,8 @@ first-bounds (suc last) n =
         (omega (arith, is, less, more, before), omega (arith, is, less, more, before))
 
 pub store-bounds : (store : Store) →
-    (first_of store ≤ length (stored store) - last_of store)
-    × (is_kept store ≡ false → length (stored store) ≤ first_of store + 2 * last_of store)
+    (first_of store ≤ length (stored store) - (retention_in store).last)
+    × ((retention_in store).keeps_all ≡ false → length (stored store) ≤ first_of store + 2 * (retention_in store).last)
 store-bounds (Kept kept) = (omega arith, λ not_all. cc)
 store-bounds (Counted entries) = (omega arith, λ not_all. omega arith)
 store-bounds (Last newest) =

@@ -1,5 +1,6 @@
 -- What a journal stores of its entries.
-use Rattle.std.specs.Prelude.{◌≡◌, ℕ, ◌≤◌, ⊤, Bool, true, false, if◌then◌else◌, List, length, nat_lt}
+use Rattle.std.specs.Prelude.{◌≡◌, ℕ, ◌≤◌, ⊤, true, false, if◌then◌else◌, List, length, nat_lt}
+use Rattle.mb_msg.specs.JournalMode.{Retention}
 use Rattle.mb_journal.specs.Counts.{AreCountsOf}
 use Rattle.mb_journal.specs.Entry.{Entry}
 use Rattle.mb_journal.specs.JournalView.{JournalView, first_of_last}
@@ -13,21 +14,15 @@ stored (Kept kept) = kept.entries
 stored (Counted entries) = entries
 stored (Last newest) = newest.value.entries
 
--- whether all of them are kept, so that they can be read
-abbrev pub is_kept : Store → Bool
-is_kept (Kept kept) = true
-is_kept (Counted entries) = false
-is_kept (Last newest) = false
-
--- how many of the newest are kept at least, if not all are
-abbrev pub last_of : Store → ℕ
-last_of (Kept kept) = 0
-last_of (Counted entries) = 0
-last_of (Last newest) = newest.value.last
+-- how much of them is kept, so that they can be read
+abbrev pub retention_in : Store → Retention
+retention_in (Kept kept) = record { keeps_all = true; last = 0 }
+retention_in (Counted entries) = record { keeps_all = false; last = 0 }
+retention_in (Last newest) = record { keeps_all = false; last = newest.value.last }
 
 -- the index of the first entry that is kept
 abbrev pub first_of : Store → ℕ
-first_of store = if is_kept store then 0 else first_of_last (last_of store) (length (stored store))
+first_of store = if (retention_in store).keeps_all then 0 else first_of_last (retention_in store).last (length (stored store))
 
 -- there is room for entries up to this number, each with all its effects
 abbrev pub HasRoom : ℕ → Store → Type 0
@@ -46,4 +41,4 @@ pub record AgreesWithStore (j : Inside) : Type 0 where
 
 -- a journal as contracts see it
 abbrev pub view_of : Inside → JournalView
-view_of j = record { entries = stored j.store; limit = j.limit; is_ready = nat_lt j.len j.prepared; is_kept = is_kept j.store; last = last_of j.store }
+view_of j = record { entries = stored j.store; limit = j.limit; is_ready = nat_lt j.len j.prepared; retention = retention_in j.store }

@@ -1,7 +1,7 @@
 //! The journal and its operations.
 ghost use Rattle.std.specs.Prelude.{◌≡◌, ◌↔◌, ◌⊎◌, ◌+◌, ◌-◌, ◌*◌, ◌<◌, ◌≤◌, [], ◌∷◌, false, true};
 ghost use Rattle.std.specs.Prelude.{length, count_by, reverse, slice_get, Some, IsTrue, IfOk, IfErr, IfNone, IfSome, IsErrOf, IsOk, OnOk, OnErr};
-ghost use Rattle.mb_msg.specs.JournalMode.{keeps_all, keeps_last};
+ghost use Rattle.mb_msg.specs.JournalMode.{keeps_all, retention_of};
 ghost use Rattle.mb_msg.specs.Limits.{most_effects};
 ghost use Rattle.mb_journal.specs.Counts.{tells_of_envelope, tells_of_restart};
 ghost use Rattle.mb_journal.specs.Entry.{newest_effects};
@@ -70,8 +70,7 @@ impl Journal {
           entries = [];
           limit = limit;
           is_ready = false;
-          is_kept = keeps_all mode;
-          last = keeps_last mode;
+          retention = retention_of mode;
         }) }
         ensures never_short { keeps_all mode ≡ true → IsOk result }
     {
@@ -115,14 +114,14 @@ impl Journal {
 
     /// Whether all its entries are kept, so that `get` can read them.
     pub fn is_kept(&self) -> bool
-        ensures { result ≡ self.now.is_kept }
+        ensures { result ≡ self.now.retention.keeps_all }
     {
         self.store.is_kept()
     }
 
     /// How many of the newest entries it keeps at least, if it does not keep all.
     pub fn last(&self) -> usize
-        ensures { result ≡ self.now.last }
+        ensures { result ≡ self.now.retention.last }
     {
         self.store.last()
     }
@@ -131,8 +130,8 @@ impl Journal {
     /// kept, and the journal's length where none is.
     pub fn first_kept(&self) -> usize
         ensures value { result ≡ first_kept self.now }
-        ensures last { result ≤ length self.now.entries - self.now.last }
-        ensures most { self.now.is_kept ≡ false → length self.now.entries ≤ result + 2 * self.now.last }
+        ensures last { result ≤ length self.now.entries - self.now.retention.last }
+        ensures most { self.now.retention.keeps_all ≡ false → length self.now.entries ≤ result + 2 * self.now.retention.last }
     {
         self.store.first_kept(self.len)
     }
@@ -163,7 +162,7 @@ impl Journal {
         ensures ok { OnOk result (self.new ≡ record self.old { is_ready = true }) }
         ensures err { OnErr result (self.new ≡ self.old) }
         ensures again { IsTrue self.old.is_ready → IsOk result }
-        ensures never_short { self.old.is_kept ≡ false → IfErr result (λ error. error ≡ ReadyError.JournalFull) }
+        ensures never_short { self.old.retention.keeps_all ≡ false → IfErr result (λ error. error ≡ ReadyError.JournalFull) }
     {
         if self.len >= self.prepared {
             return self.prepare();
@@ -186,7 +185,7 @@ impl Journal {
         ensures full { IsErrOf result ReadyError.JournalFull ↔ (self.old.limit ≤ length self.old.entries) }
         ensures ok { OnOk result (self.new ≡ record self.old { is_ready = true }) }
         ensures err { OnErr result (self.new ≡ self.old) }
-        ensures never_short { self.old.is_kept ≡ false → IfErr result (λ error. error ≡ ReadyError.JournalFull) }
+        ensures never_short { self.old.retention.keeps_all ≡ false → IfErr result (λ error. error ≡ ReadyError.JournalFull) }
     {
         if self.is_full() {
             return Err(ReadyError::JournalFull);
@@ -301,7 +300,7 @@ impl Journal {
 
     /// The entry at this index, from 0, of a journal that keeps all its entries.
     pub fn get(&self, index: usize) -> EntryRef<'_>
-        requires kept { IsTrue self.now.is_kept }
+        requires kept { IsTrue self.now.retention.keeps_all }
         requires within { index < length self.now.entries }
         ensures { slice_get (reverse self.now.entries) index ≡ Some (entry_of result) }
     {

@@ -1,11 +1,11 @@
 //! What a journal stores of its entries.
 ghost use Rattle.std.specs.Prelude.{◌≡◌, ℕ, ◌+◌, ◌-◌, ◌<◌, ◌≤◌, [], ◌∷◌, true, false};
 ghost use Rattle.std.specs.Prelude.{length, reverse, slice_get, Some, IfOk, IsOk, OnErr};
-ghost use Rattle.mb_msg.specs.JournalMode.{keeps_all, keeps_last};
+ghost use Rattle.mb_msg.specs.JournalMode.{keeps_all, retention_of};
 ghost use Rattle.mb_msg.specs.Limits.{most_effects};
 ghost use Rattle.mb_journal.specs.Entry.{newest_effects};
 ghost use Rattle.mb_journal.specs.JournalView.{entry_of, entry_with};
-ghost use Rattle.mb_journal.specs.Store.{stored, is_kept, last_of, first_of, HasRoom};
+ghost use Rattle.mb_journal.specs.Store.{stored, retention_in, first_of, HasRoom};
 
 use crate::counted_entries::CountedEntries;
 use crate::entry::{EntryRef, Received};
@@ -38,8 +38,7 @@ impl Store {
     /// No entries yet. This takes no memory where all are to be kept. The only error: memory was refused.
     pub(crate) fn new(alloc: Global, mode: JournalMode) -> Result<Self, AllocError>
         ensures none { IfOk result (λ store. stored store ≡ []) }
-        ensures mode { IfOk result (λ store. is_kept store ≡ keeps_all mode) }
-        ensures last { IfOk result (λ store. last_of store ≡ keeps_last mode) }
+        ensures retention { IfOk result (λ store. retention_in store ≡ retention_of mode) }
         ensures room { IfOk result (λ store. HasRoom 0 store) }
         ensures never_short { keeps_all mode ≡ true → IsOk result }
     {
@@ -57,7 +56,7 @@ impl Store {
 
     /// Whether all entries are kept.
     pub(crate) fn is_kept(&self) -> bool
-        ensures { result ≡ is_kept self.now }
+        ensures { result ≡ (retention_in self.now).keeps_all }
     {
         match self {
             Store::Kept(_) => true,
@@ -67,7 +66,7 @@ impl Store {
 
     /// How many of the newest entries are kept at least, if not all are.
     pub(crate) fn last(&self) -> usize
-        ensures { result ≡ last_of self.now }
+        ensures { result ≡ (retention_in self.now).last }
     {
         match self {
             Store::Kept(_) | Store::Counted(_) => 0,
@@ -93,10 +92,10 @@ impl Store {
     /// was refused. Nothing has changed then.
     pub(crate) fn make_room(&mut self, limit: usize) -> Result<usize, AllocError>
         requires { length (stored self.old) < limit }
-        ensures same { (stored self.new ≡ stored self.old) × (is_kept self.new ≡ is_kept self.old) × (last_of self.new ≡ last_of self.old) }
+        ensures same { (stored self.new ≡ stored self.old) × (retention_in self.new ≡ retention_in self.old) }
         ensures room { IfOk result (λ places. HasRoom places self.new × (length (stored self.new) < places) × (places ≤ limit)) }
         ensures err { OnErr result (self.new ≡ self.old) }
-        ensures never_short { is_kept self.old ≡ false → IsOk result }
+        ensures never_short { (retention_in self.old).keeps_all ≡ false → IsOk result }
     {
         match self {
             Store::Kept(entries) => Ok(entries.make_room()?.min(limit)),
@@ -110,7 +109,7 @@ impl Store {
         requires room { HasRoom (length (stored self.old) + 1) self.old }
         requires within_limit { length effects.now ≤ most_effects }
         ensures added { stored self.new ≡ entry_with arrival effects.now ∷ stored self.old }
-        ensures same { (is_kept self.new ≡ is_kept self.old) × (last_of self.new ≡ last_of self.old) }
+        ensures same { retention_in self.new ≡ retention_in self.old }
         ensures room { (number : ℕ) → HasRoom number self.old → HasRoom number self.new }
     {
         match self {

@@ -4,9 +4,9 @@ use Rattle.std.specs.Io.KnownBytes.{Appends}
 use Rattle.mb_scenario.specs.Plans.{ScenarioData}
 use Rattle.mb_scenario.specs.Reading.{IsReadAs, Refuses}
 use Rattle.mb_scenario.specs.declared.read_error.ReadError.TheVariants.{NoMemory, NotToml, BadScenario}
-use Rattle.mb_msg.specs.JournalMode.{keeps_all}
+use Rattle.mb_msg.specs.JournalMode.{retention_of}
 use Rattle.mb_msg.specs.declared.journal_mode.JournalMode.{JournalMode}
-use Rattle.mb_report.specs.Keeps.{KeepsAllIf}
+use Rattle.mb_report.specs.Keeps.{Keeps}
 use Rattle.mb_report.specs.Lines.{report_text_of}
 use Rattle.mb_report.specs.declared.report.Report.{Report}
 use Rattle.mb_streams.specs.declared.fault.RunFault.{RunFault}
@@ -23,7 +23,7 @@ use Rattle.mb_program.specs.Scenario.{EndsIn, IsOfScenario}
 pub record IsTextOfRun (journal : JournalMode) (scenario : ScenarioData) (bytes : List ℕ) : Type 0 where
   pub report : Report
   pub ran : IsOfScenario scenario report
-  pub keeps : KeepsAllIf (keeps_all journal) report
+  pub keeps : Keeps (retention_of journal) report
   pub text : bytes ≡ report_text_of scenario.names report
 
 -- The text is a scenario, and this is the report of a run of it with such journals.

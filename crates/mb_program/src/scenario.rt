@@ -1,9 +1,9 @@
 //! A scenario, from its text to what its run came to.
 ghost use Rattle.std.specs.Prelude.{IfErr, IfOk, map, string_bytes};
-ghost use Rattle.mb_msg.specs.JournalMode.{keeps_all};
+ghost use Rattle.mb_msg.specs.JournalMode.{retention_of};
 ghost use Rattle.mb_program.specs.Answer.{IsRefused};
 ghost use Rattle.mb_program.specs.RunOf.{IsRunOf};
-ghost use Rattle.mb_report.specs.Keeps.{KeepsAllIf};
+ghost use Rattle.mb_report.specs.Keeps.{Keeps};
 
 use crate::fault::fault_of;
 use crate::running::{FinishedRun, run};
@@ -31,7 +31,7 @@ pub fn run_scenario<R: Threads + Wait + Sync>(
     journal: JournalMode,
 ) -> Result<ScenarioRun, ProgramError>
     ensures run_of { IfOk result (λ ran. IsRunOf text.now (map string_bytes ran.names.items) ran.run) }
-    ensures kept { IfOk result (λ ran. KeepsAllIf (keeps_all journal) ran.run.report) }
+    ensures kept { IfOk result (λ ran. Keeps (retention_of journal) ran.run.report) }
     ensures refused { IfErr result (IsRefused text.now) }
 {
     let Scenario {

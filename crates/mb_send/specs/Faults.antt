@@ -3,7 +3,6 @@ use Rattle.std.specs.Prelude.{◌≡◌}
 use Rattle.mb_msg.specs.declared.id.ActorId.{ActorId}
 use Rattle.mb_gate.specs.Accessors.{pass_view}
 use Rattle.mb_send.specs.Answers.{IsSeen}
-use Rattle.mb_send.specs.Keeps.{keeps}
 use Rattle.mb_send.specs.declared.send_log.SendLog.{SendLog}
 use Rattle.mb_send.specs.declared.sender.GatesSender.{GatesSender}
 use Rattle.mb_send.specs.declared.ticket.Look.{Look}
@@ -14,7 +13,7 @@ pub record IsSameSendLog (old new : SendLog) : Type 0 where
   pub by : new.by ≡ old.by
   pub sent : new.sent ≡ old.sent
   pub dead : new.dead.items ≡ old.dead.items
-  pub keeps_is : keeps new.dead ≡ keeps old.dead
+  pub keeps_is : new.dead.retention ≡ old.dead.retention
   pub posted : new.posted ≡ old.posted
 
 -- The receiver's status was read once, and nothing else was done: what the sender knows besides, its log, its passes into the queues, its port of the

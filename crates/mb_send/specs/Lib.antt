@@ -1,4 +1,3 @@
-pub mod Keeps
 pub mod Posted
 pub mod Sends
 pub mod SeenClosed

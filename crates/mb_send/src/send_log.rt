@@ -3,7 +3,6 @@ ghost use Rattle.std.specs.Prelude.{◌≡◌, ◌<◌, [], ◌∷◌, ◌++◌,
 ghost use Rattle.mb_msg.specs.Payload.{body_of};
 ghost use Rattle.mb_journal.specs.Accepted.{accepted, dead_letters};
 ghost use Rattle.mb_send.specs.declared.send_error.SendError.TheVariants as SendError;
-ghost use Rattle.mb_send.specs.Keeps.{keeps};
 ghost use Rattle.mb_send.specs.Posted.{envelope_of, names_from, names_of, posting};
 
 use crate::send_error::SendError;
@@ -51,9 +50,9 @@ impl SendLog {
         ensures number { IfOk result (λ _. self.new.sent < 18446744073709551615) }
         ensures same { (self.new.by ≡ self.old.by) × (self.new.sent ≡ self.old.sent) × (self.new.dead.items ≡ self.old.dead.items)
             × (self.new.posted ≡ self.old.posted) }
-        ensures keeps { keeps self.new.dead ≡ keeps self.old.dead }
+        ensures keeps { self.new.dead.retention ≡ self.old.dead.retention }
         ensures refused { OnErr result (IsErrOf result SendError.NoMemory) }
-        ensures never_short { self.old.dead.is_kept ≡ false → self.old.sent < 18446744073709551615 → IsOk result }
+        ensures never_short { self.old.dead.retention.keeps_all ≡ false → self.old.sent < 18446744073709551615 → IsOk result }
     {
         if self.sent == u64::MAX {
             return Err(SendError::NoMemory);
@@ -82,7 +81,7 @@ impl SendLog {
         requires number { self.old.sent < 18446744073709551615 }
         ensures posted { self.new.posted ≡ self.old.posted ++ posting envelope None ∷ [] }
         ensures same_sender { self.new.by ≡ self.old.by }
-        ensures keeps { keeps self.new.dead ≡ keeps self.old.dead }
+        ensures keeps { self.new.dead.retention ≡ self.old.dead.retention }
     {
         self.posted.add(SentEnvelope {
             envelope,
@@ -98,7 +97,7 @@ impl SendLog {
         requires room { 0 < self.old.dead.room }
         ensures posted { self.new.posted ≡ self.old.posted ++ posting envelope (Some why) ∷ [] }
         ensures same_sender { self.new.by ≡ self.old.by }
-        ensures keeps { keeps self.new.dead ≡ keeps self.old.dead }
+        ensures keeps { self.new.dead.retention ≡ self.old.dead.retention }
     {
         self.dead.push(DeadLetter { envelope, why });
         self.posted.add(SentEnvelope {

@@ -13,7 +13,6 @@ ghost use Rattle.mb_send.specs.Answers.{IsSent, IsDeadLetter, IsTold, reason, re
 ghost use Rattle.mb_send.specs.SeenClosed.{has_seen_closed};
 ghost use Rattle.mb_send.specs.Faults.{OnlyLooked, IsSameSendLog};
 ghost use Rattle.mb_send.specs.Asked.{RegistersAtMost, account_of};
-ghost use Rattle.mb_send.specs.Keeps.{keeps};
 
 use crate::send_error::SendError;
 use crate::send_outcome::SendOutcome;
@@ -45,7 +44,7 @@ impl<H: MailboxState, W: RunQueue<H>> GatesSender<H, W> {
         ensures refused { OnErr result (IsErrOf result SendError.NoMemory × (self.new.send_log.posted ≡ self.old.send_log.posted)
             × (self.new.registrar ≡ self.old.registrar)) }
         ensures unsent { OnErr result (IsSameSendLog self.old.send_log self.new.send_log × (self.new.sends ≡ self.old.sends)) }
-        ensures never_short { self.old.send_log.dead.is_kept ≡ false → self.old.send_log.sent < 18446744073709551615 → IsOk result }
+        ensures never_short { self.old.send_log.dead.retention.keeps_all ≡ false → self.old.send_log.sent < 18446744073709551615 → IsOk result }
         ensures sent { IfOk result (IsSent self.old.send_log.by self.old.send_log.sent (receiver_of ticket) (body_of payload) self.old.send_log.posted self.new.send_log.posted
             self.old.sends.items (pass_view self.old.registrar.pass) (pass_view self.new.registrar.pass)) }
         ensures discharged { IfOk result (λ _. (obligation_to (receiver_of ticket).0 (pass_view self.new.registrar.pass) ≡ nothing) ⊎ (is_owed self.new.registrar.owed (receiver_of ticket).0
@@ -56,7 +55,7 @@ impl<H: MailboxState, W: RunQueue<H>> GatesSender<H, W> {
             (pass_view self.old.registrar.pass) (pass_view self.new.registrar.pass) }
         ensures same_gates { (pass_id self.new.registrar.pass ≡ pass_id self.old.registrar.pass) × (W.origin self.new.registrar.run_queue ≡ W.origin self.old.registrar.run_queue) }
         ensures same { (self.new.send_log.by ≡ self.old.send_log.by) × (vec_len self.new.sends ≡ vec_len self.old.sends) }
-        ensures keeps { keeps self.new.send_log.dead ≡ keeps self.old.send_log.dead }
+        ensures keeps { self.new.send_log.dead.retention ≡ self.old.send_log.dead.retention }
         ensures queues { receiving_queues self.new.sends.items ≡ receiving_queues self.old.sends.items }
     {
         self.send_log.ready()?;
@@ -102,7 +101,7 @@ impl<H: MailboxState, W: RunQueue<H>> GatesSender<H, W> {
             ⊎ (IsErrOf result SendError.NoMemory × (0 < to.0) × (to.0 < actors_of gates.now)))) }
         ensures unknown { IsErrOf result SendError.NoSuchActor → self.new ≡ self.old }
         ensures unsent { IsErrOf result SendError.NoMemory → OnlyLooked to self.old self.new }
-        ensures never_short { self.old.send_log.dead.is_kept ≡ false → self.old.send_log.sent < 18446744073709551615 → 0 < to.0 → to.0 < actors_of gates.now
+        ensures never_short { self.old.send_log.dead.retention.keeps_all ≡ false → self.old.send_log.sent < 18446744073709551615 → 0 < to.0 → to.0 < actors_of gates.now
             → IsOk result }
         ensures present { IfOk result (λ _. (0 < to.0) × (to.0 < actors_of gates.now)) }
         ensures told { IfOk result (IsTold self.old.send_log.by self.old.send_log.sent to (body_of payload) self.old.send_log.posted self.new.send_log.posted
@@ -114,7 +113,7 @@ impl<H: MailboxState, W: RunQueue<H>> GatesSender<H, W> {
             (pass_view self.old.registrar.pass) (pass_view self.new.registrar.pass) }
         ensures same_gates { (pass_id self.new.registrar.pass ≡ pass_id self.old.registrar.pass) × (W.origin self.new.registrar.run_queue ≡ W.origin self.old.registrar.run_queue) }
         ensures same { (self.new.send_log.by ≡ self.old.send_log.by) × (vec_len self.new.sends ≡ vec_len self.old.sends) }
-        ensures keeps { keeps self.new.send_log.dead ≡ keeps self.old.send_log.dead }
+        ensures keeps { self.new.send_log.dead.retention ≡ self.old.send_log.dead.retention }
         ensures queues { receiving_queues self.new.sends.items ≡ receiving_queues self.old.sends.items }
     {
         let look = self.look(gates, to)?;
@@ -133,11 +132,11 @@ impl<H: MailboxState, W: RunQueue<H>> GatesSender<H, W> {
         requires closed { has_seen_closed (pass_view self.old.registrar.pass).log to.0 ≡ true }
         requires present { (0 < to.0) × (to.0 ≤ vec_len self.old.sends) }
         ensures refused { OnErr result (IsErrOf result SendError.NoMemory × (self.new.send_log.posted ≡ self.old.send_log.posted)) }
-        ensures never_short { self.old.send_log.dead.is_kept ≡ false → self.old.send_log.sent < 18446744073709551615 → IsOk result }
+        ensures never_short { self.old.send_log.dead.retention.keeps_all ≡ false → self.old.send_log.sent < 18446744073709551615 → IsOk result }
         ensures unsent { OnErr result (IsSameSendLog self.old.send_log self.new.send_log) }
         ensures is_dead_letter { IfOk result (IsDeadLetter self.old.send_log.by self.old.send_log.sent to (body_of payload) self.old.send_log.posted self.new.send_log.posted) }
         ensures same { (self.new.registrar ≡ self.old.registrar) × (self.new.sends ≡ self.old.sends) × (self.new.send_log.by ≡ self.old.send_log.by) }
-        ensures keeps { keeps self.new.send_log.dead ≡ keeps self.old.send_log.dead }
+        ensures keeps { self.new.send_log.dead.retention ≡ self.old.send_log.dead.retention }
     {
         self.send_log.ready()?;
         let number = self.send_log.sent;

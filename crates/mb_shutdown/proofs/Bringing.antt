@@ -157,10 +157,10 @@ module _ {A K : Type 0} where
   -- what each keeps of its dead letters is listed in its place
   pub kept-in-place : (many : ℕ) (was now : List (Sender A K)) (outside : List FinishedSender) → length now ≡ many → IsPermutation now was
       → senders_numbers now ≡ numbers 0 (length now) → AreBrought now outside
-      → All (λ (s : Sender A K). slice_get (map (λ (o : FinishedSender). o.send_log.dead.is_kept) outside) (s.inner.send_log.by.0 - 64)
-      ≡ Some s.inner.send_log.dead.is_kept) was
+      → All (λ (s : Sender A K). slice_get (map (λ (o : FinishedSender). o.send_log.dead.retention) outside) (s.inner.send_log.by.0 - 64)
+      ≡ Some s.inner.send_log.dead.retention) was
   kept-in-place many was now outside count same numbered same_all =
-      brought-each (λ p. p.1.dead.is_kept) many was now outside count same numbered same_all
+      brought-each (λ p. p.1.dead.retention) many was now outside count same numbered same_all
 
   -- and so are the passes of each
   pub passes-in-place : (many : ℕ) (was now : List (Sender A K)) (outside : List FinishedSender) → length now ≡ many → IsPermutation now was

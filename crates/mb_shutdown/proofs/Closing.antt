@@ -93,8 +93,8 @@ module _ {A K : Type 0} (built : Built A K) (gates : Gates (Box Contents)) (log 
   pub came-answers : AreAnswers built.system.senders built.senders.items (map (λ (o : FinishedSender). o.send_log.posted) outside)
   came-answers = answers built.system.senders built.senders.items came.now outside now-many came.same in-places came.shown
 
-  pub came-kept : All (λ (s : Sender A K). slice_get (map (λ (o : FinishedSender). o.send_log.dead.is_kept) outside) (s.inner.send_log.by.0 - 64)
-      ≡ Some s.inner.send_log.dead.is_kept) built.senders.items
+  pub came-kept : All (λ (s : Sender A K). slice_get (map (λ (o : FinishedSender). o.send_log.dead.retention) outside) (s.inner.send_log.by.0 - 64)
+      ≡ Some s.inner.send_log.dead.retention) built.senders.items
   came-kept = kept-in-place built.system.senders built.senders.items came.now outside now-many came.same in-places came.shown
 
   pub came-passes : AreSendPasses built.system.senders built.senders.items (map (λ (o : FinishedSender). o.sends.items) outside)

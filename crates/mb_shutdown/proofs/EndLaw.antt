@@ -1,9 +1,10 @@
 -- From what the gates gave back to the report.
-use Rattle.std.proofs.Common.{◌≡◌, ◌≢◌, ◌⊎◌, ℕ, ◌^◌, ◌<◌, ◌≤◌, ℤ, Bool, List, [], ◌∷◌, ◌++◌, length, map, drop, refl, sym, ap, ◌∙◌}
+use Rattle.std.proofs.Common.{◌≡◌, ◌≢◌, ◌⊎◌, ℕ, ◌^◌, ◌<◌, ◌≤◌, ℤ, List, [], ◌∷◌, ◌++◌, length, map, drop, refl, sym, ap, ◌∙◌}
 use Rattle.std.proofs.Common.{subst, arith, Option, Some}
 use Rattle.std.specs.Prelude.{All, slice_get}
 use Rattle.std.proofs.lemmas.List.{map-append}
 use Rattle.std.proofs.lemmas.Option.{same_Some}
+use Rattle.mb_msg.specs.JournalMode.{Retention}
 use Rattle.mb_msg.specs.declared.dead_letter.DeadLetter.{DeadLetter}
 use Rattle.mb_msg.specs.declared.envelope.Envelope.{Envelope}
 use Rattle.mb_msg.specs.declared.system.SysMsg.{SysMsg}
@@ -85,12 +86,12 @@ module _ {A K : Type 0} (gives : ℕ → Moment → Reply → Type 0) (first : C
       twice (l ∷ ls) = ap (λ qs. l.home.value.take.queue ∷ qs) (twice ls)
 
   -- the homes are of the actors in the directory
-  same-kept : map (λ (l : BoxedHome). l.home.value.cell.who.is_kept) lefts ≡ map (λ (e : DirectoryEntry). e.who.is_kept) first.directory
+  same-kept : map (λ (l : BoxedHome). l.home.value.cell.who.retention) lefts ≡ map (λ (e : DirectoryEntry). e.who.retention) first.directory
   same-kept =
-      same-maps (λ (l : BoxedHome). l.home.value.cell.who.is_kept) (λ (e : DirectoryEntry). e.who.is_kept) lefts first.directory many-enrolled
+      same-maps (λ (l : BoxedHome). l.home.value.cell.who.retention) (λ (e : DirectoryEntry). e.who.retention) lefts first.directory many-enrolled
       (λ i l e found is.
       let own = (stands-at i l found).is_home_of in
-      ap (λ (x : DirectoryEntry). x.who.is_kept)
+      ap (λ (x : DirectoryEntry). x.who.retention)
       (same_Some (record { who = l.home.value.cell.who; queue = l.home.value.take.queue; discipline = l.home.value.take.discipline }) e
       (sym own.settled.is_own.enrolled ∙ (λ k. slice_get (own.directory k) (own.number k)) ∙ is)))
 
@@ -124,7 +125,7 @@ module _ {A K : Type 0} (gives : ℕ → Moment → Reply → Type 0) (first : C
     module _ (after : ℕ → List Message → ℤ) (known : HasKnownSenders first.directory (length outs)) (envelopes : List (List Envelope))
         (taken : AreTaken takes (map items joined) envelopes) (waiting : List ℕ) (counted : length waiting ≡ n) (report : Report)
         (shows : ShowsAll after ended envelopes waiting report.actors.items)
-        (sents : map sent_of report.senders.items ≡ map sent_of senders ++ map (λ (o : FinishedSender). (o.send_log.sent, o.send_log.dead.items, o.send_log.dead.is_kept)) outs) where
+        (sents : map sent_of report.senders.items ≡ map sent_of senders ++ map (λ (o : FinishedSender). (o.send_log.sent, o.send_log.dead.items, o.send_log.dead.retention)) outs) where
       many-ended : length ended ≡ n
       many-ended =
           sym (length-mapped ended_of ended) ∙ ap length apart.ended_are ∙ length-mapped (λ (l : BoxedHome). end_of l.home.value) lefts ∙ many-lefts
@@ -145,20 +146,20 @@ module _ {A K : Type 0} (gives : ℕ → Moment → Reply → Type 0) (first : C
           whole after gives first v.log lefts outs g stands-at done-at many-enrolled known envelopes
           (subst (λ (x : List TakePassView × List (List SendPassView)). AreTaken x.0 x.1 envelopes) (λ i. (apart.takes_are i, rows-same i)) taken) report
           (shows.same_count ∙ many-ended ∙ sym many-lefts) shown
-          (sents ∙ ap (λ l. l ++ map (λ (o : FinishedSender). (o.send_log.sent, o.send_log.dead.items, o.send_log.dead.is_kept)) outs) apart.senders_are ∙ sym g.sents)
+          (sents ∙ ap (λ l. l ++ map (λ (o : FinishedSender). (o.send_log.sent, o.send_log.dead.items, o.send_log.dead.retention)) outs) apart.senders_are ∙ sym g.sents)
 
       -- the dead letters of the actors are kept as their journals, and those of the senders outside as they kept them
-      pub report-letters : map (λ (s : SenderReport). s.dead.is_kept) report.senders.items
-          ≡ map (λ (e : DirectoryEntry). e.who.is_kept) first.directory ++ map (λ (o : FinishedSender). o.send_log.dead.is_kept) outs
+      pub report-letters : map (λ (s : SenderReport). s.dead.retention) report.senders.items
+          ≡ map (λ (e : DirectoryEntry). e.who.retention) first.directory ++ map (λ (o : FinishedSender). o.send_log.dead.retention) outs
       report-letters =
-          let kept = λ (x : ℕ × List DeadLetter × Bool). x.2 in
+          let kept = λ (x : ℕ × List DeadLetter × Retention). x.2 in
           let of_home = λ (l : BoxedHome). sent_in l.home.value in
-          let of_outside = λ (o : FinishedSender). (let x : ℕ × List DeadLetter × Bool = (o.send_log.sent, o.send_log.dead.items, o.send_log.dead.is_kept) in x) in
+          let of_outside = λ (o : FinishedSender). (let x : ℕ × List DeadLetter × Retention = (o.send_log.sent, o.send_log.dead.items, o.send_log.dead.retention) in x) in
           sym (after-map sent_of kept report.senders.items)
           ∙ ap (map kept) (sents ∙ ap (λ l. l ++ map of_outside outs) apart.senders_are)
           ∙ map-append kept (map of_home lefts) (map of_outside outs)
           ∙ (λ i. after-map of_home kept lefts i ++ after-map of_outside kept outs i)
-          ∙ ap (λ l. l ++ map (λ (o : FinishedSender). o.send_log.dead.is_kept) outs) same-kept
+          ∙ ap (λ l. l ++ map (λ (o : FinishedSender). o.send_log.dead.retention) outs) same-kept
 
       -- what is reported of an actor is what its home shows
       reported : (actor : ℕ) (a : ActorReport) → slice_get report.actors.items actor ≡ Some a
@@ -248,11 +249,11 @@ module _ {A K : Type 0} (gives : ℕ → Moment → Reply → Type 0) (first : C
             let x = from-mapped (λ (x : BoxedHome). Some x) lefts id (Some l) (ap (λ y. slice_get y id) (sym apart.are) ∙ is) in
             let here : slice_get lefts id ≡ Some l = x.1 ∙ x.2 in
             let of_home = λ (l : BoxedHome). sent_in l.home.value in
-            let others = map {A = FinishedSender} {B = ℕ × List DeadLetter × Bool} (λ o. (o.send_log.sent, o.send_log.dead.items, o.send_log.dead.is_kept)) outs in
+            let others = map {A = FinishedSender} {B = ℕ × List DeadLetter × Retention} (λ o. (o.send_log.sent, o.send_log.dead.items, o.send_log.dead.retention)) outs in
             let same : sent_of s ≡ sent_in l.home.value
             = same_Some (sent_of s) (sent_in l.home.value)
             (sym (mapped sent_of report.senders.items id s found)
             ∙ ap (λ y. slice_get y id) (sents ∙ ap (λ y. y ++ others) apart.senders_are)
             ∙ in-first (map of_home lefts) others id (of_home l) (mapped of_home lefts id l here)) in
-            ap (λ (x : ℕ × List DeadLetter × Bool). x.1) same;
+            ap (λ (x : ℕ × List DeadLetter × Retention). x.1) same;
       }

@@ -105,7 +105,7 @@ module _ (directory : List DirectoryEntry) (Shut : ℕ → Type 0) (log : List O
       )
 
   pub outside-party : o.send_log.sent < 2 ^ 64
-      → IsParty directory Shut number (record { row = o.sends.items; postings = o.send_log.posted; sent = (o.send_log.sent, o.send_log.dead.items, o.send_log.dead.is_kept) })
+      → IsParty directory Shut number (record { row = o.sends.items; postings = o.send_log.posted; sent = (o.send_log.sent, o.send_log.dead.items, o.send_log.dead.retention) })
   outside-party small = record {
     numbered = subst (λ n. NumbersCountUpFrom n 0 (accepted o.send_log.posted)) is.number_is
         (names-numbered o.send_log.by.0 0 (accepted o.send_log.posted) o.send_log.numbered);

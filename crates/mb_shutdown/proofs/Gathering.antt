@@ -74,7 +74,7 @@ pub record IsShut (lefts : List BoxedHome) (to : ℕ) : Type 0 where
   pub closed_is : closed one.home.value.cell.who one.home.value.cell.journal ≡ true
 
 abbrev pub outside_of : FinishedSender → Party
-outside_of o = record { row = o.sends.items; postings = o.send_log.posted; sent = (o.send_log.sent, o.send_log.dead.items, o.send_log.dead.is_kept) }
+outside_of o = record { row = o.sends.items; postings = o.send_log.posted; sent = (o.send_log.sent, o.send_log.dead.items, o.send_log.dead.retention) }
 
 pub record Gathered (directory : List DirectoryEntry) (lefts : List BoxedHome) (outs : List FinishedSender) : Type 0 where
   pub parties : List Party
@@ -83,7 +83,7 @@ pub record Gathered (directory : List DirectoryEntry) (lefts : List BoxedHome) (
   pub rows : map (λ (p : Party). p.row) parties
       ≡ map (λ (l : BoxedHome). l.home.value.sends) lefts ++ map (λ (o : FinishedSender). o.sends.items) outs
   pub sents : map (λ (p : Party). p.sent) parties
-      ≡ map (λ (l : BoxedHome). (l.home.value.sent, l.home.value.dead, l.home.value.cell.who.is_kept)) lefts ++ map (λ (o : FinishedSender). (o.send_log.sent, o.send_log.dead.items, o.send_log.dead.is_kept)) outs
+      ≡ map (λ (l : BoxedHome). (l.home.value.sent, l.home.value.dead, l.home.value.cell.who.retention)) lefts ++ map (λ (o : FinishedSender). (o.send_log.sent, o.send_log.dead.items, o.send_log.dead.retention)) outs
   pub told_are : (i : ℕ) (l : BoxedHome) (p : Party) → slice_get lefts i ≡ Some l → slice_get parties i ≡ Some p
       → accepted p.postings ≡ told l.home.value.cell.who l.home.value.cell.journal
   pub posted : (j : ℕ) (o : FinishedSender) → slice_get outs j ≡ Some o
@@ -102,7 +102,7 @@ module _ (gives : ℕ → Moment → Reply → Type 0) (first : Contents) (log :
   record IsInside (i : ℕ) (l : BoxedHome) (p : Party) : Type 0 where
     pub is : IsParty first.directory Shut i p
     pub row_is : p.row ≡ l.home.value.sends
-    pub sent_is : p.sent ≡ (l.home.value.sent, l.home.value.dead, l.home.value.cell.who.is_kept)
+    pub sent_is : p.sent ≡ (l.home.value.sent, l.home.value.dead, l.home.value.cell.who.retention)
     pub told_is : accepted p.postings ≡ told l.home.value.cell.who l.home.value.cell.journal
 
   inside-one : (i : ℕ) (l : BoxedHome) → slice_get lefts i ≡ Some l → (p : Party) × IsInside i l p
@@ -150,7 +150,7 @@ module _ (gives : ℕ → Moment → Reply → Type 0) (first : Contents) (log :
             ∙ (λ i. same-maps (λ (p : Party). p.row) (λ (l : BoxedHome). l.home.value.sends) ps lefts same_many
             (λ k p l pa la. (inside.2 k l p la pa).row_is) i ++ same-rows outs i);
         sents = map-append (λ (p : Party). p.sent) ps (map outside_of outs)
-            ∙ (λ i. same-maps (λ (p : Party). p.sent) (λ (l : BoxedHome). (l.home.value.sent, l.home.value.dead, l.home.value.cell.who.is_kept)) ps lefts same_many
+            ∙ (λ i. same-maps (λ (p : Party). p.sent) (λ (l : BoxedHome). (l.home.value.sent, l.home.value.dead, l.home.value.cell.who.retention)) ps lefts same_many
             (λ k p l pa la. (inside.2 k l p la pa).sent_is) i ++ same-sents outs i);
         told_are = λ i l p la pa.
             let q = there ps i (let lt = within lefts i l la in omega (arith, lt, same_many)) in
@@ -168,6 +168,6 @@ module _ (gives : ℕ → Moment → Reply → Type 0) (first : Contents) (log :
       same-rows (o ∷ outs) = ap (λ l. o.sends.items ∷ l) (same-rows outs)
 
       same-sents : (outs : List FinishedSender)
-          → map (λ (p : Party). p.sent) (map outside_of outs) ≡ map (λ (o : FinishedSender). (o.send_log.sent, o.send_log.dead.items, o.send_log.dead.is_kept)) outs
+          → map (λ (p : Party). p.sent) (map outside_of outs) ≡ map (λ (o : FinishedSender). (o.send_log.sent, o.send_log.dead.items, o.send_log.dead.retention)) outs
       same-sents [] = refl
-      same-sents (o ∷ outs) = ap (λ l. (o.send_log.sent, o.send_log.dead.items, o.send_log.dead.is_kept) ∷ l) (same-sents outs)
+      same-sents (o ∷ outs) = ap (λ l. (o.send_log.sent, o.send_log.dead.items, o.send_log.dead.retention) ∷ l) (same-sents outs)

@@ -1,9 +1,10 @@
 -- What a report keeps of dead letters, from what the homes and the senders kept.
-use Rattle.std.proofs.Common.{◌≡◌, ℕ, ◌+◌, ◌-◌, Bool, List, ◌++◌, length, map, refl, sym, ap, ◌∙◌, Some}
+use Rattle.std.proofs.Common.{◌≡◌, ℕ, ◌+◌, ◌-◌, List, ◌++◌, length, map, refl, sym, ap, ◌∙◌, Some}
 use Rattle.std.specs.Global.{Box}
 use Rattle.std.specs.Prelude.{All, slice_get}
 use Rattle.std.proofs.lemmas.List.Elements.{All-weaker}
 use Rattle.std.proofs.lemmas.Option.{same_Some}
+use Rattle.mb_msg.specs.JournalMode.{Retention}
 use Rattle.mb_gate.specs.Accessors.{first_home}
 use Rattle.mb_gate.specs.View.{Observation}
 use Rattle.mb_gate.specs.declared.gates.Gates.{Gates}
@@ -23,39 +24,39 @@ use Rattle.mb_system.specs.declared.sender.Sender.{Sender}
 
 module _ {A K : Type 0} (built : Built A K) (gates : Gates (Box Contents)) (log : List Observation) (outside : List FinishedSender)
     (together : BelongsTogether built) (complete : IsComplete built) (came : IsGathered built gates log outside) (report : Report)
-    (are : map (λ (s : SenderReport). s.dead.is_kept) report.senders.items
-    ≡ map (λ (e : DirectoryEntry). e.who.is_kept) (first_home gates).value.directory ++ map (λ (o : FinishedSender). o.send_log.dead.is_kept) outside) where
-  abbrev of_actors : List Bool
-  of_actors = map (λ (e : DirectoryEntry). e.who.is_kept) (directory_of built)
+    (are : map (λ (s : SenderReport). s.dead.retention) report.senders.items
+    ≡ map (λ (e : DirectoryEntry). e.who.retention) (first_home gates).value.directory ++ map (λ (o : FinishedSender). o.send_log.dead.retention) outside) where
+  abbrev of_actors : List Retention
+  of_actors = map (λ (e : DirectoryEntry). e.who.retention) (directory_of built)
 
-  abbrev of_outside : List Bool
-  of_outside = map (λ (o : FinishedSender). o.send_log.dead.is_kept) outside
+  abbrev of_outside : List Retention
+  of_outside = map (λ (o : FinishedSender). o.send_log.dead.retention) outside
 
-  all-are : map (λ (s : SenderReport). s.dead.is_kept) report.senders.items ≡ of_actors ++ of_outside
+  all-are : map (λ (s : SenderReport). s.dead.retention) report.senders.items ≡ of_actors ++ of_outside
   all-are =
       are
-      ∙ ap (λ (g : Gates (Box Contents)). map (λ (e : DirectoryEntry). e.who.is_kept) (first_home g).value.directory ++ of_outside) came.gates_are
+      ∙ ap (λ (g : Gates (Box Contents)). map (λ (e : DirectoryEntry). e.who.retention) (first_home g).value.directory ++ of_outside) came.gates_are
 
-  at-sender : (i : ℕ) (s : SenderReport) (kept : Bool) → slice_get report.senders.items i ≡ Some s → slice_get (of_actors ++ of_outside) i ≡ Some kept
-      → s.dead.is_kept ≡ kept
+  at-sender : (i : ℕ) (s : SenderReport) (kept : Retention) → slice_get report.senders.items i ≡ Some s → slice_get (of_actors ++ of_outside) i ≡ Some kept
+      → s.dead.retention ≡ kept
   at-sender i s kept found is =
-      same_Some s.dead.is_kept kept
-      (sym (mapped (λ (s : SenderReport). s.dead.is_kept) report.senders.items i s found) ∙ ap (λ l. slice_get l i) all-are ∙ is)
+      same_Some s.dead.retention kept
+      (sym (mapped (λ (s : SenderReport). s.dead.retention) report.senders.items i s found) ∙ ap (λ l. slice_get l i) all-are ∙ is)
 
   pub keeps-letters : KeepsLetters built report
   keeps-letters = record {
     actors = λ id e s is found.
-        at-sender id s e.who.is_kept found
-        (in-first of_actors of_outside id e.who.is_kept (mapped (λ (e : DirectoryEntry). e.who.is_kept) (directory_of built) id e is));
+        at-sender id s e.who.retention found
+        (in-first of_actors of_outside id e.who.retention (mapped (λ (e : DirectoryEntry). e.who.retention) (directory_of built) id e is));
     outside = All-weaker
-        (λ (o : Sender A K). slice_get of_outside (o.inner.send_log.by.0 - 64) ≡ Some o.inner.send_log.dead.is_kept)
+        (λ (o : Sender A K). slice_get of_outside (o.inner.send_log.by.0 - 64) ≡ Some o.inner.send_log.dead.retention)
         (λ (o : Sender A K). (s : SenderReport)
         → slice_get report.senders.items (length (directory_of built) + (o.inner.send_log.by.0 - 64)) ≡ Some s
-        → s.dead.is_kept ≡ o.inner.send_log.dead.is_kept)
+        → s.dead.retention ≡ o.inner.send_log.dead.retention)
         (λ o listed s found.
-        at-sender (length (directory_of built) + (o.inner.send_log.by.0 - 64)) s o.inner.send_log.dead.is_kept found
+        at-sender (length (directory_of built) + (o.inner.send_log.by.0 - 64)) s o.inner.send_log.dead.retention found
         (in-second of_actors of_outside (length (directory_of built) + (o.inner.send_log.by.0 - 64)) (o.inner.send_log.by.0 - 64)
-        o.inner.send_log.dead.is_kept
-        (ap (λ n. n + (o.inner.send_log.by.0 - 64)) (sym (length-mapped (λ (e : DirectoryEntry). e.who.is_kept) (directory_of built)))) listed))
+        o.inner.send_log.dead.retention
+        (ap (λ n. n + (o.inner.send_log.by.0 - 64)) (sym (length-mapped (λ (e : DirectoryEntry). e.who.retention) (directory_of built)))) listed))
         built.senders.items (came-kept built gates log outside together complete came);
   }

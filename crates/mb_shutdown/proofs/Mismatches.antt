@@ -1,11 +1,12 @@
 -- What does not agree, from the calls that find it to the whole.
-use Rattle.std.proofs.Common.{◌≡◌, ◌≢◌, ◌⊎◌, inl, inr, ⊎_elim, ℕ, zero, suc, ◌+◌, ◌<◌, ◌≤◌, Bool, List, [], ◌∷◌, ◌++◌, length, map}
+use Rattle.std.proofs.Common.{◌≡◌, ◌≢◌, ◌⊎◌, inl, inr, ⊎_elim, ℕ, zero, suc, ◌+◌, ◌<◌, ◌≤◌, List, [], ◌∷◌, ◌++◌, length, map}
 use Rattle.std.proofs.Common.{refl, sym, ap, ◌∙◌, subst, arith, Option, Some, None}
 use Rattle.std.specs.Prelude.{Vec, slice_get, vec_capacity}
 use Rattle.std.specs.List.{AllZip}
 use Rattle.std.specs.Global.{Global}
 use Rattle.std.proofs.lemmas.List.Elements.{All-nil}
 use Rattle.std.proofs.lemmas.Option.{none-some, same_Some}
+use Rattle.mb_msg.specs.JournalMode.{Retention}
 use Rattle.mb_msg.specs.declared.envelope.Envelope.{Envelope}
 use Rattle.mb_cell.specs.CellView.{CellView}
 use Rattle.mb_queue.specs.Passes.{SendPassView, TakePassView}
@@ -137,7 +138,7 @@ module _ (all : List (Option BoxedHome)) (lefts : List BoxedHome) (are : all ≡
       let a = ap length ended_are in let b = length-mapped ended_of ended in let c = length-mapped (λ (l : BoxedHome). end_of l.home.value) lefts in
       let l = there lefts id (let lt = within ended id other.end other.present in omega (arith, lt, a, b, c)) in
       let same = alike ended_of (λ (l : BoxedHome). end_of l.home.value) ended lefts id other.end l.0 ended_are other.present l.1 in
-      let cell : other.end.cell ≡ l.0.home.value.cell = ap (λ (x : CellView × List Envelope × ℕ × Bool). x.0) same in
+      let cell : other.end.cell ≡ l.0.home.value.cell = ap (λ (x : CellView × List Envelope × ℕ × Retention). x.0) same in
       let take : slice_get takes id ≡ Some l.0.home.value.take
       = ap (λ x. slice_get x id) takes_are ∙ mapped (λ (l : BoxedHome). l.home.value.take) lefts id l.0 l.1 in
       record {

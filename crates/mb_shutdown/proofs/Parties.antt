@@ -1,8 +1,9 @@
 -- A sender at the end: its passes, what it was answered, and what is reported of it.
-use Rattle.std.proofs.Common.{◌≡◌, ℕ, suc, ◌+◌, ◌%◌, ◌^◌, ◌<◌, Bool, List, [], length, drop, sym, ap, ◌∙◌}
+use Rattle.std.proofs.Common.{◌≡◌, ℕ, suc, ◌+◌, ◌%◌, ◌^◌, ◌<◌, List, [], length, drop, sym, ap, ◌∙◌}
 use Rattle.std.proofs.Common.{subst, arith, append-nil, Some}
 use Rattle.std.specs.Prelude.{All, slice_get}
 use Rattle.std.proofs.lemmas.List.Elements.{All-weaker}
+use Rattle.mb_msg.specs.JournalMode.{Retention}
 use Rattle.mb_msg.specs.declared.dead_letter.DeadLetter.{DeadLetter}
 use Rattle.mb_msg.specs.declared.dead_letter.DeadLetterReason.{DeadLetterReason}
 use Rattle.mb_msg.specs.declared.dead_letter.DeadLetterReason.TheVariants as why
@@ -24,11 +25,11 @@ use Rattle.mb_shutdown.proofs.Reaching.{among-closed, dead-there}
 pub record Party : Type 0 where
   pub row : List SendPassView
   pub postings : List SentEnvelope
-  pub sent : ℕ × List DeadLetter × Bool
+  pub sent : ℕ × List DeadLetter × Retention
 
 -- the party of a home that was answered this
 abbrev pub party_of : Contents → List SentEnvelope → Party
-party_of h postings = record { row = h.sends; postings = postings; sent = (h.sent, h.dead, h.cell.who.is_kept) }
+party_of h postings = record { row = h.sends; postings = postings; sent = (h.sent, h.dead, h.cell.who.retention) }
 
 module _ (directory : List DirectoryEntry) (Shut : ℕ → Type 0) where
   -- a dead letter's reason holds

@@ -8,6 +8,7 @@ use Rattle.std.proofs.lemmas.Bool.{eqb-true}
 use Rattle.std.proofs.lemmas.List.{map-append}
 use Rattle.std.proofs.lemmas.List.Elements.{All-nil, All-cons, All-push}
 use Rattle.std.proofs.lemmas.Option.{none-some, same_Some}
+use Rattle.mb_msg.specs.JournalMode.{Retention}
 use Rattle.mb_msg.specs.declared.dead_letter.DeadLetter.{DeadLetter}
 use Rattle.mb_msg.specs.declared.envelope.Envelope.{Envelope}
 use Rattle.mb_actor.specs.declared.message.Message.{Message}
@@ -54,8 +55,8 @@ module _ {A K : Type 0} where
   pub apart-more : (done : List (Option (ReturnedActor (Box Contents)))) (ended : List (Ended A K)) (takes : List TakePassView) (rows : List (List SendPassView))
       (senders : List SenderReport) (left : Option (ReturnedActor (Box Contents))) (parts : HomeParts A K) (e : Ended A K) (s : SenderReport)
       → AreApart done ended takes rows senders → IsOpened left parts
-      → ◌≡◌ {A = CellView × List Envelope × ℕ × Bool} (ended_of e) (parts.cell, parts.cleaned.items, parts.dead_system, parts.cleaned.is_kept)
-      → ◌≡◌ {A = ℕ × List DeadLetter × Bool} (sent_of s) (parts.sent, parts.dead.items, parts.dead.is_kept)
+      → ◌≡◌ {A = CellView × List Envelope × ℕ × Retention} (ended_of e) (parts.cell, parts.cleaned.items, parts.dead_system, parts.cleaned.retention)
+      → ◌≡◌ {A = ℕ × List DeadLetter × Retention} (sent_of s) (parts.sent, parts.dead.items, parts.dead.retention)
       → AreApart (done ++ left ∷ []) (ended ++ e ∷ []) (takes ++ parts.take ∷ []) (rows ++ parts.sends.items ∷ []) (senders ++ s ∷ [])
   apart-more done ended takes rows senders left parts e s apart opened end sent =
       let lefts = apart.lefts in let one = opened.one in

@@ -4,6 +4,7 @@ use Rattle.std.proofs.Common.{length, map, get_or, refl, sym, ap, ◌∙◌, sub
 use Rattle.std.specs.Prelude.{All, Contains, if◌then◌else◌, slice_get}
 use Rattle.std.proofs.lemmas.List.Elements.{All-contains, All-head, All-weaker}
 use Rattle.std.proofs.lemmas.Option.{get_or_from_slice_get, same_Some}
+use Rattle.mb_msg.specs.JournalMode.{Retention}
 use Rattle.mb_msg.specs.declared.dead_letter.DeadLetter.{DeadLetter}
 use Rattle.mb_msg.specs.declared.dead_letter.DeadLetterReason.{DeadLetterReason}
 use Rattle.mb_msg.specs.declared.dead_letter.DeadLetterReason.TheVariants as why
@@ -291,8 +292,8 @@ module _ (after : ℕ → List Message → ℤ) (gives : ℕ → Moment → Repl
         let same : sent_of s ≡ p.0.sent
         = alike sent_of (λ (p : Party). p.sent) report.senders.items g.parties place s p.0 sents found p.1 in
         let back : p.0.postings ≡ answers place = sym (answers-at place p.0 p.1) in (
-          ap (λ (x : ℕ × List DeadLetter × Bool). x.0) same ∙ is.sent_is ∙ ap (λ (l : List SentEnvelope). length l % 2 ^ 64) back,
-          ap (λ (x : ℕ × List DeadLetter × Bool). x.1) same ∙ is.dead_is ∙ ap dead_letters back,
+          ap (λ (x : ℕ × List DeadLetter × Retention). x.0) same ∙ is.sent_is ∙ ap (λ (l : List SentEnvelope). length l % 2 ^ 64) back,
+          ap (λ (x : ℕ × List DeadLetter × Retention). x.1) same ∙ is.dead_is ∙ ap dead_letters back,
           subst (λ (x : ℕ × List SentEnvelope). NumbersCountUpFrom x.0 0 (accepted x.1)) (λ i. (number-same place i, back i)) is.numbered,
           subst (λ (l : List SentEnvelope). All (IsRightReason first.directory report.actors.items) (dead_letters l)) back
               (All-weaker (HasReason first.directory (IsShut lefts)) (IsRightReason first.directory report.actors.items) right (dead_letters p.0.postings)
@@ -304,12 +305,12 @@ module _ (after : ℕ → List Message → ℤ) (gives : ℕ → Moment → Repl
         → l.home.value.dead ≡ dead_letters p.postings
     letters-of i l p found is =
         let of_home = λ (l : BoxedHome). sent_in l.home.value in
-        let others = map {A = FinishedSender} {B = ℕ × List DeadLetter × Bool} (λ o. (o.send_log.sent, o.send_log.dead.items, o.send_log.dead.is_kept)) outs in
+        let others = map {A = FinishedSender} {B = ℕ × List DeadLetter × Retention} (λ o. (o.send_log.sent, o.send_log.dead.items, o.send_log.dead.retention)) outs in
         let here : p.sent ≡ sent_in l.home.value
         = same_Some p.sent (sent_in l.home.value)
         (sym (mapped (λ (p : Party). p.sent) g.parties i p is) ∙ ap (λ y. slice_get y i) g.sents
         ∙ in-first (map of_home lefts) others i (of_home l) (mapped of_home lefts i l found)) in
-        sym (ap (λ (x : ℕ × List DeadLetter × Bool). x.1) here) ∙ (g.each i p is).dead_is
+        sym (ap (λ (x : ℕ × List DeadLetter × Retention). x.1) here) ∙ (g.each i p is).dead_is
 
     not-cleaned-clause : (place : ℕ) → place < length first.directory
         → All (λ (d : DeadLetter). d.why ≢ why.Cleaned) (dead_letters (answers place))

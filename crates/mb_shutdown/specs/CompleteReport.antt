@@ -48,16 +48,16 @@ abbrev pub sender_number : ℕ → ℕ → ℕ
 sender_number actors place = if nat_lt place actors then place else most_actors + (place - actors)
 
 -- What is reported of an actor is what its journal says, which is one that it can have. The state is the content that the actor which was handed in
--- has after the messages since its last start. The guardian shows none. The journal keeps its entries exactly if it is planned to, and the report then
--- keeps all that was cleaned up.
+-- has after the messages since its last start. The guardian shows none. As much is kept of the journal as is planned,
+-- and so of what was cleaned up.
 pub record IsReportOf (after : ℕ → List Message → ℤ) (gives : ℕ → Moment → Reply → Type 0) (who : Identity) (actor : ActorReport) : Type 0 where
   pub lawful : IsLawful who (gives who.this.0) actor.journal.entries
   pub phase_is : actor.phase ≡ phase who actor.journal.entries
   pub count_is : actor.count ≡ count who actor.journal.entries
   pub aside_is : actor.aside.items ≡ aside who actor.journal.entries
   pub state_is : actor.state ≡ (if is_guardian who then None else Some (after who.this.0 (messages who actor.journal.entries)))
-  pub kept_is : actor.journal.is_kept ≡ who.is_kept
-  pub cleaned_kept : actor.cleaned.is_kept ≡ who.is_kept
+  pub kept_is : actor.journal.retention ≡ who.retention
+  pub cleaned_kept : actor.cleaned.retention ≡ who.retention
 
 -- This observation that a message was put into the actor's list holds: the message is among these, each of which has the number of its place, modulo
 -- 2^64.

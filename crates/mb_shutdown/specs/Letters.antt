@@ -12,7 +12,7 @@ use Rattle.mb_system.specs.declared.sender.Sender.{Sender}
 -- them.
 pub record KeepsLetters {A K : Type 0} (built : Built A K) (report : Report) : Type 0 where
   pub actors : (id : ℕ) (e : DirectoryEntry) (s : SenderReport) → slice_get (directory_of built) id ≡ Some e → slice_get report.senders.items id ≡ Some s
-      → s.dead.is_kept ≡ e.who.is_kept
+      → s.dead.retention ≡ e.who.retention
   pub outside : All (λ (o : Sender A K). (s : SenderReport)
       → slice_get report.senders.items (length (directory_of built) + (o.inner.send_log.by.0 - most_actors)) ≡ Some s
-      → s.dead.is_kept ≡ o.inner.send_log.dead.is_kept) built.senders.items
+      → s.dead.retention ≡ o.inner.send_log.dead.retention) built.senders.items

@@ -1,5 +1,6 @@
 -- What a report shows of the parts of the homes.
-use Rattle.std.specs.Prelude.{◌≡◌, ◌≢◌, ◌⊎◌, ℕ, ◌<◌, ℤ, Bool, if◌then◌else◌, List, [], length, Some, None, slice_get}
+use Rattle.std.specs.Prelude.{◌≡◌, ◌≢◌, ◌⊎◌, ℕ, ◌<◌, ℤ, if◌then◌else◌, List, [], length, Some, None, slice_get}
+use Rattle.mb_msg.specs.JournalMode.{Retention}
 use Rattle.mb_msg.specs.declared.envelope.Envelope.{Envelope}
 use Rattle.mb_actor.specs.declared.message.Message.{Message}
 use Rattle.mb_actor.specs.declared.phase.Phase.TheVariants.{Ended as EndedPhase}
@@ -14,15 +15,15 @@ use Rattle.mb_shutdown.specs.Apart.{ended_of}
 use Rattle.mb_shutdown.specs.declared.room.Ended.{Ended}
 
 -- The report shows this cell, and what was cleaned up, left and dead. It keeps of the journal and of what was cleaned up what these kept.
-pub record ShowsCell (after : ℕ → List Message → ℤ) (end : CellView × List Envelope × ℕ × Bool) (left : List Envelope) (a : ActorReport) : Type 0 where
+pub record ShowsCell (after : ℕ → List Message → ℤ) (end : CellView × List Envelope × ℕ × Retention) (left : List Envelope) (a : ActorReport) : Type 0 where
   pub phase_is : a.phase ≡ phase end.0.who end.0.journal
   pub count_is : a.count ≡ count end.0.who end.0.journal
   pub state_is : a.state ≡ (if is_guardian end.0.who then None else Some (after end.0.who.this.0 (messages end.0.who end.0.journal)))
   pub journal_is : a.journal.entries ≡ end.0.journal
-  pub kept_is : a.journal.is_kept ≡ end.0.who.is_kept
+  pub kept_is : a.journal.retention ≡ end.0.who.retention
   pub aside_is : a.aside.items ≡ aside end.0.who end.0.journal
   pub cleaned_is : a.cleaned.items ≡ end.1
-  pub cleaned_kept : a.cleaned.is_kept ≡ end.3
+  pub cleaned_kept : a.cleaned.retention ≡ end.3
   pub left_is : a.left.items ≡ left
   pub dead_is : a.dead_system ≡ end.2
 

@@ -27,7 +27,7 @@ pub record ShowsCellNow (cell : CellView) (a : UnfinishedActor) : Type 0 where
   pub phase_is : a.phase ≡ phase cell.who cell.journal
   pub count_is : a.count ≡ count cell.who cell.journal
   pub journal_is : a.journal.entries ≡ cell.journal
-  pub kept_is : a.journal.is_kept ≡ cell.who.is_kept
+  pub kept_is : a.journal.retention ≡ cell.who.retention
   pub aside_is : a.aside.items ≡ aside cell.who cell.journal
 
 -- The home came back, and its cell is shown; or it did not come back, and nothing is shown.

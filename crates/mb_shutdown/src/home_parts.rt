@@ -87,7 +87,7 @@ pub(crate) fn add_outside(
         × (length senders.old.items + length outside.items ≤ vec_capacity senders.old) }
     ensures rows { map (λ r. r.items) rows.new.items ≡ map (λ r. r.items) rows.old.items ++ map (λ o. o.sends.items) outside.items }
     ensures senders { map sent_of senders.new.items ≡ map sent_of senders.old.items
-        ++ map (λ o. (o.send_log.sent, o.send_log.dead.items, o.send_log.dead.is_kept)) outside.items }
+        ++ map (λ o. (o.send_log.sent, o.send_log.dead.items, o.send_log.dead.retention)) outside.items }
     ensures below_bound { All (λ o. o.send_log.sent < 2 ^ 64) outside.items }
 {
     for outsider in outside {
@@ -104,7 +104,7 @@ pub(crate) fn add_outside(
 }
 
 fn sender_report(sent: u64, dead: DeadLetters) -> SenderReport
-    ensures report { sent_of result ≡ (sent, dead.items, dead.is_kept) }
+    ensures report { sent_of result ≡ (sent, dead.items, dead.retention) }
     ensures below_bound { sent < 2 ^ 64 }
 {
     SenderReport { sent, dead }

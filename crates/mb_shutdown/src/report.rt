@@ -39,8 +39,8 @@ pub fn build_report<A: Actor, K: Behaviours, R: Wait>(
     requires room { IsRoom (actors_of gates) (length outside.items) room }
     ensures whole { IfOk result (λ report.
         IsCompleteReport K.after K.gives (first_home gates).value.directory (pass_view pass).log (map (λ o. o.send_log.posted) outside.items) report) }
-    ensures letters { IfOk result (λ report. map (λ s. s.dead.is_kept) report.senders.items
-        ≡ map (λ e. e.who.is_kept) (first_home gates).value.directory ++ map (λ o. o.send_log.dead.is_kept) outside.items) }
+    ensures letters { IfOk result (λ report. map (λ s. s.dead.retention) report.senders.items
+        ≡ map (λ e. e.who.retention) (first_home gates).value.directory ++ map (λ o. o.send_log.dead.retention) outside.items) }
     ensures seen { IfOk result (λ report. ReportExtendsAll report (pass_view pass)) }
     ensures home { IfOk result (HomesReturned K.gives (first_home gates).value (actors_of gates) (pass_view pass)) }
     ensures counted { IfOk result (λ report. map (λ a. length a.left.items) report.actors.items ≡ counted_in room) }

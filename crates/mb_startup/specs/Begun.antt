@@ -2,6 +2,7 @@
 use Rattle.std.specs.Prelude.{◌≡◌, ◌≢◌, ℕ, ◌+◌, true, List, [], ◌∷◌, ◌++◌, All, length, slice_get, Some}
 use Rattle.std.specs.Global.{Box}
 use Rattle.mb_ghost.specs.Shares.{IsWhole}
+use Rattle.mb_msg.specs.JournalMode.{retention_of}
 use Rattle.mb_msg.specs.Limits.{most_actors}
 use Rattle.mb_msg.specs.declared.system.SysMsg.TheVariants.{Create}
 use Rattle.mb_core.specs.Actor.{nothing}
@@ -19,7 +20,6 @@ use Rattle.mb_home.specs.Contents.{Contents}
 use Rattle.mb_build.specs.NewHomes.{AreNewHomes}
 use Rattle.mb_build.specs.Planned.{actors_in}
 use Rattle.mb_build.specs.Kinds.{AreKindsOf}
-use Rattle.mb_send.specs.Keeps.{keeps, keeps_in}
 use Rattle.mb_send.specs.Sends.{AreRoutes, receiving_queues}
 use Rattle.mb_register.specs.Owed.{IsNobody}
 use Rattle.mb_system.specs.Members.{IsEndOf, IsSenderOf, pool_ends_of, pool_feeds_of}
@@ -59,7 +59,7 @@ HasNoClaims e = (e.registrar.run_queue.pushed ≡ []) × (e.registrar.run_queue.
 
 -- Each of these senders keeps of its dead letters what a journal of this mode keeps of its entries.
 abbrev pub KeepLettersIn : {A K : Type 0} → JournalMode → List (Sender A K) → Type 0
-KeepLettersIn {A} {K} mode senders = All (λ (s : Sender A K). keeps s.inner.send_log.dead ≡ keeps_in mode) senders
+KeepLettersIn {A} {K} mode senders = All (λ (s : Sender A K). s.inner.send_log.dead.retention ≡ retention_of mode) senders
 
 module _ {A K : Type 0} (gates : Gates (Box Contents)) where
   -- A new sender of this number: it sent no envelope and no system message, was answered nothing, saw nothing, got no claim, gave no cell back, owes

@@ -1,11 +1,12 @@
 -- Who the actor of a cell is.
-use Rattle.std.specs.Prelude.{ℕ, Bool, false}
+use Rattle.std.specs.Prelude.{ℕ, false}
+use Rattle.mb_msg.specs.JournalMode.{Retention}
 use Rattle.mb_journal.specs.Identity.{Identity}
 use Rattle.mb_supervision.specs.declared.identity.ActorIdentity.{ActorIdentity}
 
--- the identity of an actor whose journal may have `limit` entries, and whether it keeps them
-abbrev pub identity_of : ActorIdentity → ℕ → Bool → Identity
-identity_of place limit is_kept = record {
+-- the identity of an actor whose journal may have `limit` entries and keeps so much of them
+abbrev pub identity_of : ActorIdentity → ℕ → Retention → Identity
+identity_of place limit retention = record {
   this = place.this;
   parent = place.parent;
   actors = place.actors;
@@ -14,9 +15,9 @@ identity_of place limit is_kept = record {
   retries = place.strategy.retries;
   all_for_one = place.strategy.all_for_one;
   limit = limit;
-  is_kept = is_kept;
+  retention = retention;
 }
 
 -- the same with no word on the journal, on which no change of a cell's state depends
 abbrev pub identity_at : ActorIdentity → Identity
-identity_at place = identity_of place 0 false
+identity_at place = identity_of place 0 (record { keeps_all = false; last = 0 })

@@ -8,7 +8,6 @@ ghost use Rattle.mb_gate.specs.View.{obligation_to};
 ghost use Rattle.mb_send.specs.Answers.{IsSeen, IsSent, IsTold, Stops, receiver_of};
 ghost use Rattle.mb_send.specs.Asked.{RegistersAtMost};
 ghost use Rattle.mb_send.specs.Faults.{OnlyLooked, IsSameSendLog};
-ghost use Rattle.mb_send.specs.Keeps.{keeps};
 ghost use Rattle.mb_send.specs.declared.send_error.SendError.TheVariants as Refusal;
 ghost use Rattle.mb_register.specs.Due.{GotOnlyDue};
 ghost use Rattle.mb_register.specs.Owed.{is_owed};
@@ -87,7 +86,7 @@ impl<A: Actor, K: Behaviours> Sender<A, K> {
         requires present { (0 < (receiver_of ticket).0) × ((receiver_of ticket).0 < actors_of system.now.gates) }
         ensures same_gates { IsSenderOf system.now.gates self.new.inner }
         ensures same_sender { self.new.inner.send_log.by ≡ self.old.inner.send_log.by }
-        ensures keeps { keeps self.new.inner.send_log.dead ≡ keeps self.old.inner.send_log.dead }
+        ensures keeps { self.new.inner.send_log.dead.retention ≡ self.old.inner.send_log.dead.retention }
         ensures refused { OnErr result (IsErrOf result Refusal.NoMemory × (self.new.inner.send_log.posted ≡ self.old.inner.send_log.posted)
             × (self.new.inner.registrar ≡ self.old.inner.registrar)) }
         ensures unsent { OnErr result (IsSameSendLog self.old.inner.send_log self.new.inner.send_log × (self.new.inner.sends ≡ self.old.inner.sends)) }
@@ -120,7 +119,7 @@ impl<A: Actor, K: Behaviours> Sender<A, K> {
         requires same_gates { IsSenderOf system.now.gates self.old.inner }
         ensures same_gates { IsSenderOf system.now.gates self.new.inner }
         ensures same_sender { self.new.inner.send_log.by ≡ self.old.inner.send_log.by }
-        ensures keeps { keeps self.new.inner.send_log.dead ≡ keeps self.old.inner.send_log.dead }
+        ensures keeps { self.new.inner.send_log.dead.retention ≡ self.old.inner.send_log.dead.retention }
         ensures refused { OnErr result ((self.new.inner.send_log.posted ≡ self.old.inner.send_log.posted)
             × ((IsErrOf result Refusal.NoSuchActor × ((to.0 ≡ 0) ⊎ (actors_of system.now.gates ≤ to.0)))
             ⊎ (IsErrOf result Refusal.NoMemory × (0 < to.0) × (to.0 < actors_of system.now.gates)))) }

@@ -26,15 +26,15 @@ use Rattle.mb_trace.specs.Rest.{
 use Rattle.mb_trace.specs.declared.filter.Filter.{Filter}
 
 -- what a list keeps is what can be read of it
-pub readable-kept : {T : Type 0} (list : KeptListView T) → (list.is_kept ≡ true → list.kept ≡ list.items) → list.kept ≡ readable list
-readable-kept list all = by_test list.is_kept refl
+pub readable-kept : {T : Type 0} (list : KeptListView T) → (list.retention.keeps_all ≡ true → list.kept ≡ list.items) → list.kept ≡ readable list
+readable-kept list all = by_test list.retention.keeps_all refl
   where
-    by_test : (b : Bool) → list.is_kept ≡ b → list.kept ≡ (if b then list.items else list.kept)
+    by_test : (b : Bool) → list.retention.keeps_all ≡ b → list.kept ≡ (if b then list.items else list.kept)
     by_test true is = all is
     by_test false is = refl
 
 -- of a list that keeps all, all can be read
-readable-all : {T : Type 0} (list : KeptListView T) → list.is_kept ≡ true → readable list ≡ list.items
+readable-all : {T : Type 0} (list : KeptListView T) → list.retention.keeps_all ≡ true → readable list ≡ list.items
 readable-all list is = ap (λ b. if b then list.items else list.kept) is
 
 -- the same text of each item
@@ -45,10 +45,10 @@ flat-same P f g same (x ∷ xs) all = λ i. same x (All-head P x xs all) i ++ fl
 -- where a report keeps all, all that stands at the end can be read
 pub rest-readable : (names : List (List ℕ)) (f : Filter) (report : Report) → KeepsAllIf true report → readable_rest_text names f report ≡ rest_text names f report
 rest-readable names f report kept =
-    let letters = flat-same (λ (s : SenderReport). s.dead.is_kept ≡ true)
+    let letters = flat-same (λ (s : SenderReport). s.dead.retention.keeps_all ≡ true)
     (λ s. letters_text names f (readable_letters s)) (λ s. letters_text names f (all_letters s))
     (λ s is. ap (letters_text names f) (readable-all s.dead is)) report.senders.items kept.letters in
-    let cleaned = flat-same (λ (r : ActorReport). r.cleaned.is_kept ≡ true)
+    let cleaned = flat-same (λ (r : ActorReport). r.cleaned.retention.keeps_all ≡ true)
     (λ r. cleaned_text names f (readable_cleaned r)) (λ r. cleaned_text names f (all_cleaned r))
     (λ r is. ap (cleaned_text names f) (readable-all r.cleaned is)) report.actors.items kept.cleaned in
     λ i. (if shows_envelopes f.only then (letters i ++ cleaned i ++ flat_map (queued_text names f) report.actors.items) else [])

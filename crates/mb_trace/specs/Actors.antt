@@ -1,6 +1,6 @@
 -- Who the actors of a plan are (`akka.actor.ActorContext`: parent and children; that children are planned is this project's own profile).
 use Rattle.std.specs.Prelude.{ℕ, ◌+◌, ◌-◌, ◌==◌, if◌then◌else◌, take, false, List, [], ◌∷◌, length, slice_get, Option, Some, None, negsuc}
-use Rattle.mb_msg.specs.JournalMode.{keeps_all}
+use Rattle.mb_msg.specs.JournalMode.{retention_of}
 use Rattle.mb_msg.specs.Limits.{most_actors}
 use Rattle.mb_msg.specs.declared.actor_plan.ActorPlan.{ActorPlan}
 use Rattle.mb_msg.specs.declared.id.ActorId.{ActorId}
@@ -32,7 +32,7 @@ guardian_in plan = record {
   retries = negsuc 0;
   all_for_one = false;
   limit = plan.journal_limit;
-  is_kept = keeps_all plan.journal;
+  retention = retention_of plan.journal;
 }
 
 -- another actor; one that is not planned is a child of the guardian without a strategy of its own
@@ -46,7 +46,7 @@ actor_in plan number (Some p) = record {
   retries = p.strategy.retries;
   all_for_one = p.strategy.all_for_one;
   limit = plan.journal_limit;
-  is_kept = keeps_all plan.journal;
+  retention = retention_of plan.journal;
 }
 actor_in plan number None =
     record (guardian_in plan) { this = numbered number; parent = Some (numbered 0); prepared = children_in plan number }

@@ -55,7 +55,7 @@ all_aside_text names f actor (r ∷ reported) = set_aside_text names f actor r +
 
 -- what can be read of a list: all its items where it keeps all, else those that it keeps
 abbrev pub readable : {T : Type 0} → KeptListView T → List T
-readable list = if list.is_kept then list.items else list.kept
+readable list = if list.retention.keeps_all then list.items else list.kept
 
 -- the dead letters of a sender that can be read
 abbrev pub readable_letters : SenderReport → List DeadLetter

@@ -40,7 +40,7 @@ impl JournalCursor {
         rules: &Rules<'_, '_>,
         journal: &'a Journal,
     ) -> Result<Option<TraceStep<'a>>, AllocError>
-        requires kept { IsTrue journal.now.is_kept }
+        requires kept { IsTrue journal.now.retention.keeps_all }
         requires few { self.old.life.suspended ≤ 1 + 3 * self.old.next }
         ensures at { (who : Identity) → AreRulesOf who rules.now → IsAt who (script_read rules.now.script) journal.now.entries self.old
             → IsAt who (script_read rules.now.script) journal.now.entries self.new }

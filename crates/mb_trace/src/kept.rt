@@ -14,7 +14,7 @@ pub fn keeps_entries(report: &Report) -> bool
 
 /// Whether the journals of all these actors keep their entries, and their lists what was cleaned up.
 fn keep_entries(actors: &[ActorReport]) -> bool
-    ensures { IsTrue result ↔ All (λ actor. (actor.journal.is_kept ≡ true) × (actor.cleaned.is_kept ≡ true)) actors.now }
+    ensures { IsTrue result ↔ All (λ actor. (actor.journal.retention.keeps_all ≡ true) × (actor.cleaned.retention.keeps_all ≡ true)) actors.now }
 {
     for actor in actors {
         if !actor.journal.is_kept() || !actor.cleaned.is_kept() {
@@ -26,7 +26,7 @@ fn keep_entries(actors: &[ActorReport]) -> bool
 
 /// Whether all these senders keep their dead letters.
 fn keep_letters(senders: &[SenderReport]) -> bool
-    ensures { IsTrue result ↔ All (λ sender. sender.dead.is_kept ≡ true) senders.now }
+    ensures { IsTrue result ↔ All (λ sender. sender.dead.retention.keeps_all ≡ true) senders.now }
 {
     for sender in senders {
         if !sender.dead.is_kept() {

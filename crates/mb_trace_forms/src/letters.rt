@@ -47,7 +47,7 @@ fn refused_of(
     filter: &Filter<'_>,
     senders: &[SenderReport],
 ) -> Result<Vec<DeadLetter>, AllocError>
-    requires kept { All (λ (s : Sent). s.dead.is_kept ≡ true) senders.now }
+    requires kept { All (λ (s : Sent). s.dead.retention.keeps_all ≡ true) senders.now }
     ensures { IfOk result (λ letters. letters.items ≡ flat_map (λ (s : Sent). refused filter.now s.dead.items) senders.now) }
 {
     let mut letters = Vec::new(alloc);
@@ -63,7 +63,7 @@ fn add_all_cleaned(
     filter: &Filter<'_>,
     actors: &[ActorReport],
 ) -> Result<(), AllocError>
-    requires kept { All (λ (r : Reported). r.cleaned.is_kept ≡ true) actors.now }
+    requires kept { All (λ (r : Reported). r.cleaned.retention.keeps_all ≡ true) actors.now }
     ensures { OnOk result (letters.new.items ≡ letters.old.items ++ flat_map (λ (r : Reported). cleaned filter.now r.cleaned.items) actors.now) }
 {
     for actor in actors {

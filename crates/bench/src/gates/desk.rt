@@ -30,7 +30,7 @@ impl MailboxState for BenchHome {
       retries = pos 0;
       all_for_one = false;
       limit = 0;
-      is_kept = false;
+      retention = record { keeps_all = false; last = 0 };
     } };
 
     ghost facts = { λ desk. record {

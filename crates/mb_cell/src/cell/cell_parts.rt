@@ -26,8 +26,7 @@ impl<A: Actor, K: Behaviours> Cell<A, K> {
           entries = self.journal;
           limit = self.who.limit;
           is_ready = self.is_ready;
-          is_kept = self.who.is_kept;
-          last = result.journal.last;
+          retention = self.who.retention;
         } }
         ensures lawful { IsLawful self.who (K.gives self.who.this.0) self.journal }
         ensures aside { result.aside.items ≡ aside_of self.who self.journal }

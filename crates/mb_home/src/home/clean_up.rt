@@ -37,7 +37,7 @@ impl<A: Actor, K: Behaviours> Home<A, K> {
         requires settled { AgreesWithJournal (K.gives self.old.cell.who.this.0) self.old.cell.acts self.old }
         ensures cleaned { IfOk result (λ some. MatchBool some (Cleans self.old self.new) (FindsNone self.old self.new)) }
         ensures refused { OnErr result (self.new ≡ self.old) }
-        ensures never_short { self.old.cell.who.is_kept ≡ false → length self.old.cleaned + 1 < 2 ^ 64 → IsOk result }
+        ensures never_short { self.old.cell.who.retention.keeps_all ≡ false → length self.old.cleaned + 1 < 2 ^ 64 → IsOk result }
         ensures settled { AgreesWithJournal (K.gives self.new.cell.who.this.0) self.new.cell.acts self.new }
     {
         self.cleaned.reserve(1)?;

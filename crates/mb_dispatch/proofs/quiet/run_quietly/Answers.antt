@@ -40,8 +40,7 @@ loop-init g c =
           (pass_view c.register_all.new.self.registrar.pass))
           (sym {A = List Turn} (items-of c.in-Ok.ensures.made)) did.looks,
       claims-registered-all c.args.end.now c.register_all.new.self (actors_of c.args.system.now.gates) did.registered did.log,
-      ap (λ (l : KeptListView Turn). l.is_kept) c.in-Ok.ensures.made,
-      ap (λ (l : KeptListView Turn). l.last) c.in-Ok.ensures.made,
+      ap (λ (l : KeptListView Turn). l.retention) c.in-Ok.ensures.made,
     )
 
 pub loop-preserved-in-Some-take : goal.loop-preserved-in-Some-take
@@ -65,8 +64,7 @@ loop-preserved-in-Some-take g c =
           c.in_ok-run_mailbox-in-Some-take.ensures.ran))),
       tried-ran c.in-Some-take.claim c.args.end.now c.loop.end c.take.new.self c.run_mailbox.new.end c.take.result c.in-Some-take.is c.loop.invariant.5 same.0
           c.take.ensures.account c.take.ensures.log did.claims did.log,
-      c.push.ensures.same.0 ∙ ap (λ (l : KeptListView Turn). l.is_kept) c.reserve.ensures.same ∙ c.loop.invariant.6,
-      c.push.ensures.same.1 ∙ ap (λ (l : KeptListView Turn). l.last) c.reserve.ensures.same ∙ c.loop.invariant.7,
+      c.push.ensures.same ∙ ap (λ (l : KeptListView Turn). l.retention) c.reserve.ensures.same ∙ c.loop.invariant.6,
     )
 
 pub loop-preserved : goal.loop-preserved
@@ -85,8 +83,7 @@ loop-preserved g c =
           (subst (λ p. OnlyLooks (pass_view p) new.view) same.0 did.looks)),
       none-then c.args.end.now c.loop.end c.take.new.self c.retry_refused.new.self c.in-None-take.ensures.none.0 c.loop.invariant.5
           (claims-registered c.take.new.self c.retry_refused.new.self did.handed did.log),
-      ap (λ (l : KeptListView Turn). l.is_kept) c.reserve.ensures.same ∙ c.loop.invariant.6,
-      ap (λ (l : KeptListView Turn). l.last) c.reserve.ensures.same ∙ c.loop.invariant.7,
+      ap (λ (l : KeptListView Turn). l.retention) c.reserve.ensures.same ∙ c.loop.invariant.6,
     )
 
 pub returns-in_err-run_mailbox-in-Some-take-clause-log_kept : goal.returns-in_err-run_mailbox-in-Some-take-clause-log_kept
@@ -292,10 +289,7 @@ returns-in_err-retry_refused-in-None-take-clause-kept g c =
     let left = c.from_residual-in_err-retry_refused-in-None-take in IfOk-from_err left.result _ left.ensures.0
 
 pub returns-then-is_empty-clause-kept : goal.returns-then-is_empty-clause-kept
-returns-then-is_empty-clause-kept g c = (
-  ap (λ (l : KeptListView Turn). l.is_kept) c.reserve.ensures.same ∙ c.loop.invariant.6,
-  ap (λ (l : KeptListView Turn). l.last) c.reserve.ensures.same ∙ c.loop.invariant.7,
-)
+returns-then-is_empty-clause-kept g c = ap (λ (l : KeptListView Turn). l.retention) c.reserve.ensures.same ∙ c.loop.invariant.6
 
 pub returns-in_default-clause-same_gates : goal.returns-in_default-clause-same_gates
 returns-in_default-clause-same_gates g c = c.register_all.ensures.same_gates

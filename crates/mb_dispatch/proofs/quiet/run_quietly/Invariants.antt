@@ -1,5 +1,5 @@
 use Rattle.std.proofs.Common.{◌≡◌}
-use Rattle.mb_msg.specs.JournalMode.{keeps_all, keeps_last}
+use Rattle.mb_msg.specs.JournalMode.{retention_of}
 use Rattle.mb_gate.specs.Accessors.{actors_of, pass_view}
 use Rattle.mb_gate.specs.Rule.{IsPart}
 use Rattle.mb_gate.specs.Untouched.{origin_of}
@@ -14,4 +14,4 @@ invariant-loop g l =
     IsEndOf l.system.gates l.end.registrar × (l.end.number ≡ l.fn.end.number)
     × IsPart (pass_view l.fn.end.registrar.pass).log (pass_view l.end.registrar.pass).log × AreDischargedOrOwed (actors_of l.system.gates) (end_caller l.end.registrar)
     × MadeRuns g.K.Behaviours.gives (origin_of l.system.gates) l.system.throughput (pass_view l.fn.end.registrar.pass) l.turns.items (pass_view l.end.registrar.pass)
-    × RunsEachClaim l.fn.end l.end × (l.turns.is_kept ≡ keeps_all l.fn.keeps) × (l.turns.last ≡ keeps_last l.fn.keeps)
+    × RunsEachClaim l.fn.end l.end × (l.turns.retention ≡ retention_of l.fn.keeps)

@@ -1,8 +1,9 @@
-use Rattle.std.proofs.Common.{◌≡◌, ◌+◌, ◌<◌, ◌^◌, ◌++◌, ◌∷◌, [], length, map, ℕ, Bool, List, refl, sym, ap, ◌∙◌, subst, append-nil, append_assoc, length-append, arith}
+use Rattle.std.proofs.Common.{◌≡◌, ◌+◌, ◌<◌, ◌^◌, ◌++◌, ◌∷◌, [], length, map, ℕ, List, refl, sym, ap, ◌∙◌, subst, append-nil, append_assoc, length-append, arith}
 use Rattle.std.specs.Prelude.{All}
 use Rattle.std.proofs.lemmas.List.{nil_from_length}
 use Rattle.std.proofs.lemmas.List.Elements.{All-push}
 use Rattle.std.specs.Vec.Iter.{into_iter_items}
+use Rattle.mb_msg.specs.JournalMode.{Retention}
 use Rattle.mb_msg.specs.declared.dead_letter.DeadLetter.{DeadLetter}
 use Rattle.mb_shutdown.specs.Apart.{sent_of}
 use Rattle.mb_shutdown.specs.declared.finished_sender.FinishedSender.{FinishedSender}
@@ -21,7 +22,7 @@ loop-outsider-preserved c =
     let a = at.invariant.4 in let b = at.invariant.5 in (
       added (λ r. r.items) (λ o. o.sends.items) at.rows.items rows.new.self.items o.sends at.yielded o _ rows.ensures.items at.invariant.0
           refl,
-      added sent_of (λ o. (o.send_log.sent, o.send_log.dead.items, o.send_log.dead.is_kept)) at.senders.items senders.new.self.items _ at.yielded o _ senders.ensures.items
+      added sent_of (λ o. (o.send_log.sent, o.send_log.dead.items, o.send_log.dead.retention)) at.senders.items senders.new.self.items _ at.yielded o _ senders.ensures.items
           at.invariant.1 c.sender_report.ensures.report,
       All-push (λ o. o.send_log.sent < 2 ^ 64) at.yielded o at.invariant.2 c.sender_report.ensures.below_bound,
       append_assoc at.yielded (o ∷ []) rest ∙ ap (λ l. at.yielded ++ l) (sym steps) ∙ at.invariant.3,
@@ -45,7 +46,7 @@ returns-clause-senders c =
     nil_from_length (into_iter_items at.outsider-iterator) (sym at.outsider-iterator.rest.ok.0 ∙ c.in-None.ensures.steps.0) in
     let all : at.yielded ≡ c.args.outside.items = sym (append-nil at.yielded) ∙ ap (λ l. at.yielded ++ l) (sym none) ∙ at.invariant.3 in
     subst (λ (l : List FinishedSender). map sent_of at.senders.items
-    ≡ map sent_of c.args.senders.now.items ++ map {A = FinishedSender} {B = ℕ × List DeadLetter × Bool} (λ o. (o.send_log.sent, o.send_log.dead.items, o.send_log.dead.is_kept)) l) all at.invariant.1
+    ≡ map sent_of c.args.senders.now.items ++ map {A = FinishedSender} {B = ℕ × List DeadLetter × Retention} (λ o. (o.send_log.sent, o.send_log.dead.items, o.send_log.dead.retention)) l) all at.invariant.1
 
 pub returns-clause-below_bound : goal.returns-clause-below_bound
 returns-clause-below_bound c =

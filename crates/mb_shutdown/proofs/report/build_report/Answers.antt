@@ -1,6 +1,7 @@
-use Rattle.std.proofs.Common.{rules, ◌≡◌, ◌<◌, ◌++◌, ℕ, Bool, List, length, map, subst, sym, ap, ◌∙◌, arith, length-append}
+use Rattle.std.proofs.Common.{rules, ◌≡◌, ◌<◌, ◌++◌, ℕ, List, length, map, subst, sym, ap, ◌∙◌, arith, length-append}
 use Rattle.std.specs.Prelude.{IfErr, Vec}
 use Rattle.std.specs.Global.{Global}
+use Rattle.mb_msg.specs.JournalMode.{Retention}
 use Rattle.mb_gate.specs.Accessors.{actors_of, first_home, pass_view}
 use Rattle.mb_msg.specs.declared.dead_letter.DeadLetter.{DeadLetter}
 use Rattle.mb_shutdown.specs.declared.finished_sender.FinishedSender.{FinishedSender}
@@ -63,8 +64,8 @@ returns-in-Ok-clause-letters g c =
     let waits : length c.deref.result.now ≡ actors_of c.args.gates = ap length same ∙ c.requires.room.counted in
     ok-each c.report_on.result
     (λ report. ShowsAll g.K.Behaviours.after ended lefts c.deref.result.now report.actors.items × (report.senders ≡ c.add_outside.new.senders))
-    (λ report. map (λ s. s.dead.is_kept) report.senders.items
-    ≡ map (λ e. e.who.is_kept) first.directory ++ map (λ o. o.send_log.dead.is_kept) c.args.outside.items)
+    (λ report. map (λ s. s.dead.retention) report.senders.items
+    ≡ map (λ e. e.who.retention) first.directory ++ map (λ o. o.send_log.dead.retention) c.args.outside.items)
     (λ report s.
     report-letters g.K.Behaviours.gives first (actors_of c.args.gates) v c.finish-all.result.items
     c.finish-all.ensures.left ended takes before c.take_apart.new.senders.items apart c.args.outside.items c.requires.within_limit.0 c.requires.directory
@@ -149,9 +150,9 @@ report_on-requires-clause-senders g c =
     (map (λ r. r.items) c.take_apart.new.rows.items) c.take_apart.new.senders.items apart in
     let senders = many.of_senders in let of = length-mapped sent_of c.add_outside.new.senders.items in
     let before = length-mapped sent_of c.take_apart.new.senders.items in
-    let outs = length-mapped {X = FinishedSender} {Y = ℕ × List DeadLetter × Bool} (λ o. (o.send_log.sent, o.send_log.dead.items, o.send_log.dead.is_kept)) c.args.outside.items in
+    let outs = length-mapped {X = FinishedSender} {Y = ℕ × List DeadLetter × Retention} (λ o. (o.send_log.sent, o.send_log.dead.items, o.send_log.dead.retention)) c.args.outside.items in
     let all = ap length c.add_outside.ensures.senders
-    ∙ length-append (map sent_of c.take_apart.new.senders.items) (map {A = FinishedSender} {B = ℕ × List DeadLetter × Bool} (λ o. (o.send_log.sent, o.send_log.dead.items, o.send_log.dead.is_kept)) c.args.outside.items) in
+    ∙ length-append (map sent_of c.take_apart.new.senders.items) (map {A = FinishedSender} {B = ℕ × List DeadLetter × Retention} (λ o. (o.send_log.sent, o.send_log.dead.items, o.send_log.dead.retention)) c.args.outside.items) in
     let few = c.requires.within_limit in let a = few.0 in let b = few.1 in omega (arith, senders, of, before, outs, all, n, a, b)
 
 pub returns-in_err-take_apart-clause-in_plan : goal.returns-in_err-take_apart-clause-in_plan

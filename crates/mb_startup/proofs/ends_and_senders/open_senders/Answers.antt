@@ -3,6 +3,7 @@ use Rattle.std.specs.Prelude.{All, Some, vec_len}
 use Rattle.std.specs.Vec.Iter.{into_iter_items}
 use Rattle.std.proofs.lemmas.List.{append-nil, drop-map, length_push, map_push, nil_from_length, take_all}
 use Rattle.std.proofs.lemmas.List.Elements.{All-head, All-nil, All-push, All-rest}
+use Rattle.mb_msg.specs.JournalMode.{retention_of}
 use Rattle.mb_msg.specs.Limits.{most_actors}
 use Rattle.mb_msg.specs.declared.dead_letter.DeadLetter.{DeadLetter}
 use Rattle.mb_dead_letters.specs.KeptListView.{KeptListView}
@@ -11,7 +12,6 @@ use Rattle.mb_gate.specs.Untouched.{origin_of}
 use Rattle.mb_gate.specs.View.{View, obligation_to}
 use Rattle.mb_home.specs.Directory.{queues_of}
 use Rattle.mb_pool.specs.Places.{gates_of}
-use Rattle.mb_send.specs.Keeps.{keeps, keeps_in}
 use Rattle.mb_send.specs.Sends.{AreRoutes, receiving_queues}
 use Rattle.mb_register.specs.Owed.{IsNobody}
 use Rattle.mb_build.proofs.DirectoryLemmas.{drop-next}
@@ -39,7 +39,7 @@ loop-feed-init g c =
       opened = subst (λ l. AreNewSenders c.args.gates.now most_actors (map (λ row. row.items) (take (length l) c.args.outside.items)) l)
           (sym none) tt;
       keep_letters = subst (KeepLettersIn c.args.journal) (sym none)
-          (All-nil (λ (s : Sender _ _). keeps s.inner.send_log.dead ≡ keeps_in c.args.journal));
+          (All-nil (λ (s : Sender _ _). s.inner.send_log.dead.retention ≡ retention_of c.args.journal));
       ports = ap pool_feeds_of none;
     }
 
@@ -122,8 +122,8 @@ loop-feed-preserved g c =
         none_released = ap (λ w. (pass_view w.pass).releases) parts.0 ∙ ap (λ (v : View). v.releases) c.new_pass.ensures.known.1;
       });
       keep_letters = subst (KeepLettersIn c.args.journal) (sym pushed)
-          (All-push (λ (s : Sender _ _). keeps s.inner.send_log.dead ≡ keeps_in c.args.journal) at.senders.items _ at.invariant.keep_letters
-          (ap keeps send_log.3 ∙ ap keeps c.in_ok-dead.ensures.made));
+          (All-push (λ (s : Sender _ _). s.inner.send_log.dead.retention ≡ retention_of c.args.journal) at.senders.items _ at.invariant.keep_letters
+          (ap (λ (l : KeptListView DeadLetter). l.retention) send_log.3 ∙ ap (λ (l : KeptListView DeadLetter). l.retention) c.in_ok-dead.ensures.made));
       ports = ap pool_feeds_of pushed ∙ map_push (λ (s : Sender _ _). s.inner.registrar.run_queue.feed) at.senders.items _
           ∙ (λ i. at.invariant.ports i ++ (ap (λ w. w.run_queue.feed) parts.0 ∙ c.new.ensures) i ∷ []);
     }

@@ -5,4 +5,4 @@ use Rattle.mb_trace.proofs.kept.keep_entries.Given as goal
 
 -- the actors so far keep their entries and what was cleaned up
 abbrev pub invariant-loop-actor : goal.invariant-loop-actor
-invariant-loop-actor l = All (λ (a : ActorReport). (a.journal.is_kept ≡ true) × (a.cleaned.is_kept ≡ true)) (take l.actor-index l.actors)
+invariant-loop-actor l = All (λ (a : ActorReport). (a.journal.retention.keeps_all ≡ true) × (a.cleaned.retention.keeps_all ≡ true)) (take l.actor-index l.actors)

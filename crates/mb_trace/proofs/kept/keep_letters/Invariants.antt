@@ -5,4 +5,4 @@ use Rattle.mb_trace.proofs.kept.keep_letters.Given as goal
 
 -- the senders so far keep their dead letters
 abbrev pub invariant-loop-sender : goal.invariant-loop-sender
-invariant-loop-sender l = All (λ (s : SenderReport). s.dead.is_kept ≡ true) (take l.sender-index l.senders)
+invariant-loop-sender l = All (λ (s : SenderReport). s.dead.retention.keeps_all ≡ true) (take l.sender-index l.senders)

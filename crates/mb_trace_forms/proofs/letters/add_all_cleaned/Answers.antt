@@ -14,8 +14,8 @@ loop-actor-init c = sym (append-nil c.args.letters.now.items)
 pub loop-actor-preserved : goal.loop-actor-preserved
 loop-actor-preserved c =
     let at = c.loop-actor in let f = c.args.filter.now in let x = c.actor-item.result in
-    let all = All-get_or (λ (r : ActorReport). r.cleaned.is_kept ≡ true) c.args.actors.now at.actor-index x c.loop-actor-test.true c.requires.kept in
-    let kept : x.cleaned.is_kept ≡ true = subst (λ (r : ActorReport). r.cleaned.is_kept ≡ true) (sym c.actor-item.is) all in
+    let all = All-get_or (λ (r : ActorReport). r.cleaned.retention.keeps_all ≡ true) c.args.actors.now at.actor-index x c.loop-actor-test.true c.requires.kept in
+    let kept : x.cleaned.retention.keeps_all ≡ true = subst (λ (r : ActorReport). r.cleaned.retention.keeps_all ≡ true) (sym c.actor-item.is) all in
     given-more (λ (r : ActorReport). cleaned f r.cleaned.items) c.args.actors.now at.actor-index c.actor-item.result _ _ _ c.loop-actor-test.true
     c.actor-item.is at.invariant (c.in_ok-add_cleaned.ensures ∙ ap (λ l. at.letters.items ++ cleaned f l) (c.kept.ensures.value ∙ c.kept.ensures.all kept))
 

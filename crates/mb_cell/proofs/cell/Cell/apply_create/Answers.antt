@@ -34,11 +34,11 @@ create-requires-clause-carried_out g c = none-left _ _ (ap (λ (s : CellView). s
 
 -- ---- the guardian
 
-guardian : (g : given.Over) (c : goal.After-push_system g) → is_guardian (identity_of c.self.inside.place c.self.inside.journal.limit c.self.inside.journal.is_kept) ≡ true
+guardian : (g : given.Over) (c : goal.After-push_system g) → is_guardian (identity_of c.self.inside.place c.self.inside.journal.limit c.self.inside.journal.retention) ≡ true
 guardian g c = cell.guardian-now c.self.inside.actor _ _ c.in_default.not-Some c.self.invariant.2
 
 guardian_row : (g : given.Over) (c : goal.After-push_system g) →
-    IsSilentRow (identity_of c.self.inside.place c.self.inside.journal.limit c.self.inside.journal.is_kept) c.self.inside.journal.entries c.args.number system.Create
+    IsSilentRow (identity_of c.self.inside.place c.self.inside.journal.limit c.self.inside.journal.retention) c.self.inside.journal.entries c.args.number system.Create
     c.self.inside.cell_state c.create_guardian.new.self
 guardian_row g c =
     create_guardian-row _ _ _ _ _ c.self.invariant.0 c.args.number
@@ -74,7 +74,7 @@ pub create-requires-clause-below_bound : goal.create-requires-clause-below_bound
 create-requires-clause-below_bound g c = cell.count-small _ _ _ _ _ c.self.invariant.0
 
 abbrev who : (g : given.Over) (c : goal.After-settle g) → Identity
-who g c = identity_of c.self.inside.place c.self.inside.journal.limit c.self.inside.journal.is_kept
+who g c = identity_of c.self.inside.place c.self.inside.journal.limit c.self.inside.journal.retention
 
 abbrev entry : (g : given.Over) (c : goal.After-settle g) → Entry
 entry g c = System c.args.number system.Create (Applied (Some c.start-answer.result) c.effects-effects.result.now)

@@ -20,7 +20,7 @@ pub terminate-requires-clause-below_bound : goal.terminate-requires-clause-below
 terminate-requires-clause-below_bound g c = count-small _ _ _ _ _ c.self.invariant.0
 
 row : (g : given.Over) (c : goal.After-push_system g) →
-    IsSilentRow (identity_of c.self.inside.place c.self.inside.journal.limit c.self.inside.journal.is_kept) c.self.inside.journal.entries c.args.number system.Terminate
+    IsSilentRow (identity_of c.self.inside.place c.self.inside.journal.limit c.self.inside.journal.retention) c.self.inside.journal.entries c.args.number system.Terminate
     c.self.inside.cell_state c.terminate.new.self
 row g c =
     ending-row _ _ _ _ _ c.self.invariant.0 c.args.number

@@ -26,7 +26,7 @@ pub supervise-requires-clause-few_requests : goal.supervise-requires-clause-few_
 supervise-requires-clause-few_requests g c = retries-small _ _ _ _ _ c.self.invariant.0
 
 row : (g : given.Over) (c : goal.After-push_system g) →
-    IsSilentRow (identity_of c.self.inside.place c.self.inside.journal.limit c.self.inside.journal.is_kept) c.self.inside.journal.entries c.args.number
+    IsSilentRow (identity_of c.self.inside.place c.self.inside.journal.limit c.self.inside.journal.retention) c.self.inside.journal.entries c.args.number
     (system.Failed c.args.child c.args.cause) c.self.inside.cell_state c.supervise.new.self
 row g c =
     failed-row _ _ _ _ _ c.self.invariant.0 c.args.number

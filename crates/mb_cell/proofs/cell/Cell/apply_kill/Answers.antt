@@ -28,7 +28,7 @@ entry g c = Handled c.args.envelope c.word.result (Applied None [])
 
 may_handle : (g : given.Over) (c : goal.After-forget_room g) →
     MayHandle (record {
-      who = identity_of c.self.inside.place c.self.inside.journal.limit c.self.inside.journal.is_kept;
+      who = identity_of c.self.inside.place c.self.inside.journal.limit c.self.inside.journal.retention;
       journal = c.self.inside.journal.entries;
       acts = unsent_acts c.self.inside.unsent c.self.inside.journal.entries ++ c.self.inside.cell_state.acts;
       is_ready = c.self.inside.journal.is_ready;
@@ -36,12 +36,12 @@ may_handle : (g : given.Over) (c : goal.After-forget_room g) →
 may_handle g c = subst (λ (s : CellView). MayHandle s c.args.envelope (word_of c.args.reading)) (sym c.self.view_is) c.requires.may_handle
 
 row : (g : given.Over) (c : goal.After-forget_room g) →
-    IsQuietEnvelope (identity_of c.self.inside.place c.self.inside.journal.limit c.self.inside.journal.is_kept) (g.K.Behaviours.gives c.self.inside.place.this.0)
+    IsQuietEnvelope (identity_of c.self.inside.place c.self.inside.journal.limit c.self.inside.journal.retention) (g.K.Behaviours.gives c.self.inside.place.this.0)
     c.self.inside.journal.entries (entry g c) c.self.inside.cell_state c.handle.new.self
 row g c =
     kill-row _ _ _ _ _ c.self.invariant.0 (none-left _ _ (may_handle g c).carried_out) c.args.envelope c.word.result (may_handle g c).an_actor
     (may_handle g c).addressed (may_handle g c).live
-    (subst (λ w. IsOpen (identity_of c.self.inside.place c.self.inside.journal.limit c.self.inside.journal.is_kept) c.self.inside.journal.entries w)
+    (subst (λ w. IsOpen (identity_of c.self.inside.place c.self.inside.journal.limit c.self.inside.journal.retention) c.self.inside.journal.entries w)
     (sym c.word.ensures.word) (may_handle g c).open_reading)
     c.requires.kill c.handle.new.self c.handle.ensures
 

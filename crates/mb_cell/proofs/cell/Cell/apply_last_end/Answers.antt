@@ -19,7 +19,7 @@ pub died_last-requires-clause-carried_out : goal.died_last-requires-clause-carri
 died_last-requires-clause-carried_out g c = none-left _ _ (ap (λ (s : CellView). s.acts) c.self.view_is ∙ c.requires.may_take.carried_out)
 
 row : (g : given.Over) (c : goal.After-push_system g) →
-    IsSilentRow (identity_of c.self.inside.place c.self.inside.journal.limit c.self.inside.journal.is_kept) c.self.inside.journal.entries c.args.number (system.Died c.args.id)
+    IsSilentRow (identity_of c.self.inside.place c.self.inside.journal.limit c.self.inside.journal.retention) c.self.inside.journal.entries c.args.number (system.Died c.args.id)
     c.self.inside.cell_state c.died_last.new.self
 row g c =
     ended_last-row _ _ _ _ _ c.self.invariant.0 c.args.number

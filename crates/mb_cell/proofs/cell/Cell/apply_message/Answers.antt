@@ -38,7 +38,7 @@ pub handle-self-inside-requires-clause-below_bound : goal.handle-self-inside-req
 handle-self-inside-requires-clause-below_bound g c = cell.count-small _ _ _ _ _ c.self.invariant.0
 
 abbrev who : (g : given.Over) (c : goal.After-settle g) → Identity
-who g c = identity_of c.self.inside.place c.self.inside.journal.limit c.self.inside.journal.is_kept
+who g c = identity_of c.self.inside.place c.self.inside.journal.limit c.self.inside.journal.retention
 
 abbrev seen : (g : given.Over) (c : goal.After-settle g) → CellView
 seen g c = record {

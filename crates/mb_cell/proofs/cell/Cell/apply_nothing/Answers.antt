@@ -12,7 +12,7 @@ use Rattle.mb_cell.proofs.cell.Cell.apply_nothing.Given as given
 use Rattle.mb_cell.proofs.cell.Cell.apply_nothing.Goals as goal
 
 row : (g : given.Over) (c : goal.After-push_system g) →
-    IsSilentRow (identity_of c.self.inside.place c.self.inside.journal.limit c.self.inside.journal.is_kept) c.self.inside.journal.entries c.args.number c.args.message
+    IsSilentRow (identity_of c.self.inside.place c.self.inside.journal.limit c.self.inside.journal.retention) c.self.inside.journal.entries c.args.number c.args.message
     c.self.inside.cell_state c.pass.new.self
 row g c =
     nothing-row _ _ _ _ _ c.self.invariant.0 c.args.number

@@ -32,7 +32,7 @@ pub recreate-requires-clause-below_bound : goal.recreate-requires-clause-below_b
 recreate-requires-clause-below_bound g c = cell.count-small _ _ _ _ _ c.self.invariant.0
 
 abbrev who : (g : given.Over) (c : goal.After-settle g) → Identity
-who g c = identity_of c.self.inside.place c.self.inside.journal.limit c.self.inside.journal.is_kept
+who g c = identity_of c.self.inside.place c.self.inside.journal.limit c.self.inside.journal.retention
 
 abbrev entry : (g : given.Over) (c : goal.After-settle g) → Entry
 entry g c = System c.args.number (system.Recreate c.args.cause) (Applied (Some c.restart-answer.result) c.effects-effects.result.now)

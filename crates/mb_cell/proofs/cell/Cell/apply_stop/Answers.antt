@@ -30,7 +30,7 @@ pub end_at_once-requires-clause-carried_out : goal.end_at_once-requires-clause-c
 end_at_once-requires-clause-carried_out g c = none-left _ _ (ap (λ (s : CellView). s.acts) c.self.view_is ∙ c.requires.may_take.carried_out)
 
 abbrev who : (g : given.Over) (c : goal.After-clear g) → Identity
-who g c = identity_of c.self.inside.place c.self.inside.journal.limit c.self.inside.journal.is_kept
+who g c = identity_of c.self.inside.place c.self.inside.journal.limit c.self.inside.journal.retention
 
 abbrev entry : (g : given.Over) (c : goal.After-clear g) → Entry
 entry g c = System c.args.number system.Terminate (Applied None c.effects-effects.result.now)

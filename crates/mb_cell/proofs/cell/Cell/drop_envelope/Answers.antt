@@ -22,7 +22,7 @@ entry g c = Dropped c.args.envelope
 
 may_handle : (g : given.Over) (c : goal.After-push_dropped g) →
     MayHandle (record {
-      who = identity_of c.self.inside.place c.self.inside.journal.limit c.self.inside.journal.is_kept;
+      who = identity_of c.self.inside.place c.self.inside.journal.limit c.self.inside.journal.retention;
       journal = c.self.inside.journal.entries;
       acts = unsent_acts c.self.inside.unsent c.self.inside.journal.entries ++ c.self.inside.cell_state.acts;
       is_ready = c.self.inside.journal.is_ready;
@@ -30,7 +30,7 @@ may_handle : (g : given.Over) (c : goal.After-push_dropped g) →
 may_handle g c = subst (λ (s : CellView). MayHandle s c.args.envelope (word_of c.args.reading)) (sym c.self.view_is) c.requires.may_handle
 
 row : (g : given.Over) (c : goal.After-push_dropped g) →
-    IsQuietEnvelope (identity_of c.self.inside.place c.self.inside.journal.limit c.self.inside.journal.is_kept) (g.K.Behaviours.gives c.self.inside.place.this.0)
+    IsQuietEnvelope (identity_of c.self.inside.place c.self.inside.journal.limit c.self.inside.journal.retention) (g.K.Behaviours.gives c.self.inside.place.this.0)
     c.self.inside.journal.entries (entry g c) c.self.inside.cell_state c.discard.new.self
 row g c =
     drop-row _ _ _ _ _ c.self.invariant.0 (none-left _ _ (may_handle g c).carried_out) c.args.envelope (word_of c.args.reading) (may_handle g c).an_actor

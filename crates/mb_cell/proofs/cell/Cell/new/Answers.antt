@@ -27,7 +27,7 @@ pub invariant_of-result : goal.invariant_of-result
 invariant_of-result g c = (
   agrees-new
       (record { this = c.args.this; parent = c.args.parent; actors = c.args.actors; prepared = c.args.prepared; strategy = c.args.strategy })
-      c.in_ok-journal.journal c.args.journal_limit _ _ _ c.new-cell_state.result c.new-outbox.result c.in_ok-journal.ensures.made
+      c.in_ok-journal.journal c.args.journal_limit _ _ c.new-cell_state.result c.new-outbox.result c.in_ok-journal.ensures.made
       (first _ _ c.new-cell_state.ensures) (let same = ap (λ (b : CellState). b.fanout) c.new-cell_state.ensures in omega arith) c.new-outbox.ensures
       c.requires.within_journal c.requires.within_limit,
   (λ ready. let no : c.in_ok-journal.journal.is_ready ≡ false = ap (λ j. j.is_ready) c.in_ok-journal.ensures.made in cc),
@@ -46,13 +46,13 @@ pub invariant_of-result-2 : goal.invariant_of-result-2
 invariant_of-result-2 g c = (
   agrees-new
       (record { this = c.args.this; parent = c.args.parent; actors = c.args.actors; prepared = c.args.prepared; strategy = c.args.strategy })
-      c.in_ok-journal.journal c.args.journal_limit _ _ _ c.new-cell_state.result c.new-outbox.result c.in_ok-journal.ensures.made
+      c.in_ok-journal.journal c.args.journal_limit _ _ c.new-cell_state.result c.new-outbox.result c.in_ok-journal.ensures.made
       (first _ _ c.new-cell_state.ensures) (let same = ap (λ (b : CellState). b.fanout) c.new-cell_state.ensures in omega arith) c.new-outbox.ensures
       c.requires.within_journal c.requires.within_limit,
   (λ ready. let no : c.in_ok-journal.journal.is_ready ≡ false = ap (λ j. j.is_ready) c.in_ok-journal.ensures.made in cc),
   plays-new
       (record { this = c.args.this; parent = c.args.parent; actors = c.args.actors; prepared = c.args.prepared; strategy = c.args.strategy })
-      c.in_ok-journal.journal c.args.journal_limit _ _ _ _ _ _ _ _ c.in_ok-journal.ensures.made
+      c.in_ok-journal.journal c.args.journal_limit _ _ _ _ _ _ _ c.in_ok-journal.ensures.made
       (a_parent c.args.actor c.in-Some.actor c.args.parent c.in-Some.is c.requires.guardian)
       (ap g.A.Actor.after (handed g c)
       ∙ of_it c.args.actor c.in-Some.actor (λ a. g.A.Actor.after a ≡ g.K.Behaviours.after c.args.this.0) c.in-Some.is c.requires.behaves)

@@ -22,4 +22,4 @@ invariant_of-self c =
     }
 
 pub returns-clause-keeps : goal.returns-clause-keeps
-returns-clause-keeps c = λ i. (c.push.ensures.same.0 i, c.push.ensures.same.1 i)
+returns-clause-keeps c = c.push.ensures.same

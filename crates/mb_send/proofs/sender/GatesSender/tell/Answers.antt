@@ -12,7 +12,6 @@ use Rattle.mb_register.specs.declared.registrar.Registrar.{Registrar}
 use Rattle.mb_register.proofs.ClaimCounts.{loses-then}
 use Rattle.mb_send.specs.Answers.{AnswersLook}
 use Rattle.mb_send.specs.Asked.{RegistersAtMost, account_of}
-use Rattle.mb_send.specs.Keeps.{keeps}
 use Rattle.mb_send.specs.declared.ticket.Look.{Look}
 use Rattle.mb_send.proofs.Failing.{at-fault, not-unknown, only-looked}
 use Rattle.mb_send.proofs.Handing.{loses-looked}
@@ -173,10 +172,10 @@ returns-in-Closed-clause-handed g c =
     (ap (λ (w : Registrar _ _). (pass_view w.pass).returned) kept ∙ ap (λ (v : View). v.returned) read)
 
 pub returns-in_err-look-clause-keeps : goal.returns-in_err-look-clause-keeps
-returns-in_err-look-clause-keeps g c = ap (λ (b : SendLog). keeps b.dead) c.look.ensures.same.0
+returns-in_err-look-clause-keeps g c = ap (λ (b : SendLog). b.dead.retention) c.look.ensures.same.0
 
 pub returns-in-Open-clause-keeps : goal.returns-in-Open-clause-keeps
-returns-in-Open-clause-keeps g c = c.put.ensures.keeps ∙ ap (λ (b : SendLog). keeps b.dead) c.look.ensures.same.0
+returns-in-Open-clause-keeps g c = c.put.ensures.keeps ∙ ap (λ (b : SendLog). b.dead.retention) c.look.ensures.same.0
 
 pub returns-in-Closed-clause-keeps : goal.returns-in-Closed-clause-keeps
-returns-in-Closed-clause-keeps g c = c.record_dead_letter.ensures.keeps ∙ ap (λ (b : SendLog). keeps b.dead) c.look.ensures.same.0
+returns-in-Closed-clause-keeps g c = c.record_dead_letter.ensures.keeps ∙ ap (λ (b : SendLog). b.dead.retention) c.look.ensures.same.0

@@ -28,8 +28,8 @@ pub pass-requires-clause-kept : goal.pass-requires-clause-kept
 pass-requires-clause-kept c =
     let trace = c.self.inside.trace in
     let among : c.args.actor.0 < length trace.report.now.actors.items = omega (arith, c.if-number-len.false, c.len.ensures) in
-    subst (λ (a : ActorReport). a.journal.is_kept ≡ true) (sym c.index.ensures)
-    (All-get_or (λ (a : ActorReport). a.journal.is_kept ≡ true) trace.report.now.actors.items c.args.actor.0 c.index.result.now among trace.kept.journals)
+    subst (λ (a : ActorReport). a.journal.retention.keeps_all ≡ true) (sym c.index.ensures)
+    (All-get_or (λ (a : ActorReport). a.journal.retention.keeps_all ≡ true) trace.report.now.actors.items c.args.actor.0 c.index.result.now among trace.kept.journals)
 
 pub invariant_of-self : goal.invariant_of-self
 invariant_of-self c =
