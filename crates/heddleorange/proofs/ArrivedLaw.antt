@@ -25,8 +25,10 @@ use Rattle.mb_shutdown.proofs.Lists.{from-mapped, length-mapped, mapped, there, 
 use Rattle.mb_shutdown.specs.CompleteReport.{IsReportOf}
 use Rattle.heddleorange.specs.Arrived.{EachAskedForArrives, EachGetsWhatIsAskedFor, EachOfTheGuardianIsStarted, EachSpawnedIsStarted, EachStopArrives, GuardianIsStarted, IsStartedOrEnded, came, entered}
 use Rattle.heddleorange.specs.Asked.{GetsAskedFor, IsAskedFor, asked_for, measure_to}
+use Rattle.heddleorange.specs.Notices.{EachTerminatedIsTrue}
 use Rattle.heddleorange.specs.WholeRun.{IsReportOfRun}
 use Rattle.heddleorange.proofs.Came.{asked, came-entered, came-is, count, counted}
+use Rattle.heddleorange.proofs.EndsTold.{handled-true}
 use Rattle.heddleorange.proofs.Identified.{number-at}
 use Rattle.heddleorange.proofs.Started.{ending, planned-child, prepared-spawned, spawned-due, started}
 
@@ -144,3 +146,8 @@ module _ (after : ℕ → List Message → ℤ) (gives : ℕ → Moment → Repl
           let prepared = planned-child parents 1 place planned.parent (mapped (λ (p : ActorPlan). p.parent) plan.actors.items place planned at) guards in
           inr (each-spawned-is-started 0 the_guardian guardian child a refl there_is
           (prepared-spawned the_guardian refl child guardian.journal.entries begun prepared) here)
+
+  pub each-terminated-is-true : EachTerminatedIsTrue report
+  each-terminated-is-true id a here =
+      let k = known id a here in
+      handled-true report k.who (gives k.who.this.0) a.journal.entries k.is.lawful.entries (story.notices id a here)

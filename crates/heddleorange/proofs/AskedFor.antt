@@ -1,26 +1,30 @@
 -- In a run that gave a report, no system message came into an actor's list that was not asked for, and each that was asked for came into the list of
 -- an actor that did not end.
-use Rattle.std.proofs.Common.{◌≡◌, ◌≢◌, ◌≤◌, ◌+◌, ◌%◌, ◌^◌, ◌==◌, ℕ, Bool, true, false, List, [], ◌∷◌, ◌++◌, ap, arith, length, map, refl, subst}
+use Rattle.std.proofs.Common.{◌≡◌, ◌≢◌, ◌≤◌, ◌+◌, ◌%◌, ◌^◌, ◌==◌, ℕ, Bool, true, false, List, [], ◌∷◌, ◌++◌, ℤ, ap, arith, length, map, refl, subst}
 use Rattle.std.proofs.Common.{Some, sym, ◌∙◌}
-use Rattle.std.specs.Prelude.{All, slice_get}
+use Rattle.std.specs.Prelude.{All, if◌then◌else◌, slice_get}
 use Rattle.std.specs.Global.{Box}
 use Rattle.std.specs.List.{flat_map}
 use Rattle.std.proofs.lemmas.Bool.{eqb-true}
 use Rattle.std.proofs.lemmas.List.Elements.{All-head, All-tail}
 use Rattle.mb_actor.specs.Behaviour.{Moment, Reply}
+use Rattle.mb_actor.specs.declared.message.Message.{Message}
 use Rattle.mb_actor.specs.declared.phase.Phase.TheVariants.{Ended as EndedPhase}
 use Rattle.mb_build.specs.Planned.{actors_in}
 use Rattle.mb_dispatch.specs.Orders.{terminates_of}
 use Rattle.mb_gate.specs.Accessors.{first_home}
-use Rattle.mb_gate.specs.PutIn.{IsAllPut, put_in}
+use Rattle.mb_gate.specs.PutIn.{IsAllPut, put_by, put_in}
+use Rattle.mb_gate.specs.Rule.{IsAmong}
 use Rattle.mb_gate.specs.Releases.{ReleasesAddUp}
 use Rattle.mb_gate.specs.Untouched.{Origin, origin_of}
 use Rattle.mb_gate.specs.View.{View, Observation, Read, Saw, Counted, Looked, Sent, Unsent, Took, Pushed, Drained, Ended as EndedSight}
 use Rattle.mb_gate.specs.declared.gates.Gates.{Gates}
+use Rattle.mb_ghost.proofs.SeenLemmas.{each_weaker}
 use Rattle.mb_ghost.proofs.SummedLemmas.{total_append}
 use Rattle.mb_ghost.specs.Seen.{Each}
 use Rattle.mb_ghost.specs.Shares.{IsWhole}
 use Rattle.mb_ghost.specs.Summed.{total}
+use Rattle.mb_home.specs.AtHome.{system_entries}
 use Rattle.mb_home.specs.Contents.{Contents}
 use Rattle.mb_home.specs.Directory.{DirectoryEntry}
 use Rattle.mb_journal.specs.Identity.{Identity}
@@ -36,8 +40,8 @@ use Rattle.mb_msg.specs.declared.system.SysMsg.TheVariants.{Create, Died}
 use Rattle.mb_queue.specs.Passes.{SendPassView}
 use Rattle.mb_report.specs.declared.report.ActorReport.{ActorReport}
 use Rattle.mb_report.specs.declared.report.Report.{Report}
-use Rattle.mb_shutdown.proofs.Lists.{from-mapped, length-mapped}
-use Rattle.mb_shutdown.specs.CompleteReport.{CountsSystems}
+use Rattle.mb_shutdown.proofs.Lists.{from-mapped, length-mapped, there, within}
+use Rattle.mb_shutdown.specs.CompleteReport.{CountsSystems, IsReportOf}
 use Rattle.mb_shutdown.specs.Seen.{ReportExtends, ReportExtendsAll}
 use Rattle.mb_shutdown.specs.Refused.{CountsAllPut, PutAddsUpTo, ReleasesAddUpTo}
 use Rattle.mb_startup.proofs.Directories.{of-plan, still-planned}
@@ -49,11 +53,14 @@ use Rattle.mb_system.specs.declared.built.Built.{Built}
 use Rattle.mb_system.specs.declared.end.WorkerEnd.{WorkerEnd}
 use Rattle.mb_system.specs.declared.sender.Sender.{Sender}
 use Rattle.heddleorange.specs.Asked.{GetsAskedFor, AllGetAskedFor, asked_for, due_by, due_in, measure_to}
+use Rattle.heddleorange.specs.Notices.{EachNoticeIsTrue, IsTrueNotice}
 use Rattle.heddleorange.specs.Sent.{HaveSent}
 use Rattle.heddleorange.specs.WholeRun.{CountsAllPutBy}
 use Rattle.heddleorange.specs.Workers.{AllOnlyRuns}
 use Rattle.heddleorange.proofs.Covering.{runs-share}
 use Rattle.heddleorange.proofs.Due.{due_to}
+use Rattle.heddleorange.proofs.EndActs.{end_notice}
+use Rattle.heddleorange.proofs.EndNotices.{ended-is, ends-none, senders-none}
 use Rattle.heddleorange.proofs.Identified.{number-at}
 use Rattle.heddleorange.proofs.Put.{AllPutAtMost, back, ends-put, put, senders-put, taken}
 use Rattle.heddleorange.proofs.PutAll.{AllPutAll, ended, ends-put-all, once, senders-put-all}
@@ -338,3 +345,79 @@ module _ {A K : Type 0} (gives : ℕ → Moment → Reply → Type 0) (plan : Pl
     where
       false_true : false ≡ true → ⊥
       false_true e = cc
+
+  -- ---- notices of ends
+
+  module _ (after : ℕ → List Message → ℤ) (report : Report) (many : length report.actors.items ≡ length (first_home now.system.gates).value.directory)
+      (counted : PutAddsUpTo now report)
+      (shows : (id : ℕ) (e : DirectoryEntry) (a : ActorReport) → slice_get (first_home now.system.gates).value.directory id ≡ Some e
+      → slice_get report.actors.items id ≡ Some a → IsReportOf after gives e.who a)
+      (ends_seen : All (λ (e : WorkerEnd A K). ReportExtendsAll report (of-end e)) now.ends.items) where
+    abbrev directory : List DirectoryEntry
+    directory = (first_home now.system.gates).value.directory
+
+    planned-are : map (λ (e : DirectoryEntry). e.who) directory ≡ actors_in plan
+    planned-are = (still-planned gives plan first begun now system).who
+
+    as-planned : length report.actors.items ≡ length (actors_in plan)
+    as-planned = many ∙ sym (length-mapped (λ (e : DirectoryEntry). e.who) directory) ∙ ap length planned-are
+
+    shown : (id : ℕ) (who : Identity) (a : ActorReport) → slice_get (actors_in plan) id ≡ Some who → slice_get report.actors.items id ≡ Some a
+        → IsReportOf after gives who a
+    shown id who a at here =
+        let e = from-mapped (λ (e : DirectoryEntry). e.who) directory id who (ap (λ l. slice_get l id) planned-are ∙ at) in
+        subst (λ w. IsReportOf after gives w a) e.2 (shows id e.0 a e.1 here)
+
+    -- nobody put the notice of the end of an actor into a list that has not ended
+    none-put : (to x : ℕ) (its : ActorReport) → slice_get report.actors.items x ≡ Some its → its.phase ≢ EndedPhase
+        → total (put_by to (λ m. end_notice x m.1)) (views_of now) ≡ 0
+    none-put to x its here open_yet =
+        let ends = ends-none after gives (actors_in plan) report as-planned shown x its here open_yet to (origin_of first.system.gates) plan.throughput
+        (of-plan gives plan first begun).who of-end first.ends.items now.ends.items runs ends_seen in
+        let senders = senders-none to x orders first.senders.items now.senders.items as_many sent.same_count
+        (λ place of before next is was now_is. (sent.each place of before next is was now_is).0)
+        (λ place s was. (new-at first.system.gates most_actors begun.outside first.senders.items place s begun.senders was).2) in
+        let of_ends = (first-ends to (end_notice x)).all_put in let of_senders = (first-senders to (end_notice x)).all_put in
+        let created = by_test (0 == to) in
+        let both = total_append (put_by to (λ m. end_notice x m.1)) (map of-end now.ends.items) (map of-sender now.senders.items) in
+        omega (arith, ends, senders, of_ends, of_senders, created, both)
+      where
+        by_test : (b : Bool) → ◌≡◌ {A = ℕ} (if b then 0 else 0) 0
+        by_test true = refl
+        by_test false = refl
+
+    same-number : (n : ℕ) → (n == n) ≡ true
+    same-number n = grind arith
+
+    counts-among : (f : ℕ × SysMsg → ℕ) (m : ℕ × SysMsg) (items : List (ℕ × SysMsg)) → IsAmong m items → f m ≤ total f items
+    counts-among f m items among =
+        let all = ap (total f) among.joined ∙ total_append f among.before (m ∷ among.after) in omega (arith, all)
+
+    true-notice : (id : ℕ) (pushed : List SysMsg) → IsAllPut id pushed (views_of now) → (m : ℕ × SysMsg) → IsAmong m (numbered 0 pushed)
+        → IsTrueNotice report m.1
+    true-notice id pushed all m among ended is x at = by_test (phase_is x.phase EndedPhase) refl
+      where
+        false_true : false ≡ true → ⊥
+        false_true e = cc
+
+        counts-once : end_notice ended.0 m.1 ≡ 1
+        counts-once = ap (end_notice ended.0) is ∙ ap (λ b. if b then 1 else 0) (same-number ended.0)
+
+        never : (x.phase ≢ EndedPhase) → ⊥
+        never open_yet =
+            let none = none-put id ended.0 x at open_yet in let sum = all (λ n. end_notice ended.0 n.1) in
+            let once_there = counts-among (λ n. end_notice ended.0 n.1) m (numbered 0 pushed) among in
+            let one = counts-once in absurd (omega (arith, none, sum, once_there, one))
+
+        by_test : (b : Bool) → phase_is x.phase EndedPhase ≡ b → x.phase ≡ EndedPhase
+        by_test true shut = ended-is x.phase shut
+        by_test false open_yet = absurd (never (λ same. false_true (sym open_yet ∙ ap (λ p. phase_is p EndedPhase) same)))
+
+    -- each notice of an end that has an entry is true
+    pub all-notices-true : EachNoticeIsTrue report
+    all-notices-true = λ id a here.
+        (let lt = within report.actors.items id a here in
+        let e = there directory id (omega (arith, lt, many)) in
+        let all = counted whole-still id e.0 a e.1 here in
+        each_weaker (λ (m : ℕ × SysMsg). IsAmong m (numbered 0 all.counts.pushed)) (λ (m : ℕ × SysMsg). IsTrueNotice report m.1)
+        (system_entries a.journal.entries) (λ m among. true-notice (e.0).who.this.0 all.counts.pushed all.put m among) all.counts.entered)

@@ -16,6 +16,7 @@ use Rattle.mb_msg.specs.declared.plan.Plan.{Plan}
 use Rattle.mb_msg.specs.declared.strategy.Strategy.{Strategy}
 use Rattle.mb_report.specs.declared.report.ActorReport.{ActorReport}
 use Rattle.mb_report.specs.declared.report.Report.{Report}
+use Rattle.mb_report.specs.declared.report.SenderReport.{SenderReport}
 use Rattle.mb_shutdown.proofs.Lists.{at-place, each-place, mapped-to, there, within}
 use Rattle.heddleorange.specs.Kept.{KeepsAsPlanned}
 use Rattle.heddleorange.specs.WholeRun.{IsReportOfRun}

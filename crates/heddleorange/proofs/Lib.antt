@@ -31,11 +31,14 @@ pub mod Due
 pub mod Returns
 pub mod Put
 pub mod PutAll
+pub mod EndActs
+pub mod EndNotices
 pub mod AskedFor
 pub mod OneMessage
 pub mod AskedLaw
 pub mod Came
 pub mod Started
+pub mod EndsTold
 pub mod ArrivedLaw
 pub mod PassedOn
 pub mod Adding

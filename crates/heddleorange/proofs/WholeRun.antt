@@ -48,6 +48,7 @@ use Rattle.mb_shutdown.specs.Refused.{HasHomesReturned}
 use Rattle.mb_shutdown.proofs.Parts.{part-trans}
 use Rattle.mb_startup.proofs.There.{ends-there, length-numbers, number-at, senders-there}
 use Rattle.heddleorange.specs.Asked.{AllGetAskedFor}
+use Rattle.heddleorange.specs.Notices.{EachNoticeIsTrue}
 use Rattle.heddleorange.specs.Sent.{HaveSent}
 use Rattle.heddleorange.specs.WholeRun.{CountsAllPutBy, DidOrders, IsReportOfRun}
 use Rattle.heddleorange.specs.Workers.{AllOnlyRuns, AreNewViews}
@@ -187,8 +188,9 @@ module _ {A K : Type 0} (gives : ℕ → Moment → Reply → Type 0) (plan : Pl
         → All (λ (s : Sender A K). ReportExtendsAll report (pass_view s.inner.registrar.pass)) now.senders.items
         → HasHomesReturned gives now report
         → ((id : ℕ) (a : ActorReport) → slice_get report.actors.items id ≡ Some a → ReleasesAddUp id a.journal.entries (views_of now))
-        → CountsAllPutBy plan report (views_of now) → AllGetAskedFor plan orders report → IsReportOfRun after gives plan orders report
-    story after report log answers saw runs seen answered whole letters ends_seen senders_seen home releases put asked =
+        → CountsAllPutBy plan report (views_of now) → AllGetAskedFor plan orders report → EachNoticeIsTrue report
+        → IsReportOfRun after gives plan orders report
+    story after report log answers saw runs seen answered whole letters ends_seen senders_seen home releases put asked notices =
         let knows = λ (s : Sender A K). pass_view s.inner.registrar.pass in
         let knew = λ (e : WorkerEnd A K). pass_view e.registrar.pass in
         let IsTold = λ (v : View). IsPart v.log log × ReportExtendsAll report v in record {
@@ -231,6 +233,7 @@ module _ {A K : Type 0} (gives : ℕ → Moment → Reply → Type 0) (plan : Pl
                 (led log begun.end begun.others now.ends.items (subst (λ l. StillSee l now.ends.items) begun.ends_are saw) seen.0),
           );
           asked = asked;
+          notices = notices;
           keep_letters = keep-letters report letters
               (whole.same_count.1
               ∙ ap (λ k. length (directory_of now) + k) (answered.length_is ∙ ap (λ s. s.senders) system ∙ begun.numbers.1));

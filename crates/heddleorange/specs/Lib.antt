@@ -20,3 +20,4 @@ pub mod NamedOrder
 pub mod GivesBack
 pub mod Added
 pub mod AddedAll
+pub mod Notices

@@ -28,6 +28,7 @@ use Rattle.mb_msg.specs.declared.order.Order.{Order}
 use Rattle.mb_shutdown.specs.ReportedHomes.{IsOfHomes}
 use Rattle.mb_dispatch.specs.Runs.{OnlyRuns}
 use Rattle.heddleorange.specs.Asked.{AllGetAskedFor}
+use Rattle.heddleorange.specs.Notices.{EachNoticeIsTrue}
 use Rattle.heddleorange.specs.Workers.{AreNewViews}
 
 -- The actor that was handed in for this number: the first for number 1, since 0 is the guardian's.
@@ -70,7 +71,7 @@ CountsAllPutBy plan report vs = (id : ℕ) (who : Identity) (a : ActorReport) �
 -- these gates, by the plan's throughput. The journal of each actor is what came of an empty one in the cells that these ends and senders gave back, so
 -- what these runs added. What came into an actor's list of system messages is what these ends and senders put there, the answers for lists that had ended
 -- too. But for such answers it is what orders, entries of journals and the start of the guardian asked for; into the list of an actor which has ended came
--- no more than that. As much is kept of each sender's dead letters as the plan says of journals.
+-- no more than that. Each notice of an end that came to an actor is of an actor that has ended. As much is kept of each sender's dead letters as the plan says of journals.
 pub record IsReportOfRun (after : ℕ → List Message → ℤ) (gives : ℕ → Moment → Reply → Type 0) (plan : Plan) (orders : List (List Order)) (report : Report)
     : Type 0 where
   pub directory : List DirectoryEntry
@@ -94,6 +95,7 @@ pub record IsReportOfRun (after : ℕ → List Message → ℤ) (gives : ℕ →
   pub put : CountsAllPutBy plan report (ends ++ knew)
   pub created : (number : ℕ) × IsPart (Pushed 0 number Create ∷ []) log
   pub asked : AllGetAskedFor plan orders report
+  pub notices : EachNoticeIsTrue report
   pub keep_letters : All (λ (s : SenderReport). s.dead.retention ≡ retention_of plan.journal) report.senders.items
   pub did : (place : ℕ) (of : List Order) (postings : List SentEnvelope) (view : View) → slice_get orders place ≡ Some of
       → slice_get outside place ≡ Some postings → slice_get knew place ≡ Some view → DidOrders of postings view

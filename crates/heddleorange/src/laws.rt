@@ -16,6 +16,7 @@ ghost use Rattle.mb_report.specs.declared.report.Report.{Report};
 ghost use Rattle.heddleorange.specs.Arrived.{EachAskedForArrives, EachGetsWhatIsAskedFor, EachOfTheGuardianIsStarted};
 ghost use Rattle.heddleorange.specs.Arrived.{EachSpawnedIsStarted, EachStopArrives, GuardianIsStarted};
 ghost use Rattle.heddleorange.specs.Asked.{EachIsAskedFor};
+ghost use Rattle.heddleorange.specs.Notices.{EachNoticeIsTrue, EachTerminatedIsTrue};
 ghost use Rattle.heddleorange.specs.Reading.{handled_messages};
 ghost use Rattle.heddleorange.specs.WholeRun.{IsReportOfRun, after_at, gives_at};
 
@@ -66,6 +67,17 @@ pub fn each_actor_gets_what_is_asked_for<A: Actor>()
     ensures { (actors : List A) (plan : Plan) (orders : List (List Order)) (report : Report)
         → IsReportOfRun (after_at actors A.after) (gives_at actors A.gives) plan orders report
         → EachGetsWhatIsAskedFor plan orders report }
+{}
+
+/// A law: in a run, each notice of an end that came to an actor (Akka's `DeathWatchNotification`) is of an actor that has ended,
+/// as the report shows. So is each `Terminated` that an actor handled.
+pub fn each_notice_of_an_end_is_true<A: Actor>()
+    ensures notices { (actors : List A) (plan : Plan) (orders : List (List Order)) (report : Report)
+        → IsReportOfRun (after_at actors A.after) (gives_at actors A.gives) plan orders report
+        → EachNoticeIsTrue report }
+    ensures terminated { (actors : List A) (plan : Plan) (orders : List (List Order)) (report : Report)
+        → IsReportOfRun (after_at actors A.after) (gives_at actors A.gives) plan orders report
+        → EachTerminatedIsTrue report }
 {}
 
 /// A law: in a run, the guardian is started, unless it has ended.

@@ -36,8 +36,9 @@ pub use failed_run::{FailedRun, Untouched};
 pub use in_order::{QuietRun, run_in_order};
 pub use laws::{
     an_actor_without_a_restart_has_handled_all, each_actor_gets_what_is_asked_for,
-    each_spawned_actor_is_started, each_stop_arrives, each_system_message_asked_for_arrives,
-    each_system_message_is_asked_for, the_guardian_is_started, what_actors_send_is_asked_for,
+    each_notice_of_an_end_is_true, each_spawned_actor_is_started, each_stop_arrives,
+    each_system_message_asked_for_arrives, each_system_message_is_asked_for,
+    the_guardian_is_started, what_actors_send_is_asked_for,
 };
 pub use mb_actor::{Actor, Answer, CallPermit, Effect, Message, Outbox, OutboxError, Phase};
 pub use mb_build::PlanError;

@@ -1,6 +1,6 @@
 use Rattle.mb_gate.specs.Accessors.{actors_of}
 use Rattle.mb_shutdown.proofs.Wholly.{of-whole}
-use Rattle.heddleorange.proofs.AskedFor.{all-get-asked, all-put-counted, all-released}
+use Rattle.heddleorange.proofs.AskedFor.{all-get-asked, all-notices-true, all-put-counted, all-released}
 use Rattle.heddleorange.proofs.NoReport.{brings-own-ends, untold}
 use Rattle.heddleorange.proofs.WholeRun.{story}
 use Rattle.heddleorange.proofs.finish.finish_run.Goals as goal
@@ -13,7 +13,9 @@ returns-in-Ok-clause-story g c = λ plan orders right ran.
     (all-released g.K.Behaviours.gives plan orders ran.first c.args.built ran.begun ran.system right ran.sent ran.runs c.in-Ok.report end.releases)
     (all-put-counted g.K.Behaviours.gives plan orders ran.first c.args.built ran.begun ran.system right ran.sent ran.runs c.in-Ok.report end.put)
     (all-get-asked g.K.Behaviours.gives plan orders ran.first c.args.built ran.begun ran.system right ran.sent ran.runs c.in-Ok.report
-    end.whole.2.2.same_count.0 end.put end.releases (λ id e a is here. (end.whole.2.2.actors id e a is here).0.phase_is) end.seen.0 end.seen.1))
+    end.whole.2.2.same_count.0 end.put end.releases (λ id e a is here. (end.whole.2.2.actors id e a is here).0.phase_is) end.seen.0 end.seen.1)
+    (all-notices-true g.K.Behaviours.gives plan orders ran.first c.args.built ran.begun ran.system right ran.sent ran.runs g.K.Behaviours.after
+    c.in-Ok.report end.whole.2.2.same_count.0 end.put (λ id e a is here. (end.whole.2.2.actors id e a is here).0) end.seen.0))
 
 pub without_report-requires-clause-whole : goal.without_report-requires-clause-whole
 without_report-requires-clause-whole g c =
