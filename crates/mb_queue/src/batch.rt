@@ -66,6 +66,7 @@ impl Batch {
     }
 
     // Takes all that is in the fifo. The list of before, which is used up, goes there in its place.
+    #[inline(always)]
     fn fill<R: Wait>(&mut self, rt: &R, fifo: &UnboundedFifo, pass: &mut UnboundedFifoPass)
         requires list { IsPassOfList fifo.now.table.shared.table_id pass.old }
         requires taker { IsTaker (knows pass.old) }
@@ -83,6 +84,24 @@ impl Batch {
         fifo.take_all(rt, pass, &mut self.envelopes);
     }
 
+    // Takes all that is in the fifo, and gives the first.
+    fn refill<R: Wait>(
+        &mut self,
+        rt: &R,
+        fifo: &UnboundedFifo,
+        pass: &mut UnboundedFifoPass,
+    ) -> Option<Envelope>
+        requires list { IsPassOfList fifo.now.table.shared.table_id pass.old }
+        requires taker { IsTaker (knows pass.old) }
+        requires empty { self.old ≡ [] }
+        ensures list { IsPassOfList fifo.now.table.shared.table_id pass.new }
+        ensures taken { MatchOption result ((knows pass.new ≡ knows pass.old) × (self.new ≡ []) × FoundEmpty (knows pass.old))
+            (λ e. (knows pass.new ≡ taking_all (knows pass.old) (e ∷ self.new)) × FoundBatch (knows pass.old) (e ∷ self.new)) }
+    {
+        self.fill(rt, fifo, pass);
+        self.give()
+    }
+
     /// Takes all that is in the fifo, and gives the first. `None` only if the fifo was empty at a moment of the call.
     pub fn take_from<R: Wait>(
         &mut self,
@@ -97,10 +116,16 @@ impl Batch {
         ensures taken { MatchOption result ((knows pass.new ≡ knows pass.old) × (self.new ≡ []) × FoundEmpty (knows pass.old))
             (λ e. (knows pass.new ≡ taking_all (knows pass.old) (e ∷ self.new)) × FoundBatch (knows pass.old) (e ∷ self.new)) }
     {
+        // Only right after a batch it is looked at first, since it is mostly empty then. A look where it is not would fetch its word once
+        // more than the lock does.
+        if self.given == 0 {
+            return self.refill(rt, fifo, pass);
+        }
         if fifo.is_empty(pass) {
+            self.given = 0;
+            self.envelopes.clear();
             return None;
         }
-        self.fill(rt, fifo, pass);
-        self.give()
+        self.refill(rt, fifo, pass)
     }
 }
