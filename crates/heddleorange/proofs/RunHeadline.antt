@@ -20,6 +20,7 @@ use Rattle.mb_shutdown.specs.CompleteReport.{told_by_each}
 use Rattle.mb_shutdown.specs.Headline.{BegunOpen}
 use Rattle.mb_shutdown.proofs.HeadlineLaw.{begun-open, one-fate, sent-is, told-count}
 use Rattle.mb_shutdown.proofs.Lists.{length-mapped, there, within}
+use Rattle.mb_shutdown.proofs.NothingToRun.{nobody-has-to-run}
 use Rattle.heddleorange.specs.Ledger.{numbered_from}
 use Rattle.heddleorange.specs.NoReport.{IsRight}
 use Rattle.heddleorange.specs.RunHeadline.{IsPlannedFifo, RunHeadline, ordered_by_each}
@@ -87,6 +88,7 @@ module _ (after : ℕ → List Message → ℤ) (gives : ℕ → Moment → Repl
     one_fate = one-fate after gives story.directory story.log story.outside report story.whole (actors_in plan) story.planned.who
         (ordered_by_each most_actors orders) outside-sent (IsPlannedFifo plan) as-in-plan;
     to_an_actor = sent-there;
+    at_rest = nobody-has-to-run after gives story.directory story.log story.outside report story.whole;
   }
 
 -- and so of a call that gives the report

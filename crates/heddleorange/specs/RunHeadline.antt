@@ -12,6 +12,7 @@ use Rattle.mb_queue.specs.Passes.{first_in_first_out}
 use Rattle.mb_report.specs.declared.report.Report.{Report}
 use Rattle.mb_shutdown.specs.CompleteReport.{told_by_each}
 use Rattle.mb_shutdown.specs.Headline.{BegunOpen, OneFate}
+use Rattle.mb_shutdown.specs.NothingToRun.{NobodyHasToRun}
 use Rattle.heddleorange.specs.Ledger.{numbered_from}
 
 -- The envelopes that each sender outside sends by its orders. The first of these senders has this number.
@@ -35,3 +36,5 @@ pub record RunHeadline (plan : Plan) (orders : List (List Order)) (report : Repo
   pub to_an_actor : (place : ℕ) (sent : List Envelope)
       → slice_get (told_by_each (actors_in plan) report.actors.items ++ ordered_by_each most_actors orders) place ≡ Some sent
       → All (λ (e : Envelope). (0 < e.to.0) × (e.to.0 < length report.actors.items)) sent
+  -- The run is at rest: no actor of the report has anything to run.
+  pub at_rest : NobodyHasToRun report

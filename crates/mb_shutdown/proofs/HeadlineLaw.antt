@@ -37,6 +37,7 @@ use Rattle.mb_shutdown.specs.CompleteReport.{IsCompleteReport, IsReportOf, fates
 use Rattle.mb_shutdown.specs.GateStates.{GatesState, Holds, IsFree, IsInSlot, IsStateOf, status_word}
 use Rattle.mb_shutdown.specs.Headline.{BegunOpen, Headline, IsBegunOpen, OneFate}
 use Rattle.mb_shutdown.proofs.Lists.{at-place, from-mapped, in-either, length-mapped, within}
+use Rattle.mb_shutdown.proofs.NothingToRun.{nobody-has-to-run}
 use Rattle.mb_shutdown.proofs.Places.{at-contained}
 
 -- ---- who holds an actor, and where its home lies
@@ -192,7 +193,7 @@ module _ (after : ℕ → List Message → ℤ) (gives : ℕ → Moment → Repl
             };
       })
 
--- ---- the four parts
+-- ---- the five parts
 
 pub headline : {A K : Type 0} (after : ℕ → List Message → ℤ) (gives : ℕ → Moment → Reply → Type 0) (built : Built A K) (log : List Observation)
     (answers : List (List SentEnvelope)) (report : Report) → AreThere built.system.senders (senders_numbers built.senders.items)
@@ -215,4 +216,5 @@ headline after gives built log answers report complete answered whole =
           one-fate after gives directory log answers report whole (map (λ (e : DirectoryEntry). e.who) directory) refl (map accepted outside)
           (ap (map accepted) (same-answers built.system.senders built.senders.items answers outside complete answered are)) (IsFifoIn directory)
           (λ id fifo. fifo);
+      at_rest = nobody-has-to-run after gives directory log answers report whole;
     }

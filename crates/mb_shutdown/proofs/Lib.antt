@@ -18,6 +18,7 @@ pub mod Letters
 pub mod Lists
 pub mod Mismatches
 pub mod NotFinished
+pub mod NothingToRun
 pub mod OfAll
 pub mod Parties
 pub mod Parts

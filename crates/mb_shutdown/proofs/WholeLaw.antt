@@ -13,7 +13,7 @@ use Rattle.mb_actor.specs.Behaviour.{Moment, Reply}
 use Rattle.mb_actor.specs.declared.message.Message.{Message}
 use Rattle.mb_actor.specs.declared.phase.Phase.{Phase}
 use Rattle.mb_actor.specs.declared.phase.Phase.TheVariants.{Fresh, Live, Broken, Ending, Ended as EndedPhase}
-use Rattle.mb_journal.specs.Aside.{aside, ever_aside, next_number}
+use Rattle.mb_journal.specs.Aside.{aside, ever_aside, next_front, next_number}
 use Rattle.mb_journal.specs.Entry.{Entry}
 use Rattle.mb_journal.specs.Identity.{Identity, is_guardian}
 use Rattle.mb_journal.specs.Incarnation.{messages}
@@ -112,6 +112,7 @@ module _ (after : ℕ → List Message → ℤ) (gives : ℕ → Moment → Repl
       phase_is = shows.phase_is ∙ ap (phase who) back;
       count_is = shows.count_is ∙ ap (count who) back;
       aside_is = shows.aside_is ∙ ap (aside who) back;
+      none_due = subst (λ (j : List Entry). next_front who j ≡ None) back done.0.no_front;
       state_is = shows.state_is ∙ ap (λ (j : List Entry). if is_guardian who then None else Some (after who.this.0 (messages who j))) back;
       kept_is = shows.kept_is;
       cleaned_kept = shows.cleaned_kept;

@@ -8,7 +8,7 @@ use Rattle.mb_msg.specs.declared.system.SysMsg.{SysMsg}
 use Rattle.mb_actor.specs.Behaviour.{Moment, Reply}
 use Rattle.mb_actor.specs.declared.message.Message.{Message}
 use Rattle.mb_actor.specs.declared.phase.Phase.TheVariants.{Ended as EndedPhase}
-use Rattle.mb_journal.specs.Aside.{aside, ever_aside, next_number}
+use Rattle.mb_journal.specs.Aside.{aside, ever_aside, next_front, next_number}
 use Rattle.mb_journal.specs.Identity.{Identity, is_guardian}
 use Rattle.mb_journal.specs.Incarnation.{messages}
 use Rattle.mb_journal.specs.Lawful.{IsLawful}
@@ -48,13 +48,14 @@ abbrev pub sender_number : ℕ → ℕ → ℕ
 sender_number actors place = if nat_lt place actors then place else most_actors + (place - actors)
 
 -- What is reported of an actor is what its journal says, which is one that it can have. The state is the content that the actor which was handed in
--- has after the messages since its last start. The guardian shows none. As much is kept of the journal as is planned,
--- and so of what was cleaned up.
+-- has after the messages since its last start. The guardian shows none. No system message that was set aside is due any more. As much is kept of the
+-- journal as is planned, and so of what was cleaned up.
 pub record IsReportOf (after : ℕ → List Message → ℤ) (gives : ℕ → Moment → Reply → Type 0) (who : Identity) (actor : ActorReport) : Type 0 where
   pub lawful : IsLawful who (gives who.this.0) actor.journal.entries
   pub phase_is : actor.phase ≡ phase who actor.journal.entries
   pub count_is : actor.count ≡ count who actor.journal.entries
   pub aside_is : actor.aside.items ≡ aside who actor.journal.entries
+  pub none_due : next_front who actor.journal.entries ≡ None
   pub state_is : actor.state ≡ (if is_guardian who then None else Some (after who.this.0 (messages who actor.journal.entries)))
   pub kept_is : actor.journal.retention ≡ who.retention
   pub cleaned_kept : actor.cleaned.retention ≡ who.retention

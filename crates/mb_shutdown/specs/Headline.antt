@@ -1,4 +1,4 @@
--- The headline of this project, in four parts. A state is what all threads share between any two of their atomic steps.
+-- The headline of this project, in five parts. A state is what all threads share between any two of their atomic steps.
 use Rattle.std.specs.Prelude.{◌≡◌, ℕ, ◌+◌, ◌<◌, ℤ, false, Bool, List, ◌∷◌, ◌++◌, Contains, Some, count_by, length, map, slice_get}
 use Rattle.std.specs.Global.{Box}
 use Rattle.mb_status.specs.Mailbox.{word_of}
@@ -24,6 +24,7 @@ use Rattle.mb_system.specs.declared.built.Built.{Built}
 use Rattle.mb_shutdown.specs.Belonging.{AreAnswers, IsFifoIn, directory_of}
 use Rattle.mb_shutdown.specs.CompleteReport.{IsReportOf, fates_in, sender_number, told_by_each}
 use Rattle.mb_shutdown.specs.GateStates.{GatesState, Holds, IsFree, IsInSlot, IsStateOf, status_word}
+use Rattle.mb_shutdown.specs.NothingToRun.{NobodyHasToRun}
 
 -- After these entries the envelope was begun at a status that is neither closed nor suspended. The entries say so, and so does the status word that the
 -- entry keeps, which is theirs.
@@ -74,3 +75,5 @@ module _ {A K : Type 0} (after : ℕ → List Message → ℤ) (gives : ℕ → 
     -- Each accepted envelope has one fate, in its sender's order where the mailbox is first in, first out.
     pub one_fate : (outside : List (List SentEnvelope)) → AreAnswers built.system.senders built.senders.items outside
         → OneFate actors report (IsFifoIn (directory_of built)) (map accepted outside)
+    -- The system is at rest: no actor of the report has anything to run.
+    pub at_rest : NobodyHasToRun report

@@ -9,6 +9,7 @@ pub mod Idle
 pub mod Joined
 pub mod Mismatched
 pub mod NotFinished
+pub mod NothingToRun
 pub mod OutsideSenders
 pub mod Parts
 pub mod Letters
