@@ -5,7 +5,6 @@ use Rattle.std.specs.Prelude.{◌↔◌, Err, Ok, Result, if◌then◌else◌, n
 use Rattle.std.proofs.lemmas.Bool.{cases_lt}
 use Rattle.std.proofs.lemmas.Bool.Decides.{nat_tests}
 use Rattle.std.proofs.lemmas.List.{append_assoc, append-nil, length-append, length-map, take-append-le, take-map, take_all}
-use Rattle.mb_build.specs.declared.check.PlanError.TheVariants.{Actors, Parent}
 use Rattle.mb_msg.specs.declared.actor_plan.ActorPlan.{ActorPlan}
 use Rattle.mb_msg.specs.declared.id.ActorId.{ActorId}
 use Rattle.mb_msg.specs.declared.plan.Plan.{Plan}
@@ -13,7 +12,7 @@ use Rattle.heddleorange.specs.Added.{IsAdded}
 use Rattle.heddleorange.specs.AddedAll.{AreAdded, first_taken, first_unfit, found_or, names_behind}
 use Rattle.heddleorange.specs.Names.{name_by_default, number_of, texts_of}
 use Rattle.heddleorange.specs.declared.error.Error.{Error}
-use Rattle.heddleorange.specs.declared.error.Error.TheVariants.{BadPlan, NameTaken}
+use Rattle.heddleorange.specs.declared.error.Error.TheVariants.{NameTaken}
 use Rattle.heddleorange.specs.declared.planned_system.PlannedSystem.{PlannedSystem}
 
 -- some of these plans and actors were added, and these are left

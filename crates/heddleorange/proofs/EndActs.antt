@@ -1,5 +1,5 @@
 -- The acts of an entry send the notice of an actor's end only where they close that actor's own mailbox.
-use Rattle.std.proofs.Common.{◌≡◌, ◌⊎◌, inl, inr, ◌+◌, ◌==◌, ℕ, Bool, true, false, List, [], ◌∷◌, ◌++◌, ap, arith, map, refl, sym, ◌∙◌}
+use Rattle.std.proofs.Common.{◌≡◌, ◌⊎◌, inl, inr, ◌+◌, ◌==◌, ℕ, Bool, true, false, List, [], ◌∷◌, ◌++◌, ap, arith, map, refl, ◌∙◌}
 use Rattle.std.specs.Prelude.{filter, not, ◌&&◌, ◌||◌, if◌then◌else◌, Option, Some, None}
 use Rattle.std.specs.List.{flat_map}
 use Rattle.std.proofs.lemmas.Bool.{eqb-true}
@@ -14,7 +14,7 @@ use Rattle.mb_ghost.proofs.SummedLemmas.{total_append}
 use Rattle.mb_ghost.specs.Summed.{total}
 use Rattle.mb_journal.specs.ActorList.{without}
 use Rattle.mb_journal.specs.Acts.{Act, acts, create_acts, died_acts, effect_acts, end_acts, envelope_acts, fail_acts, failure_acts, fresh_acts, report}
-use Rattle.mb_journal.specs.Acts.{restart_acts, restart_for, resume_acts, stop_acts, supervision_acts, suspend_acts, system_acts, terminate_acts, to_each}
+use Rattle.mb_journal.specs.Acts.{restart_acts, restart_for, resume_acts, stop_acts, supervision_acts, system_acts, terminate_acts, to_each}
 use Rattle.mb_journal.specs.Acts.Act.{CloseSelf, ResumeSelf, SuspendSelf, Sys, Tell}
 use Rattle.mb_journal.specs.Entry.{Entry, is_failed}
 use Rattle.mb_journal.specs.Entry.Entry.{Dropped, Handled, System}

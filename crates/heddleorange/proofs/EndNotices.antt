@@ -5,7 +5,7 @@ use Rattle.std.specs.Prelude.{All, slice_get}
 use Rattle.std.specs.Global.{Box}
 use Rattle.std.specs.List.{AllZip, flat_map}
 use Rattle.std.proofs.lemmas.Bool.{eqb-true}
-use Rattle.std.proofs.lemmas.List.{append-nil, length-append}
+use Rattle.std.proofs.lemmas.List.{append-nil}
 use Rattle.std.proofs.lemmas.List.Elements.{All-head, All-tail}
 use Rattle.std.proofs.lemmas.Option.{same_Some}
 use Rattle.mb_actor.specs.Behaviour.{Moment, Reply}
@@ -16,10 +16,10 @@ use Rattle.mb_dispatch.specs.Orders.{HasSent, addressed_system, over, terminates
 use Rattle.mb_dispatch.specs.Runs.{MadeRuns, OnlyRuns, RanMailbox}
 use Rattle.mb_gate.specs.Accessors.{held_actor, pass_view}
 use Rattle.mb_gate.specs.PutIn.{put_by, put_in}
-use Rattle.mb_gate.specs.Rule.{Extends, IsAmong}
+use Rattle.mb_gate.specs.Rule.{IsAmong}
 use Rattle.mb_gate.specs.SentSystem.{Answered, Dropped as DroppedPart, IsRightPart, Listed, Parting, SplitClaim, due_of_part, due_since, messages_of, notice, sent_by_part}
 use Rattle.mb_gate.specs.Untouched.{Origin}
-use Rattle.mb_gate.specs.View.{Counted, Drained, Ended, Looked, Observation, Pushed, Read, Saw, Sent, SentSystem, Took, Unsent, View}
+use Rattle.mb_gate.specs.View.{Counted, Drained, Ended, Looked, Observation, Pushed, Read, Saw, Sent, Took, Unsent, View}
 use Rattle.mb_ghost.proofs.SummedLemmas.{total_append}
 use Rattle.mb_ghost.specs.Seen.{Each}
 use Rattle.mb_ghost.specs.Summed.{total}

@@ -1,5 +1,5 @@
 -- Where each notice of an end in a journal is true, so is each Terminated that the actor handled.
-use Rattle.std.proofs.Common.{◌≡◌, ◌==◌, ℕ, Bool, true, false, if◌then◌else◌, List, [], ◌∷◌, ◌++◌, Some, ap, refl, subst, sym, ◌∙◌}
+use Rattle.std.proofs.Common.{◌≡◌, ℕ, Bool, true, false, if◌then◌else◌, List, [], ◌∷◌, ◌++◌, ap, refl, sym, ◌∙◌}
 use Rattle.std.specs.Prelude.{All, not, ◌||◌, slice_get}
 use Rattle.std.proofs.lemmas.Bool.{eqb-true}
 use Rattle.std.proofs.lemmas.List.Elements.{All-append, All-cons, All-filter, All-head, All-nil, All-push, All-tail}
@@ -7,9 +7,7 @@ use Rattle.mb_actor.specs.ActorList.{has, is_same}
 use Rattle.mb_actor.specs.Behaviour.{Moment, Reply}
 use Rattle.mb_actor.specs.declared.effect.Effect.{Effect}
 use Rattle.mb_actor.specs.declared.effect.Effect.TheVariants as effect
-use Rattle.mb_actor.specs.declared.message.Message.{Message}
 use Rattle.mb_actor.specs.declared.message.Message.TheVariants as message
-use Rattle.mb_actor.specs.declared.phase.Phase.TheVariants.{Ended}
 use Rattle.mb_ghost.specs.Seen.{Each}
 use Rattle.mb_home.specs.AtHome.{system_entries}
 use Rattle.mb_journal.specs.ActorList.{joined, without}
@@ -28,7 +26,6 @@ use Rattle.mb_msg.specs.declared.envelope.Envelope.{Envelope}
 use Rattle.mb_msg.specs.declared.id.ActorId.{ActorId}
 use Rattle.mb_msg.specs.declared.system.SysMsg.{SysMsg}
 use Rattle.mb_msg.specs.declared.system.SysMsg.TheVariants as system
-use Rattle.mb_report.specs.declared.report.ActorReport.{ActorReport}
 use Rattle.mb_report.specs.declared.report.Report.{Report}
 use Rattle.heddleorange.specs.Notices.{IsTrueNotice, IsTrueMessage, HasEnded}
 use Rattle.heddleorange.specs.Reading.{handled_messages}

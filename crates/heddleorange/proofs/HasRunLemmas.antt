@@ -1,6 +1,6 @@
--- A system of a plan that has run is all there, and has its story or a reason why there is none.
+-- A system of a plan that has run is all there, and its report has its story.
 use Rattle.std.proofs.Common.{◌≡◌, ℕ, ℤ, List, length, subst}
-use Rattle.std.specs.Prelude.{Err, IfErr, IfOk, Ok, Result}
+use Rattle.std.specs.Prelude.{Err, IfOk, Ok, Result}
 use Rattle.mb_actor.specs.Behaviour.{Moment, Reply}
 use Rattle.mb_actor.specs.declared.message.Message.{Message}
 use Rattle.mb_gate.specs.Untouched.{origin_of}
@@ -12,11 +12,9 @@ use Rattle.mb_startup.specs.Begun.{IsBegun}
 use Rattle.mb_system.specs.Members.{StillSee, ends_numbers}
 use Rattle.mb_system.specs.declared.built.Built.{Built}
 use Rattle.heddleorange.specs.HasRun.{HasRun}
-use Rattle.heddleorange.specs.NoReport.{IsErrorOfRun, IsRight}
 use Rattle.heddleorange.specs.Sent.{HaveSent}
 use Rattle.heddleorange.specs.WholeRun.{IsReportOfRun}
 use Rattle.heddleorange.specs.Workers.{AllOnlyRuns}
-use Rattle.heddleorange.specs.declared.failed_run.FailedRun.{FailedRun}
 use Rattle.heddleorange.proofs.WholeRun.{no-end-missing, no-sender-missing}
 
 module _ {A K : Type 0} (gives : ℕ → Moment → Reply → Type 0) (plan : Plan) (orders : List (List Order)) (first now : Built A K)
@@ -46,9 +44,3 @@ module _ {A K : Type 0} (after : ℕ → List Message → ℤ) (gives : ℕ → 
       → IfOk result (IsReportOfRun after gives plan orders)
   storied (Ok report) right all = all plan orders right ran
   storied (Err error) right all = all
-
-  pub unstoried : {X : Type 0} (actors : ℕ) (result : Result Report (FailedRun X)) → IsRight plan actors orders
-      → IfErr result (λ error. (p : Plan) (n : ℕ) (os : List (List Order)) → IsRight p n os → HasRun gives p os now → IsErrorOfRun gives p n os error)
-      → IfErr result (IsErrorOfRun gives plan actors orders)
-  unstoried actors (Ok report) right all = all
-  unstoried actors (Err error) right all = all plan actors orders right ran

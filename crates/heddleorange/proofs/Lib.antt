@@ -6,6 +6,8 @@ pub mod NoReport
 pub mod Breaking
 pub mod Jobs
 pub mod HasRunLemmas
+pub mod GoingOn
+pub mod AtRest
 pub mod Identified
 pub mod FromStory
 pub mod Sums

@@ -7,6 +7,7 @@ use Rattle.mb_msg.specs.declared.plan.Plan.{Plan}
 use Rattle.mb_startup.specs.Begun.{IsBegun}
 use Rattle.mb_system.specs.Members.{StillSee, ends_numbers}
 use Rattle.mb_system.specs.declared.built.Built.{Built}
+use Rattle.heddleorange.specs.NoReport.{IsRight}
 use Rattle.heddleorange.specs.Sent.{HaveSent}
 use Rattle.heddleorange.specs.Workers.{AllOnlyRuns}
 
@@ -20,3 +21,12 @@ pub record HasRun {A K : Type 0} (gives : ℕ → Moment → Reply → Type 0) (
   pub sent : HaveSent first.system.gates orders first.senders.items now.senders.items
   pub log_kept : StillSee first.ends.items now.ends.items
   pub runs : AllOnlyRuns gives (origin_of first.system.gates) plan.throughput first.ends.items now.ends.items
+
+-- It has run so, by a plan and orders that are right, and with this limit of its journals.
+pub record HasRunWithin {A K : Type 0} (gives : ℕ → Moment → Reply → Type 0) (limit : ℕ) (now : Built A K) : Type 0 where
+  pub plan : Plan
+  pub actors : ℕ
+  pub orders : List (List Order)
+  pub right : IsRight plan actors orders
+  pub limit_is : plan.journal_limit ≡ limit
+  pub ran : HasRun gives plan orders now

@@ -6,6 +6,7 @@ pub mod WholeRun
 pub mod Remains
 pub mod NoReport
 pub mod HasRun
+pub mod AtRest
 pub mod Reading
 pub mod States
 pub mod Ledger

@@ -4,6 +4,7 @@ ghost use Rattle.std.specs.List.{list_any, position_from};
 ghost use Rattle.mb_build.specs.BehavesAsPlanned.{BehaveAsPlanned};
 ghost use Rattle.mb_build.specs.Reasons.{reasons};
 ghost use Rattle.mb_startup.specs.Begun.{IsBegun};
+ghost use Rattle.heddleorange.specs.AtRest.{LeavesNobodyToRun};
 ghost use Rattle.heddleorange.specs.GivesBack.{GivesBack, GivesNothingBack};
 ghost use Rattle.heddleorange.specs.NamedOrder.{IsFirstForNobody, NamesInLists, NamesInRow};
 ghost use Rattle.heddleorange.specs.NoReport.{IsErrorOfRun, IsRight, IsUnfit, has_nobody, has_one_for_nobody};
@@ -33,6 +34,7 @@ pub(crate) fn begin<A: Actor, K: Behaviours, R: Wait>(
     ensures right { OnOk result (IsRight plan (length actors.items) (map (λ orders. orders.items) sends.now)) }
     ensures refused { IfErr result (IsErrorOfRun K.gives plan (length actors.items) (map (λ orders. orders.items) sends.now)) }
     ensures which { IfErr result (λ failed. NamesInLists (length actors.items) (map (λ orders. orders.items) sends.now) failed.error) }
+    ensures at_rest { IfErr result LeavesNobodyToRun }
     ensures back { IfErr result (GivesBack plan actors.items []) }
 {
     if let Err(error) = check(&plan, actors.len(), sends) {

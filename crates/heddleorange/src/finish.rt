@@ -66,8 +66,8 @@ fn without_report<A: Actor, K: Behaviours, R: Wait>(
     }
 }
 
-// What is left of the actors of a system that has no report for this reason.
-fn left_for<A: Actor, K: Behaviours, R: Wait>(
+/// What is left of the actors of a system that has no report for this reason.
+pub(crate) fn left_for<A: Actor, K: Behaviours, R: Wait>(
     rt: &R,
     built: Built<A, K>,
     error: Error,

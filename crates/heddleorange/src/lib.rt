@@ -8,6 +8,7 @@
 //! `FailedRun` says why, and shows what is left of the actors. To drive a system by hand, use `mb_dispatch`.
 #![tactic(auto)]
 
+mod at_rest;
 mod begin;
 mod broken_off;
 mod by_workers;

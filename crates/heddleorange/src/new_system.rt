@@ -8,6 +8,7 @@ ghost use Rattle.mb_build.specs.declared.check.PlanError.TheVariants.{Actors, Pa
 ghost use Rattle.heddleorange.specs.Added.{IsAdded};
 ghost use Rattle.heddleorange.specs.AddedAll.{AreAdded, first_taken, names_behind};
 ghost use Rattle.heddleorange.specs.Conservation.{IsConserved};
+ghost use Rattle.heddleorange.specs.AtRest.{LeavesNobodyToRun};
 ghost use Rattle.heddleorange.specs.GivesBack.{GivesBack};
 ghost use Rattle.heddleorange.specs.Kept.{KeepsAsPlanned};
 ghost use Rattle.heddleorange.specs.Ledger.{AddsUp, AddsUpByCounts};
@@ -141,6 +142,7 @@ impl<A: Actor + Send> NewSystem<A> {
         ensures refused { IfErr result (IsErrorOfRun (gives_at self.system.actors.items A.gives) self.system.plan (length self.system.actors.items)
             (map (λ orders. orders.items) sends.now)) }
         ensures which { IfErr result (λ failed. NamesInLists (length self.system.actors.items) (map (λ orders. orders.items) sends.now) failed.error) }
+        ensures at_rest { IfErr result LeavesNobodyToRun }
         ensures back { IfErr result (GivesBack self.system.plan self.system.actors.items self.system.names.texts.items) }
         ensures states { IfOk result (λ done. ShowsStates A.after self.system.actors.items self.system.plan done.report) }
         ensures lines { IfOk result (λ done. length done.report.actors.items ≡ length self.system.actors.items + 1) }

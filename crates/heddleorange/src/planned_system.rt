@@ -4,6 +4,7 @@ ghost use Rattle.mb_build.specs.declared.check.PlanError.TheVariants.{Actors, Pa
 ghost use Rattle.mb_msg.specs.declared.pool_kind.PoolKind.TheVariants as pool_kind;
 ghost use Rattle.mb_msg.specs.declared.id.ActorId.{ActorId as Id};
 ghost use Rattle.heddleorange.specs.declared.error.Error.TheVariants.{BadPlan, NameTaken, NoMemory};
+ghost use Rattle.heddleorange.specs.AtRest.{LeavesNobodyToRun};
 ghost use Rattle.heddleorange.specs.GivesBack.{GivesBack};
 ghost use Rattle.heddleorange.specs.Kept.{KeepsAsPlanned};
 ghost use Rattle.heddleorange.specs.Ledger.{AddsUp, AddsUpByCounts};
@@ -280,6 +281,7 @@ impl<A: Actor> PlannedSystem<A> {
         ensures refused { IfErr result (IsErrorOfRun (gives_at self.actors.items A.gives) self.plan (length self.actors.items)
             (map (λ orders. orders.items) sends.now)) }
         ensures which { IfErr result (λ failed. NamesInLists (length self.actors.items) (map (λ orders. orders.items) sends.now) failed.error) }
+        ensures at_rest { IfErr result LeavesNobodyToRun }
         ensures back { IfErr result (GivesBack self.plan self.actors.items self.names.texts.items) }
         ensures states { IfOk result (λ done. ShowsStates A.after self.actors.items self.plan done.report) }
         ensures lines { IfOk result (λ done. length done.report.actors.items ≡ length self.actors.items + 1) }
@@ -316,6 +318,7 @@ impl<A: Actor + Send> PlannedSystem<A> {
         ensures refused { IfErr result (IsErrorOfRun (gives_at self.actors.items A.gives) self.plan (length self.actors.items)
             (map (λ orders. orders.items) sends.now)) }
         ensures which { IfErr result (λ failed. NamesInLists (length self.actors.items) (map (λ orders. orders.items) sends.now) failed.error) }
+        ensures at_rest { IfErr result LeavesNobodyToRun }
         ensures back { IfErr result (GivesBack self.plan self.actors.items self.names.texts.items) }
         ensures states { IfOk result (λ done. ShowsStates A.after self.actors.items self.plan done.report) }
         ensures lines { IfOk result (λ done. length done.report.actors.items ≡ length self.actors.items + 1) }

@@ -1,6 +1,7 @@
 //! A whole run of actors, on one thread or on several.
 ghost use Rattle.std.specs.Prelude.{◌≡◌, ◌+◌, [], All, IfErr, IfOk, OnOk, length, map};
 ghost use Rattle.mb_build.specs.BehavesAsPlanned.{BehaveAsPlanned};
+ghost use Rattle.heddleorange.specs.AtRest.{LeavesNobodyToRun};
 ghost use Rattle.heddleorange.specs.GivesBack.{GivesBack};
 ghost use Rattle.heddleorange.specs.Kept.{KeepsAsPlanned};
 ghost use Rattle.heddleorange.specs.Ledger.{AddsUp, AddsUpByCounts};
@@ -10,10 +11,10 @@ ghost use Rattle.heddleorange.specs.RunHeadline.{RunHeadline};
 ghost use Rattle.heddleorange.specs.States.{ShowsStates};
 ghost use Rattle.heddleorange.specs.WholeRun.{IsReportOfRun, after_at, gives_at};
 
+use crate::at_rest::finish_at_rest;
 use crate::begin::begin;
 use crate::broken_off::broken_off;
 use crate::failed_run::FailedRun;
-use crate::finish::finish_run;
 use crate::sending::send_and_run;
 use crate::together::run_together;
 use mb_actor::{Actor, Behaviours};
@@ -44,6 +45,7 @@ pub fn run_here<A: Actor, R: Wait>(
     ensures right { OnOk result (IsRight plan (length actors.items) (map (λ orders. orders.items) sends.now)) }
     ensures refused { IfErr result (IsErrorOfRun (gives_at actors.items A.gives) plan (length actors.items) (map (λ orders. orders.items) sends.now)) }
     ensures which { IfErr result (λ failed. NamesInLists (length actors.items) (map (λ orders. orders.items) sends.now) failed.error) }
+    ensures at_rest { IfErr result LeavesNobodyToRun }
     ensures back { IfErr result (GivesBack plan actors.items []) }
     ensures states { IfOk result (ShowsStates A.after actors.items plan) }
     ensures lines { IfOk result (λ report. length report.actors.items ≡ length actors.items + 1) }
@@ -70,6 +72,7 @@ pub fn run_on_threads<A: Actor + Send, R: Threads + Wait + Sync>(
     ensures right { OnOk result (IsRight plan (length actors.items) (map (λ orders. orders.items) sends.now)) }
     ensures refused { IfErr result (IsErrorOfRun (gives_at actors.items A.gives) plan (length actors.items) (map (λ orders. orders.items) sends.now)) }
     ensures which { IfErr result (λ failed. NamesInLists (length actors.items) (map (λ orders. orders.items) sends.now) failed.error) }
+    ensures at_rest { IfErr result LeavesNobodyToRun }
     ensures back { IfErr result (GivesBack plan actors.items []) }
     ensures states { IfOk result (ShowsStates A.after actors.items plan) }
     ensures lines { IfOk result (λ report. length report.actors.items ≡ length actors.items + 1) }
@@ -94,6 +97,7 @@ fn run_planned<A: Actor, K: Behaviours, R: Wait>(
     ensures right { OnOk result (IsRight plan (length actors.items) (map (λ orders. orders.items) sends.now)) }
     ensures refused { IfErr result (IsErrorOfRun K.gives plan (length actors.items) (map (λ orders. orders.items) sends.now)) }
     ensures which { IfErr result (λ failed. NamesInLists (length actors.items) (map (λ orders. orders.items) sends.now) failed.error) }
+    ensures at_rest { IfErr result LeavesNobodyToRun }
     ensures back { IfErr result (GivesBack plan actors.items []) }
 {
     let limit = plan.journal_limit;
@@ -101,7 +105,7 @@ fn run_planned<A: Actor, K: Behaviours, R: Wait>(
     if let Err(error) = send_and_run(rt, &mut built, sends) {
         return Err(broken_off(rt, built, error, limit));
     }
-    finish_run(rt, built)
+    finish_at_rest(rt, built, limit)
 }
 
 // `run_on_threads`, where it is known what the actor of each number does.
@@ -117,6 +121,7 @@ fn run_planned_on_threads<A: Actor + Send, K: Behaviours + Send, R: Threads + Wa
     ensures right { OnOk result (IsRight plan (length actors.items) (map (λ orders. orders.items) sends.now)) }
     ensures refused { IfErr result (IsErrorOfRun K.gives plan (length actors.items) (map (λ orders. orders.items) sends.now)) }
     ensures which { IfErr result (λ failed. NamesInLists (length actors.items) (map (λ orders. orders.items) sends.now) failed.error) }
+    ensures at_rest { IfErr result LeavesNobodyToRun }
     ensures back { IfErr result (GivesBack plan actors.items []) }
 {
     let limit = plan.journal_limit;
@@ -124,5 +129,5 @@ fn run_planned_on_threads<A: Actor + Send, K: Behaviours + Send, R: Threads + Wa
     if let Err(error) = run_together(rt, alloc, &mut built, sends) {
         return Err(broken_off(rt, built, error, limit));
     }
-    finish_run(rt, built)
+    finish_at_rest(rt, built, limit)
 }

@@ -87,8 +87,8 @@ pub(crate) fn send_in_order_and_run<A: Actor, K: Behaviours, R: Wait>(
     run_first(rt, built, keeps)
 }
 
-// Runs on this thread what there is to run: the first end does it.
-fn run_first<A: Actor, K: Behaviours, R: Wait>(
+/// Runs on this thread what there is to run: the first end does it.
+pub(crate) fn run_first<A: Actor, K: Behaviours, R: Wait>(
     rt: &R,
     built: &mut Built<A, K>,
     keeps: JournalMode,

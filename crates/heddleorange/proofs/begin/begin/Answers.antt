@@ -2,6 +2,7 @@ use Rattle.std.proofs.Common.{rules, ◌≡◌, ◌∙◌, ap, length, subst, sy
 use Rattle.heddleorange.specs.NoReport.{IsRight, IsUnfit}
 use Rattle.heddleorange.specs.GivesBack.{tells_of_nothing_done}
 use Rattle.heddleorange.specs.NamedOrder.{NamesInLists}
+use Rattle.heddleorange.proofs.AtRest.{all-short, rests-unfit}
 use Rattle.heddleorange.proofs.GivesBack.{all-back, none-in-lists, none-of, nothing-done}
 use Rattle.heddleorange.proofs.NoReport.{only-memory, unfit}
 use Rattle.heddleorange.proofs.Sent.{on-ok, orders_of}
@@ -45,3 +46,10 @@ returns-clause-which g c =
 
 pub returns-clause-back : goal.returns-clause-back
 returns-clause-back g c = none-of c.args.plan c.args.actors.items c.build_checked.result c.build_checked.ensures.back
+
+pub returns-in-Err-clause-at_rest : goal.returns-in-Err-clause-at_rest
+returns-in-Err-clause-at_rest g c =
+    rests-unfit c.refused.result c.args.plan c.len.result (orders_of c.args.sends.now) c.in-Err.error c.refused.ensures.error c.in-Err.ensures.unfit
+
+pub returns-clause-at_rest : goal.returns-clause-at_rest
+returns-clause-at_rest g c = all-short c.build_checked.result c.build_checked.ensures.refused

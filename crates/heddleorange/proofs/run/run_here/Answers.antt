@@ -55,5 +55,8 @@ returns-clause-kept g c =
 pub returns-clause-which : goal.returns-clause-which
 returns-clause-which g c = c.run_planned.ensures.which
 
+pub returns-clause-at_rest : goal.returns-clause-at_rest
+returns-clause-at_rest g c = c.run_planned.ensures.at_rest
+
 pub returns-clause-back : goal.returns-clause-back
 returns-clause-back g c = c.run_planned.ensures.back

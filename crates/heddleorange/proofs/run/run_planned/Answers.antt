@@ -1,13 +1,16 @@
-use Rattle.std.proofs.Common.{[], length, sym, ◌∙◌, Vec}
+use Rattle.std.proofs.Common.{[], length, refl, sym, ◌∙◌, Vec}
 use Rattle.std.specs.Global.{Global}
 use Rattle.mb_shutdown.proofs.Lists.{length-mapped}
 use Rattle.mb_msg.specs.declared.order.Order.{Order}
 use Rattle.mb_startup.proofs.There.{senders-there, some-end}
+use Rattle.heddleorange.proofs.AtRest.{rests-broken}
 use Rattle.heddleorange.proofs.Breaking.{full-seen, may-break, own-ends, somebody}
+use Rattle.heddleorange.specs.AtRest.{LeavesNobodyToRun}
 use Rattle.heddleorange.specs.GivesBack.{GivesBack}
 use Rattle.heddleorange.specs.NamedOrder.{NamesInLists}
 use Rattle.heddleorange.proofs.GivesBack.{begun-in-lists, none-back, none-in-lists, none-of}
-use Rattle.heddleorange.proofs.HasRunLemmas.{complete, has-run, storied, unstoried}
+use Rattle.heddleorange.proofs.GoingOn.{untold-within}
+use Rattle.heddleorange.proofs.HasRunLemmas.{complete, has-run, storied}
 use Rattle.heddleorange.proofs.Sent.{err-of, orders_of}
 use Rattle.heddleorange.proofs.run.run_planned.Goals as goal
 
@@ -19,8 +22,8 @@ send_and_run-requires-clause-same_count g c =
 pub send_and_run-requires-clause-not_empty : goal.send_and_run-requires-clause-not_empty
 send_and_run-requires-clause-not_empty g c = some-end g.K.Behaviours.gives c.args.plan c.in_ok-built.built c.in_ok-built.ensures.begun
 
-pub finish_run-requires-clause-complete : goal.finish_run-requires-clause-complete
-finish_run-requires-clause-complete g c =
+pub finish_at_rest-requires-clause-complete : goal.finish_at_rest-requires-clause-complete
+finish_at_rest-requires-clause-complete g c =
     let begun = c.in_ok-built.ensures in let went = c.in_default.ensures in
     complete g.K.Behaviours.gives c.args.plan (orders_of c.args.sends.now) c.in_ok-built.built c.send_and_run.new.built begun.begun
     went.system went.ends went.sent went.log_kept begun.right.1
@@ -30,15 +33,14 @@ returns-clause-story g c =
     let begun = c.in_ok-built.ensures in let went = c.in_default.ensures in let gives = g.K.Behaviours.gives in
     let plan = c.args.plan in let orders = orders_of c.args.sends.now in let now = c.send_and_run.new.built in
     let ran = has-run gives plan orders c.in_ok-built.built now begun.begun went.system went.ends went.sent went.log_kept went.runs in
-    storied g.K.Behaviours.after gives plan orders now ran c.finish_run.result begun.right.1 c.finish_run.ensures.story
+    storied g.K.Behaviours.after gives plan orders now ran c.finish_at_rest.result begun.right.1 c.finish_at_rest.ensures.story
 
 pub returns-clause-refused : goal.returns-clause-refused
 returns-clause-refused g c =
     let begun = c.in_ok-built.ensures in let went = c.in_default.ensures in let gives = g.K.Behaviours.gives in
     let plan = c.args.plan in let orders = orders_of c.args.sends.now in let now = c.send_and_run.new.built in
     let ran = has-run gives plan orders c.in_ok-built.built now begun.begun went.system went.ends went.sent went.log_kept went.runs in
-    unstoried g.K.Behaviours.after gives plan orders now ran (length c.args.actors.items) c.finish_run.result begun.right
-    c.finish_run.ensures.refused
+    untold-within gives plan orders now ran (length c.args.actors.items) c.finish_at_rest.result begun.right c.finish_at_rest.ensures.refused
 
 pub broken_off-requires-clause-own_ends : goal.broken_off-requires-clause-own_ends
 broken_off-requires-clause-own_ends g c =
@@ -72,18 +74,42 @@ returns-in-Err-clause-which g c =
 pub returns-in-Err-clause-back : goal.returns-in-Err-clause-back
 returns-in-Err-clause-back g c = none-back c.args.plan c.args.actors.items c.broken_off.result c.broken_off.ensures.back
 
+pub returns-in-Err-clause-at_rest : goal.returns-in-Err-clause-at_rest
+returns-in-Err-clause-at_rest g c =
+    rests-broken c.broken_off.result g.K.Behaviours.gives c.send_and_run.new.built c.in-Err.error c.args.plan.journal_limit c.broken_off.ensures.left
+
+pub returns-clause-at_rest : goal.returns-clause-at_rest
+returns-clause-at_rest g c = c.finish_at_rest.ensures.at_rest
+
 pub returns-clause-which : goal.returns-clause-which
-returns-clause-which g c = none-in-lists (length c.args.actors.items) (orders_of c.args.sends.now) c.finish_run.result c.finish_run.ensures.back
+returns-clause-which g c = none-in-lists (length c.args.actors.items) (orders_of c.args.sends.now) c.finish_at_rest.result c.finish_at_rest.ensures.back
 
 pub returns-clause-back : goal.returns-clause-back
-returns-clause-back g c = none-of c.args.plan c.args.actors.items c.finish_run.result c.finish_run.ensures.back
+returns-clause-back g c = none-of c.args.plan c.args.actors.items c.finish_at_rest.result c.finish_at_rest.ensures.back
 
 pub returns-in_err-built-clause-which : goal.returns-in_err-built-clause-which
 returns-in_err-built-clause-which g c =
     err-of (λ failed. NamesInLists (length c.args.actors.items) (orders_of c.args.sends.now) failed.error) c.from_residual.result c.in_err-built.field-0.0
     c.from_residual.ensures.1 c.in_err-built.ensures.which
 
+pub returns-in_err-built-clause-at_rest : goal.returns-in_err-built-clause-at_rest
+returns-in_err-built-clause-at_rest g c =
+    err-of LeavesNobodyToRun c.from_residual.result c.in_err-built.field-0.0 c.from_residual.ensures.1 c.in_err-built.ensures.at_rest
+
 pub returns-in_err-built-clause-back : goal.returns-in_err-built-clause-back
 returns-in_err-built-clause-back g c =
     err-of (GivesBack c.args.plan c.args.actors.items []) c.from_residual.result c.in_err-built.field-0.0 c.from_residual.ensures.1
     c.in_err-built.ensures.back
+
+pub finish_at_rest-requires-clause-ran : goal.finish_at_rest-requires-clause-ran
+finish_at_rest-requires-clause-ran g c =
+    let begun = c.in_ok-built.ensures in let went = c.in_default.ensures in let gives = g.K.Behaviours.gives in
+    let plan = c.args.plan in let orders = orders_of c.args.sends.now in let now = c.send_and_run.new.built in
+    record {
+      plan = plan;
+      actors = length c.args.actors.items;
+      orders = orders;
+      right = begun.right;
+      limit_is = refl;
+      ran = has-run gives plan orders c.in_ok-built.built now begun.begun went.system went.ends went.sent went.log_kept went.runs;
+    }

@@ -12,6 +12,9 @@ returns-clause-refused g c = c.run.ensures.refused
 pub returns-clause-which : goal.returns-clause-which
 returns-clause-which g c = c.run.ensures.which
 
+pub returns-clause-at_rest : goal.returns-clause-at_rest
+returns-clause-at_rest g c = c.run.ensures.at_rest
+
 pub returns-clause-back : goal.returns-clause-back
 returns-clause-back g c = c.run.ensures.back
 

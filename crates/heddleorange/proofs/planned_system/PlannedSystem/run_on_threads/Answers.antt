@@ -1,6 +1,7 @@
 use Rattle.std.proofs.Common.{length, subst, sym}
 use Rattle.heddleorange.specs.NamedOrder.{NamesInLists}
 use Rattle.heddleorange.specs.WholeRun.{gives_at}
+use Rattle.heddleorange.proofs.AtRest.{rests-named}
 use Rattle.heddleorange.proofs.GivesBack.{named-back, named-failed}
 use Rattle.heddleorange.proofs.Sent.{orders_of}
 use Rattle.heddleorange.proofs.planned_system.PlannedSystem.run_on_threads.Goals as goal
@@ -17,6 +18,9 @@ returns-in-Err-clause-refused g c =
 pub returns-in-Err-clause-which : goal.returns-in-Err-clause-which
 returns-in-Err-clause-which g c =
     subst (NamesInLists (length c.args.self.actors.items) (orders_of c.args.sends.now)) (sym c.with_names.ensures.error) c.in-Err.ensures.which
+
+pub returns-in-Err-clause-at_rest : goal.returns-in-Err-clause-at_rest
+returns-in-Err-clause-at_rest g c = rests-named c.in-Err.failed c.with_names.result c.with_names.ensures.error c.in-Err.ensures.at_rest
 
 pub returns-in-Err-clause-back : goal.returns-in-Err-clause-back
 returns-in-Err-clause-back g c =
