@@ -17,8 +17,8 @@ run:
 trace:
 	@tools/run --trace $(if $(FORMAT),--format $(FORMAT)) $(SCENARIO)
 
-# Proves the program, or another crate, with all that it stands on, and builds it: make prove [CRATE=name]. What was proved before and
-# did not change takes seconds.
+# Proves the two programs, or another crate, with all that they stand on, and builds them: make prove [CRATE=name]. What was proved before on
+# this machine, in any repository, takes seconds.
 prove:
 	@tools/prove $(CRATE)
 
@@ -100,15 +100,13 @@ bench: instructions
 
 # The instructions of a message beside those that docs/SPEED.md says.
 instructions:
-	@tools/prove mailrun
-	@tools/prove mailrun_kept
+	@tools/prove mailrun mailrun_kept
 	@if command -v valgrind > /dev/null; then tools/count_instructions $(PROGRAM) $(KEPT); else echo 'no valgrind: no instruction was counted'; fi
 
 # The program beside its peers, with counted and with kept journals, as docs/SPEED.md shows them: make compare [ROUNDS=number]. It says
 # which peers this machine can run, and installs nothing.
 compare:
-	@tools/prove mailrun
-	@tools/prove mailrun_kept
+	@tools/prove mailrun mailrun_kept
 	@tools/compare_with_peers $(PROGRAM) $(KEPT) $(if $(ROUNDS),--rounds $(ROUNDS))
 
 # Installs the two programs: make install [PREFIX=path]
@@ -117,5 +115,4 @@ install: proved
 	install -D -m 755 $(TRACE) $(DESTDIR)$(PREFIX)/bin/mailtrace
 
 proved:
-	@tools/prove mailrun
-	@tools/prove mailtrace
+	@tools/prove

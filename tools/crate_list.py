@@ -1,5 +1,6 @@
-"""The crates of this repository as the tools need them: what each stands on (crates.txt), what its proof costs (crate_costs), and
-whether it is proved here. Of that a note stands beside what the proof made: the sum of all sources that it read, and the kit."""
+"""The crates of a repository as the tools need them: what each stands on (crates.txt), by which commands it is proved, what that costs
+(crate_costs), and whether the program or the tests that stand here are proved. Of these a note stands beside each: the sum of all
+sources that it was made of, and the kit. tools/embed hands this over to other repositories."""
 
 import functools
 import hashlib
@@ -39,13 +40,24 @@ def sources(name, root=ROOT):
     return sorted(file for file in found if file.is_file())
 
 
+def is_program(name):
+    return (ROOT / "crates" / name / "src" / "main.rt").exists()
+
+
+@functools.cache
+def ways(name):
+    """The commands of the kit that prove the crate: `rt run` a program, `rt lib` a library, and `rt test` what has tests."""
+    has_tests = any(b"#[test]" in file.read_bytes() for file in sources(name) if file.suffix == ".rt")
+    return ["run" if is_program(name) else "lib", *["test"] * has_tests]
+
+
 def lines_of(name):
     return sum(file.read_bytes().count(b"\n") for file in sources(name))
 
 
 def costs(names):
     """What the proof of each of these costs, in seconds of one processor: by the table, or else by its lines."""
-    table = [line.split() for line in (ROOT / "tools" / "crate_costs").read_text().splitlines() if line and line[0] != "#"]
+    table = [line.split() for line in pathlib.Path(__file__).with_name("crate_costs").read_text().splitlines() if line and line[0] != "#"]
     table = {name: float(seconds) for name, seconds in table}
     return {name: table.get(name) or 20 + lines_of(name) / 25 for name in names}
 
@@ -99,21 +111,14 @@ def most_at_once():
 
 
 @functools.cache
-def sum_of(name):
-    """The sum of all sources of the crate and of those that it stands on, by their names and texts."""
-    total = hashlib.sha256(repr((rows()[name], (ROOT / "HANDLES").read_text(), *map(sum_of, needs(name)))).encode())
-    for file in sources(name):
+def sum_of(name, beside="", root=ROOT):
+    """The sum of all sources of the crate and of those that it stands on, by their names and texts, and of a text beside them."""
+    below = (sum_of(need, beside, root) for need in needs(name))
+    total = hashlib.sha256(repr((rows()[name], beside, *below)).encode())
+    for file in sources(name, root):
         text = file.read_bytes()
-        total.update(f"{file.relative_to(ROOT)} {len(text)}\n".encode() + text)
+        total.update(f"{file.relative_to(root)} {len(text)}\n".encode() + text)
     return total.hexdigest()
-
-
-def made_of(name, root=ROOT):
-    """The file in the crate's out/ that its proof leaves: the program, the tests, or of a library a mark."""
-    out = root / "crates" / name / "out"
-    if (ROOT / "crates" / name / "src" / "main.rt").exists():
-        return out / name
-    return out / (f"{name}_tests" if name.endswith("_tests") else "library")
 
 
 @functools.cache
@@ -121,17 +126,26 @@ def kit():
     return subprocess.run(["rt", "version"], stdout=subprocess.PIPE, text=True, check=True).stdout.strip()
 
 
-def note_proved(name, root=ROOT):
+def made_of(name, way="run", root=ROOT):
+    """The file that `rt run` or `rt test` builds: the program, or the tests."""
+    return root / "crates" / name / "out" / (name if way == "run" else f"{name}_tests")
+
+
+def note_of(made):
+    return made.with_name(f"{made.name}.proved")
+
+
+def note_proved(name, way="run", root=ROOT):
     """Notes that what stands here was proved, of the sources as they are."""
-    made = made_of(name, root)
-    made.with_name("proved").write_text(f"{sum_of(name)}\n{hashlib.sha256(made.read_bytes()).hexdigest()}\n{kit()}\n")
+    made = made_of(name, way, root)
+    note_of(made).write_text(f"{sum_of(name)}\n{hashlib.sha256(made.read_bytes()).hexdigest()}\n{kit()}\n")
 
 
-def is_proved(name, root=ROOT, by_this_kit=True):
-    """Whether the crate's note says that what stands here was proved of the sources as they are."""
-    made = made_of(name, root)
+def is_proved(name, way="run", root=ROOT, by_this_kit=True):
+    """Whether its note says that what stands here was proved of the sources as they are."""
+    made = made_of(name, way, root)
     try:
-        sources, result, version = made.with_name("proved").read_text().splitlines()
+        sources, result, version = note_of(made).read_text().splitlines()
         is_same = result == hashlib.sha256(made.read_bytes()).hexdigest()
         return is_same and sources == sum_of(name) and (not by_this_kit or version == kit())
     except (OSError, ValueError):

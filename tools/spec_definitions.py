@@ -12,9 +12,11 @@ import re
 import crate_list
 from crate_list import ROOT
 
-DEFINITION = re.compile(r"( *)(?:(?:abbrev|unfoldable) pub|pub (record|data)|pub(?! mod\b)) ([^\s:({]+)")
+DEFINITION = re.compile(r"( *)(?:(?:abbrev|unfoldable) pub|pub (record|data)|pub(?! mod\b| use\b)) ([^\s:({]+)")
 CONSTRUCTOR = re.compile(r" +([^\s:]+) : ")
 IMPORT = re.compile(r"ghost use Rattle\.(\w+)\.specs\.([\w.]+)\.\{([^}]*)\}", re.S)
+# A file of definitions hands on what it so takes from another.
+HANDED_ON = re.compile(r"^pub use Rattle\.(\w+)\.specs\.([\w.]+)\.\{([^}]*)\}", re.M)
 # A comment with fewer letters says nothing.
 SHORTEST = 10
 
@@ -92,12 +94,20 @@ def standing_for(file, name):
     return next((it for it in definitions(file) if name == it.name or name in it.constructors), None)
 
 
+def handed_on(file, name):
+    """The crate and the module from which a file takes what it hands on under this name, if it does."""
+    texts = HANDED_ON.findall((ROOT / file).read_text())
+    return next(((crate, module) for crate, module, names in texts if name in (part.strip() for part in names.split(","))), None)
+
+
 def imported(crate, module, name):
-    """The file and the name of what is imported from this module."""
+    """The file and the name of what is imported from this module, where it is defined."""
     parts = module.split(".")
     for count in range(len(parts), 0, -1):
         file = f"crates/{crate}/specs/{'/'.join(parts[:count])}.antt"
         if (ROOT / file).exists():
+            if count == len(parts) and (origin := handed_on(file, name)):
+                return imported(*origin, name)
             return file, (name if count == len(parts) else parts[count])
     return f"crates/{crate}/specs/{'/'.join(parts)}.antt", name
 

@@ -26,11 +26,14 @@ use Rattle.mb_shutdown.specs.CompleteReport.{IsReportOf}
 use Rattle.heddleorange.specs.Arrived.{EachAskedForArrives, EachGetsWhatIsAskedFor, EachOfTheGuardianIsStarted, EachSpawnedIsStarted, EachStopArrives, GuardianIsStarted, IsStartedOrEnded, came, entered}
 use Rattle.heddleorange.specs.Asked.{GetsAskedFor, IsAskedFor, asked_for, measure_to}
 use Rattle.heddleorange.specs.Notices.{EachTerminatedIsTrue}
+use Rattle.heddleorange.specs.Watched.{EachTerminatedIsAskedFor, EachWatcherIsTold}
 use Rattle.heddleorange.specs.WholeRun.{IsReportOfRun}
 use Rattle.heddleorange.proofs.Came.{asked, came-entered, came-is, count, counted}
 use Rattle.heddleorange.proofs.EndsTold.{handled-true}
+use Rattle.heddleorange.proofs.EndsDue.{told-due}
 use Rattle.heddleorange.proofs.Identified.{number-at}
 use Rattle.heddleorange.proofs.Started.{ending, planned-child, prepared-spawned, spawned-due, started}
+use Rattle.heddleorange.proofs.TimesTold.{told-as-watched}
 
 ended-true : (p : Phase) → phase_is p Ended ≡ true → p ≡ Ended
 ended-true Fresh is = absurd (cc is)
@@ -151,3 +154,14 @@ module _ (after : ℕ → List Message → ℤ) (gives : ℕ → Moment → Repl
   each-terminated-is-true id a here =
       let k = known id a here in
       handled-true report k.who (gives k.who.this.0) a.journal.entries k.is.lawful.entries (story.notices id a here)
+
+  pub each-watcher-is-told : EachWatcherIsTold plan report
+  each-watcher-is-told id who a other b at here ended told there_is =
+      let is = known-as id who a at here in
+      let shut : closed who a.journal.entries ≡ true = ap (λ p. phase_is p Ended) (sym is.phase_is ∙ ended) in
+      each-asked-for-arrives (other.0, Died who.this) b
+      (inr (inr (id, who, a, at, here, told-due other who (gives who.this.0) a.journal.entries is.lawful.entries shut told))) there_is
+
+  pub each-terminated-is-asked-for : EachTerminatedIsAskedFor report
+  each-terminated-is-asked-for id a x here =
+      let k = known id a here in told-as-watched x k.who (gives k.who.this.0) a.journal.entries k.is.lawful.entries

@@ -56,7 +56,7 @@ module _ {X Y : Type 0} (R : X → Y → Type 0) where
 
 module _ {X : Type 0} where
   -- the first place at which something holds
-  first-zip-of : (Done Fails : X → X → Type 0) (xs ys : List X) → FirstZip Done Fails xs ys
+  pub first-zip-of : (Done Fails : X → X → Type 0) (xs ys : List X) → FirstZip Done Fails xs ys
       → (place : ℕ) × (x : X) × (slice_get xs place ≡ Some x) × (y : X) × (slice_get ys place ≡ Some y) × Fails x y
   first-zip-of Done Fails [] ys failed = absurd failed
   first-zip-of Done Fails (x ∷ xs) [] failed = absurd failed
@@ -65,7 +65,7 @@ module _ {X : Type 0} where
       let one = first-zip-of Done Fails xs ys there.1 in (suc one.0, one.1, one.2, one.3, one.4, one.5)
 
   -- what stands at a place is one of all
-  placed-there : (xs : List X) (place : ℕ) (x : X) → slice_get xs place ≡ Some x → Contains xs x
+  pub placed-there : (xs : List X) (place : ℕ) (x : X) → slice_get xs place ≡ Some x → Contains xs x
   placed-there xs place x is = (place, slice_get_within xs place x is, get_or_from_slice_get xs place x x is)
 
 abbrev pub items_of : Vec Order Global → List Order

@@ -41,6 +41,8 @@ pub mod AskedLaw
 pub mod Came
 pub mod Started
 pub mod EndsTold
+pub mod TimesTold
+pub mod EndsDue
 pub mod ArrivedLaw
 pub mod PassedOn
 pub mod Adding
@@ -49,3 +51,4 @@ pub mod ByCounts
 pub mod Kept
 pub mod First
 pub mod GivesBack
+pub mod FromSources

@@ -22,3 +22,5 @@ pub mod GivesBack
 pub mod Added
 pub mod AddedAll
 pub mod Notices
+pub mod Watched
+pub mod FromSources

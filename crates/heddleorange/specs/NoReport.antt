@@ -1,7 +1,6 @@
 -- Why a whole run gave no report.
-use Rattle.std.specs.Prelude.{◌≡◌, ◌≢◌, ◌⊎◌, ℕ, ◌<◌, ◌==◌, nat_lt, Bool, true, false, ◌&&◌, ◌||◌, List, [], ◌∷◌, Option, length}
+use Rattle.std.specs.Prelude.{◌≡◌, ◌≢◌, ◌⊎◌, ℕ, ◌<◌, Bool, true, false, List, [], ◌∷◌, Option, length}
 use Rattle.std.specs.List.{list_any}
-use Rattle.mb_msg.specs.declared.id.ActorId.{ActorId}
 use Rattle.mb_actor.specs.Behaviour.{Moment, Reply}
 use Rattle.mb_build.specs.Reasons.{reasons}
 use Rattle.mb_build.specs.declared.check.PlanError.{PlanError}
@@ -9,23 +8,13 @@ use Rattle.mb_msg.specs.declared.plan.Plan.{Plan}
 use Rattle.mb_shutdown.specs.Mismatched.{of_whom}
 use Rattle.mb_build.specs.Planned.{actors_in}
 use Rattle.mb_msg.specs.declared.order.Order.{Order}
-use Rattle.mb_msg.specs.declared.order.OrderKind.{OrderKind}
-use Rattle.mb_msg.specs.declared.order.OrderKind.TheVariants.{Stop, Tell}
+pub use Rattle.mb_source.specs.Receivers.{has_nobody, is_for_nobody}
 use Rattle.mb_shutdown.specs.NotFinished.{DoesNotAgree}
 use Rattle.mb_shutdown.specs.declared.unfinished.UnfinishedActor.{UnfinishedActor}
 use Rattle.heddleorange.specs.Remains.{AreRemains, HasWorkAmong, IsFirstFull, IsLackOf}
 use Rattle.heddleorange.specs.declared.error.Error.{Error}
 use Rattle.heddleorange.specs.declared.error.Error.TheVariants.{BadPlan, OrderLists, NoSuchSender, NoSuchActor, NoMemory, NoMemoryInRun, JournalFull, NotQuiet, Mismatch, NameTaken}
 use Rattle.heddleorange.specs.declared.failed_run.FailedRun.{FailedRun}
-
--- This can go to none of so many actors, of which the first has number 1: an envelope goes to one of them, a Terminate also to the guardian.
-abbrev pub is_for_nobody : ℕ → ActorId → OrderKind → Bool
-is_for_nobody actors to (Tell payload) = to.0 == 0 || nat_lt actors to.0
-is_for_nobody actors to Stop = nat_lt actors to.0
-
--- The order is to be carried out, and can go to no actor.
-abbrev pub has_nobody : ℕ → Order → Bool
-has_nobody actors order = nat_lt 0 order.times && is_for_nobody actors order.to order.what
 
 -- One of these orders is so.
 abbrev pub has_one_for_nobody : ℕ → List (List Order) → Bool

@@ -15,7 +15,8 @@ use crate::error::Error;
 use crate::failed_run::FailedRun;
 use mb_actor::{Actor, Behaviours};
 use mb_build::check_plan;
-use mb_msg::{ActorId, Order, OrderKind, Plan, SenderOrder};
+use mb_msg::{ActorId, Order, Plan, SenderOrder};
+use mb_source::has_nobody;
 use mb_startup::{BuildError, build};
 use mb_system::Built;
 use std::alloc::Global;
@@ -64,8 +65,8 @@ pub(crate) fn begin_in_order<A: Actor, K: Behaviours, R: Wait>(
     build_checked::<A, K, R>(rt, alloc, plan, actors)
 }
 
-// The new system of a plan that is not refused.
-fn build_checked<A: Actor, K: Behaviours, R: Wait>(
+/// The new system of a plan that is not refused.
+pub(crate) fn build_checked<A: Actor, K: Behaviours, R: Wait>(
     rt: &R,
     alloc: Global,
     plan: Plan,
@@ -213,17 +214,4 @@ fn first_such_order(actors: usize, orders: &[Order]) -> Option<usize>
     ensures within { IfSome result (λ place. place < length orders.now) }
 {
     orders.iter().position(|order| has_nobody(actors, order))
-}
-
-// Whether this is to be carried out and can go to none of them.
-fn has_nobody(actors: usize, order: &Order) -> bool
-    ensures { result ≡ has_nobody actors order.now }
-{
-    let ActorId(to) = order.to;
-    let is_beyond = to as usize > actors;
-    let is_for_nobody = match order.what {
-        OrderKind::Tell(_) => to == 0 || is_beyond,
-        OrderKind::Stop => is_beyond,
-    };
-    order.times > 0 && is_for_nobody
 }

@@ -18,6 +18,7 @@ ghost use Rattle.heddleorange.specs.Arrived.{EachSpawnedIsStarted, EachStopArriv
 ghost use Rattle.heddleorange.specs.Asked.{EachIsAskedFor};
 ghost use Rattle.heddleorange.specs.Notices.{EachNoticeIsTrue, EachTerminatedIsTrue};
 ghost use Rattle.heddleorange.specs.Reading.{handled_messages};
+ghost use Rattle.heddleorange.specs.Watched.{EachTerminatedIsAskedFor, EachWatcherIsTold};
 ghost use Rattle.heddleorange.specs.WholeRun.{IsReportOfRun, after_at, gives_at};
 
 use mb_actor::{Actor, Behaviours};
@@ -78,6 +79,18 @@ pub fn each_notice_of_an_end_is_true<A: Actor>()
     ensures terminated { (actors : List A) (plan : Plan) (orders : List (List Order)) (report : Report)
         → IsReportOfRun (after_at actors A.after) (gives_at actors A.gives) plan orders report
         → EachTerminatedIsTrue report }
+{}
+
+/// A law: in a run, the end of an actor is told to its parent and to each that watched it then: the notice of it (Akka's
+/// `DeathWatchNotification`) has an entry in the other's journal, unless the other has ended. And no actor handles more `Terminated`
+/// of another than it asked to watch that one.
+pub fn each_watcher_is_told_once<A: Actor>()
+    ensures told { (actors : List A) (plan : Plan) (orders : List (List Order)) (report : Report)
+        → IsReportOfRun (after_at actors A.after) (gives_at actors A.gives) plan orders report
+        → EachWatcherIsTold plan report }
+    ensures asked_for { (actors : List A) (plan : Plan) (orders : List (List Order)) (report : Report)
+        → IsReportOfRun (after_at actors A.after) (gives_at actors A.gives) plan orders report
+        → EachTerminatedIsAskedFor report }
 {}
 
 /// A law: in a run, the guardian is started, unless it has ended.

@@ -283,16 +283,28 @@ module _ {A K : Type 0} (gives : ℕ → Moment → Reply → Type 0) (system : 
   abbrev Broke : RunError → WorkerEnd A K → WorkerEnd A K → Type 0
   Broke error x y = BreaksWork gives system (pass_view x.registrar.pass) y error
 
+  -- beside ends there were tasks of any kind
+  module _ {T : Type 0} (Did : T → T → Type 0) (Failed : RunError → T → T → Type 0) where
+    abbrev BreaksBeside : List (WorkerEnd A K) → List (WorkerEnd A K) → List T → List T → RunError → Type 0
+    BreaksBeside old ends before after error =
+        FirstZip Worked (Broke error) old ends ⊎ (AllZip Worked old ends × FirstZip Did (Failed error) before after)
+
+    pub breaks-beside : (old started ends : List (WorkerEnd A K)) (before after : List T) (of_ends of_tasks r : Result (Unit {0}) RunError)
+        → AllZip Look old started → MatchResult of_ends (λ _. r ≡ of_tasks) (λ _. r ≡ of_ends) → OnOk of_ends (AllZip Worked started ends)
+        → IfErr of_ends (λ error. FirstZip Worked (Broke error) started ends) → IfErr of_tasks (λ error. FirstZip Did (Failed error) before after)
+        → IfErr r (BreaksBeside old ends before after)
+    breaks-beside old started ends before after (Ok x) (Ok y) r looks is worked by_end by_task =
+        subst (λ (q : Result (Unit {0}) RunError). IfErr q (BreaksBeside old ends before after)) (sym is) tt
+    breaks-beside old started ends before after (Ok x) (Err error) r looks is worked by_end by_task =
+        subst (λ (q : Result (Unit {0}) RunError). IfErr q (BreaksBeside old ends before after)) (sym is)
+        (inr (zip_then Look Worked Worked worked-then old started ends looks worked, by_task))
+    breaks-beside old started ends before after (Err error) b r looks is worked by_end by_task =
+        subst (λ (q : Result (Unit {0}) RunError). IfErr q (BreaksBeside old ends before after)) (sym is)
+        (inl (first_then Look Worked (Broke error) worked-then (λ x y z l broken. broke-then x y z l error broken) old started ends looks by_end))
+
   pub breaks-run : (old started ends : List (WorkerEnd A K)) (before after : List (Job A K)) (of_ends of_jobs r : Result (Unit {0}) RunError)
       → AllZip Look old started → MatchResult of_ends (λ _. r ≡ of_jobs) (λ _. r ≡ of_ends) → OnOk of_ends (AllZip Worked started ends)
       → IfErr of_ends (λ error. FirstZip Worked (Broke error) started ends)
       → IfErr of_jobs (λ error. FirstZip (IsDone system.gates) (λ o n. BreaksJob system.gates o.sends.items o.sender n.sender error) before after)
       → IfErr r (BreaksRun gives system old ends before after)
-  breaks-run old started ends before after (Ok x) (Ok y) r looks is worked by_end by_job =
-      subst (λ (q : Result (Unit {0}) RunError). IfErr q (BreaksRun gives system old ends before after)) (sym is) tt
-  breaks-run old started ends before after (Ok x) (Err error) r looks is worked by_end by_job =
-      subst (λ (q : Result (Unit {0}) RunError). IfErr q (BreaksRun gives system old ends before after)) (sym is)
-      (inr (zip_then Look Worked Worked worked-then old started ends looks worked, by_job))
-  breaks-run old started ends before after (Err error) b r looks is worked by_end by_job =
-      subst (λ (q : Result (Unit {0}) RunError). IfErr q (BreaksRun gives system old ends before after)) (sym is)
-      (inl (first_then Look Worked (Broke error) worked-then (λ x y z l broken. broke-then x y z l error broken) old started ends looks by_end))
+  breaks-run = breaks-beside (IsDone system.gates) (λ error o n. BreaksJob system.gates o.sends.items o.sender n.sender error)

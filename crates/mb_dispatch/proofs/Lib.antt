@@ -15,3 +15,5 @@ pub mod AllTogether
 pub mod Rest
 pub mod Continuing
 pub mod SameSender
+pub mod Pairs
+pub mod FromSource

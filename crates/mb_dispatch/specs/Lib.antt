@@ -9,3 +9,5 @@ pub mod Working
 pub mod AtRest
 pub mod Rest
 pub mod AtFirst
+pub mod Paired
+pub mod Sources

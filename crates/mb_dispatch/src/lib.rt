@@ -3,18 +3,22 @@
 #![tactic(auto)]
 
 mod at_first;
+mod from_source;
 mod job;
 mod last_look;
 mod laws;
 mod mailbox;
 mod order;
+mod paired;
 mod parallel;
 mod quiet;
 mod running;
+mod running_from;
 mod settling;
 mod turns;
 mod working;
 
+pub use from_source::{send_from, send_from_each};
 pub use job::Job;
 pub use laws::what_is_at_rest_has_nothing_to_run;
 pub use mailbox::run_mailbox;
@@ -24,5 +28,6 @@ pub use mb_system::{Built, RunError, Sender, System, WorkerEnd};
 pub use order::send_all;
 pub use quiet::run_quietly;
 pub use running::run;
+pub use running_from::run_from;
 pub use turns::Turns;
 pub use working::work;

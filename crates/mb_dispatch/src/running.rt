@@ -100,7 +100,7 @@ fn run_once<A: Actor + Send, K: Behaviours + Send, R: Threads + Wait + Sync>(
     first_error(of_ends, of_jobs)
 }
 
-fn register_by_first<A: Actor, K: Behaviours, R: Wait>(
+pub(crate) fn register_by_first<A: Actor, K: Behaviours, R: Wait>(
     rt: &R,
     system: &System<A, K>,
     ends: &mut [WorkerEnd<A, K>],

@@ -1,5 +1,5 @@
 //! The tests of the lower crates: statuses, ids and limits, outboxes and calls of actors, lists of system messages,
-//! journals, scripts and reports, the machine, the checks of reports, and the reader of scenarios (`scenarios`).
+//! journals, sources, scripts and reports, the machine, the checks of reports, and the reader of scenarios (`scenarios`).
 #![tactic(auto)]
 
 #[cfg(test)]
@@ -24,5 +24,7 @@ mod scenarios;
 mod scripts;
 #[cfg(test)]
 mod seen;
+#[cfg(test)]
+mod sources;
 #[cfg(test)]
 mod statuses;

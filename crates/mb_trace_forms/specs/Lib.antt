@@ -3,3 +3,4 @@ pub mod Way
 pub mod Letters
 pub mod JsonRest
 pub mod Json
+pub mod Forms

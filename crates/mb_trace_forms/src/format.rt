@@ -1,4 +1,6 @@
 //! The forms of a trace.
+ghost use Rattle.mb_trace_forms.specs.Forms.{IsWrittenAs};
+
 use crate::json::write_json;
 use crate::picture::{write_html, write_svg};
 use mb_trace::{Filter, Trace, TraceError, write_text};
@@ -18,7 +20,7 @@ pub enum TraceFormat {
     Html,
 }
 
-/// Writes the trace in this form, as far as the filter leaves it.
+/// Writes the trace in this form, as far as the filter leaves it: as `write_text`, `write_json`, `write_svg` or `write_html` does.
 ///
 /// The errors: `NoMemory`, `Closed` where whoever reads the output has closed it, and `Os` where writing failed otherwise.
 pub fn write_trace<W: Write>(
@@ -27,7 +29,9 @@ pub fn write_trace<W: Write>(
     filter: &Filter<'_>,
     format: TraceFormat,
     out: &mut W,
-) -> Result<(), TraceError> {
+) -> Result<(), TraceError>
+    ensures { IsWrittenAs trace.now filter.now format (W.contents out.old) (W.contents out.new) result }
+{
     match format {
         TraceFormat::Text => write_text(alloc, trace, filter, out),
         TraceFormat::Json => write_json(alloc, trace, filter, out),

@@ -1,0 +1,5 @@
+pub mod OrderChain
+pub mod RecordedSource
+pub mod Receivers
+pub mod Given
+pub mod ListedOrders
