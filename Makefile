@@ -51,7 +51,8 @@ examples: proved
 # hand, as a user runs it, and on worker threads, the commands of the documents, traces in each form, pages in a browser, where one is
 # there, what becomes of refused allocations, where a C compiler is there, random scenarios beside a second reader, also with kept journals, the
 # journals of one worker beside those of the quiet run, the system messages of random systems on threads, counted, the instructions of a
-# message beside those that the documents say, where valgrind is there, and the library in a repository of its own.
+# message beside those that the documents say, where valgrind is there, and the library in a repository of its own. By itself, rt ci leaves
+# processors idle for memory that no proof takes: so RT_JOBS says how many proofs run side by side.
 test:
 	tools/documents --check
 	tools/draw_layers --check
@@ -61,7 +62,7 @@ test:
 	tools/check_api_reference
 	tools/check_schema
 	tools/check_scenarios
-	sum=$$(tools/prove --sum) && rt ci && tools/prove --note $$sum
+	sum=$$(tools/prove --sum) && RT_JOBS=$$(tools/prove --most) rt ci && tools/prove --note $$sum
 	tools/check_scenarios $(PROGRAM)
 	tools/check_scenarios $(KEPT)
 	tools/check_program $(PROGRAM)
