@@ -46,13 +46,10 @@ quick:
 examples: proved
 	@tools/check_scenarios $(PROGRAM) examples
 
-# The gate: what the documents name, the pictures, the list of the wrong bodies, the API reference, the schema, the scenarios as they stand, every proof from
-# nothing, the must-fail edits, the tests, the program by two compilers, the program on all scenarios, whose outcomes were worked out by
-# hand, as a user runs it, and on worker threads, the commands of the documents, traces in each form, pages in a browser, where one is
-# there, what becomes of refused allocations, where a C compiler is there, random scenarios beside a second reader, also with kept journals, the
-# journals of one worker beside those of the quiet run, the system messages of random systems on threads, counted, the instructions of a
-# message beside those that the documents say, where valgrind is there, and the library in a repository of its own. By itself, rt ci leaves
-# processors idle for memory that no proof takes: so RT_JOBS says how many proofs run side by side.
+# The gate: what needs no proof, which is what the documents name, the pictures, the list of the wrong bodies, the API reference, the schema
+# and the scenarios as they stand; every proof from nothing, the must-fail edits, the tests, and the programs by two compilers; and the trials
+# of the programs, side by side. By itself, rt ci leaves processors idle for memory that no proof takes: so RT_JOBS says how many proofs run
+# side by side.
 test:
 	tools/documents --check
 	tools/draw_layers --check
@@ -63,20 +60,46 @@ test:
 	tools/check_schema
 	tools/check_scenarios
 	sum=$$(tools/prove --sum) && RT_JOBS=$$(tools/prove --most) rt ci && tools/prove --note $$sum
+	$(MAKE) --no-print-directory --jobs=$$(tools/prove --most) --output-sync=target trials
+
+# What the gate tries with the proved programs: all scenarios, whose outcomes were worked out by hand, with counted and with kept journals; the
+# program as a user runs it, and on worker threads; the commands of the documents; traces in each form, and pages in a browser, where one is
+# there; what becomes of refused allocations, where a C compiler is there; random scenarios beside a second reader, with counted and with kept
+# journals; the journals of one worker beside those of the quiet run; the system messages of random systems on threads, counted; the
+# instructions of a message beside those that the documents say, where valgrind is there; and the library in a repository of its own.
+TRIALS := trial-scenarios trial-kept-scenarios trial-program trial-workers trial-commands trial-traces trial-trace-forms trial-pages \
+    trial-allocations trial-model trial-kept-model trial-order trial-system-messages trial-instructions trial-embedding
+.PHONY: trials $(TRIALS)
+trials: $(TRIALS)
+trial-scenarios:
 	tools/check_scenarios $(PROGRAM)
+trial-kept-scenarios:
 	tools/check_scenarios $(KEPT)
+trial-program:
 	tools/check_program $(PROGRAM)
+trial-workers:
 	tools/check_workers $(PROGRAM)
+trial-commands:
 	tools/check_commands $(PROGRAM)
+trial-traces:
 	tools/check_traces $(TRACE)
+trial-trace-forms:
 	tools/check_trace_forms $(TRACE)
+trial-pages:
 	tools/try_pages $(TRACE)
+trial-allocations:
 	@if command -v "$${CC:-cc}" > /dev/null; then $(MAKE) --no-print-directory refuse; else echo 'no C compiler: no allocation was refused'; fi
+trial-model:
 	tools/compare_with_a_model $(PROGRAM)
+trial-kept-model:
 	tools/compare_with_a_model $(KEPT)
+trial-order:
 	tools/check_order $(TRACE)
+trial-system-messages:
 	tools/check_system_messages $(TRACE)
+trial-instructions:
 	@if command -v valgrind > /dev/null; then tools/count_instructions $(PROGRAM) $(KEPT); else echo 'no valgrind: no instruction was counted'; fi
+trial-embedding:
 	tools/check_embed --prove
 
 # Refuses each allocation of the program in turn, and each of a whole run by the tests that the gate has built.

@@ -1,6 +1,5 @@
 """The peers of peers/: what each needs, by the names of Debian's packages, how it is built, and how it runs a workload."""
 
-import os
 import pathlib
 import re
 import shutil
@@ -8,7 +7,7 @@ import subprocess
 import typing
 
 from crate_list import ROOT
-from workloads import THROUGHPUT, WORKERS
+from workloads import THROUGHPUT, WORKERS, process
 
 FOLDER = ROOT / "peers"
 # What is built goes here, and Git leaves it out.
@@ -53,8 +52,9 @@ class Language(typing.NamedTuple):
 
 class Peer(typing.NamedTuple):
     """A peer by its name in the table; the command that runs a workload, with WORKLOAD for its name; which pool of ours stands beside it,
-    the faster one if none is named; the workload that it lacks, if it lacks one; and which journals of ours stand beside it: a peer that
-    keeps a journal stands beside kept ones, another beside counted ones."""
+    the faster one if none is named; the workload that it lacks, if it lacks one; which journals of ours stand beside it: a peer that
+    keeps a journal stands beside kept ones, another beside counted ones; and whether it is timed as ours is: the whole process, less one
+    in which each send is made once. Another one tells the seconds of its run."""
 
     name: str
     language: Language
@@ -62,20 +62,19 @@ class Peer(typing.NamedTuple):
     pool: str | None = None
     lacks: str | None = None
     journal: str = "counted"
+    is_timed_as_ours: bool = False
 
-    def seconds(self, workload, messages):
-        """The seconds of a run, as the peer tells them. It has to have handled so many messages."""
-        command = [word.replace("WORKLOAD", workload) for word in self.words]
-        settings = {**os.environ, "ERL_CRASH_DUMP_BYTES": "0"}
-        how = {"stdin": subprocess.DEVNULL, "capture_output": True, "text": True, "timeout": MOST_SECONDS, "env": settings}
+    def seconds(self, workload, messages, once):
+        """The seconds of a run. It has to have handled so many messages. With `once` each send is made once."""
+        words = [word.replace("WORKLOAD", workload) for word in self.words] + ["once"] * once
         try:
-            ran = subprocess.run(command, **how)
+            ran = process("", *words, most_seconds=MOST_SECONDS)
         except subprocess.TimeoutExpired:
             raise SystemExit(f"{self.name}, {workload}: not at its end after {MOST_SECONDS} seconds, so there is no table. Run it again.") from None
-        told = re.fullmatch(r"(\d+\.\d+) (\d+)\n", ran.stdout)
-        if ran.returncode != 0 or not told or int(told[2]) != messages:
-            raise SystemExit(f"{self.name}, {workload}: status {ran.returncode}\n{ran.stdout}{ran.stderr}")
-        return float(told[1])
+        told = re.fullmatch(r"(\d+\.\d+) (\d+)\n", ran.printed)
+        if not told or not once and int(told[2]) != messages:
+            raise SystemExit(f"{self.name}, {workload}: it printed\n{ran.printed}")
+        return ran.seconds if self.is_timed_as_ours else float(told[1])
 
 
 def is_there(shown_by):
@@ -125,12 +124,13 @@ JAVA = Language(
 )
 LANGUAGES = (RUST, ERLANG, CAF, JAVA)
 SCHEDULERS = f"{WORKERS}:{WORKERS}"
-ERL = ["erl", "+S", SCHEDULERS, "-noinput", "-boot", "start_clean", "-pa", str(OUT), "-run", "erlang_peer", "main", "WORKLOAD"]
+ERL = ["env", "ERL_CRASH_DUMP_BYTES=0", "erl", "+S", SCHEDULERS, "-noinput", "-boot", "start_clean", "-pa", str(OUT), "-run", "erlang_peer", "main", "WORKLOAD"]
 JVM = ["java", "-Xms1g", "-Xmx4g", "-XX:+UseParallelGC", "-cp", str(OUT / "java"), "JavaPeer", "WORKLOAD", *SETTINGS]
 
 
 def rust(steps, pool, journal):
-    return Peer(f"{steps} Rust, {pool}", RUST, [str(RUST.made), steps.lower(), pool, "WORKLOAD", *SETTINGS], pool, journal=journal)
+    words = [str(RUST.made), steps.lower(), pool, "WORKLOAD", *SETTINGS]
+    return Peer(f"{steps} Rust, {pool}", RUST, words, pool, journal=journal, is_timed_as_ours=True)
 
 
 PEERS = (

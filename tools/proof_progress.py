@@ -1,5 +1,5 @@
-"""How far a proof of many crates is, and how long it may take still: in place on a terminal, else a line for each crate. tools/embed hands
-this over to other repositories."""
+"""How far a proof of many crates is, and how long it may take still: in place on a terminal, else a line for each crate and each minute.
+tools/embed hands this over to other repositories."""
 
 import shutil
 import sys
@@ -7,6 +7,8 @@ import time
 
 import crate_list
 
+# After how many seconds without a line one is told where there is no terminal.
+SILENT = 60
 # From how many seconds of proofs on the pace of this machine is taken from them, and between which bounds.
 SEEN, SLOWEST, FASTEST = 300, 6, 0.3
 
@@ -17,6 +19,7 @@ class Progress:
         self.costs = crate_list.costs(names)
         self.chains = crate_list.chains(names, self.costs)
         self.started, self.proved = time.monotonic(), 0
+        self.told = self.started
 
     def begin(self, name):
         self.left.remove(name)
@@ -47,11 +50,13 @@ class Progress:
     def tell(self, told=""):
         """Says what ended, if something did, and how far all is."""
         so_far = f"{len(self.left) + len(self.begun)} left, {self.clock()} minutes so far, about {self.more() / 60:.0f} more"
+        proving = f"proving {', '.join(self.begun) or 'the rest'}"
         if sys.stderr.isatty():
-            line = f"proving {', '.join(self.begun) or 'the rest'}; {so_far}"[: shutil.get_terminal_size().columns - 1]
+            line = f"{proving}; {so_far}"[: shutil.get_terminal_size().columns - 1]
             print(f"\r\x1b[K{line}", end="", file=sys.stderr, flush=True)
-        elif told:
-            print(f"{told}; {so_far}", file=sys.stderr, flush=True)
+        elif told or time.monotonic() - self.told > SILENT:
+            self.told = time.monotonic()
+            print(f"{told or proving}; {so_far}", file=sys.stderr, flush=True)
 
 
 def say(text):

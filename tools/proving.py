@@ -141,7 +141,7 @@ def prove_crate(name, jobs):
     with proved_libraries.alone(name):
         if left := left_to_do(name):
             with room_for(name) as room:
-                if crate_list.sum_of(name, root=room) != crate_list.sum_of(name):
+                if crate_list.sum_of(name, crate_list.kit(), room) != crate_list.sum_of(name, crate_list.kit()):
                     return True, f"{name} is NOT PROVED: its sources changed meanwhile; run it again"
                 for way in left:
                     if why := PROVERS[way](name, room, jobs):

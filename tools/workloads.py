@@ -4,6 +4,7 @@ workloads in their own languages."""
 import subprocess
 import sys
 import tempfile
+import typing
 
 WORKERS, THROUGHPUT, POOLS, MOST_TIMES = 2, 5, ("shared", "stealing"), 100_000
 
@@ -103,17 +104,34 @@ def report(actors):
     return f"{guardian}{''.join(actor.line() for actor in actors)}sent {sent} handled {sent} left 0 dead 0\n"
 
 
-def measured(text, expected, *words):
-    """The seconds of a run of a program on a scenario, and the bytes that it held at its peak."""
+class Run(typing.NamedTuple):
+    """The seconds of a process, the bytes that it held at its peak, and what it printed."""
+
+    seconds: float
+    memory: float
+    printed: str
+
+
+def process(text, *words, most_seconds=None):
+    """A run of a process that reads this text. It is cut off after so many seconds, if that is given."""
     with tempfile.TemporaryFile() as file, tempfile.TemporaryFile() as printed:
         file.write(text.encode())
         file.seek(0)
         # In a process of its own, since the peak of a child is never less than that of the process that it was made by.
         timed = "import os,subprocess,sys,time\nbegan=time.monotonic()\nrun=subprocess.Popen(sys.argv[1:],stdout=sys.stderr)\n"
         timed += "_,status,used=os.wait4(run.pid,0)\nprint(time.monotonic()-began,used.ru_maxrss*1024)\nsys.exit(status!=0)"
-        told = subprocess.run([sys.executable, "-c", timed, *words], stdin=file, stdout=subprocess.PIPE, stderr=printed, text=True)
+        how = {"stdin": file, "stdout": subprocess.PIPE, "stderr": printed, "text": True, "timeout": most_seconds}
+        told = subprocess.run([sys.executable, "-c", timed, *words], **how)
         printed.seek(0)
         got = printed.read().decode()
-    if told.returncode != 0 or (expected is not None and got != expected):
-        raise SystemExit(f"{words[0]} printed what was not worked out:\n{got}")
-    return tuple(map(float, told.stdout.split()))
+    if told.returncode != 0:
+        raise SystemExit(f"{words[0]} failed:\n{got}")
+    return Run(*map(float, told.stdout.split()), got)
+
+
+def measured(text, expected, *words):
+    """A run of a program on a scenario. It has to print what is expected, if something is."""
+    run = process(text, *words)
+    if expected is not None and run.printed != expected:
+        raise SystemExit(f"{words[0]} printed what was not worked out:\n{run.printed}")
+    return run

@@ -9,7 +9,8 @@ pub(crate) const PAGE_END: &str = "</aside>
   const all = (query) => Array.from(document.querySelectorAll(query));
   const byId = (id) => document.getElementById(id);
   const picture = document.querySelector('.diagram > svg:not(.names)');
-  const rows = all('.row'), entries = all('tr.entry'), lanes = all('.lane'), ends = all('.end'), page = picture.querySelector('.page');
+  const rows = all('.row'), entries = all('tr.entry'), lanes = all('.lane'), page = picture.querySelector('.page');
+  const ends = all('.end').filter((end) => !end.closest('.below'));
   const below = picture.querySelector('.below'), height = Number(picture.getAttribute('height')), width = picture.getAttribute('width');
   // How high a row is, and where it stands with all rows above it.
   const rowHeight = 28, placeOf = (row) => Number(row.dataset.y), first = rows.length > 0 ? placeOf(rows[0]) : 0;
@@ -83,6 +84,8 @@ pub(crate) const PAGE_END: &str = "</aside>
       diagram.scrollTop = top - diagram.clientHeight / 2;
     }
     draw();
+    const label = (row.querySelector('text') ?? row).getBBox(), left = diagram.scrollLeft;
+    if (label.x < left || label.x + label.width > left + diagram.clientWidth) diagram.scrollLeft = label.x + (label.width - diagram.clientWidth) / 2;
   };
   const markEntry = (line) => {
     all('.target').forEach((one) => one.classList.remove('target'));

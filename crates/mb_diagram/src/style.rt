@@ -39,7 +39,7 @@ pub(crate) const PAGE_HEAD: &str = "<!DOCTYPE html>
 <style>
   :root { color-scheme: light dark }
   body { margin: 16px; font: 14px Helvetica, Arial, 'DejaVu Sans', sans-serif; background: #ffffff; color: #16202a }
-  pre { overflow: auto } h1 { font-size: 18px } h2 { font-size: 15px; margin: 4px 0 } a { color: #1f5fb4 }
+  pre { overflow: auto; padding-bottom: 16px } h1 { font-size: 18px } h2 { font-size: 15px; margin: 4px 0 } a { color: #1f5fb4 }
   form { display: none; flex-wrap: wrap; align-items: center; gap: 8px 16px; margin: 8px 0 } .scripted form { display: flex }
   main { display: grid; grid-template-columns: minmax(0, 1fr); gap: 16px } .diagram, aside { overflow: auto; max-height: 90vh }
   .diagram svg { display: block } .diagram .names { position: sticky; top: 0; z-index: 1 }

@@ -1,7 +1,8 @@
-//! rust_peer STEPS POOL WORKLOAD WORKERS THROUGHPUT
+//! rust_peer STEPS POOL WORKLOAD WORKERS THROUGHPUT [once]
 //!
 //! STEPS is `plain`, the same steps as Heddleorange, or `lean`: no journal, no waiting counts, no gates. POOL is `shared` or
-//! `stealing`. It runs the workload, and prints the seconds of the run and how many messages were handled.
+//! `stealing`. It runs the workload, with `once` so that each send is made once, and prints the seconds of the run and how many messages
+//! were handled.
 
 mod actor;
 mod journal;
@@ -29,8 +30,8 @@ impl Steps for Lean {
     type Journal = NoJournal;
 }
 
-fn run<S: Steps, const STEALING: bool>(name: &str, workers: usize, throughput: u32) -> Result<(), String> {
-    let Workload { scripts, jobs, ends } = workload::named(name).ok_or(format!("no workload {name}"))?;
+fn run<S: Steps, const STEALING: bool>(name: &str, once: bool, workers: usize, throughput: u32) -> Result<(), String> {
+    let Workload { scripts, jobs, ends } = workload::named(name, once).ok_or(format!("no workload {name}"))?;
     let outcome = Runtime::<S, STEALING>::run(scripts, jobs, workers, throughput);
     let messages: u64 = ends.iter().map(|end| end.handled).sum();
     let restarts: u64 = ends.iter().map(|end| end.restarts).sum();
@@ -46,16 +47,20 @@ fn run<S: Steps, const STEALING: bool>(name: &str, workers: usize, throughput: u
 fn main() -> Result<(), String> {
     let words: Vec<String> = std::env::args().skip(1).collect();
     let words: Vec<&str> = words.iter().map(String::as_str).collect();
+    let (words, once) = match words[..] {
+        [ref words @ .., "once"] => (words, true),
+        ref words => (words, false),
+    };
     let [steps, pool, name, workers, throughput] = words[..] else {
-        return Err("rust_peer STEPS POOL WORKLOAD WORKERS THROUGHPUT".to_string());
+        return Err("rust_peer STEPS POOL WORKLOAD WORKERS THROUGHPUT [once]".to_string());
     };
     let workers = workers.parse().map_err(|_| "WORKERS is a number")?;
     let throughput = throughput.parse().map_err(|_| "THROUGHPUT is a number")?;
     match (steps, pool) {
-        ("plain", "shared") => run::<Plain, false>(name, workers, throughput),
-        ("plain", "stealing") => run::<Plain, true>(name, workers, throughput),
-        ("lean", "shared") => run::<Lean, false>(name, workers, throughput),
-        ("lean", "stealing") => run::<Lean, true>(name, workers, throughput),
+        ("plain", "shared") => run::<Plain, false>(name, once, workers, throughput),
+        ("plain", "stealing") => run::<Plain, true>(name, once, workers, throughput),
+        ("lean", "shared") => run::<Lean, false>(name, once, workers, throughput),
+        ("lean", "stealing") => run::<Lean, true>(name, once, workers, throughput),
         _ => Err(format!("no peer {steps} {pool}")),
     }
 }

@@ -48,41 +48,49 @@ impl Workload {
     }
 }
 
-pub fn named(name: &str) -> Option<Workload> {
+/// The workload of this name. With `once`, each send is made once.
+pub fn named(name: &str, once: bool) -> Option<Workload> {
+    let times = |times| if once { 1 } else { times };
     let mut work = Workload::default();
     match name {
         "count" => {
-            work.counter(1_000_000, 1);
-            work.job([(0, 1, 1_000_000)].into_iter());
+            let most = times(1_000_000);
+            work.counter(most, 1);
+            work.job([(0, 1, most)].into_iter());
         }
         "fan-in" => {
-            work.counter(1_000_000, 1);
-            (0..4).for_each(|_| work.job([(0, 1, 250_000)].into_iter()));
+            let most = times(250_000);
+            work.counter(4 * most, 1);
+            (0..4).for_each(|_| work.job([(0, 1, most)].into_iter()));
         }
         "spread" => {
-            (0..63).for_each(|_| work.counter(16 * 992, 1));
+            let most = times(992);
+            (0..63).for_each(|_| work.counter(16 * most, 1));
             for sender in 0..4 {
-                work.job((0..4 * 63).map(|place| ((16 * sender + place) % 63, 1, 992)));
+                work.job((0..4 * 63).map(|place| ((16 * sender + place) % 63, 1, most)));
             }
         }
         "chain" => {
-            (1..63).for_each(|next| work.teller(20_000, [next].into_iter()));
-            work.counter(20_000, 3);
-            work.job([(0, 3, 20_000)].into_iter());
+            let most = times(20_000);
+            (1..63).for_each(|next| work.teller(most, [next].into_iter()));
+            work.counter(most, 3);
+            work.job([(0, 3, most)].into_iter());
         }
         "fan-out" => {
-            work.teller(50_000, 1..17);
-            (0..16).for_each(|_| work.counter(50_000, 3));
-            work.job([(0, 3, 50_000)].into_iter());
+            let most = times(50_000);
+            work.teller(most, 1..17);
+            (0..16).for_each(|_| work.counter(most, 3));
+            work.job([(0, 3, most)].into_iter());
         }
         "restart" => {
+            let most = times(10_000);
             work.actor(0, vec![], End { state: 0, handled: 0, restarts: 0 });
             let rows = vec![(1, vec![Step::Add]), (2, vec![Step::Fail(7)])];
-            work.actor(0, rows, End { state: 0, handled: 100_000, restarts: 10_000 });
+            work.actor(0, rows, End { state: 0, handled: 10 * most, restarts: most });
             let mut steps = vec![Step::Tell(1, 1); 9];
             steps.push(Step::Tell(1, 2));
-            work.actor(0, vec![(1, steps)], End { state: 0, handled: 10_000, restarts: 0 });
-            work.job([(2, 3, 10_000)].into_iter());
+            work.actor(0, vec![(1, steps)], End { state: 0, handled: most, restarts: 0 });
+            work.job([(2, 3, most)].into_iter());
         }
         _ => return None,
     }
