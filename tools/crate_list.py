@@ -1,4 +1,4 @@
-"""The crates of a repository as the tools need them: what each stands on (crates.txt), by which commands it is proved, what that costs
+"""The crates of a repository as the tools need them: what each stands on (crates.txt), as what it is proved, what that costs
 (crate_costs), and whether the program or the tests that stand here are proved. Of these a note stands beside each: the sum of all
 sources that it was made of, and the kit. tools/embed hands this over to other repositories."""
 
@@ -46,7 +46,7 @@ def is_program(name):
 
 @functools.cache
 def ways(name):
-    """The commands of the kit that prove the crate: `rt run` a program, `rt lib` a library, and `rt test` what has tests."""
+    """As what the crate is proved: as a program (run) or a library (lib), and what has tests with them too (test)."""
     has_tests = any(b"#[test]" in file.read_bytes() for file in sources(name) if file.suffix == ".rt")
     return ["run" if is_program(name) else "lib", *["test"] * has_tests]
 
@@ -127,7 +127,7 @@ def kit():
 
 
 def made_of(name, way="run", root=ROOT):
-    """The file that `rt run` or `rt test` builds: the program, or the tests."""
+    """The file that is built of it: the program, or the tests."""
     return root / "crates" / name / "out" / (name if way == "run" else f"{name}_tests")
 
 

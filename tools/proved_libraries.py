@@ -1,11 +1,12 @@
-"""The proved libraries of this machine, in ~/.cache/heddleorange/libraries: each as `rt lib` built it, under the sum of all sources that it
-was made of and of the kit. Every repository with the same sources takes it from there. Its files have a name in each place (hard links),
+"""The proved libraries of this machine, in ~/.cache/heddleorange/libraries: each as its statements, over those of the libraries below
+as they are kept, under the sum of all sources that it was made of and of the kit. Every repository with the same sources takes it from there. Its files have a name in each place (hard links),
 so they are on the disk once. What nobody took for a month goes. tools/embed hands this over to other repositories."""
 
 import contextlib
 import fcntl
 import os
 import pathlib
+import secrets
 import shutil
 import tempfile
 import time
@@ -13,13 +14,15 @@ import time
 import crate_list
 
 KEPT = pathlib.Path.home() / ".cache" / "heddleorange" / "libraries"
+# What is kept of a library, and the file with its number.
+FORM, NUMBER = "statements", "number"
 # After how many seconds what nobody took goes.
 MONTH = 30 * 24 * 60 * 60
 
 
 def kept(name):
     """Where the proved library of these sources is kept."""
-    return KEPT / f"{name}-{crate_list.sum_of(name, crate_list.kit())[:24]}"
+    return KEPT / f"{name}-{crate_list.sum_of(name, f'{crate_list.kit()} {FORM}')[:24]}"
 
 
 def is_kept(name):
@@ -45,20 +48,20 @@ def place(tree, goal):
 
 
 def keep(name, rlib):
-    """Keeps a library that is proved."""
+    """Keeps a library that is proved, under a number of its own: the kit may build another one of the same sources beside it."""
+    (rlib / NUMBER).write_text(secrets.token_hex(16))
     place(rlib, kept(name))
 
 
-def stamp(rlib):
-    """What the kit notes of the sources of a library that it built."""
-    return (rlib / "stamp").read_bytes() if (rlib / "stamp").exists() else None
+def number(rlib):
+    return (rlib / NUMBER).read_text() if (rlib / NUMBER).exists() else None
 
 
 def hand_over(name, crates):
     """Puts a library that is kept into a folder of crates, unless it is there."""
     goal = crates / name / "out" / "rlib"
     os.utime(kept(name))
-    if stamp(goal) != stamp(kept(name)):
+    if number(goal) != number(kept(name)):
         place(kept(name), goal)
 
 

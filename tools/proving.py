@@ -1,10 +1,10 @@
-"""Proves crates with all that they stand on, by the public commands of the kit: `rt lib` a library, `rt run` a program, `rt test` what has
-tests. tools/prove calls it, and so does ./prove in a repository to which tools/embed handed this over.
+"""Proves crates with all that they stand on, each as `rt ci` does (gate_steps.py). tools/prove calls it, and so does ./prove in a repository to
+which tools/embed handed this over.
 
 Each crate is proved in a folder of its own, with the libraries below it as they are kept (proved_libraries.py): so no other command meets it, and
 crates that do not need each other are proved side by side, each as soon as those that it needs are there, the longest chain first, a large one
-with more jobs where processors would be idle. A library is kept, and handed over to crates/NAME/out/rlib; a program and tests come to crates/NAME/out. What lies there
-already, as an earlier `rt check` left it, is taken too, where the kit finds it to be of these sources. A run that is cut off goes on where it was."""
+with more jobs where processors would be idle. A library is kept, and handed over to crates/NAME/out/rlib, where `rt check` takes it; a program
+and tests come to crates/NAME/out. A run that is cut off goes on where it was."""
 
 import concurrent.futures
 import contextlib
@@ -19,14 +19,17 @@ import tempfile
 import crate_list
 import proved_libraries
 from crate_list import PARTS, ROOT
+from gate_steps import WRONG_RUN
 from proof_progress import Progress, say
 
 # How many characters are shown of what the kit says of a crate that is not proved.
 SHOWN = 6000
 # For how many lines a crate has one job more: each job reads all libraries below once more, which a small crate is not worth.
 LINES = 3000
-# How the line begins by which `rt run` says that it runs what it built.
-RUNNING_NOW = "rt: running "
+# What proves one crate.
+STEPS = pathlib.Path(__file__).with_name("gate_steps.py")
+# What a run of a program has to print and to end with, and what it is given, lies beside its sources.
+BESIDE = ("stdin", "stdout", "args", "status")
 # The groups of processes of the kit's commands that are running, and the folders in which they work.
 RUNNING, ROOMS = set(), set()
 
@@ -46,6 +49,13 @@ def lay_out(name, room):
                 shutil.copytree(ROOT / "crates" / one / part, room / "crates" / one / part)
         if one != name:
             proved_libraries.hand_over(one, room / "crates")
+    for file in BESIDE:
+        if (ROOT / "crates" / name / file).exists():
+            shutil.copyfile(ROOT / "crates" / name / file, room / "crates" / name / file)
+    if (ROOT / "crates" / name / "data").is_dir():
+        shutil.copytree(ROOT / "crates" / name / "data", room / "crates" / name / "data")
+    if (ROOT / "HANDLES").exists():
+        shutil.copyfile(ROOT / "HANDLES", room / "HANDLES")
 
 
 def ended(words, folder, given):
@@ -56,12 +66,6 @@ def ended(words, folder, given):
         printed, said = run.communicate(given)
         RUNNING.discard(run.pid)
     return run.returncode, printed, said.decode(errors="replace")
-
-
-def beside(name, file):
-    """What lies in a file beside the crate's sources, if there is one."""
-    path = ROOT / "crates" / name / file
-    return path.read_bytes() if path.exists() else None
 
 
 def not_proved(name, said):
@@ -81,49 +85,25 @@ def take(name, files, room):
         os.replace(out / f"{file}.new", out / file)
 
 
-def prove_library(name, room, jobs):
-    """Why the library is not proved, if that is so."""
-    folder = room / "crates" / name
-    if (built := ROOT / "crates" / name / "out" / "rlib").is_dir():
-        with contextlib.suppress(OSError):  # another command may take it away
-            proved_libraries.place(built, folder / "out" / "rlib")
-    status, printed, said = ended(["rt", "lib", "--jobs", str(jobs)], folder, b"")
-    if status or not (folder / "out" / "rlib" / "stamp").exists():
-        return not_proved(name, printed.decode(errors="replace") + said)
-    proved_libraries.keep(name, folder / "out" / "rlib")
-    return ""
+def made_of(name, way):
+    """What is taken of that which the kit builds of a program, or of tests."""
+    return f"{name}_tests" if way == "test" else name
 
 
-def prove_program(name, room, jobs):
-    """Why the program is not proved, or does not run as the files beside its sources say, if that is so. `rt run` runs what it built."""
-    folder = room / "crates" / name
-    if (data := ROOT / "crates" / name / "data").is_dir():
-        shutil.copytree(data, folder, dirs_exist_ok=True)
-    arguments = (beside(name, "args") or b"").decode().splitlines()
-    words = ["rt", "run", "--jobs", str(jobs), *(["--", *arguments] if arguments else [])]
-    status, printed, said = ended(words, folder, beside(name, "stdin") or b"")
-    if not (folder / "out" / f"{name}.stamp").exists():
-        return not_proved(name, said)
-    take(name, (name, f"{name}.stamp"), room)
-    wanted = int(beside(name, "status") or 0), beside(name, "stdout")
-    if status != wanted[0] or wanted[1] not in (None, printed):
-        said = said.rpartition(RUNNING_NOW)[2].partition("\n")[2] + printed.decode(errors="replace")
-        return f"{name} is proved, but it ends with status {status}, or does not print what its file stdout has; it said\n{said[-SHOWN:]}"
-    crate_list.note_proved(name, "run")
-    return ""
-
-
-def prove_tests(name, room, jobs):
-    """Why the tests are not proved, or fail, if that is so."""
-    status, printed, said = ended(["rt", "test", "--jobs", str(jobs)], room / "crates" / name, b"")
+def prove_one(name, way, room, jobs):
+    """Why the library, the program or the tests are not proved, or do not run as they should, if that is so."""
+    status, printed, said = ended([sys.executable, str(STEPS), way, name, str(jobs)], room, b"")
+    said = printed.decode(errors="replace") + said
+    if status == WRONG_RUN:
+        return f"{name} is proved, but it does not run as it should\n{said[-SHOWN:]}"
     if status:
-        return not_proved(name, printed.decode(errors="replace") + said)
-    take(name, (f"{name}_tests",), room)
-    crate_list.note_proved(name, "test")
+        return not_proved(name, said)
+    if way == "lib":
+        proved_libraries.keep(name, room / "crates" / name / "out" / "rlib")
+    else:
+        take(name, [made_of(name, way)], room)
+        crate_list.note_proved(name, way)
     return ""
-
-
-PROVERS = {"lib": prove_library, "run": prove_program, "test": prove_tests}
 
 
 @contextlib.contextmanager
@@ -144,7 +124,7 @@ def prove_crate(name, jobs):
                 if crate_list.sum_of(name, crate_list.kit(), room) != crate_list.sum_of(name, crate_list.kit()):
                     return True, f"{name} is NOT PROVED: its sources changed meanwhile; run it again"
                 for way in left:
-                    if why := PROVERS[way](name, room, jobs):
+                    if why := prove_one(name, way, room, jobs):
                         return True, why
         if "lib" in crate_list.ways(name):
             proved_libraries.offer(name, ROOT / "crates")
