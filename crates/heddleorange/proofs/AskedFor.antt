@@ -51,7 +51,7 @@ use Rattle.mb_syslist.specs.MessageList.{numbered}
 use Rattle.mb_system.specs.Shares.{shares_of, shares_of_ends, views_of}
 use Rattle.mb_system.specs.declared.built.Built.{Built}
 use Rattle.mb_system.specs.declared.end.WorkerEnd.{WorkerEnd}
-use Rattle.mb_system.specs.declared.sender.Sender.{Sender}
+use Rattle.mb_system.specs.Members.{OutsideSender}
 use Rattle.heddleorange.specs.Asked.{GetsAskedFor, AllGetAskedFor, asked_for, due_by, due_in, measure_to}
 use Rattle.heddleorange.specs.Notices.{EachNoticeIsTrue, IsTrueNotice}
 use Rattle.heddleorange.specs.Sent.{HaveSent}
@@ -127,7 +127,8 @@ module _ (to : ℕ) (measure : SysMsg → ℕ) where
       new-ends-put number (e ∷ ends) are =
           also 0 0 (of-end e) (map of-end ends) (blank-put (of-end e) are.0.blank) are.0.none_released (new-ends-put (number + 1) ends are.1)
 
-      new-senders-put : (number : ℕ) (rows : List (List SendPassView)) (senders : List (Sender A K)) → AreNewSenders gates number rows senders
+    module _ (gates : Gates (Box Contents)) where
+      new-senders-put : (number : ℕ) (rows : List (List SendPassView)) (senders : List OutsideSender) → AreNewSenders gates number rows senders
           → HavePut 0 (map of-sender senders)
       new-senders-put number [] [] are = nobody
       new-senders-put number [] (s ∷ senders) are = absurd are
@@ -197,7 +198,7 @@ module _ (report : Report) (id : ℕ) (a : ActorReport) (here : slice_get report
         let rest = never-seen es (All-tail (λ (x : E). ReportExtendsAll report (knows x)) e es all) in omega (arith, one, rest)
 
   module _ {A K : Type 0} (now : Built A K) (ends_seen : All (λ (e : WorkerEnd A K). ReportExtendsAll report (of-end e)) now.ends.items)
-      (senders_seen : All (λ (s : Sender A K). ReportExtendsAll report (of-sender s)) now.senders.items) where
+      (senders_seen : All (λ (s : OutsideSender). ReportExtendsAll report (of-sender s)) now.senders.items) where
     pub never-found : total (λ (v : View). total (ended_in id) v.log) (views_of now) ≡ 0
     never-found =
         let both = total_append (λ (v : View). total (ended_in id) v.log) (map of-end now.ends.items) (map of-sender now.senders.items) in
@@ -327,7 +328,7 @@ module _ {A K : Type 0} (gives : ℕ → Moment → Reply → Type 0) (plan : Pl
       → ((id : ℕ) (e : DirectoryEntry) (a : ActorReport) → slice_get (first_home now.system.gates).value.directory id ≡ Some e
       → slice_get report.actors.items id ≡ Some a → a.phase ≡ phase e.who a.journal.entries)
       → All (λ (e : WorkerEnd A K). ReportExtendsAll report (of-end e)) now.ends.items
-      → All (λ (s : Sender A K). ReportExtendsAll report (of-sender s)) now.senders.items → AllGetAskedFor plan orders report
+      → All (λ (s : OutsideSender). ReportExtendsAll report (of-sender s)) now.senders.items → AllGetAskedFor plan orders report
   all-get-asked report many counted released phases ends_seen senders_seen = λ id who a at here.
       (let planned = still-planned gives plan first begun now system in
       let directory = (first_home now.system.gates).value.directory in

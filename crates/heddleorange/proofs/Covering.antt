@@ -30,7 +30,7 @@ use Rattle.mb_shutdown.specs.Seen.{ReportExtends, ReportExtendsAll}
 use Rattle.mb_system.specs.OnlyLooks.{OnlyLooks}
 use Rattle.mb_system.specs.Shares.{share_of_end, shares_of_ends, shares_of_senders}
 use Rattle.mb_system.specs.declared.end.WorkerEnd.{WorkerEnd}
-use Rattle.mb_system.specs.declared.sender.Sender.{Sender}
+use Rattle.mb_system.specs.Members.{OutsideSender}
 use Rattle.heddleorange.specs.Covering.{ChangedNoJournal}
 use Rattle.heddleorange.specs.Sent.{HaveSent}
 use Rattle.heddleorange.specs.Turns.{HaveTheirTurns, entry_count, turns_of}
@@ -145,7 +145,7 @@ module _ (report : Report) (actor : ℕ) (a : ActorReport) (at : slice_get repor
 
 module _ {A K : Type 0} (gives : ℕ → Moment → Reply → Type 0) (origin : Origin (Box Contents)) (throughput : ℕ) where
   -- the first end made all turns, and the others and the senders did nothing
-  pub all-turns : (old new : WorkerEnd A K) (ends : List (WorkerEnd A K)) (senders : List (Sender A K)) (turns : List Turn) → ends ≢ []
+  pub all-turns : (old new : WorkerEnd A K) (ends : List (WorkerEnd A K)) (senders : List OutsideSender) (turns : List Turn) → ends ≢ []
       → old ≡ get_or ends 0 old → MadeRuns gives origin throughput (of-end old) turns (of-end new)
       → IsWhole (shares_of_ends ends ++ shares_of_senders senders) → All ChangedNoJournal (map of-end ends ++ map of-sender senders)
       → (report : Report) → All (λ (e : WorkerEnd A K). ReportExtendsAll report (of-end e)) (slice_set ends 0 new)
@@ -170,7 +170,7 @@ module _ {A K : Type 0} (gives : ℕ → Moment → Reply → Type 0) (origin : 
 
 module _ {A K : Type 0} where
   -- the same from before the senders carried out their orders
-  pub all-turns-since : (gates : Gates (Box Contents)) (orders : List (List Order)) (ends : List (WorkerEnd A K)) (old between sent : List (Sender A K))
+  pub all-turns-since : (gates : Gates (Box Contents)) (orders : List (List Order)) (ends : List (WorkerEnd A K)) (old between sent : List OutsideSender)
       → length old ≡ length orders → HaveSent gates orders old sent → between ≡ sent → (rest : Type 0)
       → (IsWhole (shares_of_ends ends ++ shares_of_senders between) → All ChangedNoJournal (map of-end ends ++ map of-sender between) → rest)
       → IsWhole (shares_of_ends ends ++ shares_of_senders old) → All ChangedNoJournal (map of-end ends ++ map of-sender old) → rest

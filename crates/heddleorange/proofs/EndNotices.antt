@@ -51,7 +51,7 @@ use Rattle.mb_shutdown.specs.CompleteReport.{IsReportOf}
 use Rattle.mb_shutdown.specs.Seen.{ReportExtends, ReportExtendsAll}
 use Rattle.mb_status.specs.Mailbox.{Mailbox, closed_mailbox, resume, suspend}
 use Rattle.mb_system.specs.OnlyLooks.{OnlyLooks}
-use Rattle.mb_system.specs.declared.sender.Sender.{Sender}
+use Rattle.mb_system.specs.Members.{OutsideSender}
 use Rattle.heddleorange.specs.Asked.{measure_to}
 use Rattle.heddleorange.proofs.Due.{listed-sent, total-reverse}
 use Rattle.heddleorange.proofs.EndActs.{by_entry, closes, end_notice, notices}
@@ -334,32 +334,31 @@ module _ (to x : ℕ) where
       let both = total_append (measure_to to (end_notice x)) (over o.times (terminates_of_one o.to o.what)) (terminates_of orders) in
       omega (arith, first, rest, both)
 
-  module _ {A K : Type 0} where
-    abbrev view_of : Sender A K → View
-    view_of s = pass_view s.inner.registrar.pass
+  abbrev view_of : OutsideSender → View
+  view_of s = pass_view s.registrar.pass
 
-    has-sent : (orders : List Order) (old new : Sender A K) → HasSent orders old new → (view_of old).sent_system ≡ []
-        → put_by to (λ m. end_notice x m.1) (view_of new) ≤ put_by to (λ m. end_notice x m.1) (view_of old)
-    has-sent orders old new sent none =
-        let same = sent.put to (end_notice x) in
-        let listed = listed-sent to (end_notice x) (view_of new).sent_system in
-        let all : addressed_system (view_of new).sent_system ≡ reverse (terminates_of orders) =
-        sent.system_sent ∙ ap (λ l. reverse (terminates_of orders) ++ addressed_system l) none ∙ append-nil (reverse (terminates_of orders)) in
-        let sum = ap (total (measure_to to (end_notice x))) all ∙ total-reverse (measure_to to (end_notice x)) (terminates_of orders) in
-        let stops = terminates-none orders in omega (arith, same, listed, sum, stops)
+  has-sent : (orders : List Order) (old new : OutsideSender) → HasSent orders old new → (view_of old).sent_system ≡ []
+      → put_by to (λ m. end_notice x m.1) (view_of new) ≤ put_by to (λ m. end_notice x m.1) (view_of old)
+  has-sent orders old new sent none =
+      let same = sent.put to (end_notice x) in
+      let listed = listed-sent to (end_notice x) (view_of new).sent_system in
+      let all : addressed_system (view_of new).sent_system ≡ reverse (terminates_of orders) =
+      sent.system_sent ∙ ap (λ l. reverse (terminates_of orders) ++ addressed_system l) none ∙ append-nil (reverse (terminates_of orders)) in
+      let sum = ap (total (measure_to to (end_notice x))) all ∙ total-reverse (measure_to to (end_notice x)) (terminates_of orders) in
+      let stops = terminates-none orders in omega (arith, same, listed, sum, stops)
 
-    -- senders that carried out their orders put no such notice into the list
-    pub senders-none : (orders : List (List Order)) (old new : List (Sender A K)) → length old ≡ length orders → length new ≡ length old
-        → ((place : ℕ) (of : List Order) (before next : Sender A K) → slice_get orders place ≡ Some of → slice_get old place ≡ Some before
-        → slice_get new place ≡ Some next → HasSent of before next)
-        → ((place : ℕ) (s : Sender A K) → slice_get old place ≡ Some s → (view_of s).sent_system ≡ [])
-        → total (put_by to (λ m. end_notice x m.1)) (map view_of new) ≤ total (put_by to (λ m. end_notice x m.1)) (map view_of old)
-    senders-none [] [] [] many still each none = omega arith
-    senders-none [] (o ∷ old) new many still each none = absurd (omega (arith, many))
-    senders-none (of ∷ orders) [] new many still each none = absurd (omega (arith, many))
-    senders-none [] [] (n ∷ new) many still each none = absurd (omega (arith, still))
-    senders-none (of ∷ orders) (o ∷ old) [] many still each none = absurd (omega (arith, still))
-    senders-none (of ∷ orders) (o ∷ old) (n ∷ new) many still each none =
-        let first = has-sent of o n (each zero of o n refl refl refl) (none zero o refl) in
-        let rest = senders-none orders old new (omega (arith, many)) (omega (arith, still)) (λ k l a b is was now. each (suc k) l a b is was now)
-        (λ k s was. none (suc k) s was) in omega (arith, first, rest)
+  -- senders that carried out their orders put no such notice into the list
+  pub senders-none : (orders : List (List Order)) (old new : List OutsideSender) → length old ≡ length orders → length new ≡ length old
+      → ((place : ℕ) (of : List Order) (before next : OutsideSender) → slice_get orders place ≡ Some of → slice_get old place ≡ Some before
+      → slice_get new place ≡ Some next → HasSent of before next)
+      → ((place : ℕ) (s : OutsideSender) → slice_get old place ≡ Some s → (view_of s).sent_system ≡ [])
+      → total (put_by to (λ m. end_notice x m.1)) (map view_of new) ≤ total (put_by to (λ m. end_notice x m.1)) (map view_of old)
+  senders-none [] [] [] many still each none = omega arith
+  senders-none [] (o ∷ old) new many still each none = absurd (omega (arith, many))
+  senders-none (of ∷ orders) [] new many still each none = absurd (omega (arith, many))
+  senders-none [] [] (n ∷ new) many still each none = absurd (omega (arith, still))
+  senders-none (of ∷ orders) (o ∷ old) [] many still each none = absurd (omega (arith, still))
+  senders-none (of ∷ orders) (o ∷ old) (n ∷ new) many still each none =
+      let first = has-sent of o n (each zero of o n refl refl refl) (none zero o refl) in
+      let rest = senders-none orders old new (omega (arith, many)) (omega (arith, still)) (λ k l a b is was now. each (suc k) l a b is was now)
+      (λ k s was. none (suc k) s was) in omega (arith, first, rest)

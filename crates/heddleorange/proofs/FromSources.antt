@@ -22,7 +22,7 @@ use Rattle.mb_startup.specs.Begun.{IsBegun}
 use Rattle.mb_system.specs.declared.built.Built.{Built}
 use Rattle.mb_system.specs.declared.end.WorkerEnd.{WorkerEnd}
 use Rattle.mb_system.specs.declared.failure.RunError.{RunError}
-use Rattle.mb_system.specs.declared.sender.Sender.{Sender}
+use Rattle.mb_system.specs.Members.{OutsideSender}
 use Rattle.mb_system.specs.declared.system.System.{System}
 use Rattle.mb_dispatch.specs.Paired.{pairs}
 use Rattle.mb_dispatch.specs.Parallel.{FirstZip}
@@ -89,12 +89,12 @@ module _ {T V : Type 0} (R : T × V → T × V → Type 0) where
   of-seconds Q f (x ∷ xs) (y ∷ ys) (v ∷ vs) (w ∷ ws) lent same long all =
       (f (x, v) (y, w) all.0, of-seconds Q f xs ys vs ws (omega (arith, lent)) (omega (arith, same)) (omega (arith, long)) all.1)
 
-module _ {A K S : Type 0} (gates : Gates (Box Contents)) (gives : S → Option Order → S → Type 0) (takes_back : S → Order → S → Type 0) where
-  sent-cons : (of : List Order) (orders : List (List Order)) (b a : Sender A K) (old new : List (Sender A K)) → HasSentAndRetried gates of b a
+module _ {S : Type 0} (gates : Gates (Box Contents)) (gives : S → Option Order → S → Type 0) (takes_back : S → Order → S → Type 0) where
+  sent-cons : (of : List Order) (orders : List (List Order)) (b a : OutsideSender) (old new : List OutsideSender) → HasSentAndRetried gates of b a
       → HaveSent gates orders old new → HaveSent gates (of ∷ orders) (b ∷ old) (a ∷ new)
   sent-cons of orders b a old new one rest = record { same_count = ap suc rest.same_count; each = at }
     where
-      at : (place : ℕ) (told : List Order) (before after : Sender A K) → slice_get (of ∷ orders) place ≡ Some told → slice_get (b ∷ old) place ≡ Some before
+      at : (place : ℕ) (told : List Order) (before after : OutsideSender) → slice_get (of ∷ orders) place ≡ Some told → slice_get (b ∷ old) place ≡ Some before
           → slice_get (a ∷ new) place ≡ Some after → HasSentAndRetried gates told before after
       at zero told before after t w i =
           subst (λ o. HasSentAndRetried gates o before after) (same_Some of told t)
@@ -102,7 +102,7 @@ module _ {A K S : Type 0} (gates : Gates (Box Contents)) (gives : S → Option O
       at (suc place) told before after t w i = rest.each place told before after t w i
 
   -- what all of them did gives a list for each
-  pub pairs-sent : (so sn : List (Sender A K)) (qo qn : List (RecordedSource S)) → length so ≡ length qo → length sn ≡ length so → length qn ≡ length qo
+  pub pairs-sent : (so sn : List OutsideSender) (qo qn : List (RecordedSource S)) → length so ≡ length qo → length sn ≡ length so → length qn ≡ length qo
       → AllZip (IsPairDone gates gives takes_back) (pairs so qo) (pairs sn qn) → HaveSent gates (orders_given (others_of gates) qo qn) so sn
   pairs-sent [] [] qo qn lent same long all = record { same_count = refl; each = λ place told before after t w i. absurd (none-some before w) }
   pairs-sent [] (t ∷ sn) qo qn lent same long all = absurd (omega (arith, same))
@@ -114,7 +114,7 @@ module _ {A K S : Type 0} (gates : Gates (Box Contents)) (gives : S → Option O
       (pairs-sent so sn qo qn (omega (arith, lent)) (omega (arith, same)) (omega (arith, long)) all.1)
 
   -- one of them was broken off
-  pub pairs-broke : (D : Sender A K × RecordedSource S → Sender A K × RecordedSource S → Type 0) (fault : RunError) (so sn : List (Sender A K))
+  pub pairs-broke : (D : OutsideSender × RecordedSource S → OutsideSender × RecordedSource S → Type 0) (fault : RunError) (so sn : List OutsideSender)
       (qo qn : List (RecordedSource S)) → FirstZip D (λ o n. BreaksPair gates o n fault) (pairs so qo) (pairs sn qn)
       → BreaksOne gates (orders_given (others_of gates) qo qn) fault
   pairs-broke D fault [] sn qo qn failed = absurd failed
@@ -156,7 +156,7 @@ ok-then (Err e) p f = tt
 -- a run beside senders with their sources was broken off
 module _ {A K S : Type 0} (gates : Gates (Box Contents)) (gives : S → Option Order → S → Type 0) (takes_back : S → Order → S → Type 0)
     (behaviours : ℕ → Moment → Reply → Type 0) (system : System A K) (same : gates ≡ system.gates) where
-  pub broke-from : (old ends : List (WorkerEnd A K)) (so sn : List (Sender A K)) (qo qn : List (RecordedSource S)) (error : RunError)
+  pub broke-from : (old ends : List (WorkerEnd A K)) (so sn : List OutsideSender) (qo qn : List (RecordedSource S)) (error : RunError)
       → BreaksRunFrom gates gives takes_back behaviours system old ends (pairs so qo) (pairs sn qn) error
       → BreaksOff behaviours system ends (orders_given (others_of system.gates) qo qn) error
   broke-from old ends so sn qo qn error (inl by_end) = let one = first-zip-of _ _ old ends by_end in

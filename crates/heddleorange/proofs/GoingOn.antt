@@ -18,13 +18,12 @@ use Rattle.mb_shutdown.specs.declared.ending.FinishError.{FinishError}
 use Rattle.mb_shutdown.specs.declared.ending.FinishError.TheVariants as Found
 use Rattle.mb_shutdown.proofs.Back.{back-complete, back-together, some-end}
 use Rattle.mb_system.specs.Belonging.{BelongsTogether, senders_numbers}
-use Rattle.mb_system.specs.Members.{AreEndsOf, IsSenderOf, StillSee, ends_numbers}
+use Rattle.mb_system.specs.Members.{AreEndsOf, IsSenderOf, OutsideSender, StillSee, ends_numbers}
 use Rattle.mb_system.specs.OnlyLooks.{OnlyLooks}
 use Rattle.mb_system.specs.declared.built.Built.{Built}
 use Rattle.mb_system.specs.declared.end.WorkerEnd.{WorkerEnd}
 use Rattle.mb_system.specs.declared.failure.RunError.{RunError}
 use Rattle.mb_system.specs.declared.failure.RunError.TheVariants as Fault
-use Rattle.mb_system.specs.declared.sender.Sender.{Sender}
 use Rattle.mb_system.specs.declared.system.System.{System}
 use Rattle.mb_system.proofs.Looking.{only-none, only-then}
 use Rattle.mb_system.proofs.Saw.{saw-more, saw-same, saw-then}
@@ -178,12 +177,12 @@ module _ {A K : Type 0} where
     pub complete-on : IsComplete old → IsComplete new
     complete-on complete = (
       subst (λ (p : System A K × List ℕ). AreThere p.0.workers p.1) (λ i. (sym same i, sym numbers i)) complete.0,
-      subst (λ (p : System A K × List (Sender A K)). AreThere p.0.senders (senders_numbers p.1)) (λ i. (sym same i, sym senders i)) complete.1,
+      subst (λ (p : System A K × List OutsideSender). AreThere p.0.senders (senders_numbers p.1)) (λ i. (sym same i, sym senders i)) complete.1,
     )
 
     pub together-on : AreEndsOf old.system.gates new.ends.items → BelongsTogether old → BelongsTogether new
     together-on ends was =
-        again old new same ends (subst (All (λ (s : Sender A K). IsSenderOf old.system.gates s.inner)) (sym senders) was.senders) (ap (map by_of) senders) was
+        again old new same ends (subst (All (λ (s : OutsideSender). IsSenderOf old.system.gates s)) (sym senders) was.senders) (ap (map by_of) senders) was
 
   -- ---- the first end read more
 

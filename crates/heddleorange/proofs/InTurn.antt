@@ -18,9 +18,8 @@ use Rattle.mb_queue.specs.Passes.{SendPassView}
 use Rattle.mb_shutdown.proofs.Lists.{at-place}
 use Rattle.mb_startup.specs.Begun.{AreNewSenders}
 use Rattle.mb_system.proofs.Obligations.{obligations-same, obligations-then}
-use Rattle.mb_system.specs.Members.{sender_caller}
+use Rattle.mb_system.specs.Members.{OutsideSender, sender_caller}
 use Rattle.mb_system.specs.Obligations.{OwesNobody}
-use Rattle.mb_system.specs.declared.sender.Sender.{Sender}
 use Rattle.heddleorange.specs.Orders.{lists_of, orders_of}
 use Rattle.heddleorange.specs.Sent.{HasSentAndRetried, HaveSent}
 use Rattle.heddleorange.proofs.InOrder.{at-list, others-next, own-next}
@@ -52,33 +51,33 @@ module _ {X : Type 0} where
           (subst (S n x) after (this x (so.each n x b (ap (slice_get old) (sym same) ∙ was) here)))
       at k x y was is (inr other) = others k x y other (so.each k x y was (sym (set-other now n k c other) ∙ is))
 
-module _ {A K : Type 0} (gates : Gates (Box Contents)) where
+module _ (gates : Gates (Box Contents)) where
   -- the sender of this place carried out its own of these
-  abbrev pub DidOwn : List SenderOrder → ℕ → Sender A K → Sender A K → Type 0
+  abbrev pub DidOwn : List SenderOrder → ℕ → OutsideSender → OutsideSender → Type 0
   DidOwn sends place old new = HasSentAndRetried gates (orders_of place sends) old new
 
-  pub none-sent : (senders : List (Sender A K)) → All (OwesNobody gates) senders → AreEach (DidOwn []) senders senders
+  pub none-sent : (senders : List OutsideSender) → All (OwesNobody gates) senders → AreEach (DidOwn []) senders senders
   none-sent senders nobody = record {
     same_count = refl;
     each = λ place a b was is.
         (subst (DidOwn [] place a) (same_Some a b (sym was ∙ is)) (
           sent-none a,
           at-place (OwesNobody gates) senders place a nobody was,
-          obligations-same (actors_of gates) (sender_caller a.inner.registrar) (sender_caller a.inner.registrar) refl refl,
+          obligations-same (actors_of gates) (sender_caller a.registrar) (sender_caller a.registrar) refl refl,
         ));
   }
 
   -- first these were carried out, and then those
-  both-sent : (xs ys : List Order) (a b c : Sender A K) → HasSentAndRetried gates xs a b → HasSentAndRetried gates ys b c
+  both-sent : (xs ys : List Order) (a b c : OutsideSender) → HasSentAndRetried gates xs a b → HasSentAndRetried gates ys b c
       → HasSentAndRetried gates (xs ++ ys) a c
   both-sent xs ys a b c p q = (
     sent-then xs ys a b c p.0 q.0,
     q.1,
-    obligations-then (actors_of gates) (sender_caller a.inner.registrar) (sender_caller b.inner.registrar) (sender_caller c.inner.registrar) p.2 q.2,
+    obligations-then (actors_of gates) (sender_caller a.registrar) (sender_caller b.registrar) (sender_caller c.registrar) p.2 q.2,
   )
 
   -- the next order was carried out by its sender
-  pub one-sent : (sends : List SenderOrder) (i : ℕ) (d : SenderOrder) (old now : List (Sender A K)) (e c : Sender A K) → i < length sends
+  pub one-sent : (sends : List SenderOrder) (i : ℕ) (d : SenderOrder) (old now : List OutsideSender) (e c : OutsideSender) → i < length sends
       → (get_or sends i d).from < length now → AreEach (DidOwn (take i sends)) old now
       → HasSentAndRetried gates ((get_or sends i d).order ∷ []) (get_or now (get_or sends i d).from e) c
       → AreEach (DidOwn (take (i + 1) sends)) old (slice_set now (get_or sends i d).from c)
@@ -89,7 +88,7 @@ module _ {A K : Type 0} (gates : Gates (Box Contents)) where
       (both-sent (orders_of send.from (take i sends)) (send.order ∷ []) a b c before did))
       (λ k x y other before. subst (λ l. HasSentAndRetried gates l x y) (others-next k sends i d lt (λ same. other (sym same))) before)
 
-  pub all-in-turn : (senders : ℕ) (sends : List SenderOrder) (old new : List (Sender A K)) → AreEach (DidOwn sends) old new
+  pub all-in-turn : (senders : ℕ) (sends : List SenderOrder) (old new : List OutsideSender) → AreEach (DidOwn sends) old new
       → HaveSent gates (lists_of senders sends) old new
   all-in-turn senders sends old new so = record {
     same_count = so.same_count;
@@ -98,7 +97,7 @@ module _ {A K : Type 0} (gates : Gates (Box Contents)) where
   }
 
   -- new senders owe nobody a look
-  pub new-owe-nobody : (number : ℕ) (rows : List (List SendPassView)) (senders : List (Sender A K)) → AreNewSenders gates number rows senders
+  pub new-owe-nobody : (number : ℕ) (rows : List (List SendPassView)) (senders : List OutsideSender) → AreNewSenders gates number rows senders
       → All (OwesNobody gates) senders
   new-owe-nobody number [] [] are = All-nil (OwesNobody gates)
   new-owe-nobody number [] (s ∷ senders) are = absurd are

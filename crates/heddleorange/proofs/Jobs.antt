@@ -11,10 +11,9 @@ use Rattle.mb_actor.specs.Behaviour.{Moment, Reply}
 use Rattle.mb_gate.specs.declared.gates.Gates.{Gates}
 use Rattle.mb_home.specs.Contents.{Contents}
 use Rattle.mb_msg.specs.declared.order.Order.{Order}
-use Rattle.mb_system.specs.Members.{IsSenderOf}
+use Rattle.mb_system.specs.Members.{IsSenderOf, OutsideSender}
 use Rattle.mb_system.specs.declared.end.WorkerEnd.{WorkerEnd}
 use Rattle.mb_system.specs.declared.failure.RunError.{RunError}
-use Rattle.mb_system.specs.declared.sender.Sender.{Sender}
 use Rattle.mb_system.specs.declared.system.System.{System}
 use Rattle.mb_gate.specs.Accessors.{pass_view}
 use Rattle.mb_dispatch.specs.Faults.{BreaksRun}
@@ -72,20 +71,20 @@ abbrev pub items_of : Vec Order Global → List Order
 items_of v = v.items
 
 module _ {A K : Type 0} where
-  abbrev pub sender_in : Job A K → Sender A K
+  abbrev pub sender_in : Job A K → OutsideSender
   sender_in j = j.sender
 
   abbrev pub sends_in : Job A K → List Order
   sends_in j = j.sends.items
 
   -- a job more
-  pub job-pushed : (yielded : List (Sender A K)) (jobs new : List (Job A K)) (s : Sender A K) (j : Job A K) → map sender_in jobs ≡ yielded
+  pub job-pushed : (yielded : List OutsideSender) (jobs new : List (Job A K)) (s : OutsideSender) (j : Job A K) → map sender_in jobs ≡ yielded
       → new ≡ jobs ++ j ∷ [] → j.sender ≡ s → map sender_in new ≡ yielded ++ s ∷ []
   job-pushed yielded jobs new s j are pushed sender =
       ap (map sender_in) pushed ∙ map-append sender_in jobs (j ∷ []) ∙ (λ i. are i ++ sender i ∷ [])
 
   -- the next job has a list of orders
-  pub next-has-orders : (sends : List (Vec Order Global)) (yielded rest all : List (Sender A K)) (jobs : List (Job A K)) (s : Sender A K)
+  pub next-has-orders : (sends : List (Vec Order Global)) (yielded rest all : List OutsideSender) (jobs : List (Job A K)) (s : OutsideSender)
       → yielded ++ s ∷ rest ≡ all → map sender_in jobs ≡ yielded → length all ≡ length sends → length jobs < length sends
   next-has-orders sends yielded rest all jobs s whole are many =
       let place = place-left yielded rest all s whole in
@@ -102,15 +101,12 @@ module _ {A K : Type 0} where
       ∙ ap (λ k. map items_of (take k sends)) (sym long)
 
   module _ (gates : Gates (Box Contents)) where
-    abbrev IsOurs : Sender A K → Type 0
-    IsOurs s = IsSenderOf gates s.inner
-
     -- jobs of the gates' senders are the gates'
-    pub jobs-ours : (senders : List (Sender A K)) (jobs : List (Job A K)) → map sender_in jobs ≡ senders → All IsOurs senders → AreJobsOf gates jobs
-    jobs-ours senders jobs are all = from-looks sender_in IsOurs jobs (subst (All IsOurs) (sym are) all)
+    pub jobs-ours : (senders : List OutsideSender) (jobs : List (Job A K)) → map sender_in jobs ≡ senders → All (IsSenderOf gates) senders → AreJobsOf gates jobs
+    jobs-ours senders jobs are all = from-looks sender_in (IsSenderOf gates) jobs (subst (All (IsSenderOf gates)) (sym are) all)
 
-    pub senders-ours : (senders : List (Sender A K)) (jobs : List (Job A K)) → senders ≡ map sender_in jobs → AreJobsOf gates jobs → All IsOurs senders
-    senders-ours senders jobs are all = subst (All IsOurs) (sym are) (All-map IsOurs sender_in jobs all)
+    pub senders-ours : (senders : List OutsideSender) (jobs : List (Job A K)) → senders ≡ map sender_in jobs → AreJobsOf gates jobs → All (IsSenderOf gates) senders
+    senders-ours senders jobs are all = subst (All (IsSenderOf gates)) (sym are) (All-map (IsSenderOf gates) sender_in jobs all)
 
     -- jobs that are done have sent what they were to send
     pub jobs-sent : (orders : List (List Order)) (jobs done : List (Job A K)) → map sends_in jobs ≡ orders → AreDone gates jobs done
@@ -120,7 +116,7 @@ module _ {A K : Type 0} where
       each = one;
     }
       where
-        one : (place : ℕ) (of : List Order) (before after : Sender A K) → slice_get orders place ≡ Some of
+        one : (place : ℕ) (of : List Order) (before after : OutsideSender) → slice_get orders place ≡ Some of
             → slice_get (map sender_in jobs) place ≡ Some before → slice_get (map sender_in done) place ≡ Some after
             → HasSentAndRetried gates of before after
         one place of before after told was is =

@@ -28,7 +28,7 @@ use Rattle.mb_msg.specs.declared.system.SysMsg.{SysMsg}
 use Rattle.mb_register.specs.Views.{IsLook}
 use Rattle.mb_shutdown.proofs.Lists.{mapped-to}
 use Rattle.mb_system.specs.OnlyLooks.{OnlyLooks}
-use Rattle.mb_system.specs.declared.sender.Sender.{Sender}
+use Rattle.mb_system.specs.Members.{OutsideSender}
 use Rattle.heddleorange.specs.Asked.{measure_to}
 use Rattle.heddleorange.proofs.Due.{due-split, due_to, total-reverse}
 use Rattle.heddleorange.proofs.Put.{back, put, taken}
@@ -189,40 +189,39 @@ module _ (to : ℕ) (measure : SysMsg → ℕ) (whos : List Identity) where
 
   -- ---- senders
 
-  module _ {A K : Type 0} where
-    abbrev knows : Sender A K → View
-    knows s = pass_view s.inner.registrar.pass
+  abbrev knows : OutsideSender → View
+  knows s = pass_view s.registrar.pass
 
-    has-sent : (orders : List Order) (old new : Sender A K) → HasSent orders old new → (knows old).sent_system ≡ []
-        → PutsAll (total (measure_to to measure) (terminates_of orders)) (knows old) (knows new)
-    has-sent orders old new sent none =
-        let same = sent.put to measure in
-        let found = sent.refused to in
-        let before = ap (total (refused_of to)) none in
-        let listed_before = ap (total (listed_measure to measure)) none in
-        let all : addressed_system (knows new).sent_system ≡ reverse (terminates_of orders) =
-        sent.system_sent ∙ ap (λ l. reverse (terminates_of orders) ++ addressed_system l) none ∙ append-nil (reverse (terminates_of orders)) in
-        let sum = ap (total (measure_to to measure)) all ∙ total-reverse (measure_to to measure) (terminates_of orders) in
-        let returns = all-same (due_to to measure) 0 whos (knows old) (knows new) sent.gives_back in record {
-          grows = omega (arith, found, before);
-          all = λ never.
-              (let listed = sent-listed to measure (knows new).sent_system (omega (arith, found, before, never)) in
-              omega (arith, same, listed_before, listed, sum, returns));
-        }
+  has-sent : (orders : List Order) (old new : OutsideSender) → HasSent orders old new → (knows old).sent_system ≡ []
+      → PutsAll (total (measure_to to measure) (terminates_of orders)) (knows old) (knows new)
+  has-sent orders old new sent none =
+      let same = sent.put to measure in
+      let found = sent.refused to in
+      let before = ap (total (refused_of to)) none in
+      let listed_before = ap (total (listed_measure to measure)) none in
+      let all : addressed_system (knows new).sent_system ≡ reverse (terminates_of orders) =
+      sent.system_sent ∙ ap (λ l. reverse (terminates_of orders) ++ addressed_system l) none ∙ append-nil (reverse (terminates_of orders)) in
+      let sum = ap (total (measure_to to measure)) all ∙ total-reverse (measure_to to measure) (terminates_of orders) in
+      let returns = all-same (due_to to measure) 0 whos (knows old) (knows new) sent.gives_back in record {
+        grows = omega (arith, found, before);
+        all = λ never.
+            (let listed = sent-listed to measure (knows new).sent_system (omega (arith, found, before, never)) in
+            omega (arith, same, listed_before, listed, sum, returns));
+      }
 
-    -- all senders carried out the orders of their places
-    pub senders-put-all : (orders : List (List Order)) (old new : List (Sender A K)) → length old ≡ length orders → length new ≡ length old
-        → ((place : ℕ) (of : List Order) (before next : Sender A K) → slice_get orders place ≡ Some of → slice_get old place ≡ Some before
-        → slice_get new place ≡ Some next → HasSent of before next)
-        → ((place : ℕ) (s : Sender A K) → slice_get old place ≡ Some s → (knows s).sent_system ≡ [])
-        → AllPutAll (total (measure_to to measure) (flat_map terminates_of orders)) (map knows old) (map knows new)
-    senders-put-all [] [] [] many still each none never = omega arith
-    senders-put-all [] (o ∷ old) new many still each none never = absurd (omega (arith, many))
-    senders-put-all (of ∷ orders) [] new many still each none never = absurd (omega (arith, many))
-    senders-put-all [] [] (n ∷ new) many still each none never = absurd (omega (arith, still))
-    senders-put-all (of ∷ orders) (o ∷ old) [] many still each none never = absurd (omega (arith, still))
-    senders-put-all (of ∷ orders) (o ∷ old) (n ∷ new) many still each none never =
-        let first = (has-sent of o n (each zero of o n refl refl refl) (none zero o refl)).all (omega (arith, never)) in
-        let rest = senders-put-all orders old new (omega (arith, many)) (omega (arith, still)) (λ k l a b is was now. each (suc k) l a b is was now)
-        (λ k s was. none (suc k) s was) (omega (arith, never)) in
-        let both = total_append (measure_to to measure) (terminates_of of) (flat_map terminates_of orders) in omega (arith, first, rest, both)
+  -- all senders carried out the orders of their places
+  pub senders-put-all : (orders : List (List Order)) (old new : List OutsideSender) → length old ≡ length orders → length new ≡ length old
+      → ((place : ℕ) (of : List Order) (before next : OutsideSender) → slice_get orders place ≡ Some of → slice_get old place ≡ Some before
+      → slice_get new place ≡ Some next → HasSent of before next)
+      → ((place : ℕ) (s : OutsideSender) → slice_get old place ≡ Some s → (knows s).sent_system ≡ [])
+      → AllPutAll (total (measure_to to measure) (flat_map terminates_of orders)) (map knows old) (map knows new)
+  senders-put-all [] [] [] many still each none never = omega arith
+  senders-put-all [] (o ∷ old) new many still each none never = absurd (omega (arith, many))
+  senders-put-all (of ∷ orders) [] new many still each none never = absurd (omega (arith, many))
+  senders-put-all [] [] (n ∷ new) many still each none never = absurd (omega (arith, still))
+  senders-put-all (of ∷ orders) (o ∷ old) [] many still each none never = absurd (omega (arith, still))
+  senders-put-all (of ∷ orders) (o ∷ old) (n ∷ new) many still each none never =
+      let first = (has-sent of o n (each zero of o n refl refl refl) (none zero o refl)).all (omega (arith, never)) in
+      let rest = senders-put-all orders old new (omega (arith, many)) (omega (arith, still)) (λ k l a b is was now. each (suc k) l a b is was now)
+      (λ k s was. none (suc k) s was) (omega (arith, never)) in
+      let both = total_append (measure_to to measure) (terminates_of of) (flat_map terminates_of orders) in omega (arith, first, rest, both)

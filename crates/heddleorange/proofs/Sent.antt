@@ -18,11 +18,10 @@ use Rattle.mb_register.specs.Owed.{IsNobody}
 use Rattle.mb_shutdown.proofs.Lists.{mapped, same-maps, there}
 use Rattle.mb_system.specs.Belonging.{BelongsTogether, senders_numbers}
 use Rattle.mb_system.specs.Obligations.{HasNoObligationTo}
-use Rattle.mb_system.specs.Members.{IsEndOf, IsSenderOf, StillSee, end_caller, ends_numbers}
+use Rattle.mb_system.specs.Members.{IsEndOf, IsSenderOf, OutsideSender, StillSee, end_caller, ends_numbers}
 use Rattle.mb_system.specs.declared.built.Built.{Built}
 use Rattle.mb_system.specs.declared.end.WorkerEnd.{WorkerEnd}
 use Rattle.mb_msg.specs.declared.order.Order.{Order}
-use Rattle.mb_system.specs.declared.sender.Sender.{Sender}
 use Rattle.mb_dispatch.proofs.Alike.{look-alike}
 use Rattle.mb_dispatch.proofs.Together.{again, by_of}
 use Rattle.mb_dispatch.proofs.Runs.{no-run}
@@ -112,22 +111,22 @@ pub orders-at : (sends : List (Vec Order Global)) (place : ℕ) (v : Vec Order G
     → v ≡ get_or sends place v → given ≡ v.items → slice_get (orders_of sends) place ≡ Some of → given ≡ of
 orders-at sends place v of given lt is same there = same_Some given of (sym (orders-here sends place v given lt is same) ∙ there)
 
-module _ {A K : Type 0} (gates : Gates (Box Contents)) (orders : List (List Order)) where
+module _ (gates : Gates (Box Contents)) (orders : List (List Order)) where
   -- the sender of this place did what was ordered
-  abbrev pub Did : ℕ → Sender A K → Sender A K → Type 0
+  abbrev pub Did : ℕ → OutsideSender → OutsideSender → Type 0
   Did place old new = (of : List Order) → slice_get orders place ≡ Some of → HasSentAndRetried gates of old new
 
-  pub all-sent : (n : ℕ) (old new : List (Sender A K)) → length old ≤ n → AreUpTo Did n old new → HaveSent gates orders old new
+  pub all-sent : (n : ℕ) (old new : List OutsideSender) → length old ≤ n → AreUpTo Did n old new → HaveSent gates orders old new
   all-sent n old new all so = record {
     same_count = so.same_count;
     each = λ place of a b is was now.
         (let lt = slice_get_within old place a was in so.done place a b (omega (arith, lt, all)) was now of is);
   }
 
-  module _ (old new : List (Sender A K)) (as_many : length old ≡ length orders) (sent : HaveSent gates orders old new) where
+  module _ (old new : List OutsideSender) (as_many : length old ≡ length orders) (sent : HaveSent gates orders old new) where
     -- each is the sender of the number that it was
-    pub by-kept : (place : ℕ) (a b : Sender A K) → slice_get old place ≡ Some a → slice_get new place ≡ Some b
-        → b.inner.send_log.by ≡ a.inner.send_log.by
+    pub by-kept : (place : ℕ) (a b : OutsideSender) → slice_get old place ≡ Some a → slice_get new place ≡ Some b
+        → b.send_log.by ≡ a.send_log.by
     by-kept place a b was is =
         let lt = slice_get_within old place a was in
         let of = there orders place (omega (arith, lt, as_many)) in (sent.each place of.0 a b of.1 was is).0.by
@@ -143,7 +142,7 @@ module _ {A K : Type 0} where
   pub together-kept : (orders : List (List Order)) (old new : Built A K) → length old.senders.items ≡ length orders → new.system ≡ old.system
       → BelongsTogether old → HaveSent old.system.gates orders old.senders.items new.senders.items
       → All (λ (e : WorkerEnd A K). IsEndOf old.system.gates e.registrar) new.ends.items
-      → All (λ (s : Sender A K). IsSenderOf old.system.gates s.inner) new.senders.items → BelongsTogether new
+      → All (λ (s : OutsideSender). IsSenderOf old.system.gates s) new.senders.items → BelongsTogether new
   together-kept orders old new as_many same was sent ends senders =
       again old new same ends senders (senders-kept old.system.gates orders old.senders.items new.senders.items as_many sent) was
 

@@ -19,7 +19,7 @@ use Rattle.mb_startup.specs.Begun.{AreNewEnds, AreNewSenders, IsBegun}
 use Rattle.mb_system.specs.Shares.{share_of_sender, shares_of_senders, views_of}
 use Rattle.mb_system.specs.declared.built.Built.{Built}
 use Rattle.mb_system.specs.declared.end.WorkerEnd.{WorkerEnd}
-use Rattle.mb_system.specs.declared.sender.Sender.{Sender}
+use Rattle.mb_system.specs.Members.{OutsideSender}
 use Rattle.heddleorange.specs.Covering.{ChangedNoJournal}
 use Rattle.heddleorange.specs.Sent.{HaveSent}
 
@@ -28,28 +28,28 @@ use Rattle.heddleorange.specs.Sent.{HaveSent}
 no-releases : (v : View) → v.releases ≡ [] → ChangedNoJournal v
 no-releases v none = subst (Each IsUnchanged) (sym none) tt
 
+-- what a sender and an end know
+abbrev pub of-sender : OutsideSender → View
+of-sender s = pass_view s.registrar.pass
+
+new-senders : (gates : Gates (Box Contents)) (number : ℕ) (rows : List (List SendPassView)) (senders : List OutsideSender)
+    → AreNewSenders gates number rows senders → All ChangedNoJournal (map of-sender senders)
+new-senders gates number [] [] are = All-nil ChangedNoJournal
+new-senders gates number [] (s ∷ senders) are = absurd are
+new-senders gates number (row ∷ rows) [] are = absurd are
+new-senders gates number (row ∷ rows) (s ∷ senders) are =
+    All-cons ChangedNoJournal (of-sender s) (map of-sender senders) (no-releases (of-sender s) are.0.none_released)
+    (new-senders gates (number + 1) rows senders are.1)
+
 module _ {A K : Type 0} where
-  -- what an end and a sender know
   abbrev pub of-end : WorkerEnd A K → View
   of-end e = pass_view e.registrar.pass
-
-  abbrev pub of-sender : Sender A K → View
-  of-sender s = pass_view s.inner.registrar.pass
 
   new-ends : (gates : Gates (Box Contents)) (number : ℕ) (ends : List (WorkerEnd A K)) → AreNewEnds gates number ends
       → All ChangedNoJournal (map of-end ends)
   new-ends gates number [] are = All-nil ChangedNoJournal
   new-ends gates number (e ∷ ends) are =
       All-cons ChangedNoJournal (of-end e) (map of-end ends) (no-releases (of-end e) are.0.none_released) (new-ends gates (number + 1) ends are.1)
-
-  new-senders : (gates : Gates (Box Contents)) (number : ℕ) (rows : List (List SendPassView)) (senders : List (Sender A K))
-      → AreNewSenders gates number rows senders → All ChangedNoJournal (map of-sender senders)
-  new-senders gates number [] [] are = All-nil ChangedNoJournal
-  new-senders gates number [] (s ∷ senders) are = absurd are
-  new-senders gates number (row ∷ rows) [] are = absurd are
-  new-senders gates number (row ∷ rows) (s ∷ senders) are =
-      All-cons ChangedNoJournal (of-sender s) (map of-sender senders) (no-releases (of-sender s) are.0.none_released)
-      (new-senders gates (number + 1) rows senders are.1)
 
   pub changed-none : (gives : ℕ → Moment → Reply → Type 0) (plan : Plan) (built : Built A K) → IsBegun gives plan built
       → All ChangedNoJournal (views_of built)
@@ -74,40 +74,39 @@ replaced P [] ys zs other all = other all
 replaced P (x ∷ xs) ys zs other all =
     All-cons P x (xs ++ zs) (All-head P x (xs ++ ys) all) (replaced P xs ys zs other (All-tail P x (xs ++ ys) all))
 
-module _ {A K : Type 0} where
-  -- each sender kept its share and changed no journal
-  abbrev AllKept : List (Sender A K) → List (Sender A K) → Type 0
-  AllKept old new = (place : ℕ) (a b : Sender A K) → slice_get old place ≡ Some a → slice_get new place ≡ Some b
-      → (share_of_sender b ≡ share_of_sender a) × GivesBackUnchanged (of-sender a) (of-sender b)
+-- each sender kept its share and changed no journal
+abbrev AllKept : List OutsideSender → List OutsideSender → Type 0
+AllKept old new = (place : ℕ) (a b : OutsideSender) → slice_get old place ≡ Some a → slice_get new place ≡ Some b
+    → (share_of_sender b ≡ share_of_sender a) × GivesBackUnchanged (of-sender a) (of-sender b)
 
-  same-shares : (old new : List (Sender A K)) → length new ≡ length old → AllKept old new → shares_of_senders new ≡ shares_of_senders old
-  same-shares [] [] many kept = refl
-  same-shares [] (b ∷ new) many kept = absurd (omega (arith, many))
-  same-shares (a ∷ old) [] many kept = absurd (omega (arith, many))
-  same-shares (a ∷ old) (b ∷ new) many kept =
-      λ i. (kept zero a b refl refl).0 i ++ same-shares old new (omega (arith, many)) (λ place x y was is. kept (suc place) x y was is) i
+same-shares : (old new : List OutsideSender) → length new ≡ length old → AllKept old new → shares_of_senders new ≡ shares_of_senders old
+same-shares [] [] many kept = refl
+same-shares [] (b ∷ new) many kept = absurd (omega (arith, many))
+same-shares (a ∷ old) [] many kept = absurd (omega (arith, many))
+same-shares (a ∷ old) (b ∷ new) many kept =
+    λ i. (kept zero a b refl refl).0 i ++ same-shares old new (omega (arith, many)) (λ place x y was is. kept (suc place) x y was is) i
 
-  still-none : (old new : List (Sender A K)) → length new ≡ length old → AllKept old new → All ChangedNoJournal (map of-sender old)
-      → All ChangedNoJournal (map of-sender new)
-  still-none [] [] many kept none = All-nil ChangedNoJournal
-  still-none [] (b ∷ new) many kept none = absurd (omega (arith, many))
-  still-none (a ∷ old) [] many kept none = absurd (omega (arith, many))
-  still-none (a ∷ old) (b ∷ new) many kept none =
-      All-cons ChangedNoJournal (of-sender b) (map of-sender new)
-      (still (of-sender a) (of-sender b) (kept zero a b refl refl).1 (All-head ChangedNoJournal (of-sender a) (map of-sender old) none))
-      (still-none old new (omega (arith, many)) (λ place x y was is. kept (suc place) x y was is)
-      (All-tail ChangedNoJournal (of-sender a) (map of-sender old) none))
+still-none : (old new : List OutsideSender) → length new ≡ length old → AllKept old new → All ChangedNoJournal (map of-sender old)
+    → All ChangedNoJournal (map of-sender new)
+still-none [] [] many kept none = All-nil ChangedNoJournal
+still-none [] (b ∷ new) many kept none = absurd (omega (arith, many))
+still-none (a ∷ old) [] many kept none = absurd (omega (arith, many))
+still-none (a ∷ old) (b ∷ new) many kept none =
+    All-cons ChangedNoJournal (of-sender b) (map of-sender new)
+    (still (of-sender a) (of-sender b) (kept zero a b refl refl).1 (All-head ChangedNoJournal (of-sender a) (map of-sender old) none))
+    (still-none old new (omega (arith, many)) (λ place x y was is. kept (suc place) x y was is)
+    (All-tail ChangedNoJournal (of-sender a) (map of-sender old) none))
 
-  module _ (gates : Gates (Box Contents)) (orders : List (List Order)) (old new : List (Sender A K)) (as_many : length old ≡ length orders)
-      (sent : HaveSent gates orders old new) where
-    all-kept : AllKept old new
-    all-kept place a b was is =
-        let lt = within old place a was in let of = there orders place (omega (arith, lt, as_many)) in
-        let did = (sent.each place of.0 a b of.1 was is).0 in (did.share, did.gives_back)
+module _ (gates : Gates (Box Contents)) (orders : List (List Order)) (old new : List OutsideSender) (as_many : length old ≡ length orders)
+    (sent : HaveSent gates orders old new) where
+  all-kept : AllKept old new
+  all-kept place a b was is =
+      let lt = within old place a was in let of = there orders place (omega (arith, lt, as_many)) in
+      let did = (sent.each place of.0 a b of.1 was is).0 in (did.share, did.gives_back)
 
-    pub shares-kept : shares_of_senders new ≡ shares_of_senders old
-    shares-kept = same-shares old new sent.same_count all-kept
+  pub shares-kept : shares_of_senders new ≡ shares_of_senders old
+  shares-kept = same-shares old new sent.same_count all-kept
 
-    pub changed-none-more : (views : List View) → All ChangedNoJournal (views ++ map of-sender old) → All ChangedNoJournal (views ++ map of-sender new)
-    changed-none-more views =
-        replaced ChangedNoJournal views (map of-sender old) (map of-sender new) (still-none old new sent.same_count all-kept)
+  pub changed-none-more : (views : List View) → All ChangedNoJournal (views ++ map of-sender old) → All ChangedNoJournal (views ++ map of-sender new)
+  changed-none-more views =
+      replaced ChangedNoJournal views (map of-sender old) (map of-sender new) (still-none old new sent.same_count all-kept)

@@ -35,13 +35,12 @@ use Rattle.mb_shutdown.specs.CompleteReport.{IsCompleteReport}
 use Rattle.mb_shutdown.proofs.Lists.{at-place, each-place, from-mapped, length-mapped, mapped-to, there, within}
 use Rattle.mb_startup.specs.Begun.{AreNewEnds, AreNewSenders, IsBegun}
 use Rattle.mb_system.specs.Belonging.{senders_numbers}
-use Rattle.mb_system.specs.Members.{StillSee, ends_numbers}
+use Rattle.mb_system.specs.Members.{OutsideSender, StillSee, ends_numbers}
 use Rattle.mb_dispatch.specs.Orders.{addressed, addressed_system, terminates_of}
 use Rattle.mb_system.specs.Shares.{views_of}
 use Rattle.mb_system.specs.declared.built.Built.{Built}
 use Rattle.mb_system.specs.declared.end.WorkerEnd.{WorkerEnd}
 use Rattle.mb_msg.specs.declared.order.Order.{Order}
-use Rattle.mb_system.specs.declared.sender.Sender.{Sender}
 use Rattle.mb_startup.proofs.Directories.{of-plan}
 use Rattle.mb_shutdown.specs.Belonging.{AreAnswers, AreThere, HasAllSeen, directory_of}
 use Rattle.mb_shutdown.specs.Refused.{HasHomesReturned}
@@ -62,19 +61,19 @@ all-there many ns are n lt =
     let at : slice_get ns n ≡ Some n = ap (λ l. slice_get l n) are ∙ number-at 0 many n lt ∙ ap Some (omega arith) in
     (n, slice_get_within ns n n at, get_or_from_slice_get ns n n n at)
 
-module _ {A K : Type 0} (gates : Gates (Box Contents)) where
+module _ (gates : Gates (Box Contents)) where
   -- the sender at this place, as it began
-  pub new-at : (number : ℕ) (rows : List (List SendPassView)) (senders : List (Sender A K)) (place : ℕ) (s : Sender A K)
+  pub new-at : (number : ℕ) (rows : List (List SendPassView)) (senders : List OutsideSender) (place : ℕ) (s : OutsideSender)
       → AreNewSenders gates number rows senders → slice_get senders place ≡ Some s
-      → (s.inner.send_log.by.0 ≡ number + place) × (s.inner.send_log.posted ≡ []) × ((pass_view s.inner.registrar.pass).sent_system ≡ [])
-  new-at number [] [] place s are is = absurd (omega (arith, slice_get_within {A = Sender A K} [] place s is))
+      → (s.send_log.by.0 ≡ number + place) × (s.send_log.posted ≡ []) × ((pass_view s.registrar.pass).sent_system ≡ [])
+  new-at number [] [] place s are is = absurd (omega (arith, slice_get_within {A = OutsideSender} [] place s is))
   new-at number [] (x ∷ senders) place s are is = absurd are
   new-at number (row ∷ rows) [] place s are is = absurd are
   new-at number (row ∷ rows) (x ∷ senders) zero s are is =
       let same = sym (same_Some x s is) in (
-        ap (λ (y : Sender A K). y.inner.send_log.by.0) same ∙ ap (λ n. n.0) are.0.by ∙ (omega arith),
-        ap (λ (y : Sender A K). y.inner.send_log.posted) same ∙ are.0.posted,
-        ap (λ (y : Sender A K). (pass_view y.inner.registrar.pass).sent_system) same ∙ are.0.sent_nothing,
+        ap (λ (y : OutsideSender). y.send_log.by.0) same ∙ ap (λ n. n.0) are.0.by ∙ (omega arith),
+        ap (λ (y : OutsideSender). y.send_log.posted) same ∙ are.0.posted,
+        ap (λ (y : OutsideSender). (pass_view y.registrar.pass).sent_system) same ∙ are.0.sent_nothing,
       )
   new-at number (row ∷ rows) (x ∷ senders) (suc place) s are is =
       let rest = new-at (number + 1) rows senders place s are.1 is in (rest.0 ∙ (omega arith), rest.1, rest.2)
@@ -122,20 +121,20 @@ module _ {A K : Type 0} (gives : ℕ → Moment → Reply → Type 0) (plan : Pl
     -- what came of the orders of one sender
     did-orders : (answers : List (List SentEnvelope)) → AreAnswers now.system.senders now.senders.items answers → (place : ℕ) (of : List Order)
         (postings : List SentEnvelope) (view : View) → slice_get orders place ≡ Some of → slice_get answers place ≡ Some postings
-        → slice_get (map (λ (s : Sender A K). pass_view s.inner.registrar.pass) now.senders.items) place ≡ Some view → DidOrders of postings view
+        → slice_get (map (λ (s : OutsideSender). pass_view s.registrar.pass) now.senders.items) place ≡ Some view → DidOrders of postings view
     did-orders answers answered place of postings view is told knew =
-        let knows = λ (s : Sender A K). pass_view s.inner.registrar.pass in
+        let knows = λ (s : OutsideSender). pass_view s.registrar.pass in
         let after = from-mapped knows now.senders.items place view knew in
         let lt = slice_get_within now.senders.items place after.0 after.1 in let many = sent.same_count in
         let before = there built.senders.items place (omega (arith, lt, many)) in
         let new = new-at built.system.gates most_actors begun.outside built.senders.items place before.0 begun.senders before.1 in
         let one = (sent.each place of before.0 after.0 is before.1 after.1).0 in
-        let number : after.0.inner.send_log.by.0 - most_actors ≡ place =
+        let number : after.0.send_log.by.0 - most_actors ≡ place =
         let by = ap (λ n. n.0) one.by ∙ new.0 in omega (arith, by) in
-        let answer = at-place (λ (s : Sender A K). slice_get answers (s.inner.send_log.by.0 - most_actors) ≡ Some s.inner.send_log.posted) now.senders.items
+        let answer = at-place (λ (s : OutsideSender). slice_get answers (s.send_log.by.0 - most_actors) ≡ Some s.send_log.posted) now.senders.items
         place after.0 answered.each after.1 in
         let posted : postings ≡ one.more =
-        same_Some postings after.0.inner.send_log.posted (sym told ∙ ap (slice_get answers) (sym number) ∙ answer)
+        same_Some postings after.0.send_log.posted (sym told ∙ ap (slice_get answers) (sym number) ∙ answer)
         ∙ one.posted ∙ ap (λ l. l ++ one.more) new.1 in
         let terminates = reverse (terminates_of of) in record {
           accepted_are = ap (λ l. addressed (accepted l)) posted ∙ one.accepted_are;
@@ -169,12 +168,12 @@ module _ {A K : Type 0} (gives : ℕ → Moment → Reply → Type 0) (plan : Pl
             let new = new-at built.system.gates most_actors begun.outside built.senders.items place before.0 begun.senders before.1 in
             let one = (sent.each place of.0 before.0 after.0 of.1 before.1 after.1).0 in
             let by = ap (λ n. n.0) one.by ∙ new.0 in
-            let at : n + (after.0.inner.send_log.by.0 - most_actors) ≡ i = omega (arith, by, le) in
-            let began = at-place (λ (o : Sender A K). o.inner.send_log.dead.retention ≡ retention_of plan.journal) built.senders.items place before.0
+            let at : n + (after.0.send_log.by.0 - most_actors) ≡ i = omega (arith, by, le) in
+            let began = at-place (λ (o : OutsideSender). o.send_log.dead.retention ≡ retention_of plan.journal) built.senders.items place before.0
             begun.keep_letters before.1 in
-            at-place (λ (o : Sender A K). (s : SenderReport)
-            → slice_get report.senders.items (length (directory_of now) + (o.inner.send_log.by.0 - most_actors)) ≡ Some s
-            → s.dead.retention ≡ o.inner.send_log.dead.retention) now.senders.items place after.0 kept.outside after.1 s
+            at-place (λ (o : OutsideSender). (s : SenderReport)
+            → slice_get report.senders.items (length (directory_of now) + (o.send_log.by.0 - most_actors)) ≡ Some s
+            → s.dead.retention ≡ o.send_log.dead.retention) now.senders.items place after.0 kept.outside after.1 s
             (ap (slice_get report.senders.items) at ∙ found)
             ∙ one.keep_letters ∙ began
 
@@ -185,13 +184,13 @@ module _ {A K : Type 0} (gives : ℕ → Moment → Reply → Type 0) (plan : Pl
         → IsCompleteReport after gives (first_home now.system.gates).value.directory log answers report
         → KeepsLetters now report
         → All (λ (e : WorkerEnd A K). ReportExtendsAll report (pass_view e.registrar.pass)) now.ends.items
-        → All (λ (s : Sender A K). ReportExtendsAll report (pass_view s.inner.registrar.pass)) now.senders.items
+        → All (λ (s : OutsideSender). ReportExtendsAll report (pass_view s.registrar.pass)) now.senders.items
         → HasHomesReturned gives now report
         → ((id : ℕ) (a : ActorReport) → slice_get report.actors.items id ≡ Some a → ReleasesAddUp id a.journal.entries (views_of now))
         → CountsAllPutBy plan report (views_of now) → AllGetAskedFor plan orders report → EachNoticeIsTrue report
         → IsReportOfRun after gives plan orders report
     story after report log answers saw runs seen answered whole letters ends_seen senders_seen home releases put asked notices =
-        let knows = λ (s : Sender A K). pass_view s.inner.registrar.pass in
+        let knows = λ (s : OutsideSender). pass_view s.registrar.pass in
         let knew = λ (e : WorkerEnd A K). pass_view e.registrar.pass in
         let IsTold = λ (v : View). IsPart v.log log × ReportExtendsAll report v in record {
           directory = (first_home built.system.gates).value.directory;

@@ -21,7 +21,7 @@ ghost use Rattle.heddleorange.specs.Workers.{AllOnlyRuns};
 use mb_actor::{Actor, Behaviours};
 use mb_dispatch::{Turns, run_quietly, send_all};
 use mb_msg::{JournalMode, Order, SenderOrder};
-use mb_system::{Built, RunError, Sender, System};
+use mb_system::{Built, RunError, Sender, System, retry_refused};
 use std::sync::Wait;
 
 /// Has each sender send what stands at its place, and runs on this thread what there is to run. Then neither the senders nor
@@ -121,10 +121,10 @@ fn send_in_order<A: Actor, K: Behaviours, R: Wait>(
     senders: &mut [Sender<A, K>],
     sends: &[SenderOrder],
 ) -> Result<(), RunError>
-    requires same_gates { All (λ s. IsSenderOf system.now.gates s.inner) senders.old }
+    requires same_gates { All (λ s. IsSenderOf system.now.gates s) senders.old }
     requires owes_nobody { All (OwesNobody system.now.gates) senders.old }
     requires from { All (λ send. send.from < length senders.old) sends.now }
-    ensures same_gates { All (λ s. IsSenderOf system.now.gates s.inner) senders.new }
+    ensures same_gates { All (λ s. IsSenderOf system.now.gates s) senders.new }
     ensures sent { OnOk result (HaveSent system.now.gates (lists_of (length senders.old) sends.now) senders.old senders.new) }
     ensures fault { IfErr result (BreaksOne system.now.gates (lists_of (length senders.old) sends.now)) }
 {
@@ -142,9 +142,9 @@ fn send_each<A: Actor, K: Behaviours, R: Wait>(
     senders: &mut [Sender<A, K>],
     sends: &[Vec<Order>],
 ) -> Result<(), RunError>
-    requires same_gates { All (λ s. IsSenderOf system.now.gates s.inner) senders.old }
+    requires same_gates { All (λ s. IsSenderOf system.now.gates s) senders.old }
     requires same_count { length senders.old ≡ length sends.now }
-    ensures same_gates { All (λ s. IsSenderOf system.now.gates s.inner) senders.new }
+    ensures same_gates { All (λ s. IsSenderOf system.now.gates s) senders.new }
     ensures sent { OnOk result (HaveSent system.now.gates (map (λ orders. orders.items) sends.now) senders.old senders.new) }
     ensures fault { IfErr result (BreaksOne system.now.gates (map (λ orders. orders.items) sends.now)) }
 {
@@ -161,11 +161,11 @@ fn send_and_retry<A: Actor, K: Behaviours, R: Wait>(
     sender: &mut Sender<A, K>,
     orders: &[Order],
 ) -> Result<(), RunError>
-    requires same_gates { IsSenderOf system.now.gates sender.old.inner }
-    ensures same_gates { IsSenderOf system.now.gates sender.new.inner }
+    requires same_gates { IsSenderOf system.now.gates sender.old }
+    ensures same_gates { IsSenderOf system.now.gates sender.new }
     ensures sent { OnOk result (HasSentAndRetried system.now.gates orders.now sender.old sender.new) }
     ensures fault { IfErr result (BreaksSending system.now.gates orders.now) }
 {
     send_all(rt, system, sender, orders)?;
-    sender.retry_refused(rt, system)
+    retry_refused(rt, system, sender)
 }

@@ -31,13 +31,12 @@ use Rattle.mb_dispatch.specs.Orders.{HasSent, order_for}
 use Rattle.mb_dispatch.specs.Parallel.{FirstZip}
 use Rattle.mb_register.specs.Owed.{is_owed}
 use Rattle.mb_register.specs.Registering.{QueueAccount, StopsAt}
-use Rattle.mb_system.specs.Members.{end_caller, sender_caller}
+use Rattle.mb_system.specs.Members.{OutsideSender, end_caller, sender_caller}
 use Rattle.mb_system.specs.RunErrors.{of_ready, of_send}
 use Rattle.mb_system.specs.declared.end.WorkerEnd.{WorkerEnd}
 use Rattle.mb_system.specs.declared.failure.RunError.{RunError}
 use Rattle.mb_system.specs.declared.failure.RunError.TheVariants.{JournalFull, NoMemory, NoSuchActor}
 use Rattle.mb_dispatch.specs.declared.job.Job.{Job}
-use Rattle.mb_system.specs.declared.sender.Sender.{Sender}
 use Rattle.mb_system.specs.declared.system.System.{System}
 use Rattle.mb_dispatch.proofs.Runs.{no-run, of-looks, runs-then}
 use Rattle.mb_dispatch.proofs.Sides.{first_then, zip_then}
@@ -72,10 +71,10 @@ module _ (gates : Gates (Box Contents)) where
       let P : Order → Type 0 = λ o. Contains orders o in
       (breaks.0, All-contains P (order ∷ []) breaks.0 (All-cons P order [] there (All-nil P)) breaks.1, breaks.2, breaks.3)
 
-module _ {A K : Type 0} (gates : Gates (Box Contents)) (orders : List Order) (old new : Sender A K) where
+module _ (gates : Gates (Box Contents)) (orders : List Order) (old new : OutsideSender) where
   -- the pool refused again the claim of an actor to which a look is owed
   pub job-owes : {T : Type 0} (P : T → Type 0) (before : QueueAccount (Box Contents)) (r : Result T RunError)
-      → MatchResult r P (λ _. StopsAt before (sender_caller new.inner.registrar).account) → OnErr r (IsErrOf r NoMemory) → HasSent orders old new
+      → MatchResult r P (λ _. StopsAt before (sender_caller new.registrar).account) → OnErr r (IsErrOf r NoMemory) → HasSent orders old new
       → IfErr r (BreaksJob gates orders old new)
   job-owes P before (Ok x) stops refused sent = tt
   job-owes {T} P before (Err e) stops refused sent =

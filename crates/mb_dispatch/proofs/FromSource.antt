@@ -13,12 +13,11 @@ use Rattle.mb_source.specs.Given.{GaveAll, GaveSome, Returns, given_since, senda
 use Rattle.mb_source.specs.Receivers.{has_nobody}
 use Rattle.mb_source.specs.RecordedSource.{RecordedSource}
 use Rattle.mb_source.proofs.Given.{gave-all, gave-more, gave-none, sendable-append, sendable-none, sendable-one, since-all, since-more, since-none}
-use Rattle.mb_system.specs.Members.{IsSenderOf, sender_caller}
+use Rattle.mb_system.specs.Members.{IsSenderOf, OutsideSender, sender_caller}
 use Rattle.mb_system.specs.Obligations.{KeepsObligations, OwesNobody}
 use Rattle.mb_system.proofs.Obligations.{obligations-same, obligations-then}
 use Rattle.mb_system.specs.declared.failure.RunError.{RunError}
 use Rattle.mb_system.specs.declared.failure.RunError.TheVariants.{JournalFull, NoMemory, NoSuchActor}
-use Rattle.mb_system.specs.declared.sender.Sender.{Sender}
 use Rattle.mb_dispatch.specs.Claims.{SenderLosesNoClaim}
 use Rattle.mb_dispatch.specs.Faults.{BreaksSending}
 use Rattle.mb_dispatch.specs.Orders.{HasSent, StopsWithin}
@@ -32,36 +31,35 @@ breaks-more gates xs ys NoMemory broken = tt
 breaks-more gates xs ys JournalFull broken = broken
 breaks-more gates xs ys NoSuchActor broken = (broken.0, Contains-append_right xs ys broken.0 broken.1, broken.2, broken.3)
 
-module _ {A K : Type 0} where
-  -- it stopped at one more
-  pub stops-more : (xs ys : List Order) (a b c : Sender A K) → HasSent xs a b → StopsWithin ys b c → StopsWithin (xs ++ ys) a c
-  stops-more xs ys a b c before stops = record {
-    done = xs ++ stops.done;
-    next = stops.next;
-    left = stops.left;
-    are = ap (λ l. xs ++ l) stops.are ∙ sym (append_assoc xs stops.done (stops.next ∷ stops.left));
-    sent = record {
-      times = stops.sent.times;
-      fewer = stops.sent.fewer;
-      sent =
-          subst (λ l. HasSent l a c) (sym (append_assoc xs stops.done (record stops.next { times = stops.sent.times } ∷ [])))
-          (sent-then xs (stops.done ++ (record stops.next { times = stops.sent.times } ∷ [])) a b c before stops.sent.sent);
-    };
-  }
+-- it stopped at one more
+pub stops-more : (xs ys : List Order) (a b c : OutsideSender) → HasSent xs a b → StopsWithin ys b c → StopsWithin (xs ++ ys) a c
+stops-more xs ys a b c before stops = record {
+  done = xs ++ stops.done;
+  next = stops.next;
+  left = stops.left;
+  are = ap (λ l. xs ++ l) stops.are ∙ sym (append_assoc xs stops.done (stops.next ∷ stops.left));
+  sent = record {
+    times = stops.sent.times;
+    fewer = stops.sent.fewer;
+    sent =
+        subst (λ l. HasSent l a c) (sym (append_assoc xs stops.done (record stops.next { times = stops.sent.times } ∷ [])))
+        (sent-then xs (stops.done ++ (record stops.next { times = stops.sent.times } ∷ [])) a b c before stops.sent.sent);
+  };
+}
 
-module _ {A K S : Type 0} (gates : Gates (Box Contents)) (gives : S → Option Order → S → Type 0) (takes_back : S → Order → S → Type 0) where
+module _ {S : Type 0} (gates : Gates (Box Contents)) (gives : S → Option Order → S → Type 0) (takes_back : S → Order → S → Type 0) where
   -- what holds of a sender and its source while the source is asked
-  pub record IsUpTo (old : Sender A K) (source : RecordedSource S) (new : Sender A K) (now : RecordedSource S) : Type 0 where
-    pub same_gates : IsSenderOf gates new.inner
+  pub record IsUpTo (old : OutsideSender) (source : RecordedSource S) (new : OutsideSender) (now : RecordedSource S) : Type 0 where
+    pub same_gates : IsSenderOf gates new
     pub gave : GaveSome gives takes_back (others_of gates) source now
     pub sent : HasSent (orders_since gates source now) old new
-    pub obligations : KeepsObligations (actors_of gates) (sender_caller old.inner.registrar) (sender_caller new.inner.registrar)
+    pub obligations : KeepsObligations (actors_of gates) (sender_caller old.registrar) (sender_caller new.registrar)
     pub claims : SenderLosesNoClaim old new
 
-  pub up-to-none : (sender : Sender A K) (source : RecordedSource S) → IsSenderOf gates sender.inner → IsUpTo sender source sender source
+  pub up-to-none : (sender : OutsideSender) (source : RecordedSource S) → IsSenderOf gates sender → IsUpTo sender source sender source
   up-to-none sender source ours =
       let gave = gave-none gives takes_back (others_of gates) source in
-      let caller = sender_caller sender.inner.registrar in record {
+      let caller = sender_caller sender.registrar in record {
         same_gates = ours;
         gave = gave;
         sent = subst (λ l. HasSent (sendable (others_of gates) l) sender sender) (sym (since-none source)) (sent-none sender);
@@ -69,7 +67,7 @@ module _ {A K S : Type 0} (gates : Gates (Box Contents)) (gives : S → Option O
         claims = loses-none caller.account caller.view;
       }
 
-  module _ (old mid : Sender A K) (source now asked : RecordedSource S) (order : Order) (at : IsUpTo old source mid now)
+  module _ (old mid : OutsideSender) (source now asked : RecordedSource S) (order : Order) (at : IsUpTo old source mid now)
       (recorded : asked.given ≡ now.given ++ order ∷ []) (gave : gives now.source (Some order) asked.source) where
     orders-more : orders_since gates source asked ≡ orders_since gates source now ++ sendable (others_of gates) (order ∷ [])
     orders-more =
@@ -102,21 +100,21 @@ module _ {A K S : Type 0} (gates : Gates (Box Contents)) (gives : S → Option O
           (asked.source, gave, subst (λ b. Returns gives takes_back (others_of gates) b asked.source order asked.source) (sym somebody) refl)
 
       -- it was carried out
-      pub up-to-sent : (new : Sender A K) → IsSenderOf gates new.inner → HasSent (order ∷ []) mid new
-          → KeepsObligations (actors_of gates) (sender_caller mid.inner.registrar) (sender_caller new.inner.registrar) → SenderLosesNoClaim mid new
+      pub up-to-sent : (new : OutsideSender) → IsSenderOf gates new → HasSent (order ∷ []) mid new
+          → KeepsObligations (actors_of gates) (sender_caller mid.registrar) (sender_caller new.registrar) → SenderLosesNoClaim mid new
           → IsUpTo old source new asked
       up-to-sent new ours sent keeps claims = record {
         same_gates = ours;
         gave = gave-one;
         sent = subst (λ l. HasSent l old new) (sym orders-one) (sent-then (orders_since gates source now) (order ∷ []) old mid new at.sent sent);
         obligations =
-            obligations-then (actors_of gates) (sender_caller old.inner.registrar) (sender_caller mid.inner.registrar) (sender_caller new.inner.registrar)
+            obligations-then (actors_of gates) (sender_caller old.registrar) (sender_caller mid.registrar) (sender_caller new.registrar)
             at.obligations keeps;
         claims = loses-then _ _ _ _ _ _ at.claims claims;
       }
 
       -- it was refused
-      pub keeps-stopped : (new : Sender A K) → IsSenderOf gates new.inner → new.inner.send_log.by ≡ mid.inner.send_log.by → StopsWithin (order ∷ []) mid new
+      pub keeps-stopped : (new : OutsideSender) → IsSenderOf gates new → new.send_log.by ≡ mid.send_log.by → StopsWithin (order ∷ []) mid new
           → SenderLosesNoClaim mid new → KeepsPair gates gives takes_back (old, source) (new, asked)
       keeps-stopped new ours by stops claims = record {
         same_gates = ours;
@@ -126,13 +124,13 @@ module _ {A K S : Type 0} (gates : Gates (Box Contents)) (gives : S → Option O
         claims = loses-then _ _ _ _ _ _ at.claims claims;
       }
 
-      pub breaks-stopped : (new : Sender A K) (fault : RunError) → BreaksSending gates (order ∷ []) fault
+      pub breaks-stopped : (new : OutsideSender) (fault : RunError) → BreaksSending gates (order ∷ []) fault
           → BreaksPair gates (old, source) (new, asked) fault
       breaks-stopped new fault broken =
           subst (λ l. BreaksSending gates l fault) (sym orders-one) (breaks-more gates (orders_since gates source now) (order ∷ []) fault broken)
 
   -- there was no more, and the sender looked again at whom it owes a look
-  module _ (old mid new : Sender A K) (source now asked : RecordedSource S) (at : IsUpTo old source mid now) (recorded : asked.given ≡ now.given ++ [])
+  module _ (old mid new : OutsideSender) (source now asked : RecordedSource S) (at : IsUpTo old source mid now) (recorded : asked.given ≡ now.given ++ [])
       (ended : gives now.source None asked.source) (sent : HasSent (orders_since gates source now) old new) where
     orders-all : orders_since gates source asked ≡ orders_since gates source now
     orders-all = ap (sendable (others_of gates)) (since-all gives takes_back (others_of gates) source now asked at.gave recorded)
@@ -143,7 +141,7 @@ module _ {A K S : Type 0} (gates : Gates (Box Contents)) (gives : S → Option O
     sent-last : HasSent (orders_since gates source asked) old new
     sent-last = subst (λ l. HasSent l old new) (sym orders-all) sent
 
-    pub keeps-done : IsSenderOf gates new.inner → new.inner.send_log.by ≡ mid.inner.send_log.by → SenderLosesNoClaim mid new
+    pub keeps-done : IsSenderOf gates new → new.send_log.by ≡ mid.send_log.by → SenderLosesNoClaim mid new
         → KeepsPair gates gives takes_back (old, source) (new, asked)
     keeps-done ours by claims = record {
       same_gates = ours;
@@ -153,14 +151,14 @@ module _ {A K S : Type 0} (gates : Gates (Box Contents)) (gives : S → Option O
       claims = loses-then _ _ _ _ _ _ at.claims claims;
     }
 
-    pub pair-done : KeepsObligations (actors_of gates) (sender_caller mid.inner.registrar) (sender_caller new.inner.registrar) → OwesNobody gates new
+    pub pair-done : KeepsObligations (actors_of gates) (sender_caller mid.registrar) (sender_caller new.registrar) → OwesNobody gates new
         → IsPairDone gates gives takes_back (old, source) (new, asked)
     pair-done keeps nobody = record {
       gave = gave-last;
       sent = sent-last;
       nobody = nobody;
       obligations =
-          obligations-then (actors_of gates) (sender_caller old.inner.registrar) (sender_caller mid.inner.registrar) (sender_caller new.inner.registrar)
+          obligations-then (actors_of gates) (sender_caller old.registrar) (sender_caller mid.registrar) (sender_caller new.registrar)
           at.obligations keeps;
     }
 
@@ -168,10 +166,10 @@ module _ {A K S : Type 0} (gates : Gates (Box Contents)) (gives : S → Option O
     breaks-last fault is = subst (BreaksSending gates (orders_since gates source asked)) (sym is) tt
 
 -- each of these senders is of the gates, also beside its source
-pub all-ready : {A K S : Type 0} (gates : Gates (Box Contents)) (senders : List (Sender A K)) (sources : List (RecordedSource S))
-    → All (λ (s : Sender A K). IsSenderOf gates s.inner) senders → All (IsPairOf gates) (pairs senders sources)
+pub all-ready : {S : Type 0} (gates : Gates (Box Contents)) (senders : List OutsideSender) (sources : List (RecordedSource S))
+    → All (λ (s : OutsideSender). IsSenderOf gates s) senders → All (IsPairOf gates) (pairs senders sources)
 all-ready gates [] sources all = All-nil (IsPairOf gates)
 all-ready gates (s ∷ senders) [] all = All-nil (IsPairOf gates)
-all-ready {A} {K} gates (s ∷ senders) (source ∷ sources) all =
-    let ours = λ (x : Sender A K). IsSenderOf gates x.inner in
+all-ready gates (s ∷ senders) (source ∷ sources) all =
+    let ours = λ (x : OutsideSender). IsSenderOf gates x in
     All-cons (IsPairOf gates) (s, source) (pairs senders sources) (All-head ours s senders all) (all-ready gates senders sources (All-tail ours s senders all))

@@ -40,12 +40,11 @@ use Rattle.mb_send.specs.declared.send_error.SendError.TheVariants.{NoMemory, No
 use Rattle.mb_send.specs.declared.ticket.Look.{Look}
 use Rattle.mb_send.specs.declared.ticket.Look.TheVariants.{Open, Closed}
 use Rattle.mb_system.specs.Obligations.{KeepsObligations}
-use Rattle.mb_system.specs.Members.{sender_caller}
+use Rattle.mb_system.specs.Members.{OutsideSender, sender_caller}
 use Rattle.mb_dispatch.specs.Orders.{CountsQueued, HasSent, HasSentUpTo, StopsWithin, addressed, order_for, over, addressed_system, terminates_of, terminates_of_one}
 use Rattle.mb_dispatch.specs.Orders.{envelopes_of, envelopes_of_one}
 use Rattle.mb_dispatch.specs.Faults.{IsRefusedFor, StopsFor}
 use Rattle.mb_system.specs.declared.failure.RunError.{RunError}
-use Rattle.mb_system.specs.declared.sender.Sender.{Sender}
 use Rattle.mb_mailbox.specs.RunSends.{ended_in, listed_measure, refused_of}
 use Rattle.mb_gate.specs.PutIn.{put_in}
 use Rattle.mb_ghost.specs.Summed.{total}
@@ -82,131 +81,130 @@ over-more n xs =
     ap (λ l. over n xs ++ l) (append-nil (over 1 xs) ∙ append-nil xs) ∙ over-next n xs
     ∙ ap (λ k. over k xs) (let e : suc n ≡ n + 1 = omega arith in e) ∙ sym (append-nil (over (n + 1) xs))
 
-module _ {A K : Type 0} where
-  -- nothing was to be sent
-  pub sent-none : (s : Sender A K) → HasSent [] s s
-  sent-none s = record {
-    by = refl;
-    keep_letters = refl;
-    more = [];
-    posted = sym (append-nil s.inner.send_log.posted);
-    accepted_are = refl;
-    counted = counts-none (pass_view s.inner.registrar.pass);
-    system_sent = refl;
-    put = (logs-none (pass_view s.inner.registrar.pass)).put;
-    refused = (logs-none (pass_view s.inner.registrar.pass)).refused;
-    log_kept = saw-same _;
-    share = refl;
-    gives_back = unchanged-none _ _ refl;
-  }
+-- nothing was to be sent
+pub sent-none : (s : OutsideSender) → HasSent [] s s
+sent-none s = record {
+  by = refl;
+  keep_letters = refl;
+  more = [];
+  posted = sym (append-nil s.send_log.posted);
+  accepted_are = refl;
+  counted = counts-none (pass_view s.registrar.pass);
+  system_sent = refl;
+  put = (logs-none (pass_view s.registrar.pass)).put;
+  refused = (logs-none (pass_view s.registrar.pass)).refused;
+  log_kept = saw-same _;
+  share = refl;
+  gives_back = unchanged-none _ _ refl;
+}
 
-  logs-of : (xs : List Order) (a b : Sender A K) → HasSent xs a b → LogsAsSent (pass_view a.inner.registrar.pass) (pass_view b.inner.registrar.pass)
-  logs-of xs a b p = record { put = p.put; refused = p.refused }
+logs-of : (xs : List Order) (a b : OutsideSender) → HasSent xs a b → LogsAsSent (pass_view a.registrar.pass) (pass_view b.registrar.pass)
+logs-of xs a b p = record { put = p.put; refused = p.refused }
 
-  logs-on : {xs ys : List Order} (a b c : Sender A K) → HasSent xs a b → HasSent ys b c
-      → LogsAsSent (pass_view a.inner.registrar.pass) (pass_view c.inner.registrar.pass)
-  logs-on {xs} {ys} a b c p q =
-      logs-then (pass_view a.inner.registrar.pass) (pass_view b.inner.registrar.pass) (pass_view c.inner.registrar.pass) (logs-of xs a b p)
-      (logs-of ys b c q)
+logs-on : {xs ys : List Order} (a b c : OutsideSender) → HasSent xs a b → HasSent ys b c
+    → LogsAsSent (pass_view a.registrar.pass) (pass_view c.registrar.pass)
+logs-on {xs} {ys} a b c p q =
+    logs-then (pass_view a.registrar.pass) (pass_view b.registrar.pass) (pass_view c.registrar.pass) (logs-of xs a b p)
+    (logs-of ys b c q)
 
-  -- first this was sent, and then that
-  pub sent-then : (xs ys : List Order) (a b c : Sender A K) → HasSent xs a b → HasSent ys b c → HasSent (xs ++ ys) a c
-  sent-then xs ys a b c p q = record {
-    by = q.by ∙ p.by;
-    keep_letters = q.keep_letters ∙ p.keep_letters;
-    more = p.more ++ q.more;
-    posted = q.posted ∙ ap (λ l. l ++ q.more) p.posted ∙ append_assoc a.inner.send_log.posted p.more q.more;
-    accepted_are = accepted-append p.more q.more ∙ (λ i. p.accepted_are i ++ q.accepted_are i) ∙ sym (envelopes-append xs ys);
-    counted =
-        counts-then p.more q.more (pass_view a.inner.registrar.pass) (pass_view b.inner.registrar.pass) (pass_view c.inner.registrar.pass) p.counted
-        q.counted;
-    system_sent =
-        q.system_sent ∙ ap (λ l. reverse (terminates_of ys) ++ l) p.system_sent ∙ sym (append_assoc (reverse (terminates_of ys)) (reverse (terminates_of xs)) _)
-        ∙ ap (λ l. l ++ addressed_system (pass_view a.inner.registrar.pass).sent_system)
-        (sym (reverse-append (terminates_of xs) (terminates_of ys)) ∙ ap reverse (sym (terminates-append xs ys)));
-    put = (logs-on a b c p q).put;
-    refused = (logs-on a b c p q).refused;
-    log_kept = saw-then _ _ _ p.log_kept q.log_kept;
-    share = q.share ∙ p.share;
-    gives_back = unchanged-then _ _ _ p.gives_back q.gives_back;
-  }
+-- first this was sent, and then that
+pub sent-then : (xs ys : List Order) (a b c : OutsideSender) → HasSent xs a b → HasSent ys b c → HasSent (xs ++ ys) a c
+sent-then xs ys a b c p q = record {
+  by = q.by ∙ p.by;
+  keep_letters = q.keep_letters ∙ p.keep_letters;
+  more = p.more ++ q.more;
+  posted = q.posted ∙ ap (λ l. l ++ q.more) p.posted ∙ append_assoc a.send_log.posted p.more q.more;
+  accepted_are = accepted-append p.more q.more ∙ (λ i. p.accepted_are i ++ q.accepted_are i) ∙ sym (envelopes-append xs ys);
+  counted =
+      counts-then p.more q.more (pass_view a.registrar.pass) (pass_view b.registrar.pass) (pass_view c.registrar.pass) p.counted
+      q.counted;
+  system_sent =
+      q.system_sent ∙ ap (λ l. reverse (terminates_of ys) ++ l) p.system_sent ∙ sym (append_assoc (reverse (terminates_of ys)) (reverse (terminates_of xs)) _)
+      ∙ ap (λ l. l ++ addressed_system (pass_view a.registrar.pass).sent_system)
+      (sym (reverse-append (terminates_of xs) (terminates_of ys)) ∙ ap reverse (sym (terminates-append xs ys)));
+  put = (logs-on a b c p q).put;
+  refused = (logs-on a b c p q).refused;
+  log_kept = saw-then _ _ _ p.log_kept q.log_kept;
+  share = q.share ∙ p.share;
+  gives_back = unchanged-then _ _ _ p.gives_back q.gives_back;
+}
 
-  -- other orders that come to the same were sent
-  sent-alike : (xs ys : List Order) (a b : Sender A K) → envelopes_of xs ≡ envelopes_of ys → terminates_of xs ≡ terminates_of ys → HasSent xs a b → HasSent ys a b
-  sent-alike xs ys a b envelopes terminates p = record {
-    by = p.by;
-    keep_letters = p.keep_letters;
-    more = p.more;
-    posted = p.posted;
-    accepted_are = p.accepted_are ∙ envelopes;
-    counted = p.counted;
-    system_sent = p.system_sent ∙ ap (λ l. reverse l ++ addressed_system (pass_view a.inner.registrar.pass).sent_system) terminates;
-    put = p.put;
-    refused = p.refused;
-    log_kept = p.log_kept;
-    share = p.share;
-    gives_back = p.gives_back;
-  }
+-- other orders that come to the same were sent
+sent-alike : (xs ys : List Order) (a b : OutsideSender) → envelopes_of xs ≡ envelopes_of ys → terminates_of xs ≡ terminates_of ys → HasSent xs a b → HasSent ys a b
+sent-alike xs ys a b envelopes terminates p = record {
+  by = p.by;
+  keep_letters = p.keep_letters;
+  more = p.more;
+  posted = p.posted;
+  accepted_are = p.accepted_are ∙ envelopes;
+  counted = p.counted;
+  system_sent = p.system_sent ∙ ap (λ l. reverse l ++ addressed_system (pass_view a.registrar.pass).sent_system) terminates;
+  put = p.put;
+  refused = p.refused;
+  log_kept = p.log_kept;
+  share = p.share;
+  gives_back = p.gives_back;
+}
 
-  -- an order that says so was sent no time
-  pub sent-never : (to : ActorId) (what : OrderKind) (s : Sender A K) → HasSent (order_for to what 0 ∷ []) s s
-  sent-never to what s = sent-alike [] (order_for to what 0 ∷ []) s s refl refl (sent-none s)
+-- an order that says so was sent no time
+pub sent-never : (to : ActorId) (what : OrderKind) (s : OutsideSender) → HasSent (order_for to what 0 ∷ []) s s
+sent-never to what s = sent-alike [] (order_for to what 0 ∷ []) s s refl refl (sent-none s)
 
-  -- it was sent once more
-  pub sent-again : (to : ActorId) (what : OrderKind) (n : ℕ) (a b c : Sender A K) → HasSent (order_for to what n ∷ []) a b
-      → HasSent (order_for to what 1 ∷ []) b c → HasSent (order_for to what (n + 1) ∷ []) a c
-  sent-again to what n a b c before more =
-      sent-alike (order_for to what n ∷ order_for to what 1 ∷ []) (order_for to what (n + 1) ∷ []) a c
-      (over-more n (envelopes_of_one to what)) (over-more n (terminates_of_one to what))
-      (sent-then (order_for to what n ∷ []) (order_for to what 1 ∷ []) a b c before more)
+-- it was sent once more
+pub sent-again : (to : ActorId) (what : OrderKind) (n : ℕ) (a b c : OutsideSender) → HasSent (order_for to what n ∷ []) a b
+    → HasSent (order_for to what 1 ∷ []) b c → HasSent (order_for to what (n + 1) ∷ []) a c
+sent-again to what n a b c before more =
+    sent-alike (order_for to what n ∷ order_for to what 1 ∷ []) (order_for to what (n + 1) ∷ []) a c
+    (over-more n (envelopes_of_one to what)) (over-more n (terminates_of_one to what))
+    (sent-then (order_for to what n ∷ []) (order_for to what 1 ∷ []) a b c before more)
 
-  -- it stopped at the order of this place
-  module _ (orders : List Order) (i : ℕ) (d : Order) (a b c : Sender A K) (within : i < length orders) (before : HasSent (take i orders) a b)
-      (part : HasSentUpTo [] (get_or orders i d) b c) where
-    abbrev stops-at : StopsWithin orders a c
-    stops-at =
-        let next = get_or orders i d in record {
-          done = take i orders;
-          next = next;
-          left = drop (i + 1) orders;
-          are = sym (take-append-drop i orders) ∙ ap (λ l. take i orders ++ l) (drop_more orders i d within);
-          sent = record {
-            times = part.times;
-            fewer = part.fewer;
-            sent = sent-then (take i orders) (order_for next.to next.what part.times ∷ []) a b c before part.sent;
-          };
-        }
-
-    pub stops-within : StopsWithin orders a c
-    stops-within = stops-at
-
-    -- for this reason
-    pub stops-for : (gates : Gates (Box Contents)) (fault : RunError) → IsRefusedFor gates (get_or orders i d).to (get_or orders i d).what fault
-        → StopsFor gates orders a c fault
-    stops-for gates fault why = (stops-at, why)
-
-  -- it sent no envelope and no system message since, kept its share, and gave each cell back as it was taken
-  pub sent-still : (xs : List Order) (a b c : Sender A K) → c.inner.send_log ≡ b.inner.send_log
-      → OnlyLooks (pass_view b.inner.registrar.pass) (pass_view c.inner.registrar.pass) → HasSent xs a b → HasSent xs a c
-  sent-still xs a b c send_log only p =
-      let logs = logs-then (pass_view a.inner.registrar.pass) (pass_view b.inner.registrar.pass) (pass_view c.inner.registrar.pass) (logs-of xs a b p)
-      (looks-log (pass_view b.inner.registrar.pass) (pass_view c.inner.registrar.pass) only) in record {
-        by = ap (λ k. k.by) send_log ∙ p.by;
-        keep_letters = ap (λ k. k.dead.retention) send_log ∙ p.keep_letters;
-        more = p.more;
-        posted = ap (λ k. k.posted) send_log ∙ p.posted;
-        accepted_are = p.accepted_are;
-        counted =
-            subst (λ more. CountsQueued more (pass_view a.inner.registrar.pass) (pass_view c.inner.registrar.pass)) (append-nil p.more)
-            (counts-then p.more [] (pass_view a.inner.registrar.pass) (pass_view b.inner.registrar.pass) (pass_view c.inner.registrar.pass) p.counted
-            (looks-count (pass_view b.inner.registrar.pass) (pass_view c.inner.registrar.pass) only));
-        system_sent = ap addressed_system only.sent_system ∙ p.system_sent;
-        put = logs.put;
-        refused = logs.refused;
-        log_kept = saw-then _ _ _ p.log_kept (saw-more only.looks _ _ only.log);
-        share = only.share ∙ p.share;
-        gives_back = unchanged-then _ _ _ p.gives_back only.gives_back;
+-- it stopped at the order of this place
+module _ (orders : List Order) (i : ℕ) (d : Order) (a b c : OutsideSender) (within : i < length orders) (before : HasSent (take i orders) a b)
+    (part : HasSentUpTo [] (get_or orders i d) b c) where
+  abbrev stops-at : StopsWithin orders a c
+  stops-at =
+      let next = get_or orders i d in record {
+        done = take i orders;
+        next = next;
+        left = drop (i + 1) orders;
+        are = sym (take-append-drop i orders) ∙ ap (λ l. take i orders ++ l) (drop_more orders i d within);
+        sent = record {
+          times = part.times;
+          fewer = part.fewer;
+          sent = sent-then (take i orders) (order_for next.to next.what part.times ∷ []) a b c before part.sent;
+        };
       }
+
+  pub stops-within : StopsWithin orders a c
+  stops-within = stops-at
+
+  -- for this reason
+  pub stops-for : (gates : Gates (Box Contents)) (fault : RunError) → IsRefusedFor gates (get_or orders i d).to (get_or orders i d).what fault
+      → StopsFor gates orders a c fault
+  stops-for gates fault why = (stops-at, why)
+
+-- it sent no envelope and no system message since, kept its share, and gave each cell back as it was taken
+pub sent-still : (xs : List Order) (a b c : OutsideSender) → c.send_log ≡ b.send_log
+    → OnlyLooks (pass_view b.registrar.pass) (pass_view c.registrar.pass) → HasSent xs a b → HasSent xs a c
+sent-still xs a b c send_log only p =
+    let logs = logs-then (pass_view a.registrar.pass) (pass_view b.registrar.pass) (pass_view c.registrar.pass) (logs-of xs a b p)
+    (looks-log (pass_view b.registrar.pass) (pass_view c.registrar.pass) only) in record {
+      by = ap (λ k. k.by) send_log ∙ p.by;
+      keep_letters = ap (λ k. k.dead.retention) send_log ∙ p.keep_letters;
+      more = p.more;
+      posted = ap (λ k. k.posted) send_log ∙ p.posted;
+      accepted_are = p.accepted_are;
+      counted =
+          subst (λ more. CountsQueued more (pass_view a.registrar.pass) (pass_view c.registrar.pass)) (append-nil p.more)
+          (counts-then p.more [] (pass_view a.registrar.pass) (pass_view b.registrar.pass) (pass_view c.registrar.pass) p.counted
+          (looks-count (pass_view b.registrar.pass) (pass_view c.registrar.pass) only));
+      system_sent = ap addressed_system only.sent_system ∙ p.system_sent;
+      put = logs.put;
+      refused = logs.refused;
+      log_kept = saw-then _ _ _ p.log_kept (saw-more only.looks _ _ only.log);
+      share = only.share ∙ p.share;
+      gives_back = unchanged-then _ _ _ p.gives_back only.gives_back;
+    }
 
 -- it put what it sent, sees still what it saw, owes the others what it did, has the share that it had, and gave each cell back as it was taken
 pub record GoesOnAt (id : ℕ) (old new : View) : Type 0 where
@@ -284,41 +282,40 @@ module _ (by : SenderId) (number : ℕ) (to : ActorId) (body : Body) (posted pos
         subst (GoesOnAt to.0 old) (sym is_dead.1) read,
       )
 
-module _ {A K : Type 0} where
-  pub sent-told : (to : ActorId) (payload : Payload) (put : SendOutcome) (a b : Sender A K) → b.inner.send_log.by ≡ a.inner.send_log.by
-      → b.inner.send_log.dead.retention ≡ a.inner.send_log.dead.retention
-      → IsTold a.inner.send_log.by a.inner.send_log.sent to (body_of payload) a.inner.send_log.posted b.inner.send_log.posted a.inner.sends.items
-      (pass_view a.inner.registrar.pass) (pass_view b.inner.registrar.pass) put → HasSent (order_for to (Tell payload) 1 ∷ []) a b
-  sent-told to payload put a b by keep_letters told =
-      let one = one-posted a.inner.send_log.by a.inner.send_log.sent to (body_of payload) a.inner.send_log.posted b.inner.send_log.posted a.inner.sends.items
-      (pass_view a.inner.registrar.pass) (pass_view b.inner.registrar.pass) put told in
-      record {
-        by = by;
-        keep_letters = keep_letters;
-        more = posting (envelope_of a.inner.send_log.by to a.inner.send_log.sent (body_of payload)) one.0.0 ∷ [];
-        posted = one.0.1;
-        accepted_are = refl;
-        counted = one.0.2;
-        system_sent = ap addressed_system one.1;
-        put = one.2.logs.put;
-        refused = one.2.logs.refused;
-        log_kept = one.2.log_kept;
-        share = one.2.share;
-        gives_back = one.2.gives_back;
-      }
+pub sent-told : (to : ActorId) (payload : Payload) (put : SendOutcome) (a b : OutsideSender) → b.send_log.by ≡ a.send_log.by
+    → b.send_log.dead.retention ≡ a.send_log.dead.retention
+    → IsTold a.send_log.by a.send_log.sent to (body_of payload) a.send_log.posted b.send_log.posted a.sends.items
+    (pass_view a.registrar.pass) (pass_view b.registrar.pass) put → HasSent (order_for to (Tell payload) 1 ∷ []) a b
+sent-told to payload put a b by keep_letters told =
+    let one = one-posted a.send_log.by a.send_log.sent to (body_of payload) a.send_log.posted b.send_log.posted a.sends.items
+    (pass_view a.registrar.pass) (pass_view b.registrar.pass) put told in
+    record {
+      by = by;
+      keep_letters = keep_letters;
+      more = posting (envelope_of a.send_log.by to a.send_log.sent (body_of payload)) one.0.0 ∷ [];
+      posted = one.0.1;
+      accepted_are = refl;
+      counted = one.0.2;
+      system_sent = ap addressed_system one.1;
+      put = one.2.logs.put;
+      refused = one.2.logs.refused;
+      log_kept = one.2.log_kept;
+      share = one.2.share;
+      gives_back = one.2.gives_back;
+    }
 
 -- a tell that failed sent nothing
-module _ {A K : Type 0} (to : ActorId) (a b : Sender A K) where
-  sent-looked : OnlyLooked to a.inner b.inner → HasSent [] a b
+module _ (to : ActorId) (a b : OutsideSender) where
+  sent-looked : OnlyLooked to a b → HasSent [] a b
   sent-looked looked =
-      let old = pass_view a.inner.registrar.pass in let new = pass_view b.inner.registrar.pass in
+      let old = pass_view a.registrar.pass in let new = pass_view b.registrar.pass in
       let did = looks-read to.0 (word_of looked.seen.seen) old new looked.seen.read in
       let read = does-at to.0 [] [] old new did (λ id measure. refl) (λ id. refl) in
       record {
         by = looked.send_log.by;
         keep_letters = looked.send_log.keeps_is;
         more = [];
-        posted = looked.send_log.posted ∙ sym (append-nil a.inner.send_log.posted);
+        posted = looked.send_log.posted ∙ sym (append-nil a.send_log.posted);
         accepted_are = refl;
         counted = does-counts to.0 [] [] [] old new did (λ actor. refl);
         system_sent = ap (λ (v : View). addressed_system v.sent_system) looked.seen.read;
@@ -330,7 +327,7 @@ module _ {A K : Type 0} (to : ActorId) (a b : Sender A K) where
       }
 
   pub sent-nothing : (r : Result SendOutcome SendError) (error : SendError) → r ≡ Err error → (r ≡ Err NoSuchActor → b ≡ a)
-      → (r ≡ Err NoMemory → OnlyLooked to a.inner b.inner) → HasSent [] a b
+      → (r ≡ Err NoMemory → OnlyLooked to a b) → HasSent [] a b
   sent-nothing r NoSuchActor was unknown unsent = subst (λ s. HasSent [] a s) (sym (unknown was)) (sent-none a)
   sent-nothing r NoMemory was unknown unsent = sent-looked (unsent was)
 
@@ -348,38 +345,35 @@ sent-terminate id old new false s = (
   does-counts id _ _ [] old new s (λ actor. refl),
 )
 
-module _ {A K : Type 0} where
-  pub sent-stopped : (to : ActorId) (stopped : Bool) (a b : Sender A K) → b.inner.send_log ≡ a.inner.send_log
-      → Stops to.0 (pass_view a.inner.registrar.pass) (pass_view b.inner.registrar.pass) stopped → HasSent (order_for to Stop 1 ∷ []) a b
-  sent-stopped to stopped a b send_log s = let stop = sent-terminate to.0 (pass_view a.inner.registrar.pass) (pass_view b.inner.registrar.pass) stopped s in record {
-    by = ap (λ k. k.by) send_log;
-    keep_letters = ap (λ k. k.dead.retention) send_log;
-    more = [];
-    posted = ap (λ k. k.posted) send_log ∙ sym (append-nil a.inner.send_log.posted);
-    accepted_are = refl;
-    counted = stop.2;
-    system_sent = stop.0;
-    put = stop.1.logs.put;
-    refused = stop.1.logs.refused;
-    log_kept = stop.1.log_kept;
-    share = stop.1.share;
-    gives_back = stop.1.gives_back;
-  }
+pub sent-stopped : (to : ActorId) (stopped : Bool) (a b : OutsideSender) → b.send_log ≡ a.send_log
+    → Stops to.0 (pass_view a.registrar.pass) (pass_view b.registrar.pass) stopped → HasSent (order_for to Stop 1 ∷ []) a b
+sent-stopped to stopped a b send_log s = let stop = sent-terminate to.0 (pass_view a.registrar.pass) (pass_view b.registrar.pass) stopped s in record {
+  by = ap (λ k. k.by) send_log;
+  keep_letters = ap (λ k. k.dead.retention) send_log;
+  more = [];
+  posted = ap (λ k. k.posted) send_log ∙ sym (append-nil a.send_log.posted);
+  accepted_are = refl;
+  counted = stop.2;
+  system_sent = stop.0;
+  put = stop.1.logs.put;
+  refused = stop.1.logs.refused;
+  log_kept = stop.1.log_kept;
+  share = stop.1.share;
+  gives_back = stop.1.gives_back;
+}
 
 -- a sender that looks at the receiver and still owes all looks that it owed forgets nothing
-module _ {A K : Type 0} (actors : ℕ) (to : ActorId) (a b : Sender A K)
-    (discharged : (obligation_to to.0 (pass_view b.inner.registrar.pass) ≡ nothing) ⊎ (is_owed b.inner.registrar.owed to.0 ≡ true))
-    (still : (id : ℕ) → is_owed a.inner.registrar.owed id ≡ true → is_owed b.inner.registrar.owed id ≡ true) where
-  pub obligations-told : (body : Body) (put : SendOutcome) → IsTold a.inner.send_log.by a.inner.send_log.sent to body a.inner.send_log.posted b.inner.send_log.posted
-      a.inner.sends.items (pass_view a.inner.registrar.pass) (pass_view b.inner.registrar.pass) put
-      → KeepsObligations actors (sender_caller a.inner.registrar) (sender_caller b.inner.registrar)
+module _ (actors : ℕ) (to : ActorId) (a b : OutsideSender) (discharged : (obligation_to to.0 (pass_view b.registrar.pass) ≡ nothing) ⊎ (is_owed b.registrar.owed to.0 ≡ true)) (still : (id : ℕ) → is_owed a.registrar.owed id ≡ true → is_owed b.registrar.owed id ≡ true) where
+  pub obligations-told : (body : Body) (put : SendOutcome) → IsTold a.send_log.by a.send_log.sent to body a.send_log.posted b.send_log.posted
+      a.sends.items (pass_view a.registrar.pass) (pass_view b.registrar.pass) put
+      → KeepsObligations actors (sender_caller a.registrar) (sender_caller b.registrar)
   obligations-told body put told =
-      let one = one-posted a.inner.send_log.by a.inner.send_log.sent to body a.inner.send_log.posted b.inner.send_log.posted a.inner.sends.items
-      (pass_view a.inner.registrar.pass) (pass_view b.inner.registrar.pass) put told in
-      obligations-at actors to.0 (sender_caller a.inner.registrar) (sender_caller b.inner.registrar) one.2.others discharged still
+      let one = one-posted a.send_log.by a.send_log.sent to body a.send_log.posted b.send_log.posted a.sends.items
+      (pass_view a.registrar.pass) (pass_view b.registrar.pass) put told in
+      obligations-at actors to.0 (sender_caller a.registrar) (sender_caller b.registrar) one.2.others discharged still
 
-  pub obligations-stopped : (stopped : Bool) → Stops to.0 (pass_view a.inner.registrar.pass) (pass_view b.inner.registrar.pass) stopped
-      → KeepsObligations actors (sender_caller a.inner.registrar) (sender_caller b.inner.registrar)
+  pub obligations-stopped : (stopped : Bool) → Stops to.0 (pass_view a.registrar.pass) (pass_view b.registrar.pass) stopped
+      → KeepsObligations actors (sender_caller a.registrar) (sender_caller b.registrar)
   obligations-stopped stopped s =
-      let stop = sent-terminate to.0 (pass_view a.inner.registrar.pass) (pass_view b.inner.registrar.pass) stopped s in
-      obligations-at actors to.0 (sender_caller a.inner.registrar) (sender_caller b.inner.registrar) stop.1.others discharged still
+      let stop = sent-terminate to.0 (pass_view a.registrar.pass) (pass_view b.registrar.pass) stopped s in
+      obligations-at actors to.0 (sender_caller a.registrar) (sender_caller b.registrar) stop.1.others discharged still

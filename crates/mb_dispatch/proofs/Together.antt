@@ -11,24 +11,23 @@ use Rattle.mb_msg.specs.declared.id.SenderId.{SenderId}
 use Rattle.mb_gate.specs.declared.gates.Gates.{Gates}
 use Rattle.mb_home.specs.Contents.{Contents}
 use Rattle.mb_system.specs.Belonging.{BelongsTogether}
-use Rattle.mb_system.specs.Members.{AreEndsOf, IsEndOf, IsSenderOf, ends_numbers}
+use Rattle.mb_system.specs.Members.{AreEndsOf, IsEndOf, IsSenderOf, OutsideSender, ends_numbers}
 use Rattle.mb_dispatch.specs.Jobs.{AreJobsOf, jobs_senders}
 use Rattle.mb_system.specs.declared.built.Built.{Built}
 use Rattle.mb_system.specs.declared.end.WorkerEnd.{WorkerEnd}
 use Rattle.mb_dispatch.specs.declared.job.Job.{Job}
-use Rattle.mb_system.specs.declared.sender.Sender.{Sender}
 use Rattle.mb_system.specs.declared.system.System.{System}
 use Rattle.mb_dispatch.proofs.Alike.{all-alike, as-long, from-looks, look-alike, twice}
 
+abbrev pub by_of : OutsideSender → SenderId
+by_of s = s.send_log.by
+
+abbrev pub AreSendersOf : Gates (Box Contents) → List OutsideSender → Type 0
+AreSendersOf gates = All (λ (s : OutsideSender). IsSenderOf gates s)
+
 module _ {A K : Type 0} where
-  abbrev pub by_of : Sender A K → SenderId
-  by_of s = s.inner.send_log.by
-
-  abbrev pub sender_in : Job A K → Sender A K
+  abbrev pub sender_in : Job A K → OutsideSender
   sender_in j = j.sender
-
-  abbrev pub AreSendersOf : Gates (Box Contents) → List (Sender A K) → Type 0
-  AreSendersOf gates = All (λ (s : Sender A K). IsSenderOf gates s.inner)
 
   -- the ends and the senders are of the system still, and those are the same senders
   pub again : (old new : Built A K) → new.system ≡ old.system → AreEndsOf old.system.gates new.ends.items
@@ -41,7 +40,7 @@ module _ {A K : Type 0} where
         (sym (look-alike by_of (λ (b : SenderId). b.0 - most_actors) new.senders.items old.senders.items by)) was.once;
     numbered = all-alike by_of (λ (b : SenderId). (most_actors ≤ b.0) × (b.0 < most_actors + new.system.senders)) new.senders.items
         old.senders.items by (subst (λ (s : System A K). All
-        (λ (x : Sender A K). (most_actors ≤ x.inner.send_log.by.0) × (x.inner.send_log.by.0 < most_actors + s.senders)) old.senders.items) (sym same)
+        (λ (x : OutsideSender). (most_actors ≤ x.send_log.by.0) × (x.send_log.by.0 < most_actors + s.senders)) old.senders.items) (sym same)
         was.numbered);
   }
 
@@ -50,16 +49,16 @@ module _ {A K : Type 0} where
       → new.ends.items ≡ set old.ends.items place e → IsEndOf old.system.gates e.registrar → BelongsTogether old → BelongsTogether new
   end-again old new place e same senders ends ours was =
       let P = λ (x : WorkerEnd A K). IsEndOf old.system.gates x.registrar in
-      let Q = λ (x : Sender A K). IsSenderOf old.system.gates x.inner in
+      let Q = λ (x : OutsideSender). IsSenderOf old.system.gates x in
       again old new same (All-same P new.ends.items (set old.ends.items place e) ends (All-set P old.ends.items place e ours was.ends))
       (All-same Q new.senders.items old.senders.items senders was.senders) (ap (map by_of) senders) was
 
-  pub sender-again : (old new : Built A K) (place : ℕ) (s s' : Sender A K) → new.system ≡ old.system → new.ends.items ≡ old.ends.items
-      → new.senders.items ≡ set old.senders.items place s' → IsSenderOf old.system.gates s'.inner
-      → s'.inner.send_log.by ≡ (get_or old.senders.items place s).inner.send_log.by → BelongsTogether old → BelongsTogether new
+  pub sender-again : (old new : Built A K) (place : ℕ) (s s' : OutsideSender) → new.system ≡ old.system → new.ends.items ≡ old.ends.items
+      → new.senders.items ≡ set old.senders.items place s' → IsSenderOf old.system.gates s'
+      → s'.send_log.by ≡ (get_or old.senders.items place s).send_log.by → BelongsTogether old → BelongsTogether new
   sender-again old new place s s' same ends senders ours by was =
       let P = λ (x : WorkerEnd A K). IsEndOf old.system.gates x.registrar in
-      let Q = λ (x : Sender A K). IsSenderOf old.system.gates x.inner in
+      let Q = λ (x : OutsideSender). IsSenderOf old.system.gates x in
       again old new same (All-same P new.ends.items old.ends.items ends was.ends)
       (All-same Q new.senders.items (set old.senders.items place s') senders (All-set Q old.senders.items place s' ours was.senders))
       (ap (map by_of) senders ∙ map-set_same by_of old.senders.items place s' s by) was
@@ -68,7 +67,7 @@ module _ {A K : Type 0} where
   pub jobs-ours : (built : Built A K) (jobs : List (Job A K)) → map sender_in jobs ≡ built.senders.items → BelongsTogether built
       → AreJobsOf built.system.gates jobs
   jobs-ours built jobs are was =
-      from-looks sender_in (λ (s : Sender A K). IsSenderOf built.system.gates s.inner) jobs
+      from-looks sender_in (λ (s : OutsideSender). IsSenderOf built.system.gates s) jobs
       (subst (AreSendersOf built.system.gates) (sym are) was.senders)
 
   -- all belongs together after a run, whatever that answered
@@ -76,7 +75,7 @@ module _ {A K : Type 0} where
       → map sender_in before ≡ old.senders.items → AreJobsOf old.system.gates after → jobs_senders after ≡ jobs_senders before
       → new.senders.items ≡ map sender_in after → BelongsTogether old → BelongsTogether new
   run-again old new before after same ends were ours by are was =
-      let Q = λ (x : Sender A K). IsSenderOf old.system.gates x.inner in
+      let Q = λ (x : OutsideSender). IsSenderOf old.system.gates x in
       again old new same ends (All-same Q new.senders.items (map sender_in after) are (All-map Q sender_in after ours))
       (ap (map by_of) are ∙ twice sender_in by_of after ∙ by ∙ sym (twice sender_in by_of before) ∙ ap (map by_of) were) was
 
@@ -89,4 +88,4 @@ module _ {A K : Type 0} where
   pub jobs-back : (v : Vec (Job A K) Global) (lent new : List (Job A K)) → lent ≡ v.items → jobs_senders new ≡ jobs_senders lent
       → (with_items v new).items ≡ new
   jobs-back v lent new is same =
-      with_items_is v new (as-long (λ (j : Job A K). j.sender.inner.send_log.by) new lent same ∙ ap length is ∙ sym v.ok.0)
+      with_items_is v new (as-long (λ (j : Job A K). j.sender.send_log.by) new lent same ∙ ap length is ∙ sym v.ok.0)

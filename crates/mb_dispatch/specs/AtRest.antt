@@ -25,7 +25,7 @@ NoClaimIsLeft actors views =
 module _ {A K : Type 0} where
   -- What the senders of these jobs know.
   abbrev pub views_of_jobs : List (Job A K) → List View
-  views_of_jobs = map (λ (j : Job A K). pass_view j.sender.inner.registrar.pass)
+  views_of_jobs = map (λ (j : Job A K). pass_view j.sender.registrar.pass)
 
   -- What these ends and the senders of these jobs know.
   abbrev pub views_of : List (WorkerEnd A K) → List (Job A K) → List View

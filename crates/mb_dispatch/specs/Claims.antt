@@ -7,9 +7,14 @@ use Rattle.mb_gate.specs.ClaimCounts.{claims_got, claims_returned}
 use Rattle.mb_gate.specs.declared.claim.Claim.{Claim}
 use Rattle.mb_home.specs.Contents.{Contents}
 use Rattle.mb_register.specs.Registering.{LosesNoClaim, claims_of_actor}
-use Rattle.mb_system.specs.Members.{claims_taken, sender_caller}
+use Rattle.mb_system.specs.Members.{OutsideSender, claims_taken, sender_caller}
 use Rattle.mb_system.specs.declared.end.WorkerEnd.{WorkerEnd}
-use Rattle.mb_system.specs.declared.sender.Sender.{Sender}
+
+-- The sender lost no claim: each that it got went into its run queue or, where the queue refused it, back to its actor.
+abbrev pub SenderLosesNoClaim : OutsideSender → OutsideSender → Type 0
+SenderLosesNoClaim old new =
+    LosesNoClaim (sender_caller old.registrar).account (sender_caller new.registrar).account
+    (pass_view old.registrar.pass) (pass_view new.registrar.pass)
 
 module _ {A K : Type 0} where
   -- No claim is lost, and the end has run each that it took, but these. Of each actor, it got as many claims as went into its run queue and as the
@@ -33,9 +38,3 @@ module _ {A K : Type 0} where
   -- So it is with each of these ends.
   abbrev pub RunEachClaim : List (WorkerEnd A K) → List (WorkerEnd A K) → Type 0
   RunEachClaim = AllZip RunsEachClaim
-
-  -- The sender lost no claim: each that it got went into its run queue or, where the queue refused it, back to its actor.
-  abbrev pub SenderLosesNoClaim : Sender A K → Sender A K → Type 0
-  SenderLosesNoClaim old new =
-      LosesNoClaim (sender_caller old.inner.registrar).account (sender_caller new.inner.registrar).account
-      (pass_view old.inner.registrar.pass) (pass_view new.inner.registrar.pass)

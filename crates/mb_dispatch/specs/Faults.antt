@@ -22,7 +22,7 @@ use Rattle.mb_mailbox.specs.declared.turn.Turn.{Turn}
 use Rattle.mb_system.specs.declared.end.WorkerEnd.{WorkerEnd}
 use Rattle.mb_system.specs.declared.failure.RunError.{RunError}
 use Rattle.mb_system.specs.declared.failure.RunError.TheVariants.{JournalFull, NoMemory, NoSuchActor}
-use Rattle.mb_system.specs.declared.sender.Sender.{Sender}
+use Rattle.mb_system.specs.Members.{OutsideSender}
 use Rattle.mb_dispatch.specs.Found.{FoundPoolEmpty}
 use Rattle.mb_dispatch.specs.Jobs.{IsDone}
 use Rattle.mb_dispatch.specs.Orders.{HasSent, StopsWithin}
@@ -53,19 +53,18 @@ BreaksSending gates orders NoMemory = Unit {0}
 BreaksSending gates orders JournalFull = ⊥
 BreaksSending gates orders NoSuchActor = (order : Order) × Contains orders order × (0 < order.times) × IsToNobody gates order.to order.what
 
-module _ {A K : Type 0} where
-  -- The sender stopped at one of these orders, which was refused for this reason.
-  abbrev pub StopsFor : Gates (Box Contents) → List Order → Sender A K → Sender A K → RunError → Type 0
-  StopsFor gates orders old new fault = (stops : StopsWithin orders old new) × IsRefusedFor gates stops.next.to stops.next.what fault
+-- The sender stopped at one of these orders, which was refused for this reason.
+abbrev pub StopsFor : Gates (Box Contents) → List Order → OutsideSender → OutsideSender → RunError → Type 0
+StopsFor gates orders old new fault = (stops : StopsWithin orders old new) × IsRefusedFor gates stops.next.to stops.next.what fault
 
-  -- The sender carried out all of these orders, and owes an actor a look still: the pool refused its claim again.
-  abbrev pub HasSentAndOwes : List Order → Sender A K → Sender A K → Type 0
-  HasSentAndOwes orders old new = HasSent orders old new × (id : ℕ) × (is_owed new.inner.registrar.owed id ≡ true)
+-- The sender carried out all of these orders, and owes an actor a look still: the pool refused its claim again.
+abbrev pub HasSentAndOwes : List Order → OutsideSender → OutsideSender → Type 0
+HasSentAndOwes orders old new = HasSent orders old new × (id : ℕ) × (is_owed new.registrar.owed id ≡ true)
 
-  -- A job of these orders is broken off for this reason: that of the order that was refused, at which its sender stopped; or `NoMemory`, where the
-  -- sender carried out all of them, and owes an actor a look still.
-  abbrev pub BreaksJob : Gates (Box Contents) → List Order → Sender A K → Sender A K → RunError → Type 0
-  BreaksJob gates orders old new fault = StopsFor gates orders old new fault ⊎ ((fault ≡ NoMemory) × HasSentAndOwes orders old new)
+-- A job of these orders is broken off for this reason: that of the order that was refused, at which its sender stopped; or `NoMemory`, where the
+-- sender carried out all of them, and owes an actor a look still.
+abbrev pub BreaksJob : Gates (Box Contents) → List Order → OutsideSender → OutsideSender → RunError → Type 0
+BreaksJob gates orders old new fault = StopsFor gates orders old new fault ⊎ ((fault ≡ NoMemory) × HasSentAndOwes orders old new)
 
 module _ {A K : Type 0} (gives : ℕ → Moment → Reply → Type 0) (system : System A K) where
   -- A run of a mailbox by this end had no room, since the actor's journal had come to its limit.

@@ -17,7 +17,7 @@ use Rattle.mb_gate.specs.View.{SentSystem, View}
 use Rattle.mb_gate.specs.Waiting.{off_by, on_by}
 use Rattle.mb_mailbox.specs.RunSends.{FindsEndedAsSent, PutsAsSent}
 use Rattle.mb_register.specs.Views.{GivesBackUnchanged}
-use Rattle.mb_system.specs.declared.sender.Sender.{Sender}
+use Rattle.mb_system.specs.Members.{OutsideSender}
 
 -- the order to send this to that actor, so many times
 abbrev pub order_for : ActorId → OrderKind → ℕ → Order
@@ -62,39 +62,38 @@ abbrev pub CountsQueued : List SentEnvelope → View → View → Type 0
 CountsQueued postings old new = (actor : ℕ)
     → on_by actor new + off_by actor old ≡ on_by actor old + off_by actor new + length (to_actor actor (queued postings))
 
-module _ {A K : Type 0} where
-  -- The sender was answered for the envelopes of these orders, in order, after all that it was answered for before, and for nothing else. It counted
-  -- as waiting those of them that were queued, and nothing else. It sent their Terminates, or found the list ended, in order, and sent no other system
-  -- message; these stand newest first. What it put into lists is what it sent so, and each that found its list ended is noted. It still knows what it saw
-  -- before, kept its share, and gave each cell back as it was taken. Of its dead letters it keeps what it kept before: all, or as many of the newest.
-  pub record HasSent (orders : List Order) (old new : Sender A K) : Type 0 where
-    pub by : new.inner.send_log.by ≡ old.inner.send_log.by
-    pub keep_letters : new.inner.send_log.dead.retention ≡ old.inner.send_log.dead.retention
-    pub more : List SentEnvelope
-    pub posted : new.inner.send_log.posted ≡ old.inner.send_log.posted ++ more
-    pub accepted_are : addressed (accepted more) ≡ envelopes_of orders
-    pub counted : CountsQueued more (pass_view old.inner.registrar.pass) (pass_view new.inner.registrar.pass)
-    pub system_sent : addressed_system (pass_view new.inner.registrar.pass).sent_system ≡ reverse (terminates_of orders) ++ addressed_system (pass_view old.inner.registrar.pass).sent_system
-    pub put : PutsAsSent (pass_view old.inner.registrar.pass) (pass_view new.inner.registrar.pass)
-    pub refused : FindsEndedAsSent (pass_view old.inner.registrar.pass) (pass_view new.inner.registrar.pass)
-    pub log_kept : IsPart (pass_view old.inner.registrar.pass).log (pass_view new.inner.registrar.pass).log
-    pub share : (pass_view new.inner.registrar.pass).share ≡ (pass_view old.inner.registrar.pass).share
-    pub gives_back : GivesBackUnchanged (pass_view old.inner.registrar.pass) (pass_view new.inner.registrar.pass)
+-- The sender was answered for the envelopes of these orders, in order, after all that it was answered for before, and for nothing else. It counted
+-- as waiting those of them that were queued, and nothing else. It sent their Terminates, or found the list ended, in order, and sent no other system
+-- message; these stand newest first. What it put into lists is what it sent so, and each that found its list ended is noted. It still knows what it saw
+-- before, kept its share, and gave each cell back as it was taken. Of its dead letters it keeps what it kept before: all, or as many of the newest.
+pub record HasSent (orders : List Order) (old new : OutsideSender) : Type 0 where
+  pub by : new.send_log.by ≡ old.send_log.by
+  pub keep_letters : new.send_log.dead.retention ≡ old.send_log.dead.retention
+  pub more : List SentEnvelope
+  pub posted : new.send_log.posted ≡ old.send_log.posted ++ more
+  pub accepted_are : addressed (accepted more) ≡ envelopes_of orders
+  pub counted : CountsQueued more (pass_view old.registrar.pass) (pass_view new.registrar.pass)
+  pub system_sent : addressed_system (pass_view new.registrar.pass).sent_system ≡ reverse (terminates_of orders) ++ addressed_system (pass_view old.registrar.pass).sent_system
+  pub put : PutsAsSent (pass_view old.registrar.pass) (pass_view new.registrar.pass)
+  pub refused : FindsEndedAsSent (pass_view old.registrar.pass) (pass_view new.registrar.pass)
+  pub log_kept : IsPart (pass_view old.registrar.pass).log (pass_view new.registrar.pass).log
+  pub share : (pass_view new.registrar.pass).share ≡ (pass_view old.registrar.pass).share
+  pub gives_back : GivesBackUnchanged (pass_view old.registrar.pass) (pass_view new.registrar.pass)
 
-  -- The sender carried out these orders, one after another, and then this one fewer times than it says, and nothing else.
-  pub record HasSentUpTo (done : List Order) (next : Order) (old new : Sender A K) : Type 0 where
-    pub times : ℕ
-    pub fewer : times < next.times
-    pub sent : HasSent (done ++ order_for next.to next.what times ∷ []) old new
+-- The sender carried out these orders, one after another, and then this one fewer times than it says, and nothing else.
+pub record HasSentUpTo (done : List Order) (next : Order) (old new : OutsideSender) : Type 0 where
+  pub times : ℕ
+  pub fewer : times < next.times
+  pub sent : HasSent (done ++ order_for next.to next.what times ∷ []) old new
 
-  -- The sender stopped at one of these orders: it carried out those before it, and this one fewer times than it says, and nothing else.
-  pub record StopsWithin (orders : List Order) (old new : Sender A K) : Type 0 where
-    pub done : List Order
-    pub next : Order
-    pub left : List Order
-    pub are : orders ≡ done ++ next ∷ left
-    pub sent : HasSentUpTo done next old new
+-- The sender stopped at one of these orders: it carried out those before it, and this one fewer times than it says, and nothing else.
+pub record StopsWithin (orders : List Order) (old new : OutsideSender) : Type 0 where
+  pub done : List Order
+  pub next : Order
+  pub left : List Order
+  pub are : orders ≡ done ++ next ∷ left
+  pub sent : HasSentUpTo done next old new
 
-  -- The sender carried out all of these orders, or stopped at one of them.
-  abbrev pub HasSentSome : List Order → Sender A K → Sender A K → Type 0
-  HasSentSome orders old new = HasSent orders old new ⊎ StopsWithin orders old new
+-- The sender carried out all of these orders, or stopped at one of them.
+abbrev pub HasSentSome : List Order → OutsideSender → OutsideSender → Type 0
+HasSentSome orders old new = HasSent orders old new ⊎ StopsWithin orders old new

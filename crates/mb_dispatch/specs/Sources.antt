@@ -9,11 +9,10 @@ use Rattle.mb_home.specs.Contents.{Contents}
 use Rattle.mb_msg.specs.declared.order.Order.{Order}
 use Rattle.mb_source.specs.Given.{Gave, GaveAll, given_since, sendable}
 use Rattle.mb_source.specs.RecordedSource.{RecordedSource}
-use Rattle.mb_system.specs.Members.{IsSenderOf, sender_caller}
+use Rattle.mb_system.specs.Members.{IsSenderOf, OutsideSender, sender_caller}
 use Rattle.mb_system.specs.Obligations.{KeepsObligations, OwesNobody}
 use Rattle.mb_system.specs.declared.end.WorkerEnd.{WorkerEnd}
 use Rattle.mb_system.specs.declared.failure.RunError.{RunError}
-use Rattle.mb_system.specs.declared.sender.Sender.{Sender}
 use Rattle.mb_system.specs.declared.system.System.{System}
 use Rattle.mb_dispatch.specs.Claims.{SenderLosesNoClaim}
 use Rattle.mb_dispatch.specs.Faults.{BreaksSending, BreaksWork, HasWorked}
@@ -28,38 +27,39 @@ others_of gates = actors_of gates - 1
 abbrev pub orders_since : {S : Type 0} → Gates (Box Contents) → RecordedSource S → RecordedSource S → List Order
 orders_since gates old new = sendable (others_of gates) (given_since old new)
 
-module _ {A K S : Type 0} (gates : Gates (Box Contents)) where
+module _ {S : Type 0} (gates : Gates (Box Contents)) where
   -- The sender of a pair is of the gates.
-  abbrev pub IsPairOf : Sender A K × RecordedSource S → Type 0
-  IsPairOf both = IsSenderOf gates both.0.inner
+  abbrev pub IsPairOf : OutsideSender × RecordedSource S → Type 0
+  IsPairOf both = IsSenderOf gates both.0
 
   -- Sending what the source gave was broken off for this reason.
-  abbrev pub BreaksPair : Sender A K × RecordedSource S → Sender A K × RecordedSource S → RunError → Type 0
+  abbrev pub BreaksPair : OutsideSender × RecordedSource S → OutsideSender × RecordedSource S → RunError → Type 0
   BreaksPair old new = BreaksSending gates (orders_since gates old.1 new.1)
 
-module _ {A K S : Type 0} (gates : Gates (Box Contents)) (gives : S → Option Order → S → Type 0) (takes_back : S → Order → S → Type 0) where
+module _ {S : Type 0} (gates : Gates (Box Contents)) (gives : S → Option Order → S → Type 0) (takes_back : S → Order → S → Type 0) where
   -- The sender is the same as before, and carried out what its source gave and can go to an actor, all of it or up to where it stopped, and
   -- nothing else. No claim was lost.
-  pub record KeepsPair (old new : Sender A K × RecordedSource S) : Type 0 where
+  pub record KeepsPair (old new : OutsideSender × RecordedSource S) : Type 0 where
     pub same_gates : IsPairOf gates new
-    pub by : new.0.inner.send_log.by ≡ old.0.inner.send_log.by
+    pub by : new.0.send_log.by ≡ old.0.send_log.by
     pub gave : Gave gives takes_back (others_of gates) old.1 new.1
     pub sent : HasSentSome (orders_since gates old.1 new.1) old.0 new.0
     pub claims : SenderLosesNoClaim old.0 new.0
 
   -- The source gave all that it had, and the sender carried out what can go to an actor. It forgot nothing that it owed, and owes nobody a look.
-  pub record IsPairDone (old new : Sender A K × RecordedSource S) : Type 0 where
+  pub record IsPairDone (old new : OutsideSender × RecordedSource S) : Type 0 where
     pub gave : GaveAll gives takes_back (others_of gates) old.1 new.1
     pub sent : HasSent (orders_since gates old.1 new.1) old.0 new.0
     pub nobody : OwesNobody gates new.0
-    pub obligations : KeepsObligations (actors_of gates) (sender_caller old.0.inner.registrar) (sender_caller new.0.inner.registrar)
+    pub obligations : KeepsObligations (actors_of gates) (sender_caller old.0.registrar) (sender_caller new.0.registrar)
 
+module _ {A K S : Type 0} (gates : Gates (Box Contents)) (gives : S → Option Order → S → Type 0) (takes_back : S → Order → S → Type 0) where
   -- A run by these ends of the system, beside senders with their sources, each given before and after it, is broken off for this reason: that of
   -- the first end that was broken off, or, if all have worked to their end, that of the first sender that was.
   abbrev pub BreaksRunFrom : (ℕ → Moment → Reply → Type 0) → System A K → List (WorkerEnd A K) → List (WorkerEnd A K)
-      → List (Sender A K × RecordedSource S) → List (Sender A K × RecordedSource S) → RunError → Type 0
+      → List (OutsideSender × RecordedSource S) → List (OutsideSender × RecordedSource S) → RunError → Type 0
   BreaksRunFrom behaviours system old new before after error =
       FirstZip (λ o n. HasWorked behaviours system (pass_view o.registrar.pass) n)
       (λ o n. BreaksWork behaviours system (pass_view o.registrar.pass) n error) old new
       ⊎ (AllZip (λ o n. HasWorked behaviours system (pass_view o.registrar.pass) n) old new
-      × FirstZip IsPairDone (λ o n. BreaksPair gates o n error) before after)
+      × FirstZip (IsPairDone gates gives takes_back) (λ o n. BreaksPair gates o n error) before after)

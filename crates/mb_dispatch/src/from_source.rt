@@ -10,7 +10,7 @@ use crate::paired::{PairedTask, each_in_turn};
 use mb_actor::{Actor, Behaviours};
 use mb_msg::Order;
 use mb_source::{RecordedSource, Source, has_nobody};
-use mb_system::{RunError, Sender, System};
+use mb_system::{RunError, Sender, System, retry_refused};
 use std::sync::Wait;
 
 /// Carries out all orders that the source gives, one after another, each before it asks for the next, until the source has no more. An
@@ -23,14 +23,14 @@ pub fn send_from<A: Actor, K: Behaviours, S: Source, R: Wait>(
     sender: &mut Sender<A, K>,
     source: &mut RecordedSource<S>,
 ) -> Result<(), RunError>
-    requires same_gates { IsSenderOf system.now.gates sender.old.inner }
+    requires same_gates { IsSenderOf system.now.gates sender.old }
     ensures keeps { KeepsPair system.now.gates S.gives S.takes_back (sender.old, source.old) (sender.new, source.new) }
     ensures done { OnOk result (IsPairDone system.now.gates S.gives S.takes_back (sender.old, source.old) (sender.new, source.new)) }
     ensures fails { IfErr result (BreaksPair system.now.gates (sender.old, source.old) (sender.new, source.new)) }
 {
     for _ in rt.forever() {
         let Some(order) = source.next() else {
-            return sender.retry_refused(rt, system);
+            return retry_refused(rt, system, sender);
         };
         if has_nobody(system.gates.actors().saturating_sub(1), &order) {
             source.take_back(order);
@@ -83,7 +83,7 @@ pub fn send_from_each<A: Actor, K: Behaviours, S: Source, R: Wait>(
     sources: &mut [RecordedSource<S>],
 ) -> Result<(), RunError>
     requires same_count { length senders.old ≡ length sources.old }
-    requires same_gates { All (λ s. IsSenderOf system.now.gates s.inner) senders.old }
+    requires same_gates { All (λ s. IsSenderOf system.now.gates s) senders.old }
     ensures ended { HaveEnded (KeepsPair system.now.gates S.gives S.takes_back) (IsPairDone system.now.gates S.gives S.takes_back)
         (BreaksPair system.now.gates) (pairs senders.old sources.old) (pairs senders.new sources.new) result }
 {

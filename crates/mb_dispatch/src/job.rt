@@ -12,7 +12,7 @@ use crate::order::send_all;
 use crate::parallel::Task;
 use mb_actor::{Actor, Behaviours};
 use mb_msg::Order;
-use mb_system::{RunError, Sender, System};
+use mb_system::{RunError, Sender, System, retry_refused};
 use std::sync::Wait;
 
 /// What one sender is to send, in order.
@@ -32,9 +32,9 @@ impl<A: Actor, K: Behaviours> Task<System<A, K>> for Job<A, K> {
     ghost use Rattle.mb_dispatch.specs.Jobs.{ForgetsNobody, IsDone};
     ghost use Rattle.mb_dispatch.specs.Orders.{HasSentSome};
 
-    ghost ready = { λ system job. IsSenderOf system.gates job.sender.inner };
+    ghost ready = { λ system job. IsSenderOf system.gates job.sender };
 
-    ghost keeps = { λ system old new. IsSenderOf system.gates new.sender.inner × (new.sender.inner.send_log.by ≡ old.sender.inner.send_log.by)
+    ghost keeps = { λ system old new. IsSenderOf system.gates new.sender × (new.sender.send_log.by ≡ old.sender.send_log.by)
         × HasSentSome old.sends.items old.sender new.sender × ForgetsNobody system.gates old.sender new.sender × (new.sends ≡ old.sends)
         × SenderLosesNoClaim old.sender new.sender };
 
@@ -45,8 +45,8 @@ impl<A: Actor, K: Behaviours> Task<System<A, K>> for Job<A, K> {
     /// Sends all, in order, and then registers each actor again to which the sender owes a look. It stops at the first fault, and
     /// what was sent before stays sent. Whatever comes of it, the job is done then, and no claim is lost.
     fn perform<R: Wait>(&mut self, rt: &R, shared: &System<A, K>) -> Result<(), RunError>
-        requires ready { IsSenderOf shared.now.gates self.old.sender.inner }
-        ensures keeps { IsSenderOf shared.now.gates self.new.sender.inner × (self.new.sender.inner.send_log.by ≡ self.old.sender.inner.send_log.by)
+        requires ready { IsSenderOf shared.now.gates self.old.sender }
+        ensures keeps { IsSenderOf shared.now.gates self.new.sender × (self.new.sender.send_log.by ≡ self.old.sender.send_log.by)
             × HasSentSome self.old.sends.items self.old.sender self.new.sender
             × ForgetsNobody shared.now.gates self.old.sender self.new.sender × (self.new.sends ≡ self.old.sends)
             × SenderLosesNoClaim self.old.sender self.new.sender }
@@ -66,17 +66,17 @@ fn send_and_retry<A: Actor, K: Behaviours, R: Wait>(
     sender: &mut Sender<A, K>,
     orders: &[Order],
 ) -> Result<(), RunError>
-    requires same_gates { IsSenderOf system.now.gates sender.old.inner }
-    ensures same_gates { IsSenderOf system.now.gates sender.new.inner }
-    ensures same_sender { sender.new.inner.send_log.by ≡ sender.old.inner.send_log.by }
+    requires same_gates { IsSenderOf system.now.gates sender.old }
+    ensures same_gates { IsSenderOf system.now.gates sender.new }
+    ensures same_sender { sender.new.send_log.by ≡ sender.old.send_log.by }
     ensures sent { OnOk result (HasSent orders.now sender.old sender.new × OwesNobody system.now.gates sender.new) }
-    ensures obligations { OnOk result (KeepsObligations (actors_of system.now.gates) (sender_caller sender.old.inner.registrar)
-        (sender_caller sender.new.inner.registrar)) }
+    ensures obligations { OnOk result (KeepsObligations (actors_of system.now.gates) (sender_caller sender.old.registrar)
+        (sender_caller sender.new.registrar)) }
     ensures still { ForgetsNobody system.now.gates sender.old sender.new }
     ensures claims { SenderLosesNoClaim sender.old sender.new }
     ensures stopped { OnErr result (HasSentSome orders.now sender.old sender.new) }
     ensures fault { IfErr result (BreaksJob system.now.gates orders.now sender.old sender.new) }
 {
     send_all(rt, system, sender, orders)?;
-    sender.retry_refused(rt, system)
+    retry_refused(rt, system, sender)
 }

@@ -160,11 +160,11 @@ fn look_with_jobs<A: Actor, K: Behaviours>(
     let looked = at_first(
         jobs,
         &mut |job: &mut Job<A, K>, others: &mut [Job<A, K>]| -> bool
-            requires { (pass_id pass.now ≡ gates_id gates.now) × IsSenderOf gates.now job.old.sender.inner
+            requires { (pass_id pass.now ≡ gates_id gates.now) × IsSenderOf gates.now job.old.sender
                 × AreJobsOf gates.now others.old }
             ensures { (pass.exit.now ≡ pass.entry.now) × (job.new ≡ job.old) × (others.new ≡ others.old)
                 × (result ≡ true → (id : ℕ) → id < actors_of gates.entry.now
-                → NoClaimIsOut id (all_together (together (pass_view pass.entry.now) (pass_view job.old.sender.inner.registrar.pass)) (views_of_jobs others.old))) }
+                → NoClaimIsOut id (all_together (together (pass_view pass.entry.now) (pass_view job.old.sender.registrar.pass)) (views_of_jobs others.old))) }
         { look_with_job(gates, pass, job, others) },
     );
     let Some(answer) = looked else {
@@ -181,15 +181,15 @@ fn look_with_job<A: Actor, K: Behaviours>(
     others: &mut [Job<A, K>],
 ) -> bool
     requires same_gates { pass_id pass.old ≡ gates_id gates.now }
-    requires job { IsSenderOf gates.now job.old.sender.inner }
+    requires job { IsSenderOf gates.now job.old.sender }
     requires jobs { AreJobsOf gates.now others.old }
     ensures same { (pass.new ≡ pass.old) × (job.new ≡ job.old) × (others.new ≡ others.old) }
     ensures back { result ≡ true → (id : ℕ) → id < actors_of gates.now
-        → NoClaimIsOut id (all_together (together (pass_view pass.old) (pass_view job.old.sender.inner.registrar.pass)) (views_of_jobs others.old)) }
+        → NoClaimIsOut id (all_together (together (pass_view pass.old) (pass_view job.old.sender.registrar.pass)) (views_of_jobs others.old)) }
 {
     gates.look_together(
         pass,
-        &mut job.sender.inner.registrar.pass,
+        &mut job.sender.registrar.pass,
         &mut |all: &mut Pass<BoxedHome<A, K>>| -> bool
             requires { (pass_id all.old ≡ gates_id gates.now) × AreJobsOf gates.now others.now }
             ensures { (all.new ≡ all.old) × (others.exit.now ≡ others.entry.now)

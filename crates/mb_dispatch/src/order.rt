@@ -23,13 +23,13 @@ pub fn send_all<A: Actor, K: Behaviours, R: Wait>(
     sender: &mut Sender<A, K>,
     orders: &[Order],
 ) -> Result<(), RunError>
-    requires same_gates { IsSenderOf system.now.gates sender.old.inner }
-    ensures same_gates { IsSenderOf system.now.gates sender.new.inner }
-    ensures same_sender { sender.new.inner.send_log.by ≡ sender.old.inner.send_log.by }
+    requires same_gates { IsSenderOf system.now.gates sender.old }
+    ensures same_gates { IsSenderOf system.now.gates sender.new }
+    ensures same_sender { sender.new.send_log.by ≡ sender.old.send_log.by }
     ensures sent { OnOk result (HasSent orders.now sender.old sender.new) }
-    ensures obligations { OnOk result (KeepsObligations (actors_of system.now.gates) (sender_caller sender.old.inner.registrar)
-        (sender_caller sender.new.inner.registrar)) }
-    ensures owed { OwesForRefusals (sender_caller sender.old.inner.registrar).account (sender_caller sender.new.inner.registrar).account }
+    ensures obligations { OnOk result (KeepsObligations (actors_of system.now.gates) (sender_caller sender.old.registrar)
+        (sender_caller sender.new.registrar)) }
+    ensures owed { OwesForRefusals (sender_caller sender.old.registrar).account (sender_caller sender.new.registrar).account }
     ensures claims { SenderLosesNoClaim sender.old sender.new }
     ensures stopped { OnErr result (StopsWithin orders.now sender.old sender.new) }
     ensures fault { IfErr result (BreaksSending system.now.gates orders.now) }
@@ -48,13 +48,13 @@ fn send_often<A: Actor, K: Behaviours, R: Wait>(
     sender: &mut Sender<A, K>,
     order: Order,
 ) -> Result<(), RunError>
-    requires same_gates { IsSenderOf system.now.gates sender.old.inner }
-    ensures same_gates { IsSenderOf system.now.gates sender.new.inner }
-    ensures same_sender { sender.new.inner.send_log.by ≡ sender.old.inner.send_log.by }
+    requires same_gates { IsSenderOf system.now.gates sender.old }
+    ensures same_gates { IsSenderOf system.now.gates sender.new }
+    ensures same_sender { sender.new.send_log.by ≡ sender.old.send_log.by }
     ensures sent { OnOk result (HasSent (order ∷ []) sender.old sender.new) }
-    ensures obligations { OnOk result (KeepsObligations (actors_of system.now.gates) (sender_caller sender.old.inner.registrar)
-        (sender_caller sender.new.inner.registrar)) }
-    ensures owed { OwesForRefusals (sender_caller sender.old.inner.registrar).account (sender_caller sender.new.inner.registrar).account }
+    ensures obligations { OnOk result (KeepsObligations (actors_of system.now.gates) (sender_caller sender.old.registrar)
+        (sender_caller sender.new.registrar)) }
+    ensures owed { OwesForRefusals (sender_caller sender.old.registrar).account (sender_caller sender.new.registrar).account }
     ensures claims { SenderLosesNoClaim sender.old sender.new }
     ensures stopped { OnErr result (HasSentUpTo [] order sender.old sender.new) }
     ensures fault { IfErr result (BreaksSending system.now.gates (order ∷ [])) }
@@ -75,13 +75,13 @@ fn send<A: Actor, K: Behaviours, R: Wait>(
     to: ActorId,
     what: OrderKind,
 ) -> Result<(), RunError>
-    requires same_gates { IsSenderOf system.now.gates sender.old.inner }
-    ensures same_gates { IsSenderOf system.now.gates sender.new.inner }
-    ensures same_sender { sender.new.inner.send_log.by ≡ sender.old.inner.send_log.by }
+    requires same_gates { IsSenderOf system.now.gates sender.old }
+    ensures same_gates { IsSenderOf system.now.gates sender.new }
+    ensures same_sender { sender.new.send_log.by ≡ sender.old.send_log.by }
     ensures sent { OnOk result (HasSent (order_for to what 1 ∷ []) sender.old sender.new) }
-    ensures obligations { OnOk result (KeepsObligations (actors_of system.now.gates) (sender_caller sender.old.inner.registrar)
-        (sender_caller sender.new.inner.registrar)) }
-    ensures owed { OwesForRefusals (sender_caller sender.old.inner.registrar).account (sender_caller sender.new.inner.registrar).account }
+    ensures obligations { OnOk result (KeepsObligations (actors_of system.now.gates) (sender_caller sender.old.registrar)
+        (sender_caller sender.new.registrar)) }
+    ensures owed { OwesForRefusals (sender_caller sender.old.registrar).account (sender_caller sender.new.registrar).account }
     ensures claims { SenderLosesNoClaim sender.old sender.new }
     ensures unsent { OnErr result (HasSent [] sender.old sender.new) }
     ensures fault { IfErr result (BreaksSending system.now.gates (order_for to what 1 ∷ [])) }
@@ -89,11 +89,11 @@ fn send<A: Actor, K: Behaviours, R: Wait>(
 {
     match what {
         OrderKind::Tell(payload) => {
-            sender.tell(rt, system, to, payload)?;
+            sender.tell(rt, &system.gates, to, payload)?;
             Ok(())
         }
         OrderKind::Stop => {
-            sender.stop(rt, system, to)?;
+            sender.stop(rt, &system.gates, to)?;
             Ok(())
         }
     }

@@ -12,9 +12,9 @@ ghost use Rattle.mb_dispatch.specs.Faults.{BreaksQuietRun};
 ghost use Rattle.mb_dispatch.specs.Found.{FoundPoolEmpty};
 ghost use Rattle.mb_dispatch.specs.Runs.{MadeRuns, turns_in};
 
-use crate::mailbox::run_mailbox;
 use crate::turns::{Turns, no_turns};
 use mb_actor::{Actor, Behaviours};
+use mb_mailbox::run_mailbox;
 use mb_msg::JournalMode;
 use mb_system::{RunError, System, WorkerEnd};
 use std::sync::Wait;
@@ -56,7 +56,10 @@ pub fn run_quietly<A: Actor, K: Behaviours, R: Wait>(
             return Err(RunError::NoMemory);
         }
         match end.take(rt) {
-            Some(claim) => turns.push(run_mailbox(rt, system, end, claim)?),
+            Some(claim) => {
+                let registrar = &mut end.registrar;
+                turns.push(run_mailbox(rt, &system.gates, registrar, system.throughput, claim)?)
+            }
             None => {
                 if end.registrar.owed.is_empty() {
                     return Ok(Turns { list: turns });

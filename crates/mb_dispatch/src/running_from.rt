@@ -37,7 +37,7 @@ pub fn run_from<A: Actor + Send, K: Behaviours + Send, S: Source + Send, R: Thre
 ) -> Result<(), RunError>
     requires ends { AreEndsOf system.now.gates ends.old }
     requires same_count { length senders.old ≡ length sources.old }
-    requires same_gates { All (λ s. IsSenderOf system.now.gates s.inner) senders.old }
+    requires same_gates { All (λ s. IsSenderOf system.now.gates s) senders.old }
     ensures ends { AreEndsOf system.now.gates ends.new × (ends_numbers ends.new ≡ ends_numbers ends.old) }
     ensures log_kept { StillSee ends.old ends.new }
     ensures obligations { KeepAllObligations system.now.gates ends.old ends.new }

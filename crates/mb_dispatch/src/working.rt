@@ -14,12 +14,12 @@ ghost use Rattle.mb_dispatch.specs.Faults.{BreaksWork};
 ghost use Rattle.mb_dispatch.specs.Found.{FoundPoolEmpty};
 ghost use Rattle.mb_dispatch.specs.Runs.{OnlyRuns};
 
-use crate::mailbox::run_mailbox;
 use crate::parallel::Task;
 use crossbeam_utils::Backoff;
 use mb_actor::{Actor, Behaviours};
 use mb_gate::Claim;
 use mb_home::BoxedHome;
+use mb_mailbox::run_mailbox;
 use mb_system::{RunActivity, RunError, System, WorkerEnd};
 use std::sync::Wait;
 
@@ -74,13 +74,15 @@ fn work_on<A: Actor, K: Behaviours, R: Wait>(
     for _ in rt.forever() {
         // Tried first, so that a claim which is there is run from registers.
         if let Some(claim) = end.try_take() {
-            run_mailbox(rt, system, end, claim)?;
+            let registrar = &mut end.registrar;
+            run_mailbox(rt, &system.gates, registrar, system.throughput, claim)?;
             continue;
         }
         let Some(claim) = next_claim(rt, system, end)? else {
             return Ok(());
         };
-        run_mailbox(rt, system, end, claim)?;
+        let registrar = &mut end.registrar;
+        run_mailbox(rt, &system.gates, registrar, system.throughput, claim)?;
     }
     unreachable!()
 }

@@ -11,10 +11,9 @@ use Rattle.mb_home.specs.Contents.{Contents}
 use Rattle.mb_pool.specs.Places.{gates_of}
 use Rattle.mb_pool.specs.WorkerPorts.{WorkerPortView}
 use Rattle.mb_system.specs.Belonging.{BelongsTogether, senders_numbers}
-use Rattle.mb_system.specs.Members.{IsEndOf, IsSenderOf}
+use Rattle.mb_system.specs.Members.{IsEndOf, IsSenderOf, OutsideSender}
 use Rattle.mb_system.specs.declared.built.Built.{Built}
 use Rattle.mb_system.specs.declared.end.WorkerEnd.{WorkerEnd}
-use Rattle.mb_system.specs.declared.sender.Sender.{Sender}
 use Rattle.mb_system.specs.declared.system.System.{System}
 use Rattle.mb_dispatch.proofs.There.{end-at, sender-at}
 use Rattle.mb_dispatch.proofs.Together.{AreSendersOf, again, by_of, end-again, sender-again}
@@ -30,7 +29,7 @@ pub took : {A K : Type 0} (gates : Gates (Box Contents)) (old new : WorkerEnd A 
     × (new.number ≡ old.number) → IsEndOf gates old.registrar → IsEndOf gates new.registrar
 took gates old new same was = (ap pass_id same.0 ∙ was.0, same.2 ∙ was.1, was.2)
 
-module _ {A K : Type 0} (system : System A K) (ends : Vec (WorkerEnd A K) Global) (senders : Vec (Sender A K) Global) where
+module _ {A K : Type 0} (system : System A K) (ends : Vec (WorkerEnd A K) Global) (senders : Vec OutsideSender Global) where
   -- these belong together
   abbrev pub Are : Type 0
   Are = BelongsTogether (record { system = system; ends = ends; senders = senders })
@@ -39,7 +38,7 @@ module _ {A K : Type 0} (system : System A K) (ends : Vec (WorkerEnd A K) Global
   pub first-end : (e : WorkerEnd A K) → e ≡ get_or ends.items 0 e → 0 < length ends.items → Are → IsEndOf system.gates e.registrar
   first-end e is some was = end-at (record { system = system; ends = ends; senders = senders }) 0 e is some was
 
-  pub first-sender : (s : Sender A K) → s ≡ get_or senders.items 0 s → 0 < length senders.items → Are → IsSenderOf system.gates s.inner
+  pub first-sender : (s : OutsideSender) → s ≡ get_or senders.items 0 s → 0 < length senders.items → Are → IsSenderOf system.gates s
   first-sender s is some was = sender-at (record { system = system; ends = ends; senders = senders }) 0 s is some was
 
   -- the first end, and the first sender, did something
@@ -49,22 +48,22 @@ module _ {A K : Type 0} (system : System A K) (ends : Vec (WorkerEnd A K) Global
       end-again (record { system = system; ends = ends; senders = senders }) (record { system = system; ends = ends'; senders = senders }) 0 e refl
       refl are ours was
 
-  pub with-sender : (senders' : Vec (Sender A K) Global) (s s' : Sender A K) → senders'.items ≡ set senders.items 0 s'
-      → IsSenderOf system.gates s'.inner → s'.inner.send_log.by ≡ s.inner.send_log.by → s ≡ get_or senders.items 0 s → Are
+  pub with-sender : (senders' : Vec OutsideSender Global) (s s' : OutsideSender) → senders'.items ≡ set senders.items 0 s'
+      → IsSenderOf system.gates s' → s'.send_log.by ≡ s.send_log.by → s ≡ get_or senders.items 0 s → Are
       → BelongsTogether (record { system = system; ends = ends; senders = senders' })
   with-sender senders' s s' are ours by is was =
       sender-again (record { system = system; ends = ends; senders = senders }) (record { system = system; ends = ends; senders = senders' }) 0 s s'
       refl refl are ours (by ∙ ap by_of is) was
 
   -- the senders are gone
-  pub without-senders : (senders' : Vec (Sender A K) Global) → senders'.items ≡ [] → Are
+  pub without-senders : (senders' : Vec OutsideSender Global) → senders'.items ≡ [] → Are
       → BelongsTogether (record { system = system; ends = ends; senders = senders' })
   without-senders senders' none was =
-      let N = λ (s : Sender A K). (most_actors ≤ s.inner.send_log.by.0) × (s.inner.send_log.by.0 < most_actors + system.senders) in
+      let N = λ (s : OutsideSender). (most_actors ≤ s.send_log.by.0) × (s.send_log.by.0 < most_actors + system.senders) in
       record {
         ends = was.ends;
-        senders = subst (AreSendersOf system.gates) (sym none) (All-nil (λ (s : Sender A K). IsSenderOf system.gates s.inner));
-        once = subst (λ (l : List (Sender A K)). AllPairs (λ a b. a ≢ b) (senders_numbers l)) (sym none)
+        senders = subst (AreSendersOf system.gates) (sym none) (All-nil (λ (s : OutsideSender). IsSenderOf system.gates s));
+        once = subst (λ (l : List OutsideSender). AllPairs (λ a b. a ≢ b) (senders_numbers l)) (sym none)
             (λ i j d before within. absurd (omega (arith, within)));
         numbered = subst (All N) (sym none) (All-nil N);
       }
@@ -75,7 +74,7 @@ module _ {A K : Type 0} where
   read-back old new before after back was =
       let gates = old.system.gates in
       let P = λ (x : WorkerEnd A K). IsEndOf gates x.registrar in
-      let Q = λ (x : Sender A K). IsSenderOf gates x.inner in
+      let Q = λ (x : OutsideSender). IsSenderOf gates x in
       let were : All P (back.first ∷ back.rest) = subst (All P) back.was was.ends in
       let one = All-head P back.first back.rest were in
       let first : P back.first' =

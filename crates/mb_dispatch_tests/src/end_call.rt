@@ -86,7 +86,10 @@ fn run_next<A: Actor, K: Behaviours, R: Wait>(
     ensures same_gates { IsEndOf system.now.gates end.new.registrar }
 {
     match end.take(rt) {
-        Some(claim) => run_mailbox(rt, system, end, claim).ok(),
+        Some(claim) => {
+            let registrar = &mut end.registrar;
+            run_mailbox(rt, &system.gates, registrar, system.throughput, claim).ok()
+        }
         None => None,
     }
 }

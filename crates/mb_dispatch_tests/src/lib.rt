@@ -55,6 +55,8 @@ mod sender_call;
 #[cfg(test)]
 mod shown;
 #[cfg(test)]
+mod sourced;
+#[cfg(test)]
 mod supervised;
 #[cfg(test)]
 mod system_driver;

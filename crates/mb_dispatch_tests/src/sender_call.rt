@@ -38,16 +38,16 @@ pub(crate) fn call_sender<A: Actor, K: Behaviours, R: Wait>(
     sender: &mut Sender<A, K>,
     call: SenderCall,
 ) -> Option<SenderAnswer>
-    requires same_gates { IsSenderOf system.now.gates sender.old.inner }
-    ensures same_gates { IsSenderOf system.now.gates sender.new.inner }
-    ensures same_sender { sender.new.inner.send_log.by ≡ sender.old.inner.send_log.by }
+    requires same_gates { IsSenderOf system.now.gates sender.old }
+    ensures same_gates { IsSenderOf system.now.gates sender.new }
+    ensures same_sender { sender.new.send_log.by ≡ sender.old.send_log.by }
 {
     match call {
         SenderCall::Tell(to, payload) => {
-            Some(SenderAnswer::Put(sender.tell(rt, system, to, payload)))
+            Some(SenderAnswer::Put(sender.tell(rt, &system.gates, to, payload)))
         }
-        SenderCall::Stop(id) => Some(SenderAnswer::Stopped(sender.stop(rt, system, id))),
-        SenderCall::Look(to) => Some(SenderAnswer::Seen(sender.look(system, to))),
+        SenderCall::Stop(id) => Some(SenderAnswer::Stopped(sender.stop(rt, &system.gates, id))),
+        SenderCall::Look(to) => Some(SenderAnswer::Seen(sender.look(&system.gates, to))),
         SenderCall::Put(ticket, payload) => put(rt, system, sender, ticket, payload),
     }
 }
@@ -60,13 +60,13 @@ fn put<A: Actor, K: Behaviours, R: Wait>(
     ticket: Ticket,
     payload: Payload,
 ) -> Option<SenderAnswer>
-    requires same_gates { IsSenderOf system.now.gates sender.old.inner }
-    ensures same_gates { IsSenderOf system.now.gates sender.new.inner }
-    ensures same_sender { sender.new.inner.send_log.by ≡ sender.old.inner.send_log.by }
+    requires same_gates { IsSenderOf system.now.gates sender.old }
+    ensures same_gates { IsSenderOf system.now.gates sender.new }
+    ensures same_sender { sender.new.send_log.by ≡ sender.old.send_log.by }
 {
     let to = ticket.receiver();
     if to.0 == 0 || to.0 as usize >= system.gates.actors() {
         return None;
     }
-    Some(SenderAnswer::Put(sender.put(rt, system, ticket, payload)))
+    Some(SenderAnswer::Put(sender.put(rt, &system.gates, ticket, payload)))
 }

@@ -1,7 +1,6 @@
 //! A sender's feed of the pool, as a run queue for its claims.
 ghost use Rattle.std.specs.Prelude.{◌≡◌};
 
-use crate::back::back;
 use crate::feed::Feed;
 use mb_gate::{Claim, MailboxState, RefusedClaim, RunQueue};
 use mb_ghost::Log;
@@ -67,7 +66,7 @@ impl<H: MailboxState> RunQueue<H> for FeedPort<H> {
         match self.feed.push(rt, claim) {
             Ok(()) => Ok(()),
             Err(refused) => {
-                let claim = back(refused);
+                let claim = refused.into_claim();
                 self.refused.add(Snapshot::of(&claim));
                 Err(RefusedClaim { claim })
             }

@@ -13,7 +13,6 @@
 //! reason of the pool's.
 #![tactic(auto)]
 
-mod back;
 mod claim_refused;
 mod deque;
 mod end;

@@ -7,7 +7,6 @@ ghost use Rattle.mb_pool.specs.Places.{gates_of, ports_of, parts_of};
 ghost use Rattle.mb_pool.specs.PoolPorts.{IsRefusedByPool};
 ghost use Rattle.mb_pool.specs.WorkerPorts.{PutsClaim, RefusesClaim, TakesClaim};
 
-use crate::back::back;
 use crate::end::PoolEnd;
 use mb_gate::{Claim, MailboxState, PooledClaim, RefusedClaim, RunQueue};
 use mb_ghost::Log;
@@ -179,7 +178,7 @@ impl<H: MailboxState> WorkerPort<H> {
                 Ok(())
             }
             Err(refused) => {
-                let claim = back(refused);
+                let claim = refused.into_claim();
                 self.refused.add(known);
                 Err(RefusedClaim { claim })
             }

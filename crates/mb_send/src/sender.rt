@@ -12,7 +12,7 @@ use crate::send_error::SendError;
 use crate::send_log::SendLog;
 use crate::ticket::{Look, Ticket};
 use mb_dead_letters::DeadLetters;
-use mb_gate::{Gates, MailboxState, RunQueue};
+use mb_gate::{Gates, MailboxState, Pass, RunQueue};
 use mb_msg::{ActorId, SenderId};
 use mb_queue::SendPass;
 use mb_register::Registrar;
@@ -78,5 +78,32 @@ impl<H: MailboxState, W: RunQueue<H>> GatesSender<H, W> {
             return Ok(Look::Closed);
         }
         Ok(Look::Open(Ticket { to }))
+    }
+}
+
+impl<H, W: Drop> GatesSender<H, W> {
+    /// What the sender knows, its passes into the queues, and what it was answered; its port of the run queue is dropped.
+    pub fn into_parts(self) -> (Pass<H>, Vec<SendPass>, SendLog)
+        ensures { (result.0 ≡ self.registrar.pass) × (result.1 ≡ self.sends) × (result.2 ≡ self.send_log) }
+    {
+        let GatesSender {
+            registrar,
+            sends,
+            send_log,
+            alloc: _,
+        } = self;
+        let Registrar {
+            pass,
+            run_queue: _,
+            owed: _,
+            told: _,
+        } = registrar;
+        (pass, sends, send_log)
+    }
+}
+
+impl<H, W: Drop> Drop for GatesSender<H, W> {
+    fn drop(self) {
+        let _ = self.into_parts();
     }
 }

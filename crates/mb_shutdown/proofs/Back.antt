@@ -21,10 +21,9 @@ use Rattle.mb_report.specs.declared.report.ActorReport.{ActorReport}
 use Rattle.mb_report.specs.declared.report.Report.{Report}
 use Rattle.mb_pool.specs.WorkerPorts.{WorkerPortView}
 use Rattle.mb_system.specs.Belonging.{BelongsTogether, senders_numbers}
-use Rattle.mb_system.specs.Members.{IsEndOf, IsSenderOf, ends_numbers}
+use Rattle.mb_system.specs.Members.{IsEndOf, IsSenderOf, OutsideSender, ends_numbers}
 use Rattle.mb_system.specs.declared.built.Built.{Built}
 use Rattle.mb_system.specs.declared.end.WorkerEnd.{WorkerEnd}
-use Rattle.mb_system.specs.declared.sender.Sender.{Sender}
 use Rattle.mb_system.specs.declared.system.System.{System}
 use Rattle.mb_shutdown.specs.Belonging.{AreThere, HasAllSeen, HasRead, OnlyFirstEndRead, WasFoundIdle}
 use Rattle.mb_shutdown.specs.Refused.{FindsIdle, FindsBusy, IsComplete, LeavesCounted}
@@ -135,14 +134,14 @@ module _ {A K : Type 0} where
 
   pub back-together : (old new : Built A K) (before after : View) → OnlyFirstEndRead old new before after → BelongsTogether old → BelongsTogether new
   back-together old new before after back together =
-      let same : ◌≡◌ {A = System A K × List (Sender A K)} (old.system, old.senders.items) (new.system, new.senders.items) =
+      let same : ◌≡◌ {A = System A K × List OutsideSender} (old.system, old.senders.items) (new.system, new.senders.items) =
       λ i. (sym back.system i, sym back.senders i) in
       record {
         ends = back-ends old new before after back together.ends;
-        senders = subst (λ (p : System A K × List (Sender A K)). All (λ (s : Sender A K). IsSenderOf p.0.gates s.inner) p.1) same together.senders;
-        once = subst (λ (l : List (Sender A K)). AllPairs (λ a b. a ≢ b) (senders_numbers l)) (sym back.senders) together.once;
-        numbered = subst (λ (p : System A K × List (Sender A K)). All (λ (s : Sender A K). (64 ≤ s.inner.send_log.by.0)
-            × (s.inner.send_log.by.0 < 64 + p.0.senders)) p.1) same together.numbered;
+        senders = subst (λ (p : System A K × List OutsideSender). All (λ (s : OutsideSender). IsSenderOf p.0.gates s) p.1) same together.senders;
+        once = subst (λ (l : List OutsideSender). AllPairs (λ a b. a ≢ b) (senders_numbers l)) (sym back.senders) together.once;
+        numbered = subst (λ (p : System A K × List OutsideSender). All (λ (s : OutsideSender). (64 ≤ s.send_log.by.0)
+            × (s.send_log.by.0 < 64 + p.0.senders)) p.1) same together.numbered;
       }
 
   pub back-complete : (old new : Built A K) (before after : View) → OnlyFirstEndRead old new before after → IsComplete old → IsComplete new
@@ -150,7 +149,7 @@ module _ {A K : Type 0} where
       let ends : ends_numbers old.ends.items ≡ ends_numbers new.ends.items =
       ap ends_numbers back.was ∙ ap (λ n. n ∷ ends_numbers back.rest) (sym back.others.0) ∙ ap ends_numbers (sym back.is) in (
         subst (λ (p : System A K × List ℕ). AreThere p.0.workers p.1) (λ i. (sym back.system i, ends i)) complete.0,
-        subst (λ (p : System A K × List (Sender A K)). AreThere p.0.senders (senders_numbers p.1))
+        subst (λ (p : System A K × List OutsideSender). AreThere p.0.senders (senders_numbers p.1))
             (λ i. (sym back.system i, sym back.senders i)) complete.1,
       )
 
@@ -223,7 +222,7 @@ module _ {A K : Type 0} where
   pub all-seen : (many : ℕ) (old new : Built A K) (log : List Observation) → HasRead (FindsIdle many) old new → HasAllSeen new log → HasAllSeen old log
   all-seen many old new log found all = (
     ends-seen old new found.0 found.1 log found.2 (found-part many found.0 found.1 found.3) all.0,
-    All-same (λ (s : Sender A K). IsPart (seen_by_sender s) log) old.senders.items new.senders.items (sym found.2.senders) all.1,
+    All-same (λ (s : OutsideSender). IsPart (seen_by_sender s) log) old.senders.items new.senders.items (sym found.2.senders) all.1,
   )
 
   pub was-settled : (old new : Built A K) (log : List Observation) → HasRead (FindsIdle (actors_of old.system.gates)) old new

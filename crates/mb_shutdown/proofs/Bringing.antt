@@ -31,8 +31,7 @@ use Rattle.mb_shutdown.proofs.Gathering.{number-inside, number-outside}
 use Rattle.mb_shutdown.proofs.Lists.{alike, each-place, length-mapped, mapped, there}
 use Rattle.mb_system.specs.Belonging.{senders_numbers}
 use Rattle.mb_system.specs.KnownSenders.{AreKnown, IsKnown}
-use Rattle.mb_system.specs.Members.{IsSenderOf}
-use Rattle.mb_system.specs.declared.sender.Sender.{Sender}
+use Rattle.mb_system.specs.Members.{IsSenderOf, OutsideSender}
 use Rattle.mb_shutdown.specs.Belonging.{AreAnswers, AreSendPasses, brings, brought}
 use Rattle.mb_shutdown.proofs.Gathered.{seen_by_sender}
 use Rattle.mb_shutdown.proofs.Parts.{AllSeen}
@@ -83,93 +82,92 @@ number-at first zero i lt = absurd (omega (arith, lt))
 number-at first (suc count) zero lt = ap Some (omega arith)
 number-at first (suc count) (suc i) lt = number-at (first + 1) count i (omega (arith, lt)) ∙ ap Some (omega arith)
 
-module _ {A K : Type 0} where
-  -- what came of each sender, in their order, is what it brought
-  abbrev pub AreBrought : List (Sender A K) → List FinishedSender → Type 0
-  AreBrought senders outside =
-      map brought outside ≡ map brings senders
+-- what came of each sender, in their order, is what it brought
+abbrev pub AreBrought : List OutsideSender → List FinishedSender → Type 0
+AreBrought senders outside =
+    map brought outside ≡ map brings senders
 
-  pub outsiders : (gates : Gates (Box Contents)) (log : List Observation) (place : ℕ) (senders : List (Sender A K)) (outside : List FinishedSender)
-      → All (λ (s : Sender A K). IsSenderOf gates s.inner) senders → AllSeen seen_by_sender senders log
-      → All (λ (s : Sender A K). 64 ≤ s.inner.send_log.by.0) senders → senders_numbers senders ≡ numbers place (length senders)
-      → AreBrought senders outside → AreFinishedSenders (first_home gates).value.directory log (64 + place) outside
-  outsiders gates log place [] [] ours seen least numbered same_all = tt
-  outsiders gates log place [] (o ∷ outside) ours seen least numbered same_all = absurd (let e = ap length same_all in omega (arith, e))
-  outsiders gates log place (s ∷ senders) [] ours seen least numbered same_all = tt
-  outsiders gates log place (s ∷ senders) (o ∷ outside) ours seen least numbered same_all =
-      let one = All-head (λ (s : Sender A K). IsSenderOf gates s.inner) s senders ours in
-      let low = All-head (λ (s : Sender A K). 64 ≤ s.inner.send_log.by.0) s senders least in
-      let part = All-head (λ (s : Sender A K). IsPart (seen_by_sender s) log) s senders seen in
-      let number : s.inner.send_log.by.0 - 64 ≡ place = same_Some (s.inner.send_log.by.0 - 64) place (ap (λ l. slice_get l 0) numbered) in
-      let same = alike brought brings (o ∷ outside)
-      (s ∷ senders) 0 o s same_all refl refl in
-      let by : o.send_log.by.0 ≡ s.inner.send_log.by.0 = ap (λ (p : List SendPassView × SendLog). p.1.by.0) same in
-      let rest = outsiders gates log (place + 1) senders outside (All-tail (λ (s : Sender A K). IsSenderOf gates s.inner) s senders ours)
-      (All-tail (λ (s : Sender A K). IsPart (seen_by_sender s) log) s senders seen)
-      (All-tail (λ (s : Sender A K). 64 ≤ s.inner.send_log.by.0) s senders least) (ap (drop 1) numbered) (ap (drop 1) same_all) in (
-        record {
-          number_is = omega (arith, by, number, low);
-          queues = ap (λ (p : List SendPassView × SendLog). receiving_queues p.0) same ∙ one.queues;
-          routes = subst (λ (p : List SendPassView × SendLog). AreRoutes p.1.by.0 p.1.posted p.0) (sym same) s.inner.routes;
-          was_seen_closed = subst (λ (p : List SendPassView × SendLog). were_seen_closed log (dead_letters p.1.posted) ≡ true) (sym same)
-              (was_seen_closed-in (seen_by_sender s) log (dead_letters s.inner.send_log.posted) part s.inner.was_seen_closed);
-          bounded = subst (λ (p : List SendPassView × SendLog). are_of_bounded (receiving_queues p.0) (dead_letters p.1.posted) ≡ true) (sym same)
-              s.inner.bounded;
-        },
-        subst (λ (n : ℕ). AreFinishedSenders (first_home gates).value.directory log n outside)
-            (let sum : 64 + (place + 1) ≡ 64 + place + 1 = omega arith in sum) rest,
-      )
+pub outsiders : (gates : Gates (Box Contents)) (log : List Observation) (place : ℕ) (senders : List OutsideSender) (outside : List FinishedSender)
+    → All (λ (s : OutsideSender). IsSenderOf gates s) senders → AllSeen seen_by_sender senders log
+    → All (λ (s : OutsideSender). 64 ≤ s.send_log.by.0) senders → senders_numbers senders ≡ numbers place (length senders)
+    → AreBrought senders outside → AreFinishedSenders (first_home gates).value.directory log (64 + place) outside
+outsiders gates log place [] [] ours seen least numbered same_all = tt
+outsiders gates log place [] (o ∷ outside) ours seen least numbered same_all = absurd (let e = ap length same_all in omega (arith, e))
+outsiders gates log place (s ∷ senders) [] ours seen least numbered same_all = tt
+outsiders gates log place (s ∷ senders) (o ∷ outside) ours seen least numbered same_all =
+    let one = All-head (λ (s : OutsideSender). IsSenderOf gates s) s senders ours in
+    let low = All-head (λ (s : OutsideSender). 64 ≤ s.send_log.by.0) s senders least in
+    let part = All-head (λ (s : OutsideSender). IsPart (seen_by_sender s) log) s senders seen in
+    let number : s.send_log.by.0 - 64 ≡ place = same_Some (s.send_log.by.0 - 64) place (ap (λ l. slice_get l 0) numbered) in
+    let same = alike brought brings (o ∷ outside)
+    (s ∷ senders) 0 o s same_all refl refl in
+    let by : o.send_log.by.0 ≡ s.send_log.by.0 = ap (λ (p : List SendPassView × SendLog). p.1.by.0) same in
+    let rest = outsiders gates log (place + 1) senders outside (All-tail (λ (s : OutsideSender). IsSenderOf gates s) s senders ours)
+    (All-tail (λ (s : OutsideSender). IsPart (seen_by_sender s) log) s senders seen)
+    (All-tail (λ (s : OutsideSender). 64 ≤ s.send_log.by.0) s senders least) (ap (drop 1) numbered) (ap (drop 1) same_all) in (
+      record {
+        number_is = omega (arith, by, number, low);
+        queues = ap (λ (p : List SendPassView × SendLog). receiving_queues p.0) same ∙ one.queues;
+        routes = subst (λ (p : List SendPassView × SendLog). AreRoutes p.1.by.0 p.1.posted p.0) (sym same) s.routes;
+        was_seen_closed = subst (λ (p : List SendPassView × SendLog). were_seen_closed log (dead_letters p.1.posted) ≡ true) (sym same)
+            (was_seen_closed-in (seen_by_sender s) log (dead_letters s.send_log.posted) part s.was_seen_closed);
+        bounded = subst (λ (p : List SendPassView × SendLog). are_of_bounded (receiving_queues p.0) (dead_letters p.1.posted) ≡ true) (sym same)
+            s.bounded;
+      },
+      subst (λ (n : ℕ). AreFinishedSenders (first_home gates).value.directory log n outside)
+          (let sum : 64 + (place + 1) ≡ 64 + place + 1 = omega arith in sum) rest,
+    )
 
-  -- what each brought is listed in its place
-  module _ {Y : Type 0} (f : List SendPassView × SendLog → Y) (many : ℕ) (was now : List (Sender A K)) (outside : List FinishedSender)
-      (count : length now ≡ many) (same : IsPermutation now was) (numbered : senders_numbers now ≡ numbers 0 (length now))
-      (same_all : AreBrought now outside) where
-    as_many : length outside ≡ length now
-    as_many = sym (length-mapped brought outside) ∙ ap length same_all ∙ length-mapped brings now
+-- what each brought is listed in its place
+module _ {Y : Type 0} (f : List SendPassView × SendLog → Y) (many : ℕ) (was now : List OutsideSender) (outside : List FinishedSender)
+    (count : length now ≡ many) (same : IsPermutation now was) (numbered : senders_numbers now ≡ numbers 0 (length now))
+    (same_all : AreBrought now outside) where
+  as_many : length outside ≡ length now
+  as_many = sym (length-mapped brought outside) ∙ ap length same_all ∙ length-mapped brings now
 
-    brought-many : length (map (λ (o : FinishedSender). f (brought o)) outside) ≡ many
-    brought-many = length-mapped (λ (o : FinishedSender). f (brought o)) outside ∙ as_many ∙ count
+  brought-many : length (map (λ (o : FinishedSender). f (brought o)) outside) ≡ many
+  brought-many = length-mapped (λ (o : FinishedSender). f (brought o)) outside ∙ as_many ∙ count
 
-    abbrev IsListed : Sender A K → Type 0
-    IsListed s = slice_get (map (λ (o : FinishedSender). f (brought o)) outside) (s.inner.send_log.by.0 - 64) ≡ Some (f (brings s))
+  abbrev IsListed : OutsideSender → Type 0
+  IsListed s = slice_get (map (λ (o : FinishedSender). f (brought o)) outside) (s.send_log.by.0 - 64) ≡ Some (f (brings s))
 
-    brought-each : All IsListed was
-    brought-each =
-        let number = λ (s : Sender A K). s.inner.send_log.by.0 - 64 in
-        All-permutation IsListed now was same (each-place IsListed now (λ i s is.
-        (let lt = slice_get_within now i s is in
-        let place : s.inner.send_log.by.0 - 64 ≡ i = same_Some (s.inner.send_log.by.0 - 64) i
-        (sym (mapped number now i s is) ∙ ap (λ l. slice_get l i) numbered ∙ number-at 0 (length now) i lt ∙ ap Some (let none : 0 + i ≡ i = omega arith in none)) in
-        let one = there outside i (omega (arith, lt, as_many)) in
-        let e = alike brought brings outside now i one.0 s same_all one.1 is in
-        ap (slice_get (map (λ (o : FinishedSender). f (brought o)) outside)) place
-        ∙ mapped (λ (o : FinishedSender). f (brought o)) outside i one.0 one.1 ∙ ap (λ (p : List SendPassView × SendLog). Some (f p)) e)))
+  brought-each : All IsListed was
+  brought-each =
+      let number = λ (s : OutsideSender). s.send_log.by.0 - 64 in
+      All-permutation IsListed now was same (each-place IsListed now (λ i s is.
+      (let lt = slice_get_within now i s is in
+      let place : s.send_log.by.0 - 64 ≡ i = same_Some (s.send_log.by.0 - 64) i
+      (sym (mapped number now i s is) ∙ ap (λ l. slice_get l i) numbered ∙ number-at 0 (length now) i lt ∙ ap Some (let none : 0 + i ≡ i = omega arith in none)) in
+      let one = there outside i (omega (arith, lt, as_many)) in
+      let e = alike brought brings outside now i one.0 s same_all one.1 is in
+      ap (slice_get (map (λ (o : FinishedSender). f (brought o)) outside)) place
+      ∙ mapped (λ (o : FinishedSender). f (brought o)) outside i one.0 one.1 ∙ ap (λ (p : List SendPassView × SendLog). Some (f p)) e)))
 
-  -- each was answered what is listed in its place
-  pub answers : (many : ℕ) (was now : List (Sender A K)) (outside : List FinishedSender) → length now ≡ many → IsPermutation now was
-      → senders_numbers now ≡ numbers 0 (length now) → AreBrought now outside
-      → AreAnswers many was (map (λ (o : FinishedSender). o.send_log.posted) outside)
-  answers many was now outside count same numbered same_all = record {
-    length_is = brought-many (λ p. p.1.posted) many was now outside count same numbered same_all;
-    each = brought-each (λ p. p.1.posted) many was now outside count same numbered same_all;
-  }
+-- each was answered what is listed in its place
+pub answers : (many : ℕ) (was now : List OutsideSender) (outside : List FinishedSender) → length now ≡ many → IsPermutation now was
+    → senders_numbers now ≡ numbers 0 (length now) → AreBrought now outside
+    → AreAnswers many was (map (λ (o : FinishedSender). o.send_log.posted) outside)
+answers many was now outside count same numbered same_all = record {
+  length_is = brought-many (λ p. p.1.posted) many was now outside count same numbered same_all;
+  each = brought-each (λ p. p.1.posted) many was now outside count same numbered same_all;
+}
 
-  -- what each keeps of its dead letters is listed in its place
-  pub kept-in-place : (many : ℕ) (was now : List (Sender A K)) (outside : List FinishedSender) → length now ≡ many → IsPermutation now was
-      → senders_numbers now ≡ numbers 0 (length now) → AreBrought now outside
-      → All (λ (s : Sender A K). slice_get (map (λ (o : FinishedSender). o.send_log.dead.retention) outside) (s.inner.send_log.by.0 - 64)
-      ≡ Some s.inner.send_log.dead.retention) was
-  kept-in-place many was now outside count same numbered same_all =
-      brought-each (λ p. p.1.dead.retention) many was now outside count same numbered same_all
+-- what each keeps of its dead letters is listed in its place
+pub kept-in-place : (many : ℕ) (was now : List OutsideSender) (outside : List FinishedSender) → length now ≡ many → IsPermutation now was
+    → senders_numbers now ≡ numbers 0 (length now) → AreBrought now outside
+    → All (λ (s : OutsideSender). slice_get (map (λ (o : FinishedSender). o.send_log.dead.retention) outside) (s.send_log.by.0 - 64)
+    ≡ Some s.send_log.dead.retention) was
+kept-in-place many was now outside count same numbered same_all =
+    brought-each (λ p. p.1.dead.retention) many was now outside count same numbered same_all
 
-  -- and so are the passes of each
-  pub passes-in-place : (many : ℕ) (was now : List (Sender A K)) (outside : List FinishedSender) → length now ≡ many → IsPermutation now was
-      → senders_numbers now ≡ numbers 0 (length now) → AreBrought now outside
-      → AreSendPasses many was (map (λ (o : FinishedSender). o.sends.items) outside)
-  passes-in-place many was now outside count same numbered same_all = record {
-    length_is = brought-many (λ p. p.0) many was now outside count same numbered same_all;
-    each = brought-each (λ p. p.0) many was now outside count same numbered same_all;
-  }
+-- and so are the passes of each
+pub passes-in-place : (many : ℕ) (was now : List OutsideSender) (outside : List FinishedSender) → length now ≡ many → IsPermutation now was
+    → senders_numbers now ≡ numbers 0 (length now) → AreBrought now outside
+    → AreSendPasses many was (map (λ (o : FinishedSender). o.sends.items) outside)
+passes-in-place many was now outside count same numbered same_all = record {
+  length_is = brought-many (λ p. p.0) many was now outside count same numbered same_all;
+  each = brought-each (λ p. p.0) many was now outside count same numbered same_all;
+}
 
 -- ---- who may send
 

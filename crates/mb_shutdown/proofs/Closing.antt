@@ -18,10 +18,9 @@ use Rattle.mb_shutdown.specs.declared.finished_sender.FinishedSender.{FinishedSe
 use Rattle.mb_shutdown.proofs.Lists.{length-mapped}
 use Rattle.mb_report.specs.declared.report.Report.{Report}
 use Rattle.mb_system.specs.Belonging.{BelongsTogether, senders_numbers}
-use Rattle.mb_system.specs.Members.{IsSenderOf}
+use Rattle.mb_system.specs.Members.{IsSenderOf, OutsideSender}
 use Rattle.mb_system.specs.declared.built.Built.{Built}
 use Rattle.mb_system.specs.declared.end.WorkerEnd.{WorkerEnd}
-use Rattle.mb_system.specs.declared.sender.Sender.{Sender}
 use Rattle.mb_system.specs.declared.system.System.{System}
 use Rattle.mb_shutdown.specs.Belonging.{AreAnswers, AreSendPasses, HasAllSeen, HasRead, AllFoundIdle, brings, brought}
 use Rattle.mb_shutdown.specs.Refused.{FindsIdle, IsComplete}
@@ -37,14 +36,14 @@ module _ {A K : Type 0} where
     pub gates_are : gates ≡ built.system.gates
     pub settled : AllFoundIdle built
     pub seen : HasAllSeen built log
-    pub now : List (Sender A K)
+    pub now : List OutsideSender
     pub same : IsPermutation now built.senders.items
     pub numbered : senders_numbers now ≡ numbers 0 built.system.senders
     pub shown : map brought outside ≡ map brings now
 
   pub gathered : (old new : Built A K) (gates : Gates (Box Contents)) (log : List Observation) (outside : List FinishedSender)
       → HasRead (FindsIdle (actors_of old.system.gates)) old new → gates ≡ new.system.gates → HasAllSeen new log
-      → (senders : List (Sender A K)) × IsPermutation senders new.senders.items × (senders_numbers senders ≡ numbers 0 new.system.senders)
+      → (senders : List OutsideSender) × IsPermutation senders new.senders.items × (senders_numbers senders ≡ numbers 0 new.system.senders)
       × (map brought outside ≡ map brings senders) → IsGathered old gates log outside
   gathered old new gates log outside found are seen came =
       let many = actors_of old.system.gates in
@@ -53,7 +52,7 @@ module _ {A K : Type 0} where
         settled = (log, all, was-settled old new log found seen.0);
         seen = all;
         now = came.0;
-        same = subst (λ (l : List (Sender A K)). IsPermutation came.0 l) found.2.senders came.1;
+        same = subst (λ (l : List OutsideSender). IsPermutation came.0 l) found.2.senders came.1;
         numbered = came.2 ∙ ap (λ (s : System A K). numbers 0 s.senders) found.2.system;
         shown = came.3;
       }
@@ -77,11 +76,11 @@ module _ {A K : Type 0} (built : Built A K) (gates : Gates (Box Contents)) (log 
   pub came-outside : AreFinishedSenders (first_home gates).value.directory log 64 outside
   came-outside =
       outsiders gates log 0 came.now outside
-      (All-permutation (λ (s : Sender A K). IsSenderOf gates s.inner) built.senders.items came.now back
-      (subst (λ (g : Gates (Box Contents)). All (λ (s : Sender A K). IsSenderOf g s.inner) built.senders.items) (sym came.gates_are)
+      (All-permutation (λ (s : OutsideSender). IsSenderOf gates s) built.senders.items came.now back
+      (subst (λ (g : Gates (Box Contents)). All (λ (s : OutsideSender). IsSenderOf g s) built.senders.items) (sym came.gates_are)
       together.senders))
-      (All-permutation (λ (s : Sender A K). IsPart (seen_by_sender s) log) built.senders.items came.now back came.seen.1)
-      (All-permutation (λ (s : Sender A K). 64 ≤ s.inner.send_log.by.0) built.senders.items came.now back
+      (All-permutation (λ (s : OutsideSender). IsPart (seen_by_sender s) log) built.senders.items came.now back came.seen.1)
+      (All-permutation (λ (s : OutsideSender). 64 ≤ s.send_log.by.0) built.senders.items came.now back
       (outside-all built.system.senders built.senders.items together.numbered)) in-places came.shown
 
   pub came-known : HasKnownSenders (first_home gates).value.directory (length outside)
@@ -93,8 +92,8 @@ module _ {A K : Type 0} (built : Built A K) (gates : Gates (Box Contents)) (log 
   pub came-answers : AreAnswers built.system.senders built.senders.items (map (λ (o : FinishedSender). o.send_log.posted) outside)
   came-answers = answers built.system.senders built.senders.items came.now outside now-many came.same in-places came.shown
 
-  pub came-kept : All (λ (s : Sender A K). slice_get (map (λ (o : FinishedSender). o.send_log.dead.retention) outside) (s.inner.send_log.by.0 - 64)
-      ≡ Some s.inner.send_log.dead.retention) built.senders.items
+  pub came-kept : All (λ (s : OutsideSender). slice_get (map (λ (o : FinishedSender). o.send_log.dead.retention) outside) (s.send_log.by.0 - 64)
+      ≡ Some s.send_log.dead.retention) built.senders.items
   came-kept = kept-in-place built.system.senders built.senders.items came.now outside now-many came.same in-places came.shown
 
   pub came-passes : AreSendPasses built.system.senders built.senders.items (map (λ (o : FinishedSender). o.sends.items) outside)
@@ -103,11 +102,11 @@ module _ {A K : Type 0} (built : Built A K) (gates : Gates (Box Contents)) (log 
   -- the report goes on from what each end and each sender saw
   pub goes-on : (report : Report) (v : View) → v.log ≡ log → ReportExtendsAll report v
       → All (λ (e : WorkerEnd A K). ReportExtendsAll report (pass_view e.registrar.pass)) built.ends.items
-      × All (λ (s : Sender A K). ReportExtendsAll report (pass_view s.inner.registrar.pass)) built.senders.items
+      × All (λ (s : OutsideSender). ReportExtendsAll report (pass_view s.registrar.pass)) built.senders.items
   goes-on report v is all = (
     All-weaker (λ (e : WorkerEnd A K). IsPart (seen_by_end e) log) (λ (e : WorkerEnd A K). ReportExtendsAll report (pass_view e.registrar.pass))
         (λ e part. each-part (ReportExtends report) (seen_by_end e) v.log (subst (IsPart (seen_by_end e)) (sym is) part) all) built.ends.items came.seen.0,
-    All-weaker (λ (s : Sender A K). IsPart (seen_by_sender s) log) (λ (s : Sender A K). ReportExtendsAll report (pass_view s.inner.registrar.pass))
+    All-weaker (λ (s : OutsideSender). IsPart (seen_by_sender s) log) (λ (s : OutsideSender). ReportExtendsAll report (pass_view s.registrar.pass))
         (λ s part. each-part (ReportExtends report) (seen_by_sender s) v.log (subst (IsPart (seen_by_sender s)) (sym is) part) all) built.senders.items
         came.seen.1,
   )

@@ -11,9 +11,8 @@ use Rattle.mb_gate.specs.declared.gates.Gates.{Gates}
 use Rattle.mb_gate.specs.declared.pass.Pass.{Pass}
 use Rattle.mb_home.specs.Contents.{Contents}
 use Rattle.mb_shutdown.specs.declared.finished_sender.FinishedSender.{FinishedSender}
-use Rattle.mb_system.specs.Members.{IsEndOf, IsSenderOf}
+use Rattle.mb_system.specs.Members.{IsEndOf, IsSenderOf, OutsideSender}
 use Rattle.mb_system.specs.declared.end.WorkerEnd.{WorkerEnd}
-use Rattle.mb_system.specs.declared.sender.Sender.{Sender}
 use Rattle.mb_shutdown.specs.Belonging.{brings, brought}
 use Rattle.mb_shutdown.proofs.Parts.{AllSeen, part-back, part-same, seen-by, seen-more}
 use Rattle.mb_shutdown.proofs.Sums.{HasAll, all-of-more, all-of-one}
@@ -28,18 +27,18 @@ module _ {X : Type 0} where
   of-next P (y ∷ came) x rest all is each =
       of-next P came x rest (came ++ (x ∷ rest)) refl (All-tail P y (came ++ (x ∷ rest)) (All-same P (y ∷ came ++ (x ∷ rest)) all is each))
 
+abbrev pub view_of_sender : OutsideSender → View
+view_of_sender s = pass_view s.registrar.pass
+
+abbrev pub seen_by_sender : OutsideSender → List Observation
+seen_by_sender s = (pass_view s.registrar.pass).log
+
 module _ {A K : Type 0} where
   abbrev pub view_of_end : WorkerEnd A K → View
   view_of_end e = pass_view e.registrar.pass
 
-  abbrev pub view_of_sender : Sender A K → View
-  view_of_sender s = pass_view s.inner.registrar.pass
-
   abbrev pub seen_by_end : WorkerEnd A K → List Observation
   seen_by_end e = (pass_view e.registrar.pass).log
-
-  abbrev pub seen_by_sender : Sender A K → List Observation
-  seen_by_sender s = (pass_view s.inner.registrar.pass).log
 
   -- the pass is of the gates, and knows what the first of these ends and those that came have seen
   pub record HasEnds (gates : Gates (Box Contents)) (ends came rest : List (WorkerEnd A K)) (pass : Pass (Box Contents)) : Type 0 where
@@ -103,7 +102,7 @@ module _ {A K : Type 0} where
       (sym (append-nil (has.knows.first ∷ came)) ∙ ap (λ l. (has.knows.first ∷ came) ++ l) (sym none) ∙ has.knows.are) (has.knows.seen, has.all)
 
   -- the pass is of the gates, knows what all ends and those senders that came have seen, and has all that they have; these brought this
-  pub record HasSenders (gates : Gates (Box Contents)) (ends : List (WorkerEnd A K)) (senders came rest : List (Sender A K))
+  pub record HasSenders (gates : Gates (Box Contents)) (ends : List (WorkerEnd A K)) (senders came rest : List OutsideSender)
       (pass : Pass (Box Contents)) (outside : List FinishedSender) : Type 0 where
     pub same_gates : pass_id pass ≡ gates_id gates
     pub ends_seen : AllSeen seen_by_end ends (pass_view pass).log
@@ -112,7 +111,7 @@ module _ {A K : Type 0} where
     pub all : HasAll (map view_of_end ends ++ map view_of_sender came) (pass_view pass)
     pub shown : map brought outside ≡ map brings came
 
-  pub senders-first : (gates : Gates (Box Contents)) (ends : List (WorkerEnd A K)) (senders rest : List (Sender A K)) (pass : Pass (Box Contents))
+  pub senders-first : (gates : Gates (Box Contents)) (ends : List (WorkerEnd A K)) (senders rest : List OutsideSender) (pass : Pass (Box Contents))
       (outside : List FinishedSender) → pass_id pass ≡ gates_id gates
       → AllSeen seen_by_end ends (pass_view pass).log × HasAll (map view_of_end ends) (pass_view pass) → rest ≡ senders → outside ≡ []
       → HasSenders gates ends senders [] rest pass outside
@@ -120,22 +119,22 @@ module _ {A K : Type 0} where
     same_gates = ours;
     ends_seen = joined.0;
     are = are;
-    seen = All-nil (λ (s : Sender A K). IsPart (seen_by_sender s) (pass_view pass).log);
+    seen = All-nil (λ (s : OutsideSender). IsPart (seen_by_sender s) (pass_view pass).log);
     all = subst (λ l. HasAll l (pass_view pass)) (sym (append-nil (map view_of_end ends))) joined.1;
     shown = ap (map brought) none;
   }
 
-  pub sender-ours : (gates : Gates (Box Contents)) (ends : List (WorkerEnd A K)) (senders came left rest : List (Sender A K)) (s : Sender A K)
+  pub sender-ours : (gates : Gates (Box Contents)) (ends : List (WorkerEnd A K)) (senders came left rest : List OutsideSender) (s : OutsideSender)
       (pass other : Pass (Box Contents)) (outside : List FinishedSender) → HasSenders gates ends senders came left pass outside → left ≡ s ∷ rest
-      → other ≡ s.inner.registrar.pass → All (λ (x : Sender A K). IsSenderOf gates x.inner) senders → pass_id other ≡ gates_id gates
+      → other ≡ s.registrar.pass → All (λ (x : OutsideSender). IsSenderOf gates x) senders → pass_id other ≡ gates_id gates
   sender-ours gates ends senders came left rest s pass other outside has next is all =
       ap pass_id is
-      ∙ (of-next (λ (x : Sender A K). IsSenderOf gates x.inner) came s rest senders (ap (λ l. came ++ l) (sym next) ∙ has.are) all).same_gates.0
+      ∙ (of-next (λ (x : OutsideSender). IsSenderOf gates x) came s rest senders (ap (λ l. came ++ l) (sym next) ∙ has.are) all).same_gates.0
 
-  pub senders-more : (gates : Gates (Box Contents)) (ends : List (WorkerEnd A K)) (senders came left rest : List (Sender A K)) (s : Sender A K)
+  pub senders-more : (gates : Gates (Box Contents)) (ends : List (WorkerEnd A K)) (senders came left rest : List OutsideSender) (s : OutsideSender)
       (old new other : Pass (Box Contents)) (outside outside' : List FinishedSender) (o : FinishedSender)
-      → HasSenders gates ends senders came left old outside → left ≡ s ∷ rest → other ≡ s.inner.registrar.pass → pass_id new ≡ pass_id old
-      → pass_view new ≡ taking_over (pass_view old) (pass_view other) → outside' ≡ outside ++ o ∷ [] → o.sends ≡ s.inner.sends → o.send_log ≡ s.inner.send_log
+      → HasSenders gates ends senders came left old outside → left ≡ s ∷ rest → other ≡ s.registrar.pass → pass_id new ≡ pass_id old
+      → pass_view new ≡ taking_over (pass_view old) (pass_view other) → outside' ≡ outside ++ o ∷ [] → o.sends ≡ s.sends → o.send_log ≡ s.send_log
       → HasSenders gates ends senders (came ++ s ∷ []) rest new outside'
   senders-more gates ends senders came left rest s old new other outside outside' o has next is same knows more sends send_log =
       let log : (pass_view new).log ≡ seen_by_sender s ++ (pass_view old).log =
@@ -155,7 +154,7 @@ module _ {A K : Type 0} where
             ∙ (λ i. has.shown i ++ ((sends i).items, send_log i) ∷ []) ∙ sym (map-append brings came (s ∷ []));
       }
 
-  pub senders-all : (gates : Gates (Box Contents)) (ends : List (WorkerEnd A K)) (senders came left : List (Sender A K)) (pass : Pass (Box Contents))
+  pub senders-all : (gates : Gates (Box Contents)) (ends : List (WorkerEnd A K)) (senders came left : List OutsideSender) (pass : Pass (Box Contents))
       (outside : List FinishedSender) → HasSenders gates ends senders came left pass outside → left ≡ [] → came ≡ senders
   senders-all gates ends senders came left pass outside has none =
       sym (append-nil came) ∙ ap (λ l. came ++ l) (sym none) ∙ has.are

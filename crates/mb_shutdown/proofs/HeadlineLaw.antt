@@ -31,7 +31,7 @@ use Rattle.mb_report.specs.declared.report.ActorReport.{ActorReport}
 use Rattle.mb_report.specs.declared.report.Report.{Report}
 use Rattle.mb_system.specs.Belonging.{senders_numbers}
 use Rattle.mb_system.specs.declared.built.Built.{Built}
-use Rattle.mb_system.specs.declared.sender.Sender.{Sender}
+use Rattle.mb_system.specs.Members.{OutsideSender}
 use Rattle.mb_shutdown.specs.Belonging.{AreAnswers, AreThere, IsFifoIn, directory_of}
 use Rattle.mb_shutdown.specs.CompleteReport.{IsCompleteReport, IsReportOf, fates_in, sender_number, told_by_each}
 use Rattle.mb_shutdown.specs.GateStates.{GatesState, Holds, IsFree, IsInSlot, IsStateOf, status_word}
@@ -121,16 +121,16 @@ same-lists (x ∷ xs) (y ∷ ys) many each =
     ∙ ap (λ l. y ∷ l) (same-lists xs ys (omega (arith, many)) (λ i z w is found. each (suc i) z w is found))
 
 -- what the senders were answered is one list
-same-answers : {A K : Type 0} (many : ℕ) (senders : List (Sender A K)) (xs ys : List (List SentEnvelope)) → AreThere many (senders_numbers senders)
+same-answers : (many : ℕ) (senders : List OutsideSender) (xs ys : List (List SentEnvelope)) → AreThere many (senders_numbers senders)
     → AreAnswers many senders xs → AreAnswers many senders ys → xs ≡ ys
-same-answers {A} {K} many senders xs ys complete one other =
+same-answers many senders xs ys complete one other =
     same-lists xs ys (one.length_is ∙ sym other.length_is)
     (λ i x y is found.
     let b = within xs i x is in let m = one.length_is in
     let at = at-contained (senders_numbers senders) i (complete i (omega (arith, b, m))) in
-    let s = from-mapped (λ (s : Sender A K). s.inner.send_log.by.0 - most_actors) senders at.0 i at.1 in
-    let first = at-place (λ (s : Sender A K). slice_get xs (s.inner.send_log.by.0 - most_actors) ≡ Some s.inner.send_log.posted) senders at.0 s.0 one.each s.1 in
-    let second = at-place (λ (s : Sender A K). slice_get ys (s.inner.send_log.by.0 - most_actors) ≡ Some s.inner.send_log.posted) senders at.0 s.0 other.each s.1 in
+    let s = from-mapped (λ (s : OutsideSender). s.send_log.by.0 - most_actors) senders at.0 i at.1 in
+    let first = at-place (λ (s : OutsideSender). slice_get xs (s.send_log.by.0 - most_actors) ≡ Some s.send_log.posted) senders at.0 s.0 one.each s.1 in
+    let second = at-place (λ (s : OutsideSender). slice_get ys (s.send_log.by.0 - most_actors) ≡ Some s.send_log.posted) senders at.0 s.0 other.each s.1 in
     same_Some x y (sym is ∙ ap (slice_get xs) (sym s.2) ∙ first ∙ sym second ∙ ap (slice_get ys) s.2 ∙ found))
 
 module _ (after : ℕ → List Message → ℤ) (gives : ℕ → Moment → Reply → Type 0) (directory : List DirectoryEntry) (log : List Observation)

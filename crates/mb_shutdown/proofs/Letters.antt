@@ -20,7 +20,7 @@ use Rattle.mb_shutdown.proofs.Closing.{IsGathered, came-kept}
 use Rattle.mb_shutdown.proofs.Lists.{in-first, in-second, length-mapped, mapped}
 use Rattle.mb_system.specs.Belonging.{BelongsTogether}
 use Rattle.mb_system.specs.declared.built.Built.{Built}
-use Rattle.mb_system.specs.declared.sender.Sender.{Sender}
+use Rattle.mb_system.specs.Members.{OutsideSender}
 
 module _ {A K : Type 0} (built : Built A K) (gates : Gates (Box Contents)) (log : List Observation) (outside : List FinishedSender)
     (together : BelongsTogether built) (complete : IsComplete built) (came : IsGathered built gates log outside) (report : Report)
@@ -49,14 +49,14 @@ module _ {A K : Type 0} (built : Built A K) (gates : Gates (Box Contents)) (log 
         at-sender id s e.who.retention found
         (in-first of_actors of_outside id e.who.retention (mapped (λ (e : DirectoryEntry). e.who.retention) (directory_of built) id e is));
     outside = All-weaker
-        (λ (o : Sender A K). slice_get of_outside (o.inner.send_log.by.0 - 64) ≡ Some o.inner.send_log.dead.retention)
-        (λ (o : Sender A K). (s : SenderReport)
-        → slice_get report.senders.items (length (directory_of built) + (o.inner.send_log.by.0 - 64)) ≡ Some s
-        → s.dead.retention ≡ o.inner.send_log.dead.retention)
+        (λ (o : OutsideSender). slice_get of_outside (o.send_log.by.0 - 64) ≡ Some o.send_log.dead.retention)
+        (λ (o : OutsideSender). (s : SenderReport)
+        → slice_get report.senders.items (length (directory_of built) + (o.send_log.by.0 - 64)) ≡ Some s
+        → s.dead.retention ≡ o.send_log.dead.retention)
         (λ o listed s found.
-        at-sender (length (directory_of built) + (o.inner.send_log.by.0 - 64)) s o.inner.send_log.dead.retention found
-        (in-second of_actors of_outside (length (directory_of built) + (o.inner.send_log.by.0 - 64)) (o.inner.send_log.by.0 - 64)
-        o.inner.send_log.dead.retention
-        (ap (λ n. n + (o.inner.send_log.by.0 - 64)) (sym (length-mapped (λ (e : DirectoryEntry). e.who.retention) (directory_of built)))) listed))
+        at-sender (length (directory_of built) + (o.send_log.by.0 - 64)) s o.send_log.dead.retention found
+        (in-second of_actors of_outside (length (directory_of built) + (o.send_log.by.0 - 64)) (o.send_log.by.0 - 64)
+        o.send_log.dead.retention
+        (ap (λ n. n + (o.send_log.by.0 - 64)) (sym (length-mapped (λ (e : DirectoryEntry). e.who.retention) (directory_of built)))) listed))
         built.senders.items (came-kept built gates log outside together complete came);
   }

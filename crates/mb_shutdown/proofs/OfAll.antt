@@ -17,7 +17,7 @@ use Rattle.mb_report.specs.declared.report.Report.{Report}
 use Rattle.mb_syslist.specs.MessageList.{numbered}
 use Rattle.mb_system.specs.Shares.{shares_of, shares_of_ends, shares_of_senders, views_of}
 use Rattle.mb_system.specs.declared.built.Built.{Built}
-use Rattle.mb_system.specs.declared.sender.Sender.{Sender}
+use Rattle.mb_system.specs.Members.{OutsideSender}
 use Rattle.mb_shutdown.specs.Belonging.{HasAllSeen, HasRead, OnlyFirstEndRead, directory_of}
 use Rattle.mb_shutdown.specs.Homes.{BoxedHome, HomesReturned}
 use Rattle.mb_shutdown.specs.Refused.{CountsAllPut, FindsIdle, IsOfAll}
@@ -36,7 +36,7 @@ module _ {A K : Type 0} where
       ∙ sym (total_append (λ (w : View). total part w.share) (map view_of_end ends) (map view_of_sender senders))
 
   -- a view that has all that the ends and these senders have
-  pub of-all : (built : Built A K) (v : View) (now : List (Sender A K)) → HasAllSeen built v.log → IsPermutation now built.senders.items
+  pub of-all : (built : Built A K) (v : View) (now : List OutsideSender) → HasAllSeen built v.log → IsPermutation now built.senders.items
       → HasAll (map view_of_end built.ends.items ++ map view_of_sender now) v → IsOfAll built v
   of-all built v now seen same joined =
       let ends = map view_of_end built.ends.items in let senders = built.senders.items in

@@ -11,7 +11,7 @@ use Rattle.std.proofs.lemmas.Option.{get_or_from_slice_get, none-some, same_Some
 use Rattle.mb_build.specs.Numbers.{numbers}
 use Rattle.mb_shutdown.proofs.Lists.{at-place, each-place, from-mapped, length-mapped, mapped, there}
 use Rattle.mb_system.specs.Belonging.{senders_numbers}
-use Rattle.mb_system.specs.declared.sender.Sender.{Sender}
+use Rattle.mb_system.specs.Members.{OutsideSender}
 use Rattle.mb_shutdown.specs.Belonging.{AreThere, IsLeastMissing}
 
 module _ {X : Type 0} where
@@ -186,31 +186,31 @@ as-many many ns all below apart =
     omega (arith, least, most)
 
 -- so there are as many senders as have numbers, where each is there once
-pub as-many-senders : {A K : Type 0} (many : ℕ) (senders : List (Sender A K)) → AreThere many (senders_numbers senders)
-    → All (λ (s : Sender A K). (64 ≤ s.inner.send_log.by.0) × (s.inner.send_log.by.0 < 64 + many)) senders
+pub as-many-senders : (many : ℕ) (senders : List OutsideSender) → AreThere many (senders_numbers senders)
+    → All (λ (s : OutsideSender). (64 ≤ s.send_log.by.0) × (s.send_log.by.0 < 64 + many)) senders
     → AllPairs (λ a b. a ≢ b) (senders_numbers senders) → length senders ≡ many
-as-many-senders {A} {K} many senders all numbered once =
+as-many-senders many senders all numbered once =
     sym (length-mapped number senders) ∙ as-many many (senders_numbers senders) all below once
   where
-    number : Sender A K → ℕ
-    number s = s.inner.send_log.by.0 - 64
+    number : OutsideSender → ℕ
+    number s = s.send_log.by.0 - 64
 
     below : All (λ n. n < many) (senders_numbers senders)
     below = each-place (λ n. n < many) (senders_numbers senders) (λ i n is.
-        (let one = from-mapped (λ (s : Sender A K). s.inner.send_log.by.0 - 64) senders i n is in
-        let both = at-place (λ (s : Sender A K). (64 ≤ s.inner.send_log.by.0) × (s.inner.send_log.by.0 < 64 + many)) senders i one.0 numbered one.1 in
+        (let one = from-mapped (λ (s : OutsideSender). s.send_log.by.0 - 64) senders i n is in
+        let both = at-place (λ (s : OutsideSender). (64 ≤ s.send_log.by.0) × (s.send_log.by.0 < 64 + many)) senders i one.0 numbered one.1 in
         let low = both.0 in let high = both.1 in let e = one.2 in
         omega (arith, low, high, e)))
 
-pub all-there : {A K : Type 0} (many : ℕ) (now senders : List (Sender A K)) → now ≡ senders → length senders ≡ many
+pub all-there : (many : ℕ) (now senders : List OutsideSender) → now ≡ senders → length senders ≡ many
     → AreThere many (senders_numbers senders) → AreThere (length now) (senders_numbers now)
-all-there {A} {K} many now senders is count all =
-    subst (λ (l : List (Sender A K)). AreThere (length l) (senders_numbers l)) (sym is)
+all-there many now senders is count all =
+    subst (λ (l : List OutsideSender). AreThere (length l) (senders_numbers l)) (sym is)
     (subst (λ (n : ℕ). AreThere n (senders_numbers senders)) (sym count) all)
 
-pub outside-all : {A K : Type 0} (many : ℕ) (senders : List (Sender A K))
-    → All (λ (s : Sender A K). (64 ≤ s.inner.send_log.by.0) × (s.inner.send_log.by.0 < 64 + many)) senders
-    → All (λ (s : Sender A K). 64 ≤ s.inner.send_log.by.0) senders
-outside-all {A} {K} many senders =
-    All-weaker (λ (s : Sender A K). (64 ≤ s.inner.send_log.by.0) × (s.inner.send_log.by.0 < 64 + many)) (λ (s : Sender A K). 64 ≤ s.inner.send_log.by.0)
+pub outside-all : (many : ℕ) (senders : List OutsideSender)
+    → All (λ (s : OutsideSender). (64 ≤ s.send_log.by.0) × (s.send_log.by.0 < 64 + many)) senders
+    → All (λ (s : OutsideSender). 64 ≤ s.send_log.by.0) senders
+outside-all many senders =
+    All-weaker (λ (s : OutsideSender). (64 ≤ s.send_log.by.0) × (s.send_log.by.0 < 64 + many)) (λ (s : OutsideSender). 64 ≤ s.send_log.by.0)
     (λ s both. both.0) senders

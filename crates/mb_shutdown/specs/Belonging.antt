@@ -12,7 +12,7 @@ use Rattle.mb_shutdown.specs.Idle.{WereReadIdle}
 use Rattle.mb_shutdown.specs.declared.finished_sender.FinishedSender.{FinishedSender}
 use Rattle.mb_system.specs.declared.built.Built.{Built}
 use Rattle.mb_system.specs.declared.end.WorkerEnd.{WorkerEnd}
-use Rattle.mb_system.specs.declared.sender.Sender.{Sender}
+use Rattle.mb_system.specs.Members.{OutsideSender}
 
 -- The directory of a system's actors.
 abbrev pub directory_of : {A K : Type 0} → Built A K → List DirectoryEntry
@@ -36,25 +36,25 @@ pub record IsLeastMissing (many : ℕ) (there : List ℕ) (number : ℕ) : Type 
 abbrev pub brought : FinishedSender → List SendPassView × SendLog
 brought o = (o.sends.items, o.send_log)
 
+-- What a sender has at the end: its passes and its log.
+abbrev pub brings : OutsideSender → List SendPassView × SendLog
+brings s = (s.sends.items, s.send_log)
+
+-- What the senders were answered, in the order of their numbers, each for all that it sent.
+pub record AreAnswers (many : ℕ) (senders : List OutsideSender) (answers : List (List SentEnvelope)) : Type 0 where
+  pub length_is : length answers ≡ many
+  pub each : All (λ (s : OutsideSender). slice_get answers (s.send_log.by.0 - most_actors) ≡ Some s.send_log.posted) senders
+
+-- The passes of the senders, in the order of their numbers.
+pub record AreSendPasses (many : ℕ) (senders : List OutsideSender) (send_passes : List (List SendPassView)) : Type 0 where
+  pub length_is : length send_passes ≡ many
+  pub each : All (λ (s : OutsideSender). slice_get send_passes (s.send_log.by.0 - most_actors) ≡ Some s.sends.items) senders
+
 module _ {A K : Type 0} where
-  -- What a sender has at the end: its passes and its log.
-  abbrev pub brings : Sender A K → List SendPassView × SendLog
-  brings s = (s.inner.sends.items, s.inner.send_log)
-
-  -- What the senders were answered, in the order of their numbers, each for all that it sent.
-  pub record AreAnswers (many : ℕ) (senders : List (Sender A K)) (answers : List (List SentEnvelope)) : Type 0 where
-    pub length_is : length answers ≡ many
-    pub each : All (λ (s : Sender A K). slice_get answers (s.inner.send_log.by.0 - most_actors) ≡ Some s.inner.send_log.posted) senders
-
-  -- The passes of the senders, in the order of their numbers.
-  pub record AreSendPasses (many : ℕ) (senders : List (Sender A K)) (send_passes : List (List SendPassView)) : Type 0 where
-    pub length_is : length send_passes ≡ many
-    pub each : All (λ (s : Sender A K). slice_get send_passes (s.inner.send_log.by.0 - most_actors) ≡ Some s.inner.sends.items) senders
-
   -- All that workers' ends and senders saw is among this.
   abbrev pub HasAllSeen : Built A K → List Observation → Type 0
   HasAllSeen built log = All (λ (e : WorkerEnd A K). IsPart (pass_view e.registrar.pass).log log) built.ends.items
-      × All (λ (s : Sender A K). IsPart (pass_view s.inner.registrar.pass).log log) built.senders.items
+      × All (λ (s : OutsideSender). IsPart (pass_view s.registrar.pass).log log) built.senders.items
 
   -- All is as it was, but that the first end has read more.
   pub record OnlyFirstEndRead (old new : Built A K) (before after : View) : Type 0 where

@@ -60,7 +60,7 @@ pub fn finish<A: Actor, K: Behaviours, R: Wait>(
     ensures headline { IfOk result (Headline K.after K.gives built) }
     ensures all_idle { IfOk result (λ _. IsComplete built × AllFoundIdle built) }
     ensures seen { IfOk result (λ report. All (λ e. ReportExtendsAll report (pass_view e.registrar.pass)) built.ends.items
-        × All (λ s. ReportExtendsAll report (pass_view s.inner.registrar.pass)) built.senders.items) }
+        × All (λ s. ReportExtendsAll report (pass_view s.registrar.pass)) built.senders.items) }
     ensures home { IfOk result (HasHomesReturned K.gives built) }
     ensures releases { IfOk result (ReleasesAddUpTo built) }
     ensures put { IfOk result (PutAddsUpTo built) }

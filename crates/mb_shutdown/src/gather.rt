@@ -3,7 +3,7 @@ ghost use Rattle.std.specs.Prelude.{◌≡◌, ◌≤◌, [], IsPermutation, Lis
 ghost use Rattle.mb_build.specs.Numbers.{numbers};
 ghost use Rattle.mb_gate.specs.Accessors.{gates_id, pass_view, pass_id};
 ghost use Rattle.mb_system.specs.Belonging.{BelongsTogether, senders_numbers};
-ghost use Rattle.mb_system.specs.declared.sender.Sender.{Sender as SenderValue};
+ghost use Rattle.mb_system.specs.Members.{OutsideSender};
 ghost use Rattle.mb_shutdown.specs.Belonging.{brings, brought};
 ghost use Rattle.mb_shutdown.specs.Refused.{IsComplete, IsOfAll};
 
@@ -25,7 +25,7 @@ pub(crate) fn gather<A: Actor, K: Behaviours>(
     requires room { (outside.old.items ≡ []) × (length built.senders.items ≤ vec_capacity outside.old) }
     ensures gates { (result.0 ≡ built.system.gates) × (pass_id result.1 ≡ gates_id result.0) }
     ensures of_all { IsOfAll built (pass_view result.1) }
-    ensures outside { (senders : List (SenderValue A K)) × IsPermutation senders built.senders.items
+    ensures outside { (senders : List OutsideSender) × IsPermutation senders built.senders.items
         × (senders_numbers senders ≡ numbers 0 built.system.senders) × (map brought outside.new.items ≡ map brings senders) }
 {
     let Built {

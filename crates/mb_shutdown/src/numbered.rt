@@ -28,9 +28,9 @@ impl<A: Actor, K: Behaviours> Numbered for Sender<A, K> {
     ghost use Rattle.std.specs.Prelude.{◌-◌};
     ghost use Rattle.mb_msg.specs.Limits.{most_actors};
 
-    ghost numbered = { λ s. s.inner.send_log.by.0 - most_actors };
+    ghost numbered = { λ s. s.send_log.by.0 - most_actors };
 
     fn number(&self) -> u32 {
-        self.inner.send_log.by.0.saturating_sub(ACTORS)
+        self.send_log.by.0.saturating_sub(ACTORS)
     }
 }

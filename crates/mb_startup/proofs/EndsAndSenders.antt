@@ -13,7 +13,19 @@ use Rattle.mb_queue.specs.Passes.{Queue, SendPassView}
 use Rattle.mb_build.proofs.DirectoryLemmas.{take-next}
 use Rattle.mb_startup.specs.Begun.{AreNewEnds, AreNewSenders, AreUnused, IsCreated, IsNewEnd, IsNewSender, IsUnused}
 use Rattle.mb_system.specs.declared.end.WorkerEnd.{WorkerEnd}
-use Rattle.mb_system.specs.declared.sender.Sender.{Sender}
+use Rattle.mb_system.specs.Members.{OutsideSender}
+
+module _ (gates : Gates (Box Contents)) where
+  -- one sender more
+  pub senders-more : (number : ℕ) (rows : List (List SendPassView)) (senders : List OutsideSender) (row : List SendPassView) (s : OutsideSender)
+      → AreNewSenders gates number rows senders → IsNewSender gates (number + length senders) row s
+      → AreNewSenders gates number (rows ++ row ∷ []) (senders ++ s ∷ [])
+  senders-more number [] [] row s are is = let sum : number + 0 ≡ number = omega arith in (subst (λ n. IsNewSender gates n row s) sum is, tt)
+  senders-more number [] (x ∷ senders) row s are is = absurd are
+  senders-more number (r ∷ rows) [] row s are is = absurd are
+  senders-more number (r ∷ rows) (x ∷ senders) row s are is =
+      let sum : number + suc (length senders) ≡ (number + 1) + length senders = omega arith in
+      (are.0, senders-more (number + 1) rows senders row s are.1 (subst (λ n. IsNewSender gates n row s) sum is))
 
 module _ {A K : Type 0} (gates : Gates (Box Contents)) where
   -- one end more
@@ -23,17 +35,6 @@ module _ {A K : Type 0} (gates : Gates (Box Contents)) where
   ends-more number (x ∷ ends) e are is =
       let sum : number + suc (length ends) ≡ (number + 1) + length ends = omega arith in
       (are.0, ends-more (number + 1) ends e are.1 (subst (λ n. IsNewEnd gates n e) sum is))
-
-  -- one sender more
-  pub senders-more : (number : ℕ) (rows : List (List SendPassView)) (senders : List (Sender A K)) (row : List SendPassView) (s : Sender A K)
-      → AreNewSenders gates number rows senders → IsNewSender gates (number + length senders) row s
-      → AreNewSenders gates number (rows ++ row ∷ []) (senders ++ s ∷ [])
-  senders-more number [] [] row s are is = let sum : number + 0 ≡ number = omega arith in (subst (λ n. IsNewSender gates n row s) sum is, tt)
-  senders-more number [] (x ∷ senders) row s are is = absurd are
-  senders-more number (r ∷ rows) [] row s are is = absurd are
-  senders-more number (r ∷ rows) (x ∷ senders) row s are is =
-      let sum : number + suc (length senders) ≡ (number + 1) + length senders = omega arith in
-      (are.0, senders-more (number + 1) rows senders row s are.1 (subst (λ n. IsNewSender gates n row s) sum is))
 
 -- the passes of the sender in this place
 pub unused-there : (queues : List Queue) (actors number : ℕ) (rows : List (List SendPassView)) (place : ℕ) (row : List SendPassView)
@@ -86,8 +87,8 @@ module _ {Y : Type 0} where
   pub none-left : (rows : List Y) (place : ℕ) → drop place rows ≡ [] → place < length rows → ⊥
   none-left rows place none lt = let is = ap length none in let left = length-drop place rows in omega (arith, is, left, lt)
 
-module _ {A K R : Type 0} (items : R → List SendPassView) (gates : Gates (Box Contents)) where
-  pub senders-next : (number : ℕ) (senders new : List (Sender A K)) (s : Sender A K) (outside : List R) (row : R)
+module _ {R : Type 0} (items : R → List SendPassView) (gates : Gates (Box Contents)) where
+  pub senders-next : (number : ℕ) (senders new : List OutsideSender) (s : OutsideSender) (outside : List R) (row : R)
       (rest : List R) → new ≡ senders ++ s ∷ [] → drop (length senders) outside ≡ row ∷ rest
       → AreNewSenders gates number (map items (take (length senders) outside)) senders
       → IsNewSender gates (number + length senders) (items row) s → AreNewSenders gates number (map items (take (length new) outside)) new

@@ -37,7 +37,7 @@ use Rattle.mb_home.proofs.UnusedHomeLaw.{unused-until-run}
 use Rattle.mb_build.specs.Planned.{actors_in, IsDirectoryOf}
 use Rattle.mb_system.specs.Shares.{shares_of_ends, shares_of_senders}
 use Rattle.mb_system.specs.declared.end.WorkerEnd.{WorkerEnd}
-use Rattle.mb_system.specs.declared.sender.Sender.{Sender}
+use Rattle.mb_system.specs.Members.{OutsideSender}
 use Rattle.mb_startup.specs.Begun.{AreFirstEnds, AreNewEnds, AreNewSenders}
 use Rattle.mb_startup.specs.NewActors.{first_messages, IsNewActor, AreNewActors}
 
@@ -128,31 +128,18 @@ shares-map : {X : Type 0} (f : X → View) (xs : List X) → shares_in (map f xs
 shares-map f [] = refl
 shares-map f (x ∷ xs) = ap (λ l. (f x).share ++ l) (shares-map f xs)
 
-module _ {A K : Type 0} (gates : Gates (Box Contents)) where
-  abbrev end-view : WorkerEnd A K → View
-  end-view e = pass_view e.registrar.pass
+abbrev sender-view : OutsideSender → View
+sender-view s = pass_view s.registrar.pass
 
-  abbrev sender-view : Sender A K → View
-  sender-view s = pass_view s.inner.registrar.pass
-
-  ends-ran : (number : ℕ) (ends : List (WorkerEnd A K)) → AreNewEnds gates number ends → Each RanNobody (map end-view ends)
-  ends-ran number [] are = tt
-  ends-ran number (e ∷ ends) are = ((are.0.unclaimed, are.0.none_released), ends-ran (number + 1) ends are.1)
-
-  senders-ran : (number : ℕ) (rows : List (List SendPassView)) (senders : List (Sender A K)) → AreNewSenders gates number rows senders
+module _ (gates : Gates (Box Contents)) where
+  senders-ran : (number : ℕ) (rows : List (List SendPassView)) (senders : List OutsideSender) → AreNewSenders gates number rows senders
       → Each RanNobody (map sender-view senders)
   senders-ran number [] [] are = tt
   senders-ran number [] (s ∷ senders) are = absurd are
   senders-ran number (row ∷ rows) [] are = absurd are
   senders-ran number (row ∷ rows) (s ∷ senders) are = ((are.0.unclaimed, are.0.none_released), senders-ran (number + 1) rows senders are.1)
 
-  ends-logged : (h : Observation → ℕ) (number : ℕ) (ends : List (WorkerEnd A K)) → AreNewEnds gates number ends
-      → total (λ (v : View). total h v.log) (map end-view ends) ≡ 0
-  ends-logged h number [] are = refl
-  ends-logged h number (e ∷ ends) are =
-      let here = ap (total h) are.0.blank in let rest = ends-logged h (number + 1) ends are.1 in omega (arith, here, rest)
-
-  senders-logged : (h : Observation → ℕ) (number : ℕ) (rows : List (List SendPassView)) (senders : List (Sender A K)) → AreNewSenders gates number rows senders
+  senders-logged : (h : Observation → ℕ) (number : ℕ) (rows : List (List SendPassView)) (senders : List OutsideSender) → AreNewSenders gates number rows senders
       → total (λ (v : View). total h v.log) (map sender-view senders) ≡ 0
   senders-logged h number [] [] are = refl
   senders-logged h number [] (s ∷ senders) are = absurd are
@@ -160,7 +147,21 @@ module _ {A K : Type 0} (gates : Gates (Box Contents)) where
   senders-logged h number (row ∷ rows) (s ∷ senders) are =
       let here = ap (total h) are.0.blank in let rest = senders-logged h (number + 1) rows senders are.1 in omega (arith, here, rest)
 
-  module _ (number : ℕ) (rows : List (List SendPassView)) (ends : List (WorkerEnd A K)) (senders : List (Sender A K)) (first : AreFirstEnds gates ends)
+module _ {A K : Type 0} (gates : Gates (Box Contents)) where
+  abbrev end-view : WorkerEnd A K → View
+  end-view e = pass_view e.registrar.pass
+
+  ends-ran : (number : ℕ) (ends : List (WorkerEnd A K)) → AreNewEnds gates number ends → Each RanNobody (map end-view ends)
+  ends-ran number [] are = tt
+  ends-ran number (e ∷ ends) are = ((are.0.unclaimed, are.0.none_released), ends-ran (number + 1) ends are.1)
+
+  ends-logged : (h : Observation → ℕ) (number : ℕ) (ends : List (WorkerEnd A K)) → AreNewEnds gates number ends
+      → total (λ (v : View). total h v.log) (map end-view ends) ≡ 0
+  ends-logged h number [] are = refl
+  ends-logged h number (e ∷ ends) are =
+      let here = ap (total h) are.0.blank in let rest = ends-logged h (number + 1) ends are.1 in omega (arith, here, rest)
+
+  module _ (number : ℕ) (rows : List (List SendPassView)) (ends : List (WorkerEnd A K)) (senders : List OutsideSender) (first : AreFirstEnds gates ends)
       (are : AreNewSenders gates number rows senders) where
     abbrev all : List View
     all = map end-view ends ++ map sender-view senders
@@ -172,13 +173,13 @@ module _ {A K : Type 0} (gates : Gates (Box Contents)) where
     all-ran : Each RanNobody all
     all-ran = each_append RanNobody (map end-view ends) (map sender-view senders)
         (subst (λ (l : List (WorkerEnd A K)). Each RanNobody (map end-view l)) (sym first.ends_are)
-        ((first.unclaimed, first.none_released), ends-ran 1 first.others first.others_are)) (senders-ran number rows senders are)
+        ((first.unclaimed, first.none_released), ends-ran 1 first.others first.others_are)) (senders-ran gates number rows senders are)
 
     -- all that was logged is the Create, by the first end
     all-logged : (h : Observation → ℕ) → total (λ (v : View). total h v.log) all ≡ h (Pushed 0 first.created.0 system.Create)
     all-logged h =
         let sum = total_append (λ (v : View). total h v.log) (map end-view ends) (map sender-view senders) in
-        let outside = senders-logged h number rows senders are in
+        let outside = senders-logged gates h number rows senders are in
         let inside = ap (λ (l : List (WorkerEnd A K)). total (λ (v : View). total h v.log) (map end-view l)) first.ends_are in
         let own = ap (total h) first.created.1 in
         let others = ends-logged h 1 first.others first.others_are in omega (arith, sum, outside, inside, own, others)
@@ -204,13 +205,13 @@ entry-of (e ∷ directory) zero who there = (e, refl, same_Some e.who who there)
 entry-of (e ∷ directory) (suc actor) who there = entry-of directory actor who there
 
 module _ {A K : Type 0} (gives : ℕ → Moment → Reply → Type 0) (plan : Plan) (gates : Gates (Box Contents)) (number : ℕ) (rows : List (List SendPassView))
-    (ends : List (WorkerEnd A K)) (senders : List (Sender A K)) where
+    (ends : List (WorkerEnd A K)) (senders : List OutsideSender) where
   abbrev is-own : ℕ → Box Contents → Type 0
   is-own actor home = IsHomeOf (gives actor) (first_home gates).value actor home.value
 
   module _ (of : IsDirectoryOf plan (first_home gates).value.directory) (first : AreFirstEnds gates ends) (are : AreNewSenders gates number rows senders) where
     is-new : (actor : ℕ) (x : Spot Word SlotName (Slot (Box Contents)) Ghost)
-        → IsNotRun is-own (λ (home : Box Contents). facts_of home.value) actor x (map (end-view gates) ends ++ map (sender-view gates) senders)
+        → IsNotRun is-own (λ (home : Box Contents). facts_of home.value) actor x (map (end-view gates) ends ++ map (sender-view) senders)
         → (who : Identity) → slice_get (actors_in plan) actor ≡ Some who → IsNewActor plan (first_home gates).value.directory actor who x
     is-new actor x not_run who planned =
         let directory = (first_home gates).value.directory in
@@ -232,9 +233,9 @@ module _ {A K : Type 0} (gives : ℕ → Moment → Reply → Type 0) (plan : Pl
         }
 
     pub new-actors : IsWhole (shares_of_ends ends ++ shares_of_senders senders)
-        → AreNewActors gives plan gates (map (end-view gates) ends ++ map (sender-view gates) senders)
+        → AreNewActors gives plan gates (map (end-view gates) ends ++ map (sender-view) senders)
     new-actors whole s r seats at actor inside who planned =
         is-new actor _ (shows_not_run is-own (λ (home : Box Contents). facts_of home.value) (actors_of gates)
-        (map (end-view gates) ends ++ map (sender-view gates) senders)
+        (map (end-view gates) ends ++ map (sender-view) senders)
         (subst IsWhole (sym (all-shares gates number rows ends senders first are)) whole)
         (all-ran gates number rows ends senders first are) s r seats at actor inside) who planned

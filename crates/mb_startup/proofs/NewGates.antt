@@ -31,9 +31,8 @@ use Rattle.mb_startup.specs.Begun.{AreNewEnds, AreNewSenders, AreUnused}
 use Rattle.mb_system.specs.Belonging.{senders_numbers}
 use Rattle.mb_system.specs.KnownSenders.{AreKnown}
 use Rattle.mb_startup.specs.NewGates.{AreNewGates}
-use Rattle.mb_system.specs.Members.{IsEndOf, IsSenderOf}
+use Rattle.mb_system.specs.Members.{IsEndOf, IsSenderOf, OutsideSender}
 use Rattle.mb_system.specs.declared.end.WorkerEnd.{WorkerEnd}
-use Rattle.mb_system.specs.declared.sender.Sender.{Sender}
 use Rattle.mb_startup.proofs.Known.{as-many-homes, first-directory, known-first, unused-outside}
 
 length-numbers : (first count : ℕ) → length (numbers first count) ≡ count
@@ -121,21 +120,16 @@ module _ {H : Type 0} (pool : PoolView H) where
   )
 
 -- ends and senders that were opened belong to their gates
-module _ {A K : Type 0} (gates : Gates (Box Contents)) where
-  pub all-ends : (number : ℕ) (ends : List (WorkerEnd A K)) → AreNewEnds gates number ends → All (λ (e : WorkerEnd A K). IsEndOf gates e.registrar) ends
-  all-ends number [] are = All-nil (λ (e : WorkerEnd A K). IsEndOf gates e.registrar)
-  all-ends number (e ∷ ends) are =
-      All-cons (λ (e : WorkerEnd A K). IsEndOf gates e.registrar) e ends are.0.same_gates (all-ends (number + 1) ends are.1)
-
-  pub all-senders : (number : ℕ) (rows : List (List SendPassView)) (senders : List (Sender A K)) → AreNewSenders gates number rows senders
-      → All (λ (s : Sender A K). IsSenderOf gates s.inner) senders
-  all-senders number [] [] are = All-nil (λ (s : Sender A K). IsSenderOf gates s.inner)
+module _ (gates : Gates (Box Contents)) where
+  pub all-senders : (number : ℕ) (rows : List (List SendPassView)) (senders : List OutsideSender) → AreNewSenders gates number rows senders
+      → All (λ (s : OutsideSender). IsSenderOf gates s) senders
+  all-senders number [] [] are = All-nil (λ (s : OutsideSender). IsSenderOf gates s)
   all-senders number [] (s ∷ senders) are = absurd are
   all-senders number (row ∷ rows) [] are = absurd are
   all-senders number (row ∷ rows) (s ∷ senders) are =
-      All-cons (λ (s : Sender A K). IsSenderOf gates s.inner) s senders are.0.same_gates (all-senders (number + 1) rows senders are.1)
+      All-cons (λ (s : OutsideSender). IsSenderOf gates s) s senders are.0.same_gates (all-senders (number + 1) rows senders are.1)
 
-  pub as-many-senders : (number : ℕ) (rows : List (List SendPassView)) (senders : List (Sender A K)) → AreNewSenders gates number rows senders
+  pub as-many-senders : (number : ℕ) (rows : List (List SendPassView)) (senders : List OutsideSender) → AreNewSenders gates number rows senders
       → length senders ≡ length rows
   as-many-senders number [] [] are = refl
   as-many-senders number [] (s ∷ senders) are = absurd are
@@ -143,35 +137,41 @@ module _ {A K : Type 0} (gates : Gates (Box Contents)) where
   as-many-senders number (row ∷ rows) (s ∷ senders) are = ap suc (as-many-senders (number + 1) rows senders are.1)
 
   -- their numbers, which the system gave
-  pub all-numbered : (number limit : ℕ) (rows : List (List SendPassView)) (senders : List (Sender A K)) → AreNewSenders gates number rows senders
+  pub all-numbered : (number limit : ℕ) (rows : List (List SendPassView)) (senders : List OutsideSender) → AreNewSenders gates number rows senders
       → most_actors ≤ number → number + length senders ≤ limit
-      → All (λ (s : Sender A K). (most_actors ≤ s.inner.send_log.by.0) × (s.inner.send_log.by.0 < limit)) senders
+      → All (λ (s : OutsideSender). (most_actors ≤ s.send_log.by.0) × (s.send_log.by.0 < limit)) senders
   all-numbered number limit [] [] are least le =
-      All-nil (λ (s : Sender A K). (most_actors ≤ s.inner.send_log.by.0) × (s.inner.send_log.by.0 < limit))
+      All-nil (λ (s : OutsideSender). (most_actors ≤ s.send_log.by.0) × (s.send_log.by.0 < limit))
   all-numbered number limit [] (s ∷ senders) are least le = absurd are
   all-numbered number limit (row ∷ rows) [] are least le = absurd are
   all-numbered number limit (row ∷ rows) (s ∷ senders) are least le =
-      let by : s.inner.send_log.by.0 ≡ number = ap (λ x. x.0) are.0.by in
-      All-cons (λ (s : Sender A K). (most_actors ≤ s.inner.send_log.by.0) × (s.inner.send_log.by.0 < limit)) s senders
+      let by : s.send_log.by.0 ≡ number = ap (λ x. x.0) are.0.by in
+      All-cons (λ (s : OutsideSender). (most_actors ≤ s.send_log.by.0) × (s.send_log.by.0 < limit)) s senders
       (subst (λ n. (most_actors ≤ n) × (n < limit)) (sym by) (least, omega (arith, le)))
       (all-numbered (number + 1) limit rows senders are.1 (omega (arith, least)) (omega (arith, le)))
 
-  numbers-of : (place : ℕ) (rows : List (List SendPassView)) (senders : List (Sender A K)) → AreNewSenders gates (most_actors + place) rows senders
+  numbers-of : (place : ℕ) (rows : List (List SendPassView)) (senders : List OutsideSender) → AreNewSenders gates (most_actors + place) rows senders
       → senders_numbers senders ≡ numbers place (length senders)
   numbers-of place [] [] are = refl
   numbers-of place [] (s ∷ senders) are = absurd are
   numbers-of place (row ∷ rows) [] are = absurd are
   numbers-of place (row ∷ rows) (s ∷ senders) are =
       let sum : (most_actors + place) + 1 ≡ most_actors + (place + 1) = omega arith in
-      let by : s.inner.send_log.by.0 ≡ most_actors + place = ap (λ x. x.0) are.0.by in
-      let this : s.inner.send_log.by.0 - most_actors ≡ place = omega (arith, by) in
+      let by : s.send_log.by.0 ≡ most_actors + place = ap (λ x. x.0) are.0.by in
+      let this : s.send_log.by.0 - most_actors ≡ place = omega (arith, by) in
       let rest = numbers-of (place + 1) rows senders (subst (λ n. AreNewSenders gates n rows senders) sum are.1) in
       (λ i. this i ∷ rest i)
 
-  pub all-once : (rows : List (List SendPassView)) (senders : List (Sender A K)) → AreNewSenders gates most_actors rows senders → length senders ≤ 64
+  pub all-once : (rows : List (List SendPassView)) (senders : List OutsideSender) → AreNewSenders gates most_actors rows senders → length senders ≤ 64
       → AllPairs (λ a b. a ≢ b) (senders_numbers senders)
   all-once rows senders are few =
       let sum : most_actors ≡ most_actors + 0 = omega arith in
       let are_numbers : senders_numbers senders ≡ numbers 0 (length senders) =
       numbers-of 0 rows senders (subst (λ n. AreNewSenders gates n rows senders) sum are) in
       subst (AllPairs (λ a b. a ≢ b)) (append-nil (numbers 0 (length senders)) ∙ sym are_numbers) (senders-different (length senders) 0 few)
+
+module _ {A K : Type 0} (gates : Gates (Box Contents)) where
+  pub all-ends : (number : ℕ) (ends : List (WorkerEnd A K)) → AreNewEnds gates number ends → All (λ (e : WorkerEnd A K). IsEndOf gates e.registrar) ends
+  all-ends number [] are = All-nil (λ (e : WorkerEnd A K). IsEndOf gates e.registrar)
+  all-ends number (e ∷ ends) are =
+      All-cons (λ (e : WorkerEnd A K). IsEndOf gates e.registrar) e ends are.0.same_gates (all-ends (number + 1) ends are.1)

@@ -13,10 +13,9 @@ use Rattle.mb_build.specs.Handed.{passes_of}
 use Rattle.mb_build.specs.Numbers.{numbers}
 use Rattle.mb_startup.specs.Begun.{AreNewEnds, AreNewSenders, IsBegun}
 use Rattle.mb_system.specs.Belonging.{senders_numbers}
-use Rattle.mb_system.specs.Members.{ends_numbers}
+use Rattle.mb_system.specs.Members.{OutsideSender, ends_numbers}
 use Rattle.mb_system.specs.declared.built.Built.{Built}
 use Rattle.mb_system.specs.declared.end.WorkerEnd.{WorkerEnd}
-use Rattle.mb_system.specs.declared.sender.Sender.{Sender}
 
 -- numbers in a row
 pub length-numbers : (first count : ℕ) → length (numbers first count) ≡ count
@@ -28,12 +27,8 @@ number-at first zero i lt = absurd (omega (arith, lt))
 number-at first (suc count) zero lt = ap Some (omega arith)
 number-at first (suc count) (suc i) lt = number-at (first + 1) count i (omega (arith, lt)) ∙ ap Some (omega arith)
 
-module _ {A K : Type 0} (gates : Gates (Box Contents)) where
-  numbers-of-ends : (number : ℕ) (ends : List (WorkerEnd A K)) → AreNewEnds gates number ends → ends_numbers ends ≡ numbers number (length ends)
-  numbers-of-ends number [] are = refl
-  numbers-of-ends number (e ∷ ends) are = λ i. are.0.number_is i ∷ numbers-of-ends (number + 1) ends are.1 i
-
-  numbers-of-senders : (number : ℕ) (rows : List (List SendPassView)) (senders : List (Sender A K)) → most_actors ≤ number
+module _ (gates : Gates (Box Contents)) where
+  numbers-of-senders : (number : ℕ) (rows : List (List SendPassView)) (senders : List OutsideSender) → most_actors ≤ number
       → AreNewSenders gates number rows senders
       → (senders_numbers senders ≡ numbers (number - most_actors) (length senders)) × (length senders ≡ length rows)
   numbers-of-senders number [] [] least are = (refl, refl)
@@ -42,8 +37,13 @@ module _ {A K : Type 0} (gates : Gates (Box Contents)) where
   numbers-of-senders number (row ∷ rows) (s ∷ senders) least are =
       let rest = numbers-of-senders (number + 1) rows senders (omega (arith, least)) are.1 in
       let next : (number + 1) - most_actors ≡ (number - most_actors) + 1 = omega (arith, least) in
-      let one : s.inner.send_log.by.0 - most_actors ≡ number - most_actors = ap (λ n. n.0 - most_actors) are.0.by in
+      let one : s.send_log.by.0 - most_actors ≡ number - most_actors = ap (λ n. n.0 - most_actors) are.0.by in
       ((λ i. one i ∷ (rest.0 ∙ ap (λ n. numbers n (length senders)) next) i), ap suc rest.1)
+
+module _ {A K : Type 0} (gates : Gates (Box Contents)) where
+  numbers-of-ends : (number : ℕ) (ends : List (WorkerEnd A K)) → AreNewEnds gates number ends → ends_numbers ends ≡ numbers number (length ends)
+  numbers-of-ends number [] are = refl
+  numbers-of-ends number (e ∷ ends) are = λ i. are.0.number_is i ∷ numbers-of-ends (number + 1) ends are.1 i
 
 module _ {A K : Type 0} (gives : ℕ → Moment → Reply → Type 0) (plan : Plan) (built : Built A K) (begun : IsBegun gives plan built) where
   -- all senders and ends of the plan are there, in order

@@ -22,12 +22,11 @@ use Rattle.mb_build.specs.Planned.{actors_in}
 use Rattle.mb_build.specs.Kinds.{AreKindsOf}
 use Rattle.mb_send.specs.Sends.{AreRoutes, receiving_queues}
 use Rattle.mb_register.specs.Owed.{IsNobody}
-use Rattle.mb_system.specs.Members.{IsEndOf, IsSenderOf, pool_ends_of, pool_feeds_of}
+use Rattle.mb_system.specs.Members.{IsEndOf, IsSenderOf, OutsideSender, pool_ends_of, pool_feeds_of}
 use Rattle.mb_system.specs.Shares.{shares_of, views_of}
 use Rattle.mb_system.specs.Belonging.{BelongsTogether}
 use Rattle.mb_system.specs.declared.built.Built.{Built}
 use Rattle.mb_system.specs.declared.end.WorkerEnd.{WorkerEnd}
-use Rattle.mb_system.specs.declared.sender.Sender.{Sender}
 use Rattle.mb_startup.specs.NewActors.{AreNewActors}
 
 -- A sender's passes: one into each of these queues, in order, for the sender of this number. Nothing was pushed by them.
@@ -58,30 +57,31 @@ abbrev pub HasNoClaims : {A K : Type 0} → WorkerEnd A K → Type 0
 HasNoClaims e = (e.registrar.run_queue.pushed ≡ []) × (e.registrar.run_queue.refused ≡ []) × (e.taken ≡ [])
 
 -- Each of these senders keeps of its dead letters what a journal of this mode keeps of its entries.
-abbrev pub KeepLettersIn : {A K : Type 0} → JournalMode → List (Sender A K) → Type 0
-KeepLettersIn {A} {K} mode senders = All (λ (s : Sender A K). s.inner.send_log.dead.retention ≡ retention_of mode) senders
+abbrev pub KeepLettersIn : JournalMode → List OutsideSender → Type 0
+KeepLettersIn mode senders = All (λ (s : OutsideSender). s.send_log.dead.retention ≡ retention_of mode) senders
 
-module _ {A K : Type 0} (gates : Gates (Box Contents)) where
+module _ (gates : Gates (Box Contents)) where
   -- A new sender of this number: it sent no envelope and no system message, was answered nothing, saw nothing, got no claim, gave no cell back, owes
   -- nobody anything, and pushes by these passes.
-  pub record IsNewSender (number : ℕ) (sends : List SendPassView) (s : Sender A K) : Type 0 where
-    pub same_gates : IsSenderOf gates s.inner
-    pub by : s.inner.send_log.by ≡ record { 0 = number }
-    pub posted : s.inner.send_log.posted ≡ []
-    pub sends_are : s.inner.sends.items ≡ sends
-    pub nobody : IsNobody s.inner.registrar.owed
-    pub settled : HasNoObligations (pass_view s.inner.registrar.pass)
-    pub blank : (pass_view s.inner.registrar.pass).log ≡ []
-    pub sent_nothing : (pass_view s.inner.registrar.pass).sent_system ≡ []
-    pub unclaimed : (pass_view s.inner.registrar.pass).got ≡ []
-    pub none_released : (pass_view s.inner.registrar.pass).releases ≡ []
+  pub record IsNewSender (number : ℕ) (sends : List SendPassView) (s : OutsideSender) : Type 0 where
+    pub same_gates : IsSenderOf gates s
+    pub by : s.send_log.by ≡ record { 0 = number }
+    pub posted : s.send_log.posted ≡ []
+    pub sends_are : s.sends.items ≡ sends
+    pub nobody : IsNobody s.registrar.owed
+    pub settled : HasNoObligations (pass_view s.registrar.pass)
+    pub blank : (pass_view s.registrar.pass).log ≡ []
+    pub sent_nothing : (pass_view s.registrar.pass).sent_system ≡ []
+    pub unclaimed : (pass_view s.registrar.pass).got ≡ []
+    pub none_released : (pass_view s.registrar.pass).releases ≡ []
 
   -- New senders, numbered on from this one.
-  abbrev pub AreNewSenders : ℕ → List (List SendPassView) → List (Sender A K) → Type 0
+  abbrev pub AreNewSenders : ℕ → List (List SendPassView) → List OutsideSender → Type 0
   AreNewSenders number [] [] = Unit {0}
   AreNewSenders number (sends ∷ rows) (s ∷ senders) = IsNewSender number sends s × AreNewSenders (number + 1) rows senders
   AreNewSenders number _ _ = ⊥
 
+module _ {A K : Type 0} (gates : Gates (Box Contents)) where
   -- A new worker's end of this number, which saw nothing, got and took no claim, gave no cell back and owes nobody anything. Nothing went into its run
   -- queue, and nothing was refused.
   pub record IsNewEnd (number : ℕ) (e : WorkerEnd A K) : Type 0 where

@@ -21,6 +21,7 @@ use mb_msg::{ActorId, JournalMode, SenderId, SysMsg};
 use mb_pool::{Feed, FeedPort, WorkerPort};
 use mb_queue::SendPass;
 use mb_register::{Owed, Registrar, Told};
+use mb_send::GatesSender;
 use mb_syslist::Node;
 use mb_system::{Sender, WorkerEnd};
 use std::alloc::{AllocError, Global};
@@ -110,8 +111,8 @@ fn open_senders<A: Actor, K: Behaviours>(
             told: Told::none(),
         };
         let by = SenderId(ACTORS + senders.len() as u32);
-        let inner = mb_send::GatesSender::new(alloc, by, registrar, sends, dead);
-        senders.push(Sender { inner })?;
+        let sender = GatesSender::new(alloc, by, registrar, sends, dead);
+        senders.push(sender)?;
     }
     Ok(senders)
 }

@@ -20,6 +20,7 @@ use Rattle.mb_home.specs.contracts.home.Home as home
 use Rattle.mb_home.specs.contracts.home.mailbox_state.HomeMailboxState.TheImpl as home_state
 use Rattle.mb_home.proofs.Crossing.{home_send}
 use Rattle.mb_register.proofs.Crossing.{registrar_send}
+use Rattle.mb_send.specs.contracts.sender.GatesSender as sender
 use Rattle.mb_send.proofs.Crossing as send
 use Rattle.mb_pool.proofs.Crossing.{pool_sync}
 use Rattle.mb_pool.specs.contracts.worker_port.WorkerPort as worker_port
@@ -27,7 +28,6 @@ use Rattle.mb_pool.specs.contracts.feed_port.FeedPort as feed_port
 use Rattle.mb_pool.proofs.PoolPortCrossing.{end_way_send as worker_port_send, feed_way_send as feed_port_send}
 use Rattle.mb_system.proofs.run_activity.RunActivity.TheSendSync as going
 use Rattle.mb_system.specs.contracts.end.WorkerEnd as end
-use Rattle.mb_system.specs.contracts.sender.Sender as sender
 use Rattle.mb_system.specs.contracts.system.System as system
 
 -- so may what is passed for a type parameter
@@ -60,12 +60,9 @@ module _ (A K : RattleType) (gA : actor.Ghosts A.Denot) (gK : behaviours.Ghosts 
     ),
   )
 
-  pub sender_send : IsSend (sender.the_row A K gA gK)
-  sender_send = declared_send (sender.the_type A K gA gK) (
-    send.sender_send (ThePlace A K gA gK) (feed_port.the_row (ThePlace A K gA gK) (place_ghosts A K gA gK)) place_send
-        (feed_port_send (ThePlace A K gA gK) (place_ghosts A K gA gK) place_send),
-    tt,
-  )
+  pub sender_send : IsSend (sender.the_row (ThePlace A K gA gK) (feed_port.the_row (ThePlace A K gA gK) (place_ghosts A K gA gK)))
+  sender_send = send.sender_send (ThePlace A K gA gK) (feed_port.the_row (ThePlace A K gA gK) (place_ghosts A K gA gK)) place_send
+      (feed_port_send (ThePlace A K gA gK) (place_ghosts A K gA gK) place_send)
 
   pub system_sync : IsSync (system.the_row A K gA gK)
   system_sync = declared_sync (system.the_type A K gA gK) (

@@ -3,3 +3,4 @@ pub mod Obligations
 pub mod Crossing
 pub mod RunErrors
 pub mod Saw
+pub mod Senders

@@ -18,15 +18,18 @@ use Rattle.mb_pool.specs.PoolPorts.{pushed_first}
 use Rattle.mb_pool.specs.WorkerPorts.{WorkerPortView}
 use Rattle.mb_pool.specs.declared.feed_port.FeedPort.{FeedPort}
 use Rattle.mb_system.specs.declared.end.WorkerEnd.{WorkerEnd}
-use Rattle.mb_system.specs.declared.sender.Sender.{Sender as OutsideSender}
 
 -- The end's pass and its port of the run queue are of these gates.
 abbrev pub IsEndOf : Gates (Box Contents) → Registrar (Box Contents) (WorkerPortView (Box Contents)) → Type 0
 IsEndOf gates registrar = IsRegistrarOf (λ (run_queue : WorkerPortView (Box Contents)). gates_of run_queue.end) gates registrar
 
+-- What a sender outside the actors has.
+abbrev pub OutsideSender : Type 0
+OutsideSender = GatesSender (Box Contents) (FeedPort (Box Contents))
+
 -- The sender's pass and its port of the run queue are of these gates; and it has a pass into the queue of each actor from number 1 on, in their
 -- order.
-pub record IsSenderOf (gates : Gates (Box Contents)) (sender : GatesSender (Box Contents) (FeedPort (Box Contents))) : Type 0 where
+pub record IsSenderOf (gates : Gates (Box Contents)) (sender : OutsideSender) : Type 0 where
   pub same_gates : IsRegistrarOf (λ (run_queue : FeedPort (Box Contents)). gates_of run_queue.feed) gates sender.registrar
   pub all : vec_len sender.sends + 1 ≡ actors_of gates
   pub queues : receiving_queues sender.sends.items ≡ drop 1 (queues_of (first_home gates).value.directory)
@@ -41,6 +44,10 @@ abbrev pub sender_caller : Registrar (Box Contents) (FeedPort (Box Contents)) �
 sender_caller registrar = caller_of (λ (run_queue : FeedPort (Box Contents)). pushed_first (ports_of run_queue.feed))
     (λ (run_queue : FeedPort (Box Contents)). map (λ claim. claim.value) run_queue.refused) registrar
 
+-- The feeds of the pool that these senders have, in order.
+abbrev pub pool_feeds_of : List OutsideSender → List (PoolEndpoint (Box Contents))
+pool_feeds_of = map (λ (s : OutsideSender). s.registrar.run_queue.feed)
+
 module _ {A K : Type 0} where
   -- The claims that the end took, in order.
   abbrev pub claims_taken : WorkerEnd A K → List (Claim (Box Contents))
@@ -53,10 +60,6 @@ module _ {A K : Type 0} where
   -- The ends of the pool that these workers' ends have, in order.
   abbrev pub pool_ends_of : List (WorkerEnd A K) → List (PoolEndpoint (Box Contents))
   pool_ends_of = map (λ (e : WorkerEnd A K). e.registrar.run_queue.end)
-
-  -- The feeds of the pool that these senders have, in order.
-  abbrev pub pool_feeds_of : List (OutsideSender A K) → List (PoolEndpoint (Box Contents))
-  pool_feeds_of = map (λ (s : OutsideSender A K). s.inner.registrar.run_queue.feed)
 
   -- All these ends are of the gates.
   abbrev pub AreEndsOf : Gates (Box Contents) → List (WorkerEnd A K) → Type 0

@@ -9,9 +9,8 @@ use Rattle.mb_gate.specs.declared.gates.Gates.{Gates}
 use Rattle.mb_home.specs.Contents.{Contents}
 use Rattle.mb_register.specs.Caller.{Caller, IsDischargedOrOwed}
 use Rattle.mb_register.specs.Owed.{is_owed}
-use Rattle.mb_system.specs.Members.{end_caller}
+use Rattle.mb_system.specs.Members.{OutsideSender, end_caller}
 use Rattle.mb_system.specs.declared.end.WorkerEnd.{WorkerEnd}
-use Rattle.mb_system.specs.declared.sender.Sender.{Sender}
 
 module _ {H : Type 0} (actors : ℕ) where
   -- To each of so many actors it owes nothing, or the actor is in the set of those that it owes a look.
@@ -44,5 +43,5 @@ FirstHasNoObligation gates [] = Unit {0}
 FirstHasNoObligation gates (end ∷ ends) = HasNoObligationTo (actors_of gates) (end_caller end.registrar)
 
 -- No actor is in the sender's set of owed looks.
-abbrev pub OwesNobody : {A K : Type 0} → Gates (Box Contents) → Sender A K → Type 0
-OwesNobody gates s = (id : ℕ) → id < actors_of gates → is_owed s.inner.registrar.owed id ≡ false
+abbrev pub OwesNobody : Gates (Box Contents) → OutsideSender → Type 0
+OwesNobody gates s = (id : ℕ) → id < actors_of gates → is_owed s.registrar.owed id ≡ false

@@ -17,5 +17,5 @@ pub use built::Built;
 pub use end::WorkerEnd;
 pub use failure::RunError;
 pub use run_activity::RunActivity;
-pub use sender::Sender;
+pub use sender::{Sender, retry_refused};
 pub use system::System;

@@ -23,6 +23,7 @@ pub const ME: SenderId = SenderId(64);
 
 /// The gates of three actors, a sender whose run queue has one place, a second pass, and the ticket that the last look at the
 /// first actor gave, while that was open. The queue of the second actor has two places.
+#[derive(Drop)]
 pub struct Outside {
     gates: Gates<OpenHome>,
     sender: GatesSender<OpenHome, OnePlace>,
@@ -32,29 +33,6 @@ pub struct Outside {
     ghost same_gates: { (pass_id sender.registrar.pass ≡ gates_id gates) × (pass_id other ≡ gates_id gates) },
     ghost run_queue: { origin_of sender.registrar.run_queue.gates.value ≡ origin_of gates },
     ghost all: { vec_len sender.sends ≡ 2 },
-}
-
-impl Drop for Outside {
-    fn drop(self) {
-        let Outside {
-            gates: _,
-            sender,
-            other: _,
-            ticket: _,
-        } = self;
-        let GatesSender {
-            registrar,
-            sends: _,
-            send_log: _,
-            alloc: _,
-        } = sender;
-        let Registrar {
-            pass: _,
-            run_queue: _,
-            owed: _,
-            told: _,
-        } = registrar;
-    }
 }
 
 /// The sender's pass into a new queue of this actor.

@@ -31,7 +31,7 @@ returns-clause-together g c =
     (c.requires.same_count ∙ sym (length-mapped (λ (v : Vec Order Global). v.items) c.args.sends.now)) ran.system c.requires.together
     (subst (λ v. HaveSent gates orders old.senders.items v.items) (sym ran.senders) (subst (HaveSent gates orders old.senders.items) (sym items) sent))
     ran.same_gates
-    (subst (λ v. All (λ s. IsSenderOf gates s.inner) v.items) (sym ran.senders) (subst (All (λ s. IsSenderOf gates s.inner)) (sym items) went.same_gates)))
+    (subst (λ v. All (λ s. IsSenderOf gates s) v.items) (sym ran.senders) (subst (All (λ s. IsSenderOf gates s)) (sym items) went.same_gates)))
 
 pub returns-clause-runs : goal.returns-clause-runs
 returns-clause-runs g c = c.run_first.ensures.runs
@@ -39,7 +39,7 @@ returns-clause-runs g c = c.run_first.ensures.runs
 pub send_each-requires : goal.send_each-requires
 send_each-requires g c =
     let system = c.args.built.now.system in let is = sym c.deref_mut.ensures.value in record {
-      same_gates = subst (All (λ s. IsSenderOf system.gates s.inner)) is c.requires.together.senders;
+      same_gates = subst (All (λ s. IsSenderOf system.gates s)) is c.requires.together.senders;
       same_count = ap length c.deref_mut.ensures.value ∙ c.requires.same_count;
     }
 

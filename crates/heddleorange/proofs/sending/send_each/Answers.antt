@@ -16,7 +16,7 @@ loop-place-preserved g c =
     let in_senders : place < length at.senders = omega (arith, test, same) in
     let in_sends : place < length c.args.sends.now = omega (arith, test, same, as_many) in
     let here : slice_get at.senders place ≡ Some old = slice_get-get_or at.senders place c.index-senders-place.result in_senders in (
-      All-set (λ s. IsSenderOf gates s.inner) at.senders place new one.same_gates at.invariant.0,
+      All-set (λ s. IsSenderOf gates s) at.senders place new one.same_gates at.invariant.0,
       one-done (Did gates (orders_of c.args.sends.now)) place c.args.senders.now at.senders old new at.invariant.1 here (λ of there.
           subst (λ l. HasSentAndRetried gates l old new)
           (orders-at c.args.sends.now place orders of c.deref.result.now in_sends c.index-sends-place.is c.deref.ensures.value there) one.sent),
@@ -48,11 +48,11 @@ pub send_and_retry-requires : goal.send_and_retry-requires
 send_and_retry-requires g c =
     let at = c.loop-place in let test = c.loop-place-test.true in let many = at.invariant.1.same_count in record {
       same_gates =
-          All-get_or (λ s. IsSenderOf c.args.system.now.gates s.inner) at.senders at.place c.index-senders-place.result (omega (arith, test, many))
+          All-get_or (λ s. IsSenderOf c.args.system.now.gates s) at.senders at.place c.index-senders-place.result (omega (arith, test, many))
           at.invariant.0;
     }
 
 pub returns-in_err-send_and_retry-clause-same_gates : goal.returns-in_err-send_and_retry-clause-same_gates
 returns-in_err-send_and_retry-clause-same_gates g c =
-    All-set (λ s. IsSenderOf c.args.system.now.gates s.inner) c.loop-place.senders c.loop-place.place c.send_and_retry.new.sender
+    All-set (λ s. IsSenderOf c.args.system.now.gates s) c.loop-place.senders c.loop-place.place c.send_and_retry.new.sender
     c.in_err-send_and_retry.ensures.same_gates c.loop-place.invariant.0

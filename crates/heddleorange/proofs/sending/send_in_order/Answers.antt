@@ -19,7 +19,7 @@ loop-send-preserved g c =
     let send = get_or sends at.send-index no-sending in let one = c.in_ok-send_and_retry.ensures in
     let from = All-get_or (λ s. s.from < length c.args.senders.now) sends at.send-index no-sending c.loop-send-test.true c.requires.from in
     let many = at.invariant.1.same_count in (
-      All-set (λ s. IsSenderOf gates s.inner) at.senders send.from c.send_and_retry.new.sender one.same_gates at.invariant.0,
+      All-set (λ s. IsSenderOf gates s) at.senders send.from c.send_and_retry.new.sender one.same_gates at.invariant.0,
       one-sent gates sends at.send-index no-sending c.args.senders.now at.senders c.index-senders-send.result c.send_and_retry.new.sender
           c.loop-send-test.true (omega (arith, from, many)) at.invariant.1 one.sent,
     )
@@ -47,14 +47,14 @@ send_and_retry-requires g c =
     let from = All-get_or (λ s. s.from < length c.args.senders.now) sends at.send-index no-sending c.loop-send-test.true c.requires.from in
     let many = at.invariant.1.same_count in record {
       same_gates =
-          All-get_or (λ s. IsSenderOf c.args.system.now.gates s.inner) at.senders send.from c.index-senders-send.result (omega (arith, from, many))
+          All-get_or (λ s. IsSenderOf c.args.system.now.gates s) at.senders send.from c.index-senders-send.result (omega (arith, from, many))
           at.invariant.0;
     }
 
 pub returns-in_err-send_and_retry-clause-same_gates : goal.returns-in_err-send_and_retry-clause-same_gates
 returns-in_err-send_and_retry-clause-same_gates g c =
     let at = c.loop-send in let send = get_or c.args.sends.now at.send-index no-sending in
-    All-set (λ s. IsSenderOf c.args.system.now.gates s.inner) at.senders send.from c.send_and_retry.new.sender c.in_err-send_and_retry.ensures.same_gates
+    All-set (λ s. IsSenderOf c.args.system.now.gates s) at.senders send.from c.send_and_retry.new.sender c.in_err-send_and_retry.ensures.same_gates
     at.invariant.0
 
 pub bounds-senders-send : goal.bounds-senders-send

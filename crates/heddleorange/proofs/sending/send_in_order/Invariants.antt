@@ -6,5 +6,5 @@ use Rattle.heddleorange.proofs.sending.send_in_order.Given as goal
 
 abbrev pub invariant-loop-send : goal.invariant-loop-send
 invariant-loop-send g l =
-    All (λ s. IsSenderOf l.system.gates s.inner) l.senders
+    All (λ s. IsSenderOf l.system.gates s) l.senders
     × AreEach (DidOwn l.system.gates (take l.send-index l.sends)) l.fn.senders l.senders

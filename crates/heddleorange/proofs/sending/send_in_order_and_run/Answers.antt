@@ -33,7 +33,7 @@ returns-clause-together g c =
     (sym (length-lists (length old.senders.items) c.args.sends.now ∙ many-from (length old.senders.items) c.args.sends.now c.requires.from)) ran.system c.requires.together
     (subst (λ v. HaveSent gates orders old.senders.items v.items) (sym ran.senders) (subst (HaveSent gates orders old.senders.items) (sym items) sent))
     ran.same_gates
-    (subst (λ v. All (λ s. IsSenderOf gates s.inner) v.items) (sym ran.senders) (subst (All (λ s. IsSenderOf gates s.inner)) (sym items) went.same_gates)))
+    (subst (λ v. All (λ s. IsSenderOf gates s) v.items) (sym ran.senders) (subst (All (λ s. IsSenderOf gates s)) (sym items) went.same_gates)))
 
 pub returns-clause-turns : goal.returns-clause-turns
 returns-clause-turns g c = c.run_first.ensures.turns
@@ -57,7 +57,7 @@ returns-clause-covers g c =
 pub send_in_order-requires : goal.send_in_order-requires
 send_in_order-requires g c =
     let system = c.args.built.now.system in let is = sym c.deref_mut.ensures.value in record {
-      same_gates = subst (All (λ s. IsSenderOf system.gates s.inner)) is c.requires.together.senders;
+      same_gates = subst (All (λ s. IsSenderOf system.gates s)) is c.requires.together.senders;
       owes_nobody = subst (All (OwesNobody system.gates)) is c.requires.owes_nobody;
       from = subst (λ l. All (λ s. s.from < length l) c.args.sends.now) is c.requires.from;
     }

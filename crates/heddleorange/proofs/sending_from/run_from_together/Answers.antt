@@ -4,8 +4,7 @@ use Rattle.std.proofs.lemmas.List.{with_items_is}
 use Rattle.mb_dispatch.specs.Sources.{others_of}
 use Rattle.mb_gate.specs.Untouched.{origin_of}
 use Rattle.mb_source.specs.Given.{Gave, GaveAll}
-use Rattle.mb_system.specs.Members.{AreEndsOf, IsSenderOf, StillSee, ends_numbers}
-use Rattle.mb_system.specs.declared.sender.Sender.{Sender}
+use Rattle.mb_system.specs.Members.{AreEndsOf, IsSenderOf, OutsideSender, StillSee, ends_numbers}
 use Rattle.heddleorange.specs.FromSources.{orders_given}
 use Rattle.heddleorange.specs.Sent.{BreaksOff, HaveSent}
 use Rattle.heddleorange.specs.Workers.{AllOnlyRuns}
@@ -23,7 +22,7 @@ run_from-requires-clause-same_count g c κs within =
 
 pub run_from-requires-clause-same_gates : goal.run_from-requires-clause-same_gates
 run_from-requires-clause-same_gates g c κs within =
-    subst (All (λ s. IsSenderOf c.args.built.now.system.gates s.inner)) (sym c.deref_mut-2.ensures.value) c.requires.together.senders
+    subst (All (λ s. IsSenderOf c.args.built.now.system.gates s)) (sym c.deref_mut-2.ensures.value) c.requires.together.senders
 
 pub returns-clause-same_gates : goal.returns-clause-same_gates
 returns-clause-same_gates g c =
@@ -80,7 +79,7 @@ returns-clause-together g c =
     let lent = ap length c.deref_mut-2.ensures.value ∙ c.requires.same_count in let same = ran.auto.senders in let long = ran.auto.sources in
     let ends = with_items_is old.ends ran.new.ends (ran.auto.ends ∙ ap length c.deref_mut.ensures.value ∙ sym old.ends.ok.0) in
     let senders = with_items_is old.senders ran.new.senders (same ∙ ap length c.deref_mut-2.ensures.value ∙ sym old.senders.ok.0) in
-    let orders = orders_given (others_of gates) first last in let ours = λ (s : Sender g.row.A.Denot g.row.K.Denot). IsSenderOf gates s.inner in
+    let orders = orders_given (others_of gates) first last in let ours = λ (s : OutsideSender). IsSenderOf gates s in
     ok-then ran.result ran.ensures.done (λ all. together-kept orders old _ (c.requires.same_count ∙ sym (many-given (others_of gates) first last long)) refl
     c.requires.together (subst (HaveSent gates orders old.senders.items) (sym senders)
     (subst (λ l. HaveSent gates orders l ran.new.senders) c.deref_mut-2.ensures.value (pairs-sent gates S.gives S.takes_back _ _ _ _ lent same long all)))

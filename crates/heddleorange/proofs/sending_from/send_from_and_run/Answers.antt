@@ -2,8 +2,7 @@ use Rattle.std.proofs.Common.{◌∙◌, ap, inl, inr, length, refl, subst, sym}
 use Rattle.std.specs.Prelude.{All}
 use Rattle.std.proofs.lemmas.List.{with_items_is}
 use Rattle.mb_dispatch.specs.Sources.{others_of}
-use Rattle.mb_system.specs.Members.{IsSenderOf}
-use Rattle.mb_system.specs.declared.sender.Sender.{Sender}
+use Rattle.mb_system.specs.Members.{IsSenderOf, OutsideSender}
 use Rattle.mb_source.specs.Given.{Gave, GaveAll}
 use Rattle.heddleorange.specs.FromSources.{orders_given}
 use Rattle.heddleorange.specs.Sent.{BreaksOff, HaveSent}
@@ -15,7 +14,7 @@ use Rattle.heddleorange.proofs.sending_from.send_from_and_run.Goals as goal
 pub send_from_each-requires : goal.send_from_each-requires
 send_from_each-requires g c = record {
   same_count = ap length c.deref_mut.ensures.value ∙ c.requires.same_count;
-  same_gates = subst (All (λ s. IsSenderOf c.args.built.now.system.gates s.inner)) (sym c.deref_mut.ensures.value) c.requires.together.senders;
+  same_gates = subst (All (λ s. IsSenderOf c.args.built.now.system.gates s)) (sym c.deref_mut.ensures.value) c.requires.together.senders;
 }
 
 pub run_first-requires : goal.run_first-requires
@@ -39,7 +38,7 @@ returns-clause-together g c =
     let orders = orders_given (others_of gates) first last in
     let did = subst (λ l. HaveSent gates (orders_given (others_of gates) first last) l now) c.deref_mut.ensures.value
     (pairs-sent gates S.gives S.takes_back _ _ _ _ lent same long c.in_ok-send_from_each.ensures.ended.done) in
-    let items = with_items_is was now (did.same_count ∙ sym was.ok.0) in let ran = c.run_first.ensures in let ours = λ (s : Sender g.row.A.Denot g.row.K.Denot). IsSenderOf gates s.inner in
+    let items = with_items_is was now (did.same_count ∙ sym was.ok.0) in let ran = c.run_first.ensures in let ours = λ (s : OutsideSender). IsSenderOf gates s in
     together-kept orders old c.run_first.new.built (c.requires.same_count ∙ sym (many-given (others_of gates) first last long)) ran.system c.requires.together
     (subst (λ v. HaveSent gates orders was.items v.items) (sym ran.senders) (subst (HaveSent gates orders was.items) (sym items) did)) ran.same_gates
     (subst (λ v. All ours v.items) (sym ran.senders) (subst (All ours) (sym items)

@@ -48,20 +48,20 @@ returns-in_err-send_all-clause-keeps g c =
 pub returns-in_default-clause-keeps : goal.returns-in_default-clause-keeps
 returns-in_default-clause-keeps g c =
     let asked = c.next-in-loop in let did = c.retry_refused.ensures in
-    keeps-done _ _ _ c.args.sender.now c.loop.sender c.retry_refused.new.self c.args.source.now c.loop.source asked.new.self c.loop.invariant
+    keeps-done _ _ _ c.args.sender.now c.loop.sender c.retry_refused.new.sender c.args.source.now c.loop.source asked.new.self c.loop.invariant
     (asked.ensures.recorded ∙ ap (λ o. c.loop.source.given ++ option_to_list o) c.in_default.is)
     (subst (λ o. g.S.Source.gives c.loop.source.source o asked.new.self.source) c.in_default.is asked.ensures.gives)
-    (sent-still (orders_since c.args.system.now.gates c.args.source.now c.loop.source) c.args.sender.now c.loop.sender c.retry_refused.new.self did.same.1
+    (sent-still (orders_since c.args.system.now.gates c.args.source.now c.loop.source) c.args.sender.now c.loop.sender c.retry_refused.new.sender did.same.1
     did.looks c.loop.invariant.sent) did.same_gates did.same_sender did.handed
 
 pub returns-in_default-clause-done : goal.returns-in_default-clause-done
 returns-in_default-clause-done g c =
     let asked = c.next-in-loop in let did = c.retry_refused.ensures in let gates = c.args.system.now.gates in
-    let done : OwesNobody gates c.retry_refused.new.self → IsPairDone gates g.S.Source.gives g.S.Source.takes_back (c.args.sender.now, c.args.source.now)
-    (c.retry_refused.new.self, asked.new.self) =
-    λ nobody. pair-done _ _ _ c.args.sender.now c.loop.sender c.retry_refused.new.self c.args.source.now c.loop.source asked.new.self c.loop.invariant
+    let done : OwesNobody gates c.retry_refused.new.sender → IsPairDone gates g.S.Source.gives g.S.Source.takes_back (c.args.sender.now, c.args.source.now)
+    (c.retry_refused.new.sender, asked.new.self) =
+    λ nobody. pair-done _ _ _ c.args.sender.now c.loop.sender c.retry_refused.new.sender c.args.source.now c.loop.source asked.new.self c.loop.invariant
     (asked.ensures.recorded ∙ ap (λ o. c.loop.source.given ++ option_to_list o) c.in_default.is)
     (subst (λ o. g.S.Source.gives c.loop.source.source o asked.new.self.source) c.in_default.is asked.ensures.gives)
-    (sent-still (orders_since gates c.args.source.now c.loop.source) c.args.sender.now c.loop.sender c.retry_refused.new.self did.same.1 did.looks
+    (sent-still (orders_since gates c.args.source.now c.loop.source) c.args.sender.now c.loop.sender c.retry_refused.new.sender did.same.1 did.looks
     c.loop.invariant.sent) did.obligations nobody in
     on_ok_weaker _ done did.done

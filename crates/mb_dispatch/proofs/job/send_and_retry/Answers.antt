@@ -16,7 +16,7 @@ use Rattle.mb_dispatch.proofs.job.send_and_retry.Goals as goal
 pub returns-clause-sent : goal.returns-clause-sent
 returns-clause-sent g c =
     let discharged = c.retry_refused.ensures in let gates = c.args.system.now.gates in
-    let orders = c.args.orders.now in let old = c.args.sender.now in let new = c.retry_refused.new.self in
+    let orders = c.args.orders.now in let old = c.args.sender.now in let new = c.retry_refused.new.sender in
     let both : OwesNobody gates new → HasSent orders old new × OwesNobody gates new =
     λ nobody. (
       sent-still orders old c.send_all.new.sender new discharged.same.1 discharged.looks c.in_ok-send_all.ensures.sent,
@@ -27,8 +27,8 @@ returns-clause-sent g c =
 pub returns-clause-obligations : goal.returns-clause-obligations
 returns-clause-obligations g c =
     on_ok c.retry_refused.result
-    (obligations-then (actors_of c.args.system.now.gates) (sender_caller c.args.sender.now.inner.registrar) (sender_caller c.send_all.new.sender.inner.registrar)
-    (sender_caller c.retry_refused.new.self.inner.registrar) c.in_ok-send_all.ensures.obligations c.retry_refused.ensures.obligations)
+    (obligations-then (actors_of c.args.system.now.gates) (sender_caller c.args.sender.now.registrar) (sender_caller c.send_all.new.sender.registrar)
+    (sender_caller c.retry_refused.new.sender.registrar) c.in_ok-send_all.ensures.obligations c.retry_refused.ensures.obligations)
 
 pub returns-clause-same_gates : goal.returns-clause-same_gates
 returns-clause-same_gates g c = c.retry_refused.ensures.same_gates
@@ -44,8 +44,8 @@ returns-in_err-send_all-clause-same_sender g c = c.send_all.ensures.same_sender
 
 pub returns-clause-fault : goal.returns-clause-fault
 returns-clause-fault g c =
-    let did = c.retry_refused.ensures in let orders = c.args.orders.now in let old = c.args.sender.now in let new = c.retry_refused.new.self in
-    job-owes c.args.system.now.gates orders old new _ (sender_caller c.send_all.new.sender.inner.registrar).account c.retry_refused.result did.stops did.refused
+    let did = c.retry_refused.ensures in let orders = c.args.orders.now in let old = c.args.sender.now in let new = c.retry_refused.new.sender in
+    job-owes c.args.system.now.gates orders old new _ (sender_caller c.send_all.new.sender.registrar).account c.retry_refused.result did.stops did.refused
     (sent-still orders old c.send_all.new.sender new did.same.1 did.looks c.in_ok-send_all.ensures.sent)
 
 pub returns-in_err-send_all-clause-fault : goal.returns-in_err-send_all-clause-fault
@@ -56,7 +56,7 @@ returns-in_err-send_all-clause-fault g c =
 
 pub returns-clause-stopped : goal.returns-clause-stopped
 returns-clause-stopped g c =
-    let did = c.retry_refused.ensures in let orders = c.args.orders.now in let old = c.args.sender.now in let new = c.retry_refused.new.self in
+    let did = c.retry_refused.ensures in let orders = c.args.orders.now in let old = c.args.sender.now in let new = c.retry_refused.new.sender in
     on_err c.retry_refused.result
     (inl (sent-still orders old c.send_all.new.sender new did.same.1 did.looks c.in_ok-send_all.ensures.sent))
 

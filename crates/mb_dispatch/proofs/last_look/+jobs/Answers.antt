@@ -15,9 +15,9 @@ look_with_jobs-at_first-looked-requires-clause-may g t c = λ first others are.
 
 pub look_with_job-returns-clause-same : goal.look_with_job-returns-clause-same
 look_with_job-returns-clause-same g t c =
-    let did = c.look_together.ensures in let sender = c.args.job.now.sender.inner in (
+    let did = c.look_together.ensures in let sender = c.args.job.now.sender in (
       did.same.0,
-      ap (λ s. record c.args.job.now { sender = record { inner = s } })
+      ap (λ s. record c.args.job.now { sender = s })
           (same-sender _ sender (same-registrar sender.registrar c.look_together.new.other did.same.1) refl refl refl),
       c.others-1.given.1.1 (sym did.looked.called.met.0.1) ∙ did.looked.called.met.1.1,
     )

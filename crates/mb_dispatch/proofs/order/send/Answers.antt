@@ -4,6 +4,7 @@ use Rattle.mb_register.proofs.CallerLemmas.{account-registered}
 use Rattle.mb_dispatch.specs.Faults.{BreaksSending, IsRefusedFor, IsToNobody}
 use Rattle.mb_system.specs.RunErrors.{of_send}
 use Rattle.mb_system.proofs.RunErrors.{on-error}
+use Rattle.mb_system.proofs.Senders.{sender-same, sender-still}
 use Rattle.mb_dispatch.proofs.Breaking.{breaks-one, nobody-of-send, refused-for, send-is-not-full, to-nobody}
 use Rattle.mb_msg.specs.declared.order.OrderKind.{OrderKind}
 use Rattle.mb_msg.specs.declared.order.OrderKind.TheVariants.{Stop, Tell}
@@ -11,6 +12,18 @@ use Rattle.mb_dispatch.specs.Orders.{HasSent, order_for}
 use Rattle.mb_dispatch.proofs.Sending.{obligations-stopped, obligations-told, sent-none, sent-nothing, sent-stopped, sent-told}
 use Rattle.mb_dispatch.proofs.Sides.{on_err}
 use Rattle.mb_dispatch.proofs.order.send.Goals as goal
+
+pub tell-requires-clause-same_gates : goal.tell-requires-clause-same_gates
+tell-requires-clause-same_gates g c = (c.requires.same_gates.same_gates.0, c.requires.same_gates.same_gates.1)
+
+pub tell-requires-clause-all : goal.tell-requires-clause-all
+tell-requires-clause-all g c = (c.requires.same_gates.all, c.requires.same_gates.same_gates.2)
+
+pub stop-requires-clause-same_gates : goal.stop-requires-clause-same_gates
+stop-requires-clause-same_gates g c = (c.requires.same_gates.same_gates.0, c.requires.same_gates.same_gates.1)
+
+pub stop-requires-clause-all : goal.stop-requires-clause-all
+stop-requires-clause-all g c = (c.requires.same_gates.all, c.requires.same_gates.same_gates.2)
 
 pub returns-in_err-tell-in-Tell-clause-fault : goal.returns-in_err-tell-in-Tell-clause-fault
 returns-in_err-tell-in-Tell-clause-fault g c =
@@ -67,7 +80,7 @@ pub returns-in_ok-tell-in-Tell-clause-sent : goal.returns-in_ok-tell-in-Tell-cla
 returns-in_ok-tell-in-Tell-clause-sent g c =
     let to = c.args.to in let old = c.args.sender.now in let new = c.tell.new.self in
     subst (λ (what : OrderKind). HasSent (order_for to what 1 ∷ []) old new) (sym c.in-Tell.is)
-    (sent-told to c.in-Tell.payload _ old new c.tell.ensures.same_sender c.tell.ensures.keeps c.in_ok-tell-in-Tell.ensures.told)
+    (sent-told to c.in-Tell.payload _ old new c.tell.ensures.same.0 c.tell.ensures.keeps c.in_ok-tell-in-Tell.ensures.told)
 
 pub returns-in_ok-stop-in-Stop-clause-sent : goal.returns-in_ok-stop-in-Stop-clause-sent
 returns-in_ok-stop-in-Stop-clause-sent g c =
@@ -76,28 +89,32 @@ returns-in_ok-stop-in-Stop-clause-sent g c =
     (sent-stopped to _ old new c.stop.ensures.same.0 c.in_ok-stop-in-Stop.ensures.stopped)
 
 pub returns-in_ok-tell-in-Tell-clause-same_gates : goal.returns-in_ok-tell-in-Tell-clause-same_gates
-returns-in_ok-tell-in-Tell-clause-same_gates g c = c.tell.ensures.same_gates
+returns-in_ok-tell-in-Tell-clause-same_gates g c =
+    sender-still _ _ _ c.requires.same_gates c.tell.ensures.same_gates.0 c.tell.ensures.same_gates.1 c.tell.ensures.same.1 c.tell.ensures.queues
 
 pub returns-in_err-tell-in-Tell-clause-same_gates : goal.returns-in_err-tell-in-Tell-clause-same_gates
-returns-in_err-tell-in-Tell-clause-same_gates g c = c.tell.ensures.same_gates
+returns-in_err-tell-in-Tell-clause-same_gates g c =
+    sender-still _ _ _ c.requires.same_gates c.tell.ensures.same_gates.0 c.tell.ensures.same_gates.1 c.tell.ensures.same.1 c.tell.ensures.queues
 
 pub returns-in_ok-stop-in-Stop-clause-same_gates : goal.returns-in_ok-stop-in-Stop-clause-same_gates
-returns-in_ok-stop-in-Stop-clause-same_gates g c = c.stop.ensures.same_gates
+returns-in_ok-stop-in-Stop-clause-same_gates g c =
+    sender-same _ _ _ c.requires.same_gates c.stop.ensures.same_gates.0 c.stop.ensures.same_gates.1 c.stop.ensures.same.1
 
 pub returns-in_err-stop-in-Stop-clause-same_gates : goal.returns-in_err-stop-in-Stop-clause-same_gates
-returns-in_err-stop-in-Stop-clause-same_gates g c = c.stop.ensures.same_gates
+returns-in_err-stop-in-Stop-clause-same_gates g c =
+    sender-same _ _ _ c.requires.same_gates c.stop.ensures.same_gates.0 c.stop.ensures.same_gates.1 c.stop.ensures.same.1
 
 pub returns-in_ok-tell-in-Tell-clause-same_sender : goal.returns-in_ok-tell-in-Tell-clause-same_sender
-returns-in_ok-tell-in-Tell-clause-same_sender g c = c.tell.ensures.same_sender
+returns-in_ok-tell-in-Tell-clause-same_sender g c = c.tell.ensures.same.0
 
 pub returns-in_err-tell-in-Tell-clause-same_sender : goal.returns-in_err-tell-in-Tell-clause-same_sender
-returns-in_err-tell-in-Tell-clause-same_sender g c = c.tell.ensures.same_sender
+returns-in_err-tell-in-Tell-clause-same_sender g c = c.tell.ensures.same.0
 
 pub returns-in_ok-stop-in-Stop-clause-same_sender : goal.returns-in_ok-stop-in-Stop-clause-same_sender
-returns-in_ok-stop-in-Stop-clause-same_sender g c = c.stop.ensures.same_sender
+returns-in_ok-stop-in-Stop-clause-same_sender g c = ap (λ send_log. send_log.by) c.stop.ensures.same.0
 
 pub returns-in_err-stop-in-Stop-clause-same_sender : goal.returns-in_err-stop-in-Stop-clause-same_sender
-returns-in_err-stop-in-Stop-clause-same_sender g c = c.stop.ensures.same_sender
+returns-in_err-stop-in-Stop-clause-same_sender g c = ap (λ send_log. send_log.by) c.stop.ensures.same.0
 
 pub returns-in_ok-tell-in-Tell-clause-fault : goal.returns-in_ok-tell-in-Tell-clause-fault
 returns-in_ok-tell-in-Tell-clause-fault g c = tt

@@ -17,7 +17,7 @@ use Rattle.mb_dispatch.proofs.order.send_all.Goals as goal
 
 pub loop-order-init : goal.loop-order-init
 loop-order-init g c =
-    let first = c.args.sender.now in let caller = sender_caller first.inner.registrar in (
+    let first = c.args.sender.now in let caller = sender_caller first.registrar in (
       c.requires.same_gates,
       sent-none first,
       obligations-same (actors_of c.args.system.now.gates) caller caller refl refl,
@@ -32,8 +32,8 @@ loop-order-preserved g c =
       subst (λ xs. HasSent xs c.args.sender.now c.send_often.new.sender)
           (sym (take_more c.args.orders.now at.order-index _ c.loop-order-test.true))
           (sent-then _ _ _ _ _ at.invariant.1 one.sent),
-      obligations-then (actors_of c.args.system.now.gates) (sender_caller c.args.sender.now.inner.registrar) (sender_caller at.sender.inner.registrar)
-          (sender_caller c.send_often.new.sender.inner.registrar) at.invariant.2 one.obligations,
+      obligations-then (actors_of c.args.system.now.gates) (sender_caller c.args.sender.now.registrar) (sender_caller at.sender.registrar)
+          (sender_caller c.send_often.new.sender.registrar) at.invariant.2 one.obligations,
       account-then _ _ _ at.invariant.3 c.send_often.ensures.owed,
       loses-then _ _ _ _ _ _ at.invariant.4 c.send_often.ensures.claims,
     )

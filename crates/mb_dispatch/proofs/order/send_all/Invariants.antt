@@ -9,7 +9,7 @@ use Rattle.mb_dispatch.proofs.order.send_all.Given as goal
 
 abbrev pub invariant-loop-order : goal.invariant-loop-order
 invariant-loop-order g l =
-    IsSenderOf l.system.gates l.sender.inner × HasSent (take l.order-index l.orders) l.fn.sender l.sender
-    × KeepsObligations (actors_of l.system.gates) (sender_caller l.fn.sender.inner.registrar) (sender_caller l.sender.inner.registrar)
-    × OwesForRefusals (sender_caller l.fn.sender.inner.registrar).account (sender_caller l.sender.inner.registrar).account
+    IsSenderOf l.system.gates l.sender × HasSent (take l.order-index l.orders) l.fn.sender l.sender
+    × KeepsObligations (actors_of l.system.gates) (sender_caller l.fn.sender.registrar) (sender_caller l.sender.registrar)
+    × OwesForRefusals (sender_caller l.fn.sender.registrar).account (sender_caller l.sender.registrar).account
     × SenderLosesNoClaim l.fn.sender l.sender

@@ -15,7 +15,7 @@ use Rattle.mb_dispatch.proofs.order.send_often.Goals as goal
 
 pub loop-init : goal.loop-init
 loop-init g c =
-    let first = c.args.sender.now in let caller = sender_caller first.inner.registrar in (
+    let first = c.args.sender.now in let caller = sender_caller first.registrar in (
       c.requires.same_gates,
       sent-never c.args.order.to c.args.order.what first,
       obligations-same (actors_of c.args.system.now.gates) caller caller refl refl,
@@ -28,8 +28,8 @@ loop-preserved g c =
     let one = c.in_ok-send.ensures in (
       c.send.ensures.same_gates,
       sent-again c.args.order.to c.args.order.what c.loop.counter c.args.sender.now c.loop.sender c.send.new.sender c.loop.invariant.1 one.sent,
-      obligations-then (actors_of c.args.system.now.gates) (sender_caller c.args.sender.now.inner.registrar) (sender_caller c.loop.sender.inner.registrar)
-          (sender_caller c.send.new.sender.inner.registrar) c.loop.invariant.2 one.obligations,
+      obligations-then (actors_of c.args.system.now.gates) (sender_caller c.args.sender.now.registrar) (sender_caller c.loop.sender.registrar)
+          (sender_caller c.send.new.sender.registrar) c.loop.invariant.2 one.obligations,
       account-then _ _ _ c.loop.invariant.3 c.send.ensures.owed,
       loses-then _ _ _ _ _ _ c.loop.invariant.4 c.send.ensures.claims,
     )

@@ -9,7 +9,7 @@ use Rattle.mb_dispatch.proofs.order.send_often.Given as goal
 
 abbrev pub invariant-loop : goal.invariant-loop
 invariant-loop g l =
-    IsSenderOf l.system.gates l.sender.inner × HasSent (order_for l.fn.order.to l.fn.order.what l.counter ∷ []) l.fn.sender l.sender
-    × KeepsObligations (actors_of l.system.gates) (sender_caller l.fn.sender.inner.registrar) (sender_caller l.sender.inner.registrar)
-    × OwesForRefusals (sender_caller l.fn.sender.inner.registrar).account (sender_caller l.sender.inner.registrar).account
+    IsSenderOf l.system.gates l.sender × HasSent (order_for l.fn.order.to l.fn.order.what l.counter ∷ []) l.fn.sender l.sender
+    × KeepsObligations (actors_of l.system.gates) (sender_caller l.fn.sender.registrar) (sender_caller l.sender.registrar)
+    × OwesForRefusals (sender_caller l.fn.sender.registrar).account (sender_caller l.sender.registrar).account
     × SenderLosesNoClaim l.fn.sender l.sender

@@ -47,14 +47,14 @@ pub loop-preserved-in-Some-take : goal.loop-preserved-in-Some-take
 loop-preserved-in-Some-take g c =
     let gives = g.K.Behaviours.gives in let system = c.args.system.now in let first = end_caller c.args.end.now.registrar in
     let turn = c.in_ok-run_mailbox-in-Some-take.field-0 in let did = c.run_mailbox.ensures in let same = c.take.ensures.same in let actors = actors_of c.args.system.now.gates in
-    let old = end_caller c.loop.end.registrar in let between = end_caller c.take.new.self.registrar in let new = end_caller c.run_mailbox.new.end.registrar in (
+    let old = end_caller c.loop.end.registrar in let between = end_caller c.take.new.self.registrar in let new = end_caller c.run_mailbox.new.registrar in (
       did.same_gates,
-      did.number ∙ same.3 ∙ c.loop.invariant.1,
+      same.3 ∙ c.loop.invariant.1,
       saw-then _ _ _ c.loop.invariant.2
-          (subst (λ p. IsPart (pass_view p).log (pass_view c.run_mailbox.new.end.registrar.pass).log) same.0 did.leaves.log),
+          (subst (λ p. IsPart (pass_view p).log (pass_view c.run_mailbox.new.registrar.pass).log) same.0 did.caller_advances.log),
       discharged-still actors between new
           (discharged-still actors old between c.loop.invariant.3 (obligations-same actors old between (ap pass_view same.0) same.1))
-          (obligations-left actors between new did.leaves),
+          (obligations-left actors between new did.caller_advances),
       subst (λ turns. MadeRuns gives (origin_of system.gates) system.throughput first.view turns new.view)
           (sym {A = List Turn} (◌∙◌ {A = List Turn} c.push.ensures.items (ap {A = List Turn} {B = List Turn} (λ turns. turns ++ turn ∷ []) (items-of c.reserve.ensures.same))))
           (runs-more gives (origin_of system.gates) system.throughput first.view old.view new.view c.loop.turns.items turn c.loop.invariant.4
@@ -62,8 +62,8 @@ loop-preserved-in-Some-take g c =
           (ran-mailbox gives (origin_of system.gates) system.throughput between.view new.view c.in-Some-take.claim turn
           (subst (λ (o : Option (Origin (Box Contents))). IsFreshClaim gives o c.in-Some-take.claim) c.loop.invariant.0.1 c.in-Some-take.ensures.untouched)
           c.in_ok-run_mailbox-in-Some-take.ensures.ran))),
-      tried-ran c.in-Some-take.claim c.args.end.now c.loop.end c.take.new.self c.run_mailbox.new.end c.take.result c.in-Some-take.is c.loop.invariant.5 same.0
-          c.take.ensures.account c.take.ensures.log did.claims did.log,
+      tried-ran c.in-Some-take.claim c.args.end.now c.loop.end c.take.new.self (record c.take.new.self { registrar = c.run_mailbox.new.registrar }) c.take.result c.in-Some-take.is c.loop.invariant.5 same.0
+          c.take.ensures.account c.take.ensures.log did.claims refl,
       c.push.ensures.same ∙ ap (λ (l : KeptListView Turn). l.retention) c.reserve.ensures.same ∙ c.loop.invariant.6,
     )
 
@@ -89,7 +89,7 @@ loop-preserved g c =
 pub returns-in_err-run_mailbox-in-Some-take-clause-log_kept : goal.returns-in_err-run_mailbox-in-Some-take-clause-log_kept
 returns-in_err-run_mailbox-in-Some-take-clause-log_kept g c =
     saw-then _ _ _ c.loop.invariant.2
-    (subst (λ p. IsPart (pass_view p).log (pass_view c.run_mailbox.new.end.registrar.pass).log) c.take.ensures.same.0 c.run_mailbox.ensures.leaves.log)
+    (subst (λ p. IsPart (pass_view p).log (pass_view c.run_mailbox.new.registrar.pass).log) c.take.ensures.same.0 c.run_mailbox.ensures.caller_advances.log)
 
 pub returns-in_err-retry_refused-in-None-take-clause-log_kept : goal.returns-in_err-retry_refused-in-None-take-clause-log_kept
 returns-in_err-retry_refused-in-None-take-clause-log_kept g c =
@@ -99,10 +99,10 @@ returns-in_err-retry_refused-in-None-take-clause-log_kept g c =
 pub returns-in_err-run_mailbox-in-Some-take-clause-obligations : goal.returns-in_err-run_mailbox-in-Some-take-clause-obligations
 returns-in_err-run_mailbox-in-Some-take-clause-obligations g c =
     let same = c.take.ensures.same in let actors = actors_of c.args.system.now.gates in
-    let old = end_caller c.loop.end.registrar in let between = end_caller c.take.new.self.registrar in let new = end_caller c.run_mailbox.new.end.registrar in
+    let old = end_caller c.loop.end.registrar in let between = end_caller c.take.new.self.registrar in let new = end_caller c.run_mailbox.new.registrar in
     discharged-still actors between new
     (discharged-still actors old between c.loop.invariant.3 (obligations-same actors old between (ap pass_view same.0) same.1))
-    (obligations-left actors between new c.run_mailbox.ensures.leaves)
+    (obligations-left actors between new c.run_mailbox.ensures.caller_advances)
 
 pub returns-in_err-retry_refused-in-None-take-clause-obligations : goal.returns-in_err-retry_refused-in-None-take-clause-obligations
 returns-in_err-retry_refused-in-None-take-clause-obligations g c =
@@ -148,6 +148,9 @@ pub run_mailbox-requires-clause-same_gates : goal.run_mailbox-requires-clause-sa
 run_mailbox-requires-clause-same_gates g c =
     let same = c.take.ensures.same in let ours = c.loop.invariant.0 in (ap pass_id same.0 ∙ ours.0, same.2 ∙ ours.1, ours.2)
 
+pub run_mailbox-requires-clause-same_count : goal.run_mailbox-requires-clause-same_count
+run_mailbox-requires-clause-same_count g c = c.args.system.now.directory
+
 pub run_mailbox-requires-clause-untouched : goal.run_mailbox-requires-clause-untouched
 run_mailbox-requires-clause-untouched g c =
     subst (λ (o : Option (Origin (Box Contents))). IsFreshClaim g.K.Behaviours.gives o c.in-Some-take.claim) c.loop.invariant.0.1 c.in-Some-take.ensures.untouched
@@ -178,7 +181,7 @@ returns-then-is_err-clause-fault g c = inl (refl, record { turns = c.loop.turns.
 
 pub returns-in_err-run_mailbox-in-Some-take-clause-fault : goal.returns-in_err-run_mailbox-in-Some-take-clause-fault
 returns-in_err-run_mailbox-in-Some-take-clause-fault g c =
-    let gives = g.K.Behaviours.gives in let system = c.args.system.now in let new = c.run_mailbox.new.end in
+    let gives = g.K.Behaviours.gives in let system = c.args.system.now in let new = record c.take.new.self { registrar = c.run_mailbox.new.registrar } in
     let start = pass_view c.args.end.now.registrar.pass in let old = pass_view c.loop.end.registrar.pass in
     let failed = c.in_err-run_mailbox-in-Some-take in let error = of_ready failed.field-0.0 in
     let fresh = subst (λ (o : Option (Origin (Box Contents))). IsFreshClaim gives o c.in-Some-take.claim) c.loop.invariant.0.1 c.in-Some-take.ensures.untouched in
@@ -205,7 +208,7 @@ returns-in_err-run_mailbox-in-Some-take-clause-same_gates g c = c.run_mailbox.en
 
 pub returns-in_err-run_mailbox-in-Some-take-clause-number : goal.returns-in_err-run_mailbox-in-Some-take-clause-number
 returns-in_err-run_mailbox-in-Some-take-clause-number g c =
-    c.run_mailbox.ensures.number ∙ c.take.ensures.same.3 ∙ c.loop.invariant.1
+    c.take.ensures.same.3 ∙ c.loop.invariant.1
 
 pub returns-in_err-retry_refused-in-None-take-clause-same_gates : goal.returns-in_err-retry_refused-in-None-take-clause-same_gates
 returns-in_err-retry_refused-in-None-take-clause-same_gates g c = c.retry_refused.ensures.same_gates
@@ -263,8 +266,8 @@ push-requires g c =
 pub returns-in_err-run_mailbox-in-Some-take-clause-claims : goal.returns-in_err-run_mailbox-in-Some-take-clause-claims
 returns-in_err-run_mailbox-in-Some-take-clause-claims g c =
     let did = c.run_mailbox.ensures in let took = c.take.ensures in
-    tried-ran c.in-Some-take.claim c.args.end.now c.loop.end c.take.new.self c.run_mailbox.new.end c.take.result c.in-Some-take.is c.loop.invariant.5
-    took.same.0 took.account took.log did.claims did.log
+    tried-ran c.in-Some-take.claim c.args.end.now c.loop.end c.take.new.self (record c.take.new.self { registrar = c.run_mailbox.new.registrar }) c.take.result c.in-Some-take.is c.loop.invariant.5
+    took.same.0 took.account took.log did.claims refl
 
 pub returns-in_err-retry_refused-in-None-take-clause-claims : goal.returns-in_err-retry_refused-in-None-take-clause-claims
 returns-in_err-retry_refused-in-None-take-clause-claims g c =

@@ -64,6 +64,9 @@ pub run_mailbox-requires-clause-same_gates : goal.run_mailbox-requires-clause-sa
 run_mailbox-requires-clause-same_gates g c =
     let same = c.try_take.ensures.same in let ours = c.loop.invariant.0 in (ap pass_id same.0 ∙ ours.0, same.2 ∙ ours.1, ours.2)
 
+pub run_mailbox-requires-clause-same_count : goal.run_mailbox-requires-clause-same_count
+run_mailbox-requires-clause-same_count g c = c.args.system.now.directory
+
 pub run_mailbox-requires-clause-untouched : goal.run_mailbox-requires-clause-untouched
 run_mailbox-requires-clause-untouched g c =
     tried-fresh g.K.Behaviours.gives (origin_of c.args.system.now.gates) _ c.in-Some-try_take.claim c.loop.invariant.0.1 c.in-Some-try_take.ensures.untouched
@@ -73,39 +76,39 @@ loop-preserved-in-Some-try_take g c =
     let at = c.loop.invariant in let same = c.try_take.ensures.same in let did = c.run_mailbox.ensures in let actors = actors_of c.args.system.now.gates in
     let gives = g.K.Behaviours.gives in let origin = origin_of c.args.system.now.gates in let throughput = c.args.system.now.throughput in
     let first = end_caller c.args.end.now.registrar in let old = end_caller c.loop.end.registrar in
-    let between = end_caller c.try_take.new.self.registrar in let new = end_caller c.run_mailbox.new.end.registrar in
+    let between = end_caller c.try_take.new.self.registrar in let new = end_caller c.run_mailbox.new.registrar in
     let turn = c.in_ok-run_mailbox.field-0 in (
       did.same_gates,
-      did.number ∙ same.3 ∙ at.1,
-      saw-then _ _ _ (subst (λ p. IsPart first.view.log (pass_view p).log) (sym same.0) at.2) did.leaves.log,
+      same.3 ∙ at.1,
+      saw-then _ _ _ (subst (λ p. IsPart first.view.log (pass_view p).log) (sym same.0) at.2) did.caller_advances.log,
       obligations-then actors first between new (obligations-then actors first old between at.3 (obligations-same actors old between (ap pass_view same.0) same.1))
-          (obligations-left actors between new did.leaves),
+          (obligations-left actors between new did.caller_advances),
       runs-then gives origin throughput first.view between.view new.view
           (subst (λ p. OnlyRuns gives origin throughput first.view (pass_view p)) (sym same.0) at.4)
           (one-run gives origin throughput between.view new.view turn
           (ran-mailbox gives origin throughput between.view new.view c.in-Some-try_take.claim turn
           (tried-fresh gives origin _ c.in-Some-try_take.claim at.0.1 c.in-Some-try_take.ensures.untouched) c.in_ok-run_mailbox.ensures.ran)),
-      tried-ran c.in-Some-try_take.claim c.args.end.now c.loop.end c.try_take.new.self c.run_mailbox.new.end c.try_take.result c.in-Some-try_take.is at.5 same.0
-          c.try_take.ensures.account c.try_take.ensures.log did.claims did.log,
+      tried-ran c.in-Some-try_take.claim c.args.end.now c.loop.end c.try_take.new.self (record c.try_take.new.self { registrar = c.run_mailbox.new.registrar }) c.try_take.result c.in-Some-try_take.is at.5 same.0
+          c.try_take.ensures.account c.try_take.ensures.log did.claims refl,
     )
 
 pub returns-in_err-run_mailbox-clause-same_gates : goal.returns-in_err-run_mailbox-clause-same_gates
 returns-in_err-run_mailbox-clause-same_gates g c = c.run_mailbox.ensures.same_gates
 
 pub returns-in_err-run_mailbox-clause-number : goal.returns-in_err-run_mailbox-clause-number
-returns-in_err-run_mailbox-clause-number g c = c.run_mailbox.ensures.number ∙ c.try_take.ensures.same.3 ∙ c.loop.invariant.1
+returns-in_err-run_mailbox-clause-number g c = c.try_take.ensures.same.3 ∙ c.loop.invariant.1
 
 pub returns-in_err-run_mailbox-clause-log_kept : goal.returns-in_err-run_mailbox-clause-log_kept
 returns-in_err-run_mailbox-clause-log_kept g c =
     saw-then _ _ _ (subst (λ p. IsPart (pass_view c.args.end.now.registrar.pass).log (pass_view p).log) (sym c.try_take.ensures.same.0) c.loop.invariant.2)
-    c.run_mailbox.ensures.leaves.log
+    c.run_mailbox.ensures.caller_advances.log
 
 pub returns-in_err-run_mailbox-clause-obligations : goal.returns-in_err-run_mailbox-clause-obligations
 returns-in_err-run_mailbox-clause-obligations g c =
     let actors = actors_of c.args.system.now.gates in let same = c.try_take.ensures.same in
-    let first = end_caller c.args.end.now.registrar in let old = end_caller c.loop.end.registrar in let between = end_caller c.try_take.new.self.registrar in let new = end_caller c.run_mailbox.new.end.registrar in
+    let first = end_caller c.args.end.now.registrar in let old = end_caller c.loop.end.registrar in let between = end_caller c.try_take.new.self.registrar in let new = end_caller c.run_mailbox.new.registrar in
     obligations-then actors first between new (obligations-then actors first old between c.loop.invariant.3 (obligations-same actors old between (ap pass_view same.0) same.1))
-    (obligations-left actors between new c.run_mailbox.ensures.leaves)
+    (obligations-left actors between new c.run_mailbox.ensures.caller_advances)
 
 pub returns-in_err-run_mailbox-clause-discharged : goal.returns-in_err-run_mailbox-clause-discharged
 returns-in_err-run_mailbox-clause-discharged g c = IfOk-from_err c.from_residual.result _ c.from_residual.ensures.0
@@ -120,7 +123,7 @@ pub returns-in_err-run_mailbox-clause-fault : goal.returns-in_err-run_mailbox-cl
 returns-in_err-run_mailbox-clause-fault g c =
     let gives = g.K.Behaviours.gives in let system = c.args.system.now in let origin = origin_of system.gates in let throughput = system.throughput in
     let start = pass_view c.args.end.now.registrar.pass in
-    let between = pass_view c.try_take.new.self.registrar.pass in let new = c.run_mailbox.new.end in let error = c.in_err-run_mailbox.field-0.0 in
+    let between = pass_view c.try_take.new.self.registrar.pass in let new = record c.try_take.new.self { registrar = c.run_mailbox.new.registrar } in let error = c.in_err-run_mailbox.field-0.0 in
     on-error c.from_residual.result (BreaksWork gives system start new) (of_ready error) c.from_residual.ensures.1
     (breaks-after gives system start between new (of_ready error)
     (subst (λ p. OnlyRuns gives origin throughput start (pass_view p)) (sym c.try_take.ensures.same.0) c.loop.invariant.4)
@@ -133,22 +136,25 @@ loop-preserved g c =
     let at = kept-still g.K.Behaviours.gives c.args.system.now c.args.end.now c.loop.end c.try_take.new.self c.in_default.ensures.none.0 c.loop.invariant in let next = c.next_claim.ensures in let did = c.run_mailbox-in-loop.ensures in let actors = actors_of c.args.system.now.gates in
     let gives = g.K.Behaviours.gives in let origin = origin_of c.args.system.now.gates in let throughput = c.args.system.now.throughput in
     let first = end_caller c.args.end.now.registrar in let old = end_caller c.try_take.new.self.registrar in
-    let between = end_caller c.next_claim.new.end.registrar in let new = end_caller c.run_mailbox-in-loop.new.end.registrar in
+    let between = end_caller c.next_claim.new.end.registrar in let new = end_caller c.run_mailbox-in-loop.new.registrar in
     let turn = c.in_ok-run_mailbox-2.field-0 in (
       did.same_gates,
-      did.number ∙ next.number ∙ at.1,
-      saw-then _ _ _ (saw-then _ _ _ at.2 next.log_kept) did.leaves.log,
-      obligations-then actors first between new (obligations-then actors first old between at.3 next.obligations) (obligations-left actors between new did.leaves),
+      next.number ∙ at.1,
+      saw-then _ _ _ (saw-then _ _ _ at.2 next.log_kept) did.caller_advances.log,
+      obligations-then actors first between new (obligations-then actors first old between at.3 next.obligations) (obligations-left actors between new did.caller_advances),
       runs-then gives origin throughput first.view between.view new.view
           (runs-then gives origin throughput first.view old.view between.view at.4 (of-looks gives origin throughput old.view between.view next.looks))
           (one-run gives origin throughput between.view new.view turn
           (ran-mailbox gives origin throughput between.view new.view c.in-Some-2.claim turn (fresh g.K.Behaviours.gives (origin_of c.args.system.now.gates) _ _ c.in-Some-2.is c.in_ok-claim.ensures.untouched) c.in_ok-run_mailbox-2.ensures.ran)),
-      next-ran c.in-Some-2.claim c.args.end.now c.try_take.new.self c.next_claim.new.end c.run_mailbox-in-loop.new.end c.in_ok-claim.field-0 c.in-Some-2.is at.5
-          c.in_ok-claim.ensures.claims did.claims did.log,
+      next-ran c.in-Some-2.claim c.args.end.now c.try_take.new.self c.next_claim.new.end (record c.next_claim.new.end { registrar = c.run_mailbox-in-loop.new.registrar }) c.in_ok-claim.field-0 c.in-Some-2.is at.5
+          c.in_ok-claim.ensures.claims did.claims refl,
     )
 
 pub run_mailbox-requires-in-loop-clause-same_gates : goal.run_mailbox-requires-in-loop-clause-same_gates
 run_mailbox-requires-in-loop-clause-same_gates g c = c.next_claim.ensures.same_gates
+
+pub run_mailbox-requires-in-loop-clause-same_count : goal.run_mailbox-requires-in-loop-clause-same_count
+run_mailbox-requires-in-loop-clause-same_count g c = c.args.system.now.directory
 
 pub run_mailbox-requires-in-loop-clause-untouched : goal.run_mailbox-requires-in-loop-clause-untouched
 run_mailbox-requires-in-loop-clause-untouched g c =
@@ -235,20 +241,20 @@ returns-in_err-run_mailbox-2-clause-same_gates g c = c.run_mailbox-in-loop.ensur
 pub returns-in_err-run_mailbox-2-clause-number : goal.returns-in_err-run_mailbox-2-clause-number
 returns-in_err-run_mailbox-2-clause-number g c =
     let kept = kept-still g.K.Behaviours.gives c.args.system.now c.args.end.now c.loop.end c.try_take.new.self c.in_default.ensures.none.0 c.loop.invariant in
-    c.run_mailbox-in-loop.ensures.number ∙ c.next_claim.ensures.number ∙ kept.1
+    c.next_claim.ensures.number ∙ kept.1
 
 pub returns-in_err-run_mailbox-2-clause-log_kept : goal.returns-in_err-run_mailbox-2-clause-log_kept
 returns-in_err-run_mailbox-2-clause-log_kept g c =
     let kept = kept-still g.K.Behaviours.gives c.args.system.now c.args.end.now c.loop.end c.try_take.new.self c.in_default.ensures.none.0 c.loop.invariant in
-    saw-then _ _ _ (saw-then _ _ _ kept.2 c.next_claim.ensures.log_kept) c.run_mailbox-in-loop.ensures.leaves.log
+    saw-then _ _ _ (saw-then _ _ _ kept.2 c.next_claim.ensures.log_kept) c.run_mailbox-in-loop.ensures.caller_advances.log
 
 pub returns-in_err-run_mailbox-2-clause-obligations : goal.returns-in_err-run_mailbox-2-clause-obligations
 returns-in_err-run_mailbox-2-clause-obligations g c =
     let kept = kept-still g.K.Behaviours.gives c.args.system.now c.args.end.now c.loop.end c.try_take.new.self c.in_default.ensures.none.0 c.loop.invariant in
     let actors = actors_of c.args.system.now.gates in
-    let first = end_caller c.args.end.now.registrar in let old = end_caller c.try_take.new.self.registrar in let between = end_caller c.next_claim.new.end.registrar in let new = end_caller c.run_mailbox-in-loop.new.end.registrar in
+    let first = end_caller c.args.end.now.registrar in let old = end_caller c.try_take.new.self.registrar in let between = end_caller c.next_claim.new.end.registrar in let new = end_caller c.run_mailbox-in-loop.new.registrar in
     obligations-then actors first between new (obligations-then actors first old between kept.3 c.next_claim.ensures.obligations)
-    (obligations-left actors between new c.run_mailbox-in-loop.ensures.leaves)
+    (obligations-left actors between new c.run_mailbox-in-loop.ensures.caller_advances)
 
 pub returns-in_err-run_mailbox-2-clause-discharged : goal.returns-in_err-run_mailbox-2-clause-discharged
 returns-in_err-run_mailbox-2-clause-discharged g c =
@@ -267,7 +273,7 @@ returns-in_err-run_mailbox-2-clause-fault g c =
     let kept = kept-still g.K.Behaviours.gives c.args.system.now c.args.end.now c.loop.end c.try_take.new.self c.in_default.ensures.none.0 c.loop.invariant in
     let gives = g.K.Behaviours.gives in let system = c.args.system.now in let origin = origin_of system.gates in let throughput = system.throughput in
     let start = pass_view c.args.end.now.registrar.pass in let old = pass_view c.try_take.new.self.registrar.pass in
-    let between = pass_view c.next_claim.new.end.registrar.pass in let new = c.run_mailbox-in-loop.new.end in let error = c.in_err-run_mailbox-2.field-0.0 in
+    let between = pass_view c.next_claim.new.end.registrar.pass in let new = record c.next_claim.new.end { registrar = c.run_mailbox-in-loop.new.registrar } in let error = c.in_err-run_mailbox-2.field-0.0 in
     let passed = c.from_residual-in_err-run_mailbox-2 in
     on-error passed.result (BreaksWork gives system start new) (of_ready error) passed.ensures.1
     (breaks-after gives system start between new (of_ready error)
@@ -278,8 +284,8 @@ returns-in_err-run_mailbox-2-clause-fault g c =
 pub returns-in_err-run_mailbox-clause-claims : goal.returns-in_err-run_mailbox-clause-claims
 returns-in_err-run_mailbox-clause-claims g c =
     let did = c.run_mailbox.ensures in let took = c.try_take.ensures in
-    tried-ran c.in-Some-try_take.claim c.args.end.now c.loop.end c.try_take.new.self c.run_mailbox.new.end c.try_take.result c.in-Some-try_take.is
-    c.loop.invariant.5 took.same.0 took.account took.log did.claims did.log
+    tried-ran c.in-Some-try_take.claim c.args.end.now c.loop.end c.try_take.new.self (record c.try_take.new.self { registrar = c.run_mailbox.new.registrar }) c.try_take.result c.in-Some-try_take.is
+    c.loop.invariant.5 took.same.0 took.account took.log did.claims refl
 
 pub returns-in_default-2-clause-claims : goal.returns-in_default-2-clause-claims
 returns-in_default-2-clause-claims g c =
@@ -296,5 +302,5 @@ pub returns-in_err-run_mailbox-2-clause-claims : goal.returns-in_err-run_mailbox
 returns-in_err-run_mailbox-2-clause-claims g c =
     let kept = kept-still g.K.Behaviours.gives c.args.system.now c.args.end.now c.loop.end c.try_take.new.self c.in_default.ensures.none.0 c.loop.invariant in
     let did = c.run_mailbox-in-loop.ensures in
-    next-ran c.in-Some-2.claim c.args.end.now c.try_take.new.self c.next_claim.new.end c.run_mailbox-in-loop.new.end c.in_ok-claim.field-0 c.in-Some-2.is
-    kept.5 c.in_ok-claim.ensures.claims did.claims did.log
+    next-ran c.in-Some-2.claim c.args.end.now c.try_take.new.self c.next_claim.new.end (record c.next_claim.new.end { registrar = c.run_mailbox-in-loop.new.registrar }) c.in_ok-claim.field-0 c.in-Some-2.is
+    kept.5 c.in_ok-claim.ensures.claims did.claims refl

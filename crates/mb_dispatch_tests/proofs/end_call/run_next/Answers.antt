@@ -14,5 +14,8 @@ pub run_mailbox-requires-clause-untouched : goal.run_mailbox-requires-clause-unt
 run_mailbox-requires-clause-untouched g c =
     subst (λ (o : Option (Origin (Box Contents))). IsFreshClaim g.K.Behaviours.gives o c.in-Some.claim) c.requires.same_gates.1 c.in-Some.ensures.untouched
 
+pub run_mailbox-requires-clause-same_count : goal.run_mailbox-requires-clause-same_count
+run_mailbox-requires-clause-same_count g c = c.args.system.now.directory
+
 pub returns-in-None : goal.returns-in-None
 returns-in-None g c = record { same_gates = took c.args.system.now.gates c.args.end.now c.take.new.self c.take.ensures.same c.requires.same_gates }

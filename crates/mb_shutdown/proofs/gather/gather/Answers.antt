@@ -88,7 +88,7 @@ loop-sender-init g c =
 pub absorb-requires-in-loop-sender : goal.absorb-requires-in-loop-sender
 absorb-requires-in-loop-sender g c =
     let built = c.args.built in let at = c.loop-sender in let now = at.invariant.0 in
-    let all = All-permutation (λ s. IsSenderOf built.system.gates s.inner) built.senders.items now
+    let all = All-permutation (λ s. IsSenderOf built.system.gates s) built.senders.items now
     (IsPermutation-sym now built.senders.items at.invariant.1) c.requires.together.senders in record {
       same_gates = (
         at.invariant.3.same_gates,

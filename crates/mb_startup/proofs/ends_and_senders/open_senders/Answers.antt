@@ -16,10 +16,9 @@ use Rattle.mb_send.specs.Sends.{AreRoutes, receiving_queues}
 use Rattle.mb_register.specs.Owed.{IsNobody}
 use Rattle.mb_build.proofs.DirectoryLemmas.{drop-next}
 use Rattle.mb_startup.specs.Begun.{AreNewSenders, KeepLettersIn}
-use Rattle.mb_system.specs.Members.{pool_feeds_of}
+use Rattle.mb_system.specs.Members.{OutsideSender, pool_feeds_of}
 use Rattle.mb_startup.specs.Shared.{KeepsWhole}
 use Rattle.mb_system.specs.Shares.{share_of_sender, shares_of_senders}
-use Rattle.mb_system.specs.declared.sender.Sender.{Sender}
 use Rattle.mb_startup.proofs.EndsAndSenders.{none-left, place-left, senders-next, unused-there}
 use Rattle.mb_startup.proofs.Sharing.{keeps-next, keeps-none}
 use Rattle.mb_startup.proofs.ends_and_senders.open_senders.Goals as goal
@@ -39,7 +38,7 @@ loop-feed-init g c =
       opened = subst (λ l. AreNewSenders c.args.gates.now most_actors (map (λ row. row.items) (take (length l) c.args.outside.items)) l)
           (sym none) tt;
       keep_letters = subst (KeepLettersIn c.args.journal) (sym none)
-          (All-nil (λ (s : Sender _ _). s.inner.send_log.dead.retention ≡ retention_of c.args.journal));
+          (All-nil (λ (s : OutsideSender). s.send_log.dead.retention ≡ retention_of c.args.journal));
       ports = ap pool_feeds_of none;
     }
 
@@ -53,8 +52,8 @@ unreachable-requires g c =
     (place-left at.yielded rest c.args.feeds.items feed c.args.outside.items (length at.senders.items)
     (ap (λ l. at.yielded ++ l) (sym steps) ∙ at.invariant.whole) at.invariant.count c.requires.same_count.0)
 
-pub new-inner-requires-clause-routes : goal.new-inner-requires-clause-routes
-new-inner-requires-clause-routes g c =
+pub new-sender-requires-clause-routes : goal.new-sender-requires-clause-routes
+new-sender-requires-clause-routes g c =
     let at = c.loop-feed in let outside = c.args.outside.items in let sends = c.in-Some-next.sends in
     let rest = into_iter_items c.next-in-loop-feed.new.self in let place = length at.senders.items in
     let gates = c.args.gates.now in let queues = drop 1 (queues_of (first_home gates).value.directory) in
@@ -65,8 +64,8 @@ new-inner-requires-clause-routes g c =
     let number : c.len-in-loop-feed.result ≡ place = search rules in
     subst (λ n. AreRoutes n [] sends.items) (sym (ap (λ n. most_actors + n) number)) unused.routes
 
-pub new-inner-requires-clause-none : goal.new-inner-requires-clause-none
-new-inner-requires-clause-none g c = ap (λ (l : KeptListView DeadLetter). l.items) c.in_ok-dead.ensures.made
+pub new-sender-requires-clause-none : goal.new-sender-requires-clause-none
+new-sender-requires-clause-none g c = ap (λ (l : KeptListView DeadLetter). l.items) c.in_ok-dead.ensures.made
 
 pub loop-feed-preserved : goal.loop-feed-preserved
 loop-feed-preserved g c =
@@ -85,7 +84,7 @@ loop-feed-preserved g c =
     let pushed = c.in_ok-push.ensures.items in let count = at.invariant.count in
     let longer = ap length pushed ∙ length_push at.senders.items _ in let further = length_push at.yielded feed in
     let next : suc place ≡ length c.push.new.self.items = omega (arith, longer) in
-    let parts = c.new-inner.ensures.parts in let send_log = c.new-inner.ensures.send_log in
+    let parts = c.new-sender.ensures.parts in let send_log = c.new-sender.ensures.send_log in
     let long = ap vec_len parts.1 ∙ sends.ok.0 in let many = unused.same_count in record {
       whole = append_assoc at.yielded (feed ∷ []) rest ∙ ap (λ l. at.yielded ++ l) (sym steps) ∙ at.invariant.whole;
       feeds = All-rest (λ f. gates_of f ≡ Some (origin_of gates)) feed rest (into_iter_items at.feed-iterator) steps at.invariant.feeds;
@@ -122,9 +121,9 @@ loop-feed-preserved g c =
         none_released = ap (λ w. (pass_view w.pass).releases) parts.0 ∙ ap (λ (v : View). v.releases) c.new_pass.ensures.known.1;
       });
       keep_letters = subst (KeepLettersIn c.args.journal) (sym pushed)
-          (All-push (λ (s : Sender _ _). s.inner.send_log.dead.retention ≡ retention_of c.args.journal) at.senders.items _ at.invariant.keep_letters
+          (All-push (λ (s : OutsideSender). s.send_log.dead.retention ≡ retention_of c.args.journal) at.senders.items _ at.invariant.keep_letters
           (ap (λ (l : KeptListView DeadLetter). l.retention) send_log.3 ∙ ap (λ (l : KeptListView DeadLetter). l.retention) c.in_ok-dead.ensures.made));
-      ports = ap pool_feeds_of pushed ∙ map_push (λ (s : Sender _ _). s.inner.registrar.run_queue.feed) at.senders.items _
+      ports = ap pool_feeds_of pushed ∙ map_push (λ (s : OutsideSender). s.registrar.run_queue.feed) at.senders.items _
           ∙ (λ i. at.invariant.ports i ++ (ap (λ w. w.run_queue.feed) parts.0 ∙ c.new.ensures) i ∷ []);
     }
 

@@ -5,10 +5,9 @@ use Rattle.mb_msg.specs.declared.order.Order.{Order}
 use Rattle.mb_gate.specs.Accessors.{actors_of}
 use Rattle.mb_gate.specs.declared.gates.Gates.{Gates}
 use Rattle.mb_home.specs.Contents.{Contents}
-use Rattle.mb_system.specs.Members.{sender_caller}
+use Rattle.mb_system.specs.Members.{OutsideSender, sender_caller}
 use Rattle.mb_system.specs.Obligations.{KeepsObligations, OwesNobody}
 use Rattle.mb_system.specs.declared.failure.RunError.{RunError}
-use Rattle.mb_system.specs.declared.sender.Sender.{Sender}
 use Rattle.mb_dispatch.specs.Faults.{BreaksJob}
 use Rattle.mb_dispatch.specs.Jobs.{IsDone}
 use Rattle.mb_dispatch.specs.Orders.{HasSent, HasSentSome}
@@ -17,7 +16,7 @@ use Rattle.mb_dispatch.proofs.job.JobTaskSystem.perform.Goals as goal
 
 is-done : {A K : Type 0} (gates : Gates (Box Contents)) (old new : Job A K) (orders : List Order) (r : Result (Unit {0}) RunError)
     → orders ≡ old.sends.items → new.sends ≡ old.sends → OnOk r (HasSent orders old.sender new.sender × OwesNobody gates new.sender)
-    → OnOk r (KeepsObligations (actors_of gates) (sender_caller old.sender.inner.registrar) (sender_caller new.sender.inner.registrar))
+    → OnOk r (KeepsObligations (actors_of gates) (sender_caller old.sender.registrar) (sender_caller new.sender.registrar))
     → OnOk r (IsDone gates old new)
 is-done gates old new orders (Ok x) are same sent kept =
     record {
@@ -28,7 +27,7 @@ is-done gates old new orders (Ok x) are same sent kept =
     }
 is-done gates old new orders (Err error) are same sent kept = tt
 
-sent-some : {A K : Type 0} (orders : List Order) (old new : Sender A K) (N : Type 0) (r : Result (Unit {0}) RunError)
+sent-some : (orders : List Order) (old new : OutsideSender) (N : Type 0) (r : Result (Unit {0}) RunError)
     → OnOk r (HasSent orders old new × N) → OnErr r (HasSentSome orders old new) → HasSentSome orders old new
 sent-some orders old new N (Ok x) sent stopped = inl sent.0
 sent-some orders old new N (Err error) sent stopped = stopped

@@ -32,7 +32,7 @@ returns-in-Err-clause-same g c = same-gates c.args.self.now.feed c.push.new.self
 pub returns-in-Err-clause-pushed : goal.returns-in-Err-clause-pushed
 returns-in-Err-clause-pushed g c =
     let refused = c.in-Err.ensures.pushed in
-    let same = c.back-claim.ensures ∙ refused.0 in (
+    let same = c.into_claim-claim.ensures ∙ refused.0 in (
       same,
       ap (λ w. pushed_first (ports_of w)) refused.1,
       refused-more c.args.self.now.refused c.add.new.self c.of.result c.args.claim c.add.ensures (c.of.ensures ∙ same),

@@ -33,7 +33,7 @@ returns-in-Ok-clause-parts g c = c.push.ensures.same ∙ ap (λ (v : WorkerPortV
 
 pub returns-in-Err-clause-pushed : goal.returns-in-Err-clause-pushed
 returns-in-Err-clause-pushed g c = (
-  c.back-claim.ensures ∙ c.in-Err.ensures.pushed.0,
+  c.into_claim-claim.ensures ∙ c.in-Err.ensures.pushed.0,
   ap (λ (v : WorkerPortView _). v.pushed) c.self.view_is,
   logged-more c.self.inside.refused c.add-in-Err.new.self c.of-known.result c.args.claim c.args.self.now.refused
       (ap (λ (v : WorkerPortView _). v.refused) c.self.view_is) c.add-in-Err.ensures c.of-known.ensures,

@@ -1,4 +1,4 @@
-use Rattle.std.proofs.Common.{◌≡◌, List, true, subst, sym, ◌∙◌, refl}
+use Rattle.std.proofs.Common.{◌≡◌, List, true, subst, sym, refl}
 use Rattle.mb_journal.specs.Accepted.{dead_letters}
 use Rattle.mb_gate.specs.Accessors.{actors_of, pass_view}
 use Rattle.mb_gate.specs.View.{Observation}
@@ -10,11 +10,12 @@ use Rattle.mb_register.proofs.Retries.{on-failure}
 use Rattle.mb_system.proofs.RunErrors.{no-memory}
 use Rattle.mb_system.proofs.Looking.{only-among}
 use Rattle.mb_system.proofs.Saw.{saw-more}
-use Rattle.mb_system.proofs.sender.Sender.retry_refused.Goals as goal
+use Rattle.mb_system.proofs.Senders.{sender-same}
+use Rattle.mb_system.proofs.sender.retry_refused.Goals as goal
 
-pub invariant_of-self : goal.invariant_of-self
-invariant_of-self g c =
-    let old = c.args.self.now.inner in
+pub invariant_of-sender : goal.invariant_of-sender
+invariant_of-sender g c =
+    let old = c.args.sender.now in
     let dead = dead_letters old.send_log.posted in
     record {
       routes = old.routes;
@@ -28,12 +29,12 @@ returns-clause-discharged g c = c.in_ok-retry_refused.ensures.discharged
 
 pub returns-clause-obligations : goal.returns-clause-obligations
 returns-clause-obligations g c =
-    obligations-discharged (actors_of c.args.system.now.gates) (sender_caller c.args.self.now.inner.registrar) (sender_caller c.retry_refused.new.self)
+    obligations-discharged (actors_of c.args.system.now.gates) (sender_caller c.args.sender.now.registrar) (sender_caller c.retry_refused.new.self)
     c.requires.same_gates.same_gates.2 c.retry_refused.ensures.looks c.retry_refused.ensures.kept
 
 pub returns-in_err-retry_refused-clause-obligations : goal.returns-in_err-retry_refused-clause-obligations
 returns-in_err-retry_refused-clause-obligations g c =
-    obligations-discharged (actors_of c.args.system.now.gates) (sender_caller c.args.self.now.inner.registrar) (sender_caller c.retry_refused.new.self)
+    obligations-discharged (actors_of c.args.system.now.gates) (sender_caller c.args.sender.now.registrar) (sender_caller c.retry_refused.new.self)
     c.requires.same_gates.same_gates.2 c.retry_refused.ensures.looks c.retry_refused.ensures.kept
 
 pub returns-clause-stops : goal.returns-clause-stops
@@ -75,19 +76,11 @@ retry_refused-requires-clause-within_limit g c = c.requires.same_gates.same_gate
 
 pub returns-clause-same_gates : goal.returns-clause-same_gates
 returns-clause-same_gates g c =
-    let was = c.requires.same_gates in record {
-      same_gates = (c.retry_refused.ensures.same_gates.0 ∙ was.same_gates.0, c.retry_refused.ensures.same_gates.1 ∙ was.same_gates.1, was.same_gates.2);
-      all = was.all;
-      queues = was.queues;
-    }
+    sender-same _ _ _ c.requires.same_gates c.retry_refused.ensures.same_gates.0 c.retry_refused.ensures.same_gates.1 refl
 
 pub returns-in_err-retry_refused-clause-same_gates : goal.returns-in_err-retry_refused-clause-same_gates
 returns-in_err-retry_refused-clause-same_gates g c =
-    let was = c.requires.same_gates in record {
-      same_gates = (c.retry_refused.ensures.same_gates.0 ∙ was.same_gates.0, c.retry_refused.ensures.same_gates.1 ∙ was.same_gates.1, was.same_gates.2);
-      all = was.all;
-      queues = was.queues;
-    }
+    sender-same _ _ _ c.requires.same_gates c.retry_refused.ensures.same_gates.0 c.retry_refused.ensures.same_gates.1 refl
 
 pub returns-clause-same_sender : goal.returns-clause-same_sender
 returns-clause-same_sender g c = refl
