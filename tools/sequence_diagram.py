@@ -8,6 +8,8 @@ import typing
 import xml.etree.ElementTree
 
 GUARDIAN = "guardian"
+# How long an arrow is that nobody is known to have sent, and how far from its receiver's lane that of a dead letter stops.
+FROM_NOBODY = SHORT = 72
 STRAIGHT, LOOP = re.compile(r"M(\d+),(\d+) H(\d+)"), re.compile(r"M(\d+),(\d+) h26 v12 H(\d+)")
 
 
@@ -272,7 +274,7 @@ def row_faults(row, entries, before, line, lanes, parents):
         "line": (row.line, line),
         "kinds": (row.kinds, kinds),
         "the arrow's end": (row.end, lanes.get(entry.owner)),
-        "the arrow's start": (row.start, lanes.get(row.sender) if row.sender else row.end - 40),
+        "the arrow's start": (row.start, lanes.get(row.sender) if row.sender else row.end - FROM_NOBODY),
         "the cross": (row.marks["cross"], [(row.end, row.height)] * is_failed),
         "the dot": (row.marks["dot"], [(row.start, row.height)] * (row.sender is None)),
         "the bar": (len(row.marks["bar"]), int(is_restart)),
@@ -281,12 +283,11 @@ def row_faults(row, entries, before, line, lanes, parents):
         sought["sender"] = (row.sender, sender)
     if entry.is_called is None:
         sought.pop("the bar")
-    return [f"{row}: {what} is {found}, wanted {wanted}" for what, (found, wanted) in sought.items() if found != wanted] + [*stray_faults(row)]
+    return [f"{row}: {what} is {found}, wanted {wanted}" for what, (found, wanted) in sought.items() if found != wanted] + [*stray_faults(row, min(row.start, row.end))]
 
 
-def stray_faults(row):
-    """Whether the texts and the bar of a row stand beside its arrow: the message above it, and the rest at its end."""
-    left = min(row.start, row.end)
+def stray_faults(row, left):
+    """Whether the texts and the bar of a row stand beside its arrow: the message above its way, which begins here, and the rest at its end."""
     for kind, (least, most, above, below) in {"label": (left, left + 40, 20, 0), **dict.fromkeys(("bad", "note", "bar"), (row.end - 40, row.end + 40, 0, 12))}.items():
         for x, y in row.marks[kind]:
             if not (least <= x <= most and row.height - above <= y <= row.height + below):
@@ -345,7 +346,8 @@ def form_faults(diagram, parents, order):
 
 
 def letter_faults(diagram, letters):
-    """Whether the rows of dead letters show these, where they are known, in order, and each arrow stops short of the receiver."""
+    """Whether the rows of dead letters show these, where they are known, in order, and each arrow stops short of the receiver, beside no
+    other lane."""
     wanted = collections.deque(letters or ())
     for above, row in zip([None, *diagram.all_rows], diagram.all_rows):
         if not row.is_dead:
@@ -355,8 +357,8 @@ def letter_faults(diagram, letters):
                                     or (row.owner, row.sender, row.message, row.outcome) != (*shown[0][:2], row_message([one.message for one in shown]), shown[0].why)):
             yield f"{row} stands for {row.times} from {row.sender}, {row.outcome}, wanted {shown}"
         start, end = diagram.lanes.get(row.sender, -1), diagram.lanes.get(row.owner, -1)
-        stops = start < row.end if start == end else min(start, end) < row.end < max(start, end)
-        yield from stray_faults(row)
+        stops = start < row.end if start == end else row.end == end + (SHORT if end < start else -SHORT)
+        yield from stray_faults(row, min(start, end))
         if row.start != start or not stops or row.marks["cross"] != [(row.end, row.height)]:
             yield f"{row} goes from {row.start} to {row.end}, from the lane at {start} short of that at {end}"
         same = above and above.is_dead and all(getattr(above, key) == getattr(row, key) for key in ("owner", "sender", "outcome"))

@@ -18,6 +18,9 @@ pub(crate) const BAD: &str = "<text class=\"bad\" x=\"$\" y=\"$\">";
 /// The same where it ends at its place.
 pub(crate) const BAD_END: &str = "<text class=\"bad\" x=\"$\" y=\"$\" text-anchor=\"end\">";
 
+/// How long an arrow is that nobody is known to have sent: `terminate` fits above it.
+const FROM_NOBODY: u64 = 72;
+
 /// Where an arrow goes, and at which height.
 #[derive(Clone, Copy)]
 pub(crate) struct Way {
@@ -43,7 +46,7 @@ pub(crate) fn way_of(row: &Row<'_>, index: usize, lanes: &Lanes, geometry: &Geom
     let to = geometry.x(lanes.position(u32::from(row.shown.actor.0)));
     let from = match row.source {
         Some(source) => geometry.x(lanes.position(source)),
-        None => to.saturating_sub(40),
+        None => to.saturating_sub(FROM_NOBODY),
     };
     let y = geometry.row_y(index);
     Way { from, to, y }

@@ -22,7 +22,7 @@ pub(crate) fn letter_way(row: &LetterRow, index: usize, lanes: &Lanes, geometry:
 
 /// Where the message begins.
 pub(crate) fn letter_label_left(way: Way) -> u64 {
-    way.from.min(stop_of(way)).saturating_add(12)
+    way.left().saturating_add(12)
 }
 
 /// A row of dead letters, of which the entry that sent the first has this line in a page.
@@ -77,15 +77,18 @@ fn write_start<W: Write>(w: &mut W, names: &[String], row: &LetterRow) -> io::Re
     write_value(w, " data-by=\"", &[], &by, "\"")
 }
 
-/// Where it stops: after two thirds of its way, and beside the lane where an actor sends to itself.
+/// How far from its receiver an arrow stops: behind all other lanes, with room for why it is dead.
+const SHORT: u64 = 72;
+
+/// Where it stops: short of its receiver, and beside the lane where an actor sends to itself.
 fn stop_of(way: Way) -> u64 {
     if way.from == way.to {
         return way.from.saturating_add(40);
     }
     if way.goes_left() {
-        return way.to.saturating_add(way.from.saturating_sub(way.to) / 3);
+        return way.to.saturating_add(SHORT);
     }
-    way.to.saturating_sub(way.to.saturating_sub(way.from) / 3)
+    way.to.saturating_sub(SHORT)
 }
 
 /// The message, and why it is dead: the end of a row.

@@ -34,13 +34,15 @@ impl<'a> Drawing<'a> {
         let rows = Rows::of(alloc, picture, &sent)?;
         let lanes = Lanes::of(alloc, picture, &rows)?;
         let narrow = Geometry::of(&lanes, &rows, picture.order);
-        let room = Room::of(alloc, picture, &rows, &lanes, &narrow)?;
+        let words = Room::of(alloc, picture, &rows, &lanes, &narrow)?;
+        let wide = narrow.with_spacing(words.spacing);
+        let room = Room::of(alloc, picture, &rows, &lanes, &wide)?;
         Ok(Drawing {
             picture: *picture,
             sent,
             rows,
             lanes,
-            geometry: narrow.with_room(room),
+            geometry: wide.with_room(room),
         })
     }
 

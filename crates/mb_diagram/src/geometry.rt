@@ -22,6 +22,8 @@ const TALL: u64 = 24;
 pub(crate) const MARGIN: u64 = 12;
 /// The least width, for the legend.
 const LEAST_WIDTH: u64 = 700;
+/// From one lane to the next at most.
+const MOST_SPACING: u64 = 500;
 
 /// Where things stand.
 #[derive(Clone, Copy)]
@@ -29,6 +31,8 @@ pub(crate) struct Geometry {
     /// Where the boxes with the names begin.
     head: u64,
     left: u64,
+    /// The room of a name.
+    name: u64,
     /// From one lane to the next.
     spacing: u64,
     lanes: u64,
@@ -40,16 +44,23 @@ pub(crate) struct Geometry {
 
 impl Geometry {
     pub(crate) fn of(lanes: &Lanes, rows: &Rows<'_>, order: EntryOrder) -> Self {
-        let spacing = spacing_of(lanes);
+        let name = name_room(lanes);
         Geometry {
             head: head_of(order),
-            left: side_of(spacing),
-            spacing,
+            left: side_of(name),
+            name,
+            spacing: name,
             lanes: lanes.ids.len() as u64,
             created: if rows.created.is_empty() { 0 } else { 1 },
             rows: rows.rows.len() as u64,
             words_end: 0,
         }
+    }
+
+    /// The same with lanes at least so far apart, up to the most.
+    pub(crate) fn with_spacing(self, needed: u64) -> Self {
+        let spacing = self.spacing.max(needed.min(MOST_SPACING));
+        Geometry { spacing, ..self }
     }
 
     /// The same with room for all words.
@@ -68,9 +79,21 @@ impl Geometry {
             .saturating_add(self.left)
     }
 
+    /// The middle of the first lane.
+    pub(crate) fn first(&self) -> u64 {
+        self.left
+    }
+
+    /// The middle of the last lane.
+    pub(crate) fn last(&self) -> u64 {
+        self.spacing
+            .saturating_mul(self.lanes.saturating_sub(1))
+            .saturating_add(self.left)
+    }
+
     /// The width of a box with a name.
     pub(crate) fn box_width(&self) -> u64 {
-        self.spacing.saturating_sub(16)
+        self.name.saturating_sub(16)
     }
 
     /// Where the line above the boxes stands.
@@ -125,10 +148,8 @@ impl Geometry {
     }
 
     pub(crate) fn width(&self) -> u64 {
-        self.spacing
-            .saturating_mul(self.lanes.saturating_sub(1))
-            .saturating_add(self.left)
-            .saturating_add(side_of(self.spacing))
+        self.last()
+            .saturating_add(side_of(self.name))
             .max(self.words_end.saturating_add(MARGIN))
             .max(LEAST_WIDTH)
     }
@@ -146,12 +167,12 @@ fn head_of(order: EntryOrder) -> u64 {
     }
 }
 
-/// From one lane to the next: as much as the widest name needs.
-fn spacing_of(lanes: &Lanes) -> u64 {
-    lanes.widest.saturating_add(30).clamp(150, 500)
+/// As much as the widest name needs.
+fn name_room(lanes: &Lanes) -> u64 {
+    lanes.widest.saturating_add(30).clamp(150, MOST_SPACING)
 }
 
 /// The room beside the middle of the first lane, and of the last: half a box with a name, and a margin.
-fn side_of(spacing: u64) -> u64 {
-    spacing / 2 + 8
+fn side_of(name: u64) -> u64 {
+    name / 2 + 8
 }

@@ -1,6 +1,6 @@
 //! The messages of a picture.
 use crate::rows::{LetterRow, Row};
-use crate::widths::label_width;
+use crate::widths::Width;
 use crate::words::{Message, Times, Values};
 use mb_journal::Received;
 use mb_msg::Body;
@@ -51,10 +51,10 @@ impl<'a> Label<'a> {
         }
     }
 
-    /// How much room it needs at most. The only error: memory was refused.
-    pub(crate) fn width(self, alloc: Global) -> Result<u64, AllocError> {
+    /// How much room it needs. The only error: memory was refused.
+    pub(crate) fn width(self, alloc: Global) -> Result<Width, AllocError> {
         let words = self.to_string(alloc)?;
-        Ok(label_width(words.as_str()))
+        Ok(Width::of_label(words.as_str()))
     }
 }
 

@@ -1,6 +1,6 @@
 //! What came of the messages of a row, and how their receiver stands then.
 use crate::rows::Row;
-use crate::widths::label_width;
+use crate::widths::Width;
 use crate::words::{Change, Outcome};
 use std::alloc::{AllocError, Global};
 use std::fmt;
@@ -33,10 +33,10 @@ impl RowNote {
         self.outcome == Outcome::Plain && self.change.is_empty()
     }
 
-    /// How much room it needs at most. The only error: memory was refused.
-    pub(crate) fn width(self, alloc: Global) -> Result<u64, AllocError> {
+    /// How much room it needs. The only error: memory was refused.
+    pub(crate) fn width(self, alloc: Global) -> Result<Width, AllocError> {
         let words = self.to_string(alloc)?;
-        Ok(label_width(words.as_str()))
+        Ok(Width::of_note(words.as_str()))
     }
 }
 

@@ -1,5 +1,5 @@
 //! How far the words of a picture reach.
-use crate::arrow::{label_left, note_x, way_of};
+use crate::arrow::{Way, label_left, note_x, way_of};
 use crate::dead_letters::{letter_label_left, letter_way, why_end};
 use crate::geometry::{Geometry, MARGIN};
 use crate::label::Label;
@@ -7,7 +7,11 @@ use crate::lanes::Lanes;
 use crate::note::RowNote;
 use crate::picture::Picture;
 use crate::rows::{DrawnRow, LetterRow, Row, Rows};
+use crate::widths::Width;
 use std::alloc::{AllocError, Global};
+
+/// What is left free between words and the next lane.
+const GAP: u64 = 6;
 
 /// How far they reach.
 #[derive(Clone, Copy)]
@@ -16,6 +20,8 @@ pub(crate) struct Room {
     pub(crate) end: u64,
     /// How much more room they need on the left.
     pub(crate) missing: u64,
+    /// How far apart lanes stand if all words between two of them fit.
+    pub(crate) spacing: u64,
 }
 
 impl Room {
@@ -27,7 +33,11 @@ impl Room {
         lanes: &Lanes,
         geometry: &Geometry,
     ) -> Result<Self, AllocError> {
-        let mut room = Room { end: 0, missing: 0 };
+        let mut room = Room {
+            end: 0,
+            missing: 0,
+            spacing: 0,
+        };
         for (index, row) in rows.rows.iter().enumerate() {
             match row {
                 DrawnRow::Entries(row) => {
@@ -52,14 +62,9 @@ impl Room {
     ) -> Result<(), AllocError> {
         let way = way_of(row, index, lanes, geometry);
         let label = Label::of(picture.names, row).width(alloc)?;
-        self.add_end(label_left(way).saturating_add(label));
+        self.add_label(geometry, way, label_left(way), label);
         let note = RowNote::of(row).width(alloc)?;
-        let x = note_x(way, row.is_restart());
-        if way.goes_left() {
-            self.add_start(x, note);
-        } else {
-            self.add_end(x.saturating_add(note));
-        }
+        self.add_note(geometry, way, note_x(way, row.is_restart()), note);
         Ok(())
     }
 
@@ -74,9 +79,38 @@ impl Room {
     ) -> Result<(), AllocError> {
         let way = letter_way(row, index, lanes, geometry);
         let label = Label::of_letter(picture.names, row).width(alloc)?;
-        self.add_end(letter_label_left(way).saturating_add(label));
+        self.add_label(geometry, way, letter_label_left(way), label);
         self.add_end(why_end(row, way));
         Ok(())
+    }
+
+    /// Adds a message that begins at this place, to the right of the left end of its way.
+    fn add_label(&mut self, geometry: &Geometry, way: Way, x: u64, width: Width) {
+        self.add_end(x.saturating_add(width.most));
+        if way.left() < geometry.last() {
+            self.add_spacing(x.saturating_sub(way.left()), width);
+        }
+    }
+
+    /// Adds what stands beside the receiver: to its left up to this place where the arrow goes left, else to its right from there on.
+    fn add_note(&mut self, geometry: &Geometry, way: Way, x: u64, width: Width) {
+        if way.goes_left() {
+            self.add_start(x, width.most);
+            if way.to > geometry.first() {
+                self.add_spacing(way.to.saturating_sub(x), width);
+            }
+            return;
+        }
+        self.add_end(x.saturating_add(width.most));
+        if way.to < geometry.last() {
+            self.add_spacing(x.saturating_sub(way.to), width);
+        }
+    }
+
+    /// Words of this width stand so far from a lane, and end before the next one.
+    fn add_spacing(&mut self, away: u64, width: Width) {
+        let needed = away.saturating_add(width.usual).saturating_add(GAP);
+        self.spacing = self.spacing.max(needed);
     }
 
     fn add_end(&mut self, end: u64) {

@@ -59,27 +59,42 @@ pub(crate) const PAGE_END: &str = "</aside>
     picture.setAttribute('viewBox', `0 0 ${width} ${rest}`);
     page.setAttribute('height', rest);
     byId('count').textContent = gone.length === 0 ? '' : `${shownRows.length} of ${rows.length} rows`;
-    mark.classList.add('hidden');
+    putMark();
     draw();
   };
 
-  const words = (one) => (one.words ??= `${one.textContent} ${one.dataset.actor ?? ''} ${one.dataset.by ?? ''}`.toLowerCase());
+  const textOf = (one) => (one.cells ? Array.from(one.cells, (cell) => cell.textContent).join(' ') : one.textContent);
+  const words = (one) => (one.words ??= `${textOf(one)} ${one.dataset.actor ?? ''} ${one.dataset.by ?? ''}`.toLowerCase());
+  // A choice leaves one row where it stands: the marked one if it is in sight, else the uppermost.
+  const isInSight = (row) => placeNow(row) > diagram.scrollTop + namesHeight && placeNow(row) < diagram.scrollTop + diagram.clientHeight;
+  const rowToKeep = () => (shownRows.includes(marked) && isInSight(marked) ? marked : shownRows.find(isInSight));
+  const arrangeInPlace = (isShown) => {
+    const kept = rowToKeep(), up = kept && placeNow(kept) - diagram.scrollTop;
+    arrange(isShown);
+    if (kept) { diagram.scrollTop = placeNow(kept) - up; draw(); }
+  };
   const filter = () => {
     const actor = byId('actor').value, sought = byId('words').value.trim().toLowerCase();
-    const kinds = all('input[name=kind]').filter((box) => box.checked).map((box) => box.value);
-    const fits = (one) => kinds.some((kind) => one.classList.contains(kind)) && (sought === '' || words(one).includes(sought));
+    const kinds = all('input[name=kind]').filter((box) => box.checked).map((box) => box.value), isAll = !byId('failures').checked;
+    const isKind = (one) => kinds.some((kind) => one.classList.contains(kind)) && (isAll || one.classList.contains('failure'));
+    const fits = (one) => isKind(one) && (sought === '' || words(one).includes(sought));
     const isOf = (row) => actor === '' || row.dataset.actor === actor || row.dataset.by === actor;
     entries.forEach((line) => line.classList.toggle('hidden', !fits(line)));
-    arrange((row) => isOf(row) && fits(row));
+    arrangeInPlace((row) => isOf(row) && fits(row));
     if (actor !== '') open(actor);
   };
 
-  // A row and its entry are marked together.
+  // A row and its entry are marked together, also while other rows are taken out.
+  let marked = null;
+  const putMark = () => {
+    mark.classList.toggle('hidden', !shownRows.includes(marked));
+    if (shownRows.includes(marked)) mark.setAttribute('y', placeNow(marked) - 20);
+  };
   const markRow = (row) => {
-    mark.classList.toggle('hidden', !shownRows.includes(row));
+    marked = row;
+    putMark();
     if (!shownRows.includes(row)) return;
     const top = placeNow(row) - 20;
-    mark.setAttribute('y', top);
     if (top < diagram.scrollTop + namesHeight || top + 2 * rowHeight > diagram.scrollTop + diagram.clientHeight) {
       diagram.scrollTop = top - diagram.clientHeight / 2;
     }
@@ -123,7 +138,7 @@ pub(crate) const PAGE_END: &str = "</aside>
     const at = event.target, row = at.closest?.('.row'), line = at.closest?.('.entry');
     if (row && (event.key === 'ArrowDown' || event.key === 'ArrowUp')) {
       const next = shownRows[shownRows.indexOf(row) + (event.key === 'ArrowDown' ? 1 : -1)];
-      if (next) { event.preventDefault(); markRow(next); choose(next); }
+      if (next) { event.preventDefault(); markEntry(null); markRow(next); choose(next); }
     } else if (row && event.key === 'Enter') follow(row);
     else if (at === line && event.key === 'Enter') line.querySelector('.cause')?.click();
     else if (event.key === '/' && !at.closest?.('input')) { event.preventDefault(); byId('words').focus(); }

@@ -42,7 +42,7 @@ pub(crate) const PAGE_HEAD: &str = "<!DOCTYPE html>
   pre { overflow: auto; padding-bottom: 16px } h1 { font-size: 18px } h2 { font-size: 15px; margin: 4px 0 } a { color: #1f5fb4 }
   form { display: none; flex-wrap: wrap; align-items: center; gap: 8px 16px; margin: 8px 0 } .scripted form { display: flex }
   main { display: grid; grid-template-columns: minmax(0, 1fr); gap: 16px } .diagram, aside { overflow: auto; max-height: 90vh }
-  .diagram svg { display: block } .diagram .names { position: sticky; top: 0; z-index: 1 }
+  .diagram svg { display: block } .diagram .names { position: sticky; top: 0; z-index: 1; overflow: visible }
   table { border-collapse: collapse; width: 100% } td, th { text-align: left; vertical-align: top; padding: 2px 8px 2px 0 }
   td { border-top: 1px solid #b3bcc5 } td, th { white-space: nowrap } summary { font-weight: bold; padding: 4px 0 } .failure td { color: #b3261e }
   .scripted .diagram > svg, .scripted .entry { cursor: pointer } .hidden { display: none }
@@ -61,11 +61,11 @@ pub(crate) const PAGE_HEAD: &str = "<!DOCTYPE html>
 <h1>A run of actors</h1>
 ";
 
-/// The choice of kinds and of words, behind that of an actor, which shows where scripts run; and the beginning of the picture.
+/// The choice of kinds, of failures and of words, behind that of an actor, which shows where scripts run; and the beginning of the picture.
 pub(crate) const PAGE_KINDS: &str = "</select></label>
 <label><input type=\"checkbox\" name=\"kind\" value=\"user\" checked> envelopes</label>
 <label><input type=\"checkbox\" name=\"kind\" value=\"system\" checked> system messages</label>
-<label><input type=\"checkbox\" name=\"kind\" value=\"failure\" checked> failures</label>
+<label><input type=\"checkbox\" id=\"failures\"> failures only</label>
 <label>search <input type=\"search\" id=\"words\"></label>
 <output id=\"count\"></output>
 </form>
