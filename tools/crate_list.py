@@ -56,10 +56,10 @@ def lines_of(name):
 
 
 def costs(names):
-    """What the proof of each of these costs, in seconds of one processor: by the table, or else by its lines."""
+    """What the proof of each of these costs, in seconds of one processor: by the table, or else by its lines and the libraries that it reads."""
     table = [line.split() for line in pathlib.Path(__file__).with_name("crate_costs").read_text().splitlines() if line and line[0] != "#"]
     table = {name: float(seconds) for name, seconds in table}
-    return {name: table.get(name) or 20 + lines_of(name) / 25 for name in names}
+    return {name: table.get(name) or 20 + lines_of(name) / 25 + 4 * len(with_needs(name)) for name in names}
 
 
 def chains(names, costs):

@@ -22,8 +22,9 @@ class Libraries:
         """Sees to it that a crate, if it is a library, and all that it stands on is proved, and says what is not."""
         crates = [need for need in crate_list.with_needs(name) if not is_program(need)]
         if self.checkout == ROOT:
-            made = {need: subprocess.run(["rt", "lib"], cwd=ROOT / "crates" / need, stdout=subprocess.DEVNULL).returncode for need in crates}
-            return ", ".join(f"{need} is not proved" for need, status in made.items() if status)
+            tops = crate_list.needs(name) if is_program(name) else [name]
+            status = subprocess.run([ROOT / "tools" / "prove", *tops]).returncode if tops else 0
+            return f"{name}, or a crate that it stands on, is not proved" if status else ""
         lacking = [need for need in crates if not self.file(need).exists() or texts(need, self.checkout) != texts(need, ROOT)]
         return ", ".join(f"{need} is not proved in {self.checkout}, or of other sources" for need in lacking)
 
