@@ -11,7 +11,7 @@ from spec_definitions import imported
 
 # The crates on which a program of one's own stands (docs/EMBEDDING.md), and those whose use of the library is shown.
 OFFERED = ("heddleorange", "mb_actor", "mb_msg", "mb_typed", "mb_source", "mb_quantity", "mb_trace_forms", "mb_trace")
-EXAMPLES = ("relay", "relay_actors", "bank", "bank_actors", "bank_shell_actors", "bank_shell")
+EXAMPLES = ("relay", "relay_actors", "bank", "bank_actors", "bank_shell_actors", "bank_shell", "chat_room_actors", "chat_room")
 WORD = re.compile(r"(?<![\w.'])[^\W\d]\w*(?:-\w+)*'*")
 IMPORT = re.compile(r"\buse Rattle\.(\w+)\.specs\.([\w.]+?)(?:\.\{([^}]*)\}|(?: as (\w+))?\s*$)", re.S | re.M)
 TYPES = ("struct", "enum", "trait", "type", "constant")

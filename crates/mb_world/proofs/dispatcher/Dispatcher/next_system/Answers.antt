@@ -1,0 +1,5 @@
+use Rattle.mb_world.proofs.DispatchLemmas.{marks-stay}
+use Rattle.mb_world.proofs.dispatcher.Dispatcher.next_system.Goals as goal
+
+pub returns-in-Some-clause-marks : goal.returns-in-Some-clause-marks
+returns-in-Some-clause-marks c = marks-stay c.args.self.now.mailboxes.items c.args.actor.0 c.in-Some.mailbox.now _ c.in-Some.ensures.value c.next_system.ensures.mark

@@ -1,0 +1,75 @@
+//! What a sender outside is still to send.
+ghost use Rattle.std.specs.Prelude.{◌≡◌, ◌≤◌, IfOk, IfNone, IfSome, IsTrue, slice_get};
+ghost use Rattle.mb_world.specs.World.{advanced};
+
+use mb_msg::Order;
+use std::alloc::{AllocError, Global};
+use std::marker::Model;
+
+/// The orders of a sender outside, and how far it has come with them.
+#[derive(Drop)]
+pub(crate) struct OrderQueue {
+    /// Its orders, each for at least one time.
+    orders: Vec<Order>,
+    /// The place of the order that is next.
+    place: usize,
+    /// How often that order was carried out.
+    done: u32,
+}
+
+impl Model for OrderQueue {
+    ghost use Rattle.mb_world.specs.World.{Sender};
+
+    ghost Value = { Sender };
+
+    ghost view = { λ q. record { orders = q.orders.items; place = q.place; done = q.done } };
+}
+
+impl OrderQueue {
+    /// All these orders are still to be carried out, each as often as it says. The only error: memory was refused.
+    pub(crate) fn new(alloc: Global, orders: &[Order]) -> Result<OrderQueue, AllocError>
+        ensures { IfOk result (λ queue. (queue.place ≡ 0) × (queue.done ≡ 0)) }
+    {
+        let mut some = Vec::new(alloc);
+        for order in orders {
+            if order.times > 0 {
+                some.push(*order)?;
+            }
+        }
+        Ok(OrderQueue {
+            orders: some,
+            place: 0,
+            done: 0,
+        })
+    }
+
+    /// Whether all is sent.
+    pub(crate) fn is_done(&self) -> bool {
+        self.place >= self.orders.len()
+    }
+
+    /// The order that is next, which counts as carried out once more then; `None` if all is sent.
+    pub(crate) fn take_next(&mut self) -> Option<Order>
+        ensures next { result ≡ slice_get self.old.orders self.old.place }
+        ensures advanced { IfSome result (λ order. self.new ≡ advanced self.old order) }
+        ensures stays { IfNone result (self.new ≡ self.old) }
+    {
+        let Some(order) = self.orders.get(self.place).copied() else {
+            return None;
+        };
+        if order.times.saturating_sub(self.done) > 1 {
+            self.done += 1;
+        } else {
+            self.place += 1;
+            self.done = 0;
+        }
+        Some(order)
+    }
+
+    /// How far the sender has come: the place of the order that is next, and how often that was carried out.
+    pub(crate) fn position(&self) -> (usize, u32)
+        ensures { (result.0 ≡ self.now.place) × (result.1 ≡ self.now.done) }
+    {
+        (self.place, self.done)
+    }
+}
