@@ -58,17 +58,16 @@ def main(way, name, jobs):
     try:
         kit = load_kit()
         crate = crate_of(kit, name)
-        prove, stamp = crate.ci, crate.stamp
-    except (AttributeError, OSError, StopIteration) as fault:
+        pathlib.Path(crate.folder, "out").mkdir(exist_ok=True)
+        if crate.ci(["--jobs", jobs], way == "test"):
+            return 1
+        if way == "lib":
+            pathlib.Path(crate.folder, "out", "rlib", "stamp").write_text(crate.stamp())
+            return 0
+        return 0 if runs_well(kit, crate, way == "test") else WRONG_RUN
+    except (AttributeError, ImportError, KeyError, OSError, StopIteration, TypeError, ValueError) as fault:
         print(f"this kit's rt has another form than the tools know ({fault})", file=sys.stderr)
         return OTHER_KIT
-    pathlib.Path(crate.folder, "out").mkdir(exist_ok=True)
-    if prove(["--jobs", jobs], way == "test"):
-        return 1
-    if way == "lib":
-        pathlib.Path(crate.folder, "out", "rlib", "stamp").write_text(stamp())
-        return 0
-    return 0 if runs_well(kit, crate, way == "test") else WRONG_RUN
 
 
 if __name__ == "__main__":

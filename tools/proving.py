@@ -1,4 +1,4 @@
-"""Proves crates with all that they stand on, each as `rt ci` does (gate_steps.py). tools/prove calls it, and so does ./prove in a repository to
+"""Proves crates with all that they stand on, each as `rt ci` does (gate_steps.py), or by the kit's public commands. tools/prove calls it, and so does ./prove in a repository to
 which tools/embed handed this over.
 
 Each crate is proved in a folder of its own, with the libraries below it as they are kept (proved_libraries.py): so no other command meets it, and
@@ -19,7 +19,7 @@ import tempfile
 import crate_list
 import proved_libraries
 from crate_list import PARTS, ROOT
-from gate_steps import WRONG_RUN
+from gate_steps import OTHER_KIT, WRONG_RUN
 from proof_progress import Progress, say
 
 # How many characters are shown of what the kit says of a crate that is not proved.
@@ -90,10 +90,32 @@ def made_of(name, way):
     return f"{name}_tests" if way == "test" else name
 
 
+def text_beside(folder, file):
+    return (folder / file).read_bytes() if (folder / file).exists() else b""
+
+
+def by_commands(name, way, room, jobs):
+    """What gate_steps.py does, by the public commands of a kit whose `rt` has another form: its status, and what was said. The libraries have
+    their proofs then, which the crates above read."""
+    folder, program = room / "crates" / name, way == "run"
+    if program and (folder / "data").is_dir():
+        shutil.copytree(folder / "data", folder, dirs_exist_ok=True)
+    arguments = text_beside(folder, "args").decode().splitlines() if program else []
+    words = ["rt", way, "--jobs", str(jobs), *(["--", *arguments] if arguments else [])]
+    status, printed, said = ended(words, folder, text_beside(folder, "stdin") if program else b"")
+    said = printed.decode(errors="replace") + said
+    if not program or not (folder / "out" / f"{name}.stamp").exists():
+        return status, said
+    wanted = int(text_beside(folder, "status") or 0), text_beside(folder, "stdout")
+    return 0 if (status, printed) == wanted else WRONG_RUN, said
+
+
 def prove_one(name, way, room, jobs):
     """Why the library, the program or the tests are not proved, or do not run as they should, if that is so."""
     status, printed, said = ended([sys.executable, str(STEPS), way, name, str(jobs)], room, b"")
     said = printed.decode(errors="replace") + said
+    if status == OTHER_KIT:
+        status, said = by_commands(name, way, room, jobs)
     if status == WRONG_RUN:
         return f"{name} is proved, but it does not run as it should\n{said[-SHOWN:]}"
     if status:
