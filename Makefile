@@ -4,6 +4,7 @@ PREFIX ?= /usr/local
 PROGRAM := crates/mailrun/out/mailrun
 KEPT := crates/mailrun_kept/out/mailrun_kept
 TRACE := crates/mailtrace/out/mailtrace
+EXPLORE := crates/mailexplore/out/mailexplore
 
 .PHONY: run trace prove docs quick examples test refuse check wrong-bodies bench instructions compare install proved
 .DEFAULT_GOAL := run
@@ -26,14 +27,16 @@ prove:
 docs:
 	@tools/api_reference
 
-# What needs no proof: what the documents name, the pictures, the commands that need no program, the API reference, the schema, the
-# scenarios as they stand, the examples and whole runs beside a second reader, each scenario by an unproved build, and the library in a
-# repository of its own.
+# What needs no proof: what the documents name, the pictures, the commands that need no program, the tools that no other check calls, the list
+# of the wrong bodies, the API reference, the schema, the scenarios as they stand, the examples and whole runs beside a second reader, each
+# scenario by an unproved build, and the library in a repository of its own.
 quick:
 	tools/documents --check
 	tools/draw_layers --check
 	tools/draw_states --check
 	tools/check_commands
+	tools/check_tools
+	tools/check_wrong_bodies
 	tools/check_api_reference
 	tools/check_schema
 	tools/check_scenarios
@@ -46,15 +49,16 @@ quick:
 examples: proved
 	@tools/check_scenarios $(PROGRAM) examples
 
-# The gate: what needs no proof, which is what the documents name, the pictures, the list of the wrong bodies, the API reference, the schema
-# and the scenarios as they stand; every proof from nothing, the must-fail edits, the tests, and the programs by two compilers; and the trials
-# of the programs, side by side. By itself, rt ci leaves processors idle for memory that no proof takes: so RT_JOBS says how many proofs run
-# side by side.
+# The gate: what needs no proof, which is what the documents name, the pictures, the tools that no other check calls, the list of the wrong
+# bodies, the API reference, the schema and the scenarios as they stand; every proof from nothing, the must-fail edits, the tests, and the
+# programs by two compilers; and the trials of the programs, side by side. By itself, rt ci leaves processors idle for memory that no proof
+# takes: so RT_JOBS says how many proofs run side by side.
 test:
 	tools/documents --check
 	tools/draw_layers --check
 	tools/draw_states --check
 	tools/check_commands
+	tools/check_tools
 	tools/check_wrong_bodies
 	tools/check_api_reference
 	tools/check_schema
@@ -62,13 +66,14 @@ test:
 	sum=$$(tools/prove --sum) && RT_JOBS=$$(tools/prove --most) rt ci && tools/prove --note $$sum
 	$(MAKE) --no-print-directory --jobs=$$(tools/prove --most) --output-sync=target trials
 
-# What the gate tries with the proved programs: all scenarios, whose outcomes were worked out by hand, with counted and with kept journals; the
-# program as a user runs it, and on worker threads; the commands of the documents; traces in each form, and pages in a browser, where one is
-# there; what becomes of refused allocations, where a C compiler is there; random scenarios beside a second reader, with counted and with kept
-# journals; the journals of one worker beside those of the quiet run; the system messages of random systems on threads, counted; the
-# instructions of a message beside those that the documents say, where valgrind is there; and the library in a repository of its own.
+# What the gate tries with the proved programs: all scenarios, whose outcomes were worked out by hand, with counted and with kept journals;
+# the program as a user runs it, and on worker threads; the commands of the documents; traces in each form, and pages in a browser, where one
+# is there; what mailexplore prints of an example whose orders of steps were counted apart; what becomes of refused allocations, where a C
+# compiler is there; random scenarios beside a second reader, with counted and with kept journals; the journals of one worker beside those of
+# the quiet run; the system messages of random systems on threads, counted; the instructions of a message beside those that the documents say,
+# where valgrind is there; and the library in a repository of its own.
 TRIALS := trial-scenarios trial-kept-scenarios trial-program trial-workers trial-commands trial-traces trial-trace-forms trial-pages \
-    trial-allocations trial-model trial-kept-model trial-order trial-system-messages trial-instructions trial-embedding
+    trial-outcomes trial-allocations trial-model trial-kept-model trial-order trial-system-messages trial-instructions trial-embedding
 .PHONY: trials $(TRIALS)
 trials: $(TRIALS)
 trial-scenarios:
@@ -87,6 +92,8 @@ trial-trace-forms:
 	tools/check_trace_forms $(TRACE)
 trial-pages:
 	tools/try_pages $(TRACE)
+trial-outcomes:
+	tools/check_outcomes $(EXPLORE)
 trial-allocations:
 	@if command -v "$${CC:-cc}" > /dev/null; then $(MAKE) --no-print-directory refuse; else echo 'no C compiler: no allocation was refused'; fi
 trial-model:

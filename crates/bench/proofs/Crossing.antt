@@ -9,7 +9,7 @@ use Rattle.mb_testkit.specs.contracts.stub_home.StubHomeMailboxState.TheImpl as 
 use Rattle.mb_gate.specs.contracts.gates.Gates as gates
 use Rattle.mb_gate.proofs.Crossing.{pass_send}
 use Rattle.mb_queue.proofs.Crossing.{send_pass_send}
-use Rattle.mb_pool.proofs.Crossing.{end_send}
+use Rattle.mb_pool.proofs.Crossing.{handle_send}
 use Rattle.bench.proofs.times.Times.TheSendSync as times
 use Rattle.bench.specs.contracts.pools.worker.Worker as worker
 use Rattle.bench.specs.contracts.queues.sender.QueueSender as sender
@@ -19,7 +19,7 @@ TheGates = gates.the_row stub_home_row.the_row resident.ghosts
 
 pub worker_crosses : IsSend worker.the_row
 worker_crosses = declared_send worker.the_type (
-  end_send _ resident.ghosts desk.the_send,
+  handle_send _ resident.ghosts desk.the_send,
   (
     pass_send _ desk.the_send,
     (search (sendable, actor.the_send) depth 20, (search sendable, (times.the_send, tt))),

@@ -1,5 +1,5 @@
 //! Benchmarks of the pools: a push and a take of a claim in a shared and in a stealing pool, on one thread, and by four
-//! ends on four threads, each with claims of its own. The figures are medians of some rounds, each end's by its own
+//! handles on four threads, each with claims of its own. The figures are medians of some rounds, each handle's by its own
 //! clock.
 
 ghost use Rattle.std.specs.Prelude.{◌≡◌, ◌<◌, ◌≤◌};
@@ -48,17 +48,17 @@ pub fn run<R: Clock + Threads + Wait + Sync + Print + Eprint>(
     )
 }
 
-/// With one end, or with four ends where there are four.
+/// With one handle, or with four handles where there are four.
 fn measure<R: Clock + Threads + Wait + Sync>(
     rt: &R,
     alloc: Global,
     kind: PoolKind,
-    ends: u32,
+    handles: u32,
 ) -> Made
-    requires { (0 < ends) × (ends ≤ 4) }
+    requires { (0 < handles) × (handles ≤ 4) }
 {
-    let (gates, mut pass) = gates_of(alloc, ends as usize).ok()?;
-    measure_at(rt, alloc, &gates, &mut pass, kind, ends)
+    let (gates, mut pass) = gates_of(alloc, handles as usize).ok()?;
+    measure_at(rt, alloc, &gates, &mut pass, kind, handles)
 }
 
 fn measure_at<R: Clock + Threads + Wait + Sync>(
@@ -67,13 +67,13 @@ fn measure_at<R: Clock + Threads + Wait + Sync>(
     gates: &Gates<StubHome>,
     pass: &mut Pass<StubHome>,
     kind: PoolKind,
-    ends: u32,
+    handles: u32,
 ) -> Made
     requires same_gates { pass_id pass.old ≡ gates_id gates.now }
-    requires present { (0 < ends) × (ends ≤ actors_of gates.now) }
+    requires present { (0 < handles) × (handles ≤ actors_of gates.now) }
 {
-    let mut all = workers(alloc, gates, pass, kind, ends)?;
-    if ends < 4 {
+    let mut all = workers(alloc, gates, pass, kind, handles)?;
+    if handles < 4 {
         alone::measure(rt, gates, &mut all)
     } else {
         four::measure(rt, gates, &mut all)

@@ -8,7 +8,7 @@ use Rattle.std.proofs.lemmas.List.{append_assoc, append-nil, length-append, leng
 use Rattle.mb_msg.specs.declared.actor_plan.ActorPlan.{ActorPlan}
 use Rattle.mb_msg.specs.declared.id.ActorId.{ActorId}
 use Rattle.mb_msg.specs.declared.plan.Plan.{Plan}
-use Rattle.heddleorange.specs.Added.{IsAdded}
+use Rattle.heddleorange.specs.Added.{Adds, AddsNothing, RefusesPlace}
 use Rattle.heddleorange.specs.AddedAll.{AreAdded, first_taken, first_unfit, found_or, names_behind}
 use Rattle.heddleorange.specs.Names.{name_by_default, number_of, texts_of}
 use Rattle.heddleorange.specs.declared.error.Error.{Error}
@@ -46,6 +46,10 @@ one-more old now next xs x is added = is ∙ (sym (append_assoc now (x ∷ []) x
 still-first : {X : Type 0} (n : ℕ) (old now next : List X) (x : X) → n ≤ length now → take n now ≡ old → next ≡ now ++ x ∷ [] → take n next ≡ old
 still-first n old now next x within first added = ap (take n) added ∙ (take-append-le n now (x ∷ []) within ∙ first)
 
+-- the actor that got this number was not refused for its place
+abbrev IsPlaced : {A : Type 0} → PlannedSystem A → ActorPlan → ActorId → Type 0
+IsPlaced now p id = RefusesPlace (length now.actors.items) p.parent (let r : Result ActorId Error = Ok id in r)
+
 module _ {A : Type 0} (old : PlannedSystem A) (plans : List ActorPlan) (actors : List A) (names : List (List ℕ)) where
   -- nothing was added yet
   pub none-yet : (left_plans : List ActorPlan) (left_actors : List A) (left_names : List (List ℕ)) → left_plans ≡ plans → left_actors ≡ actors
@@ -65,26 +69,26 @@ module _ {A : Type 0} (old : PlannedSystem A) (plans : List ActorPlan) (actors :
   }
 
   -- an actor that is added has a parent that is there
-  parent-there : (now next : PlannedSystem A) (p : ActorPlan) (a : A) (name : List ℕ) (id : ActorId) → IsAdded now p a name (Ok id) next
-      → p.parent.0 ≤ length now.actors.items
-  parent-there now next p a name id added = by_cases (cases_lt (length now.actors.items) p.parent.0) (cases_lt (length now.actors.items) 63)
+  parent-there : (now : PlannedSystem A) (p : ActorPlan) (id : ActorId) → IsPlaced now p id → p.parent.0 ≤ length now.actors.items
+  parent-there now p id placed = by_cases (cases_lt (length now.actors.items) p.parent.0) (cases_lt (length now.actors.items) 63)
     where
       by_cases : (length now.actors.items < p.parent.0) ⊎ (p.parent.0 ≤ length now.actors.items)
           → (length now.actors.items < 63) ⊎ (63 ≤ length now.actors.items) → p.parent.0 ≤ length now.actors.items
       by_cases (inr there) room = there
-      by_cases (inl beyond) (inr none) = let is = added.full.1 none in absurd (cc)
+      by_cases (inl beyond) (inr none) = let is = placed.full.1 none in absurd (cc)
       by_cases (inl beyond) (inl room) =
-          let is = (added.parent (record { 0 = length now.actors.items + 1 })).1 (room, beyond, refl) in absurd (cc)
+          let is = (placed.parent (record { 0 = length now.actors.items + 1 })).1 (room, beyond, refl) in absurd (cc)
 
   -- one more was added
   pub one-added : (now next : PlannedSystem A) (p : ActorPlan) (a : A) (name : List ℕ) (left_plans : List ActorPlan) (left_actors : List A)
       (left_names : List (List ℕ)) (id : ActorId) → SoFar old plans actors names (p ∷ left_plans) (a ∷ left_actors) (name ∷ left_names) now
-      → IsAdded now p a name (Ok id) next → SoFar old plans actors names left_plans left_actors left_names next
-  one-added now next p a name left_plans left_actors left_names id so_far added =
+      → Adds now p a name id next → next.plan ≡ record now.plan { actors = next.plan.actors } → IsPlaced now p id
+      → SoFar old plans actors names left_plans left_actors left_names next
+  one-added now next p a name left_plans left_actors left_names id so_far added settings placed =
       let one : length next.actors.items ≡ length now.actors.items + 1 = ap length added.actors ∙ length-append now.actors.items (a ∷ []) in
       let many = so_far.as_many in
       let no_fewer = so_far.no_fewer in
-      let there = parent-there now next p a name id added in
+      let there = parent-there now p id placed in
       record {
         as_many = omega (arith, many, one);
         actors_are = one-more (old.actors.items ++ actors) now.actors.items next.actors.items left_actors a so_far.actors_are added.actors;
@@ -103,7 +107,7 @@ module _ {A : Type 0} (old : PlannedSystem A) (plans : List ActorPlan) (actors :
         first_names =
             still-first (length old.actors.items) (texts_of old.names.texts.items) (texts_of now.names.texts.items) (texts_of next.names.texts.items) name
             (omega (arith, no_fewer, now.as_named, length-texts now.names.texts.items)) so_far.first_names added.named;
-        settings = added.settings ∙ ap (λ (p : Plan). record p { actors = next.plan.actors }) so_far.settings;
+        settings = settings ∙ ap (λ (p : Plan). record p { actors = next.plan.actors }) so_far.settings;
         no_fewer = omega (arith, no_fewer, one);
       }
 
@@ -124,31 +128,32 @@ module _ {A : Type 0} (old : PlannedSystem A) (plans : List ActorPlan) (actors :
       }
 
   -- one was refused, and those that were there before are left
-  pub none-added : {T : Type 0} (now next last : PlannedSystem A) (p : ActorPlan) (a : A) (name : List ℕ) (left_plans : List ActorPlan) (left_actors : List A)
+  pub none-added : {T : Type 0} (now next last : PlannedSystem A) (p : ActorPlan) (a : A) (left_plans : List ActorPlan) (left_actors : List A)
       (left_names : List (List ℕ)) (error : Error) → SoFar old plans actors names (p ∷ left_plans) (a ∷ left_actors) left_names now
-      → IsAdded now p a name (Err error) next
+      → AddsNothing now next → next.plan ≡ record now.plan { actors = next.plan.actors }
+      → RefusesPlace (length now.actors.items) p.parent (let r : Result ActorId Error = Err error in r)
       → last.actors.items ≡ take (length old.actors.items) next.actors.items
       → last.plan.actors.items ≡ take (length old.actors.items) next.plan.actors.items
       → last.names.texts.items ≡ take (length old.actors.items) next.names.texts.items
       → last.plan ≡ record next.plan { actors = last.plan.actors }
       → AreAdded old plans actors names (let r : Result T Error = Err error in r) last
-  none-added {T} now next last p a name left_plans left_actors left_names error so_far added kept_actors kept_plans kept_names kept_settings =
+  none-added {T} now next last p a left_plans left_actors left_names error so_far same settings refused kept_actors kept_plans kept_names kept_settings =
       let n = length old.actors.items in
       let many = so_far.as_many in
       record {
         actors_are = tt;
         planned = tt;
         named = tt;
-        same = (kept_actors ∙ (ap (take n) added.same.0 ∙ so_far.first_actors), kept_plans ∙ (ap (take n) added.same.1 ∙ so_far.first_plans));
+        same = (kept_actors ∙ (ap (take n) same.same.0 ∙ so_far.first_actors), kept_plans ∙ (ap (take n) same.same.1 ∙ so_far.first_plans));
         same_names =
             ap texts_of kept_names
             ∙ (sym (take-map string_bytes n next.names.texts.items)
-            ∙ (ap (λ (l : List (String Global)). take n (texts_of l)) added.same_names ∙ so_far.first_names));
-        settings = kept_settings ∙ ap (λ (p : Plan). record p { actors = last.plan.actors }) (added.settings ∙ ap (λ (p : Plan). record p { actors = next.plan.actors }) so_far.settings);
+            ∙ (ap (λ (l : List (String Global)). take n (texts_of l)) same.same_names ∙ so_far.first_names));
+        settings = kept_settings ∙ ap (λ (p : Plan). record p { actors = last.plan.actors }) (settings ∙ ap (λ (p : Plan). record p { actors = next.plan.actors }) so_far.settings);
         fit = tt;
-        full = λ is. let none : 63 ≤ length now.actors.items = added.full.0 (cc) in omega (arith, none, many);
+        full = λ is. let none : 63 ≤ length now.actors.items = refused.full.0 (cc) in omega (arith, none, many);
         parent = λ id is.
-            let bad : (length now.actors.items < 63) × (length now.actors.items < p.parent.0) × (id.0 ≡ length now.actors.items + 1) = (added.parent id).0 (cc) in
+            let bad : (length now.actors.items < 63) × (length now.actors.items < p.parent.0) × (id.0 ≡ length now.actors.items + 1) = (refused.parent id).0 (cc) in
             so_far.unfit
             ∙ (ap (λ b. if b then first_unfit (length now.actors.items + 1) left_plans else Some (length now.actors.items + 1)) (above _ _ bad.1)
             ∙ ap Some (sym bad.2));
@@ -157,13 +162,13 @@ module _ {A : Type 0} (old : PlannedSystem A) (plans : List ActorPlan) (actors :
   -- the same of an actor that has its name by default
   pub one-more-default : (now next : PlannedSystem A) (p : ActorPlan) (a : A) (left_plans : List ActorPlan) (left_actors : List A) (id : ActorId)
       → SoFar old plans actors names (p ∷ left_plans) (a ∷ left_actors) (names_behind (length now.actors.items) (p ∷ left_plans)) now
-      → IsAdded now p a (name_by_default (length now.actors.items + 1)) (Ok id) next
+      → Adds now p a (name_by_default (length now.actors.items + 1)) id next → next.plan ≡ record now.plan { actors = next.plan.actors } → IsPlaced now p id
       → SoFar old plans actors names left_plans left_actors (names_behind (length next.actors.items) left_plans) next
-  one-more-default now next p a left_plans left_actors id so_far added =
+  one-more-default now next p a left_plans left_actors id so_far added settings placed =
       let one : length next.actors.items ≡ length now.actors.items + 1 = ap length added.actors ∙ length-append now.actors.items (a ∷ []) in
       subst (λ (n : ℕ). SoFar old plans actors names left_plans left_actors (names_behind n left_plans) next) (sym one)
       (one-added now next p a (name_by_default (length now.actors.items + 1)) left_plans left_actors (names_behind (length now.actors.items + 1) left_plans) id so_far
-      added)
+      added settings placed)
 
 -- no name was taken so far
 abbrev pub Untaken : {A : Type 0} → PlannedSystem A → List (List ℕ) → List (List ℕ) → PlannedSystem A → Type 0
@@ -171,11 +176,11 @@ Untaken old names left_names now = first_taken (texts_of old.names.texts.items) 
 
 -- an actor was added, so its name was free
 pub one-free : {A : Type 0} (old now next : PlannedSystem A) (p : ActorPlan) (a : A) (name : List ℕ) (names left_names : List (List ℕ)) (id : ActorId)
-    → Untaken old names (name ∷ left_names) now → IsAdded now p a name (Ok id) next
+    → Untaken old names (name ∷ left_names) now → Adds now p a name id next → IsPlaced now p id
     → ((other : ActorId) → (let r : Result ActorId Error = Ok id in r ≡ Err (NameTaken other))
     ↔ ((length now.actors.items < 63) × (p.parent.0 ≤ length now.actors.items) × (number_of now.names.texts.items name ≡ Some other.0)))
     → Untaken old names left_names next
-one-free {A} old now next p a name names left_names id so_far added taken =
+one-free {A} old now next p a name names left_names id so_far added placed taken =
     so_far ∙ (free (number_of now.names.texts.items name) refl ∙ ap (λ l. first_taken l left_names) (sym added.named))
   where
     rest : Option ℕ
@@ -186,12 +191,12 @@ one-free {A} old now next p a name names left_names id so_far added taken =
       where
         by_cases : (length now.actors.items < 63) ⊎ (63 ≤ length now.actors.items) → length now.actors.items < 63
         by_cases (inl room) = room
-        by_cases (inr none) = let is = added.full.1 none in absurd (cc)
+        by_cases (inr none) = let is = placed.full.1 none in absurd (cc)
 
     free : (found : Option ℕ) → number_of now.names.texts.items name ≡ found → found_or (number_of now.names.texts.items name) rest ≡ rest
     free None is = ap (λ o. found_or o rest) is
     free (Some number) is =
-        let was = (taken (record { 0 = number })).1 (room, parent-there now [] [] [] now next p a name id added, is) in absurd (cc)
+        let was = (taken (record { 0 = number })).1 (room, parent-there now [] [] [] now p id placed, is) in absurd (cc)
 
 -- it was refused for its name, which is the first that is taken
 pub one-taken : {A : Type 0} (old now : PlannedSystem A) (name : List ℕ) (names left_names : List (List ℕ)) (other : ActorId)

@@ -46,11 +46,11 @@ use Rattle.mb_shutdown.specs.Seen.{ReportExtends, ReportExtendsAll}
 use Rattle.mb_shutdown.specs.Refused.{CountsAllPut, PutAddsUpTo, ReleasesAddUpTo}
 use Rattle.mb_startup.proofs.Directories.{of-plan, still-planned}
 use Rattle.mb_startup.proofs.There.{senders-there}
-use Rattle.mb_startup.specs.Begun.{AreNewEnds, AreNewSenders, IsBegun}
+use Rattle.mb_startup.specs.Begun.{AreNewHandles, AreNewSenders, IsBegun}
 use Rattle.mb_syslist.specs.MessageList.{numbered}
-use Rattle.mb_system.specs.Shares.{shares_of, shares_of_ends, views_of}
+use Rattle.mb_system.specs.Shares.{shares_of, shares_of_handles, views_of}
 use Rattle.mb_system.specs.declared.built.Built.{Built}
-use Rattle.mb_system.specs.declared.end.WorkerEnd.{WorkerEnd}
+use Rattle.mb_system.specs.declared.handle.WorkerHandle.{WorkerHandle}
 use Rattle.mb_system.specs.Members.{OutsideSender}
 use Rattle.heddleorange.specs.Asked.{GetsAskedFor, AllGetAskedFor, asked_for, due_by, due_in, measure_to}
 use Rattle.heddleorange.specs.Notices.{EachNoticeIsTrue, IsTrueNotice}
@@ -60,12 +60,12 @@ use Rattle.heddleorange.specs.Workers.{AllOnlyRuns}
 use Rattle.heddleorange.proofs.Covering.{runs-share}
 use Rattle.heddleorange.proofs.Due.{due_to}
 use Rattle.heddleorange.proofs.EndActs.{end_notice}
-use Rattle.heddleorange.proofs.EndNotices.{ended-is, ends-none, senders-none}
+use Rattle.heddleorange.proofs.EndNotices.{ended-is, handles-none, senders-none}
 use Rattle.heddleorange.proofs.Identified.{number-at}
-use Rattle.heddleorange.proofs.Put.{AllPutAtMost, back, ends-put, put, senders-put, taken}
-use Rattle.heddleorange.proofs.PutAll.{AllPutAll, ended, ends-put-all, once, senders-put-all}
+use Rattle.heddleorange.proofs.Put.{AllPutAtMost, back, handles-put, put, senders-put, taken}
+use Rattle.heddleorange.proofs.PutAll.{AllPutAll, ended, handles-put-all, once, senders-put-all}
 use Rattle.heddleorange.proofs.Returns.{all-add-up, none-back, none-taken, reported}
-use Rattle.heddleorange.proofs.Unchanged.{of-end, of-sender, shares-kept}
+use Rattle.heddleorange.proofs.Unchanged.{of-handle, of-sender, shares-kept}
 use Rattle.heddleorange.proofs.WholeRun.{new-at}
 
 -- what a report counts, without what was seen
@@ -122,10 +122,10 @@ module _ (to : ℕ) (measure : SysMsg → ℕ) where
         let one = ap (total (put_in to (λ m. measure m.1))) created in omega (arith, one)
 
     module _ {A K : Type 0} (gates : Gates (Box Contents)) where
-      new-ends-put : (number : ℕ) (ends : List (WorkerEnd A K)) → AreNewEnds gates number ends → HavePut 0 (map of-end ends)
-      new-ends-put number [] are = nobody
-      new-ends-put number (e ∷ ends) are =
-          also 0 0 (of-end e) (map of-end ends) (blank-put (of-end e) are.0.blank) are.0.none_released (new-ends-put (number + 1) ends are.1)
+      new-handles-put : (number : ℕ) (handles : List (WorkerHandle A K)) → AreNewHandles gates number handles → HavePut 0 (map of-handle handles)
+      new-handles-put number [] are = nobody
+      new-handles-put number (e ∷ handles) are =
+          also 0 0 (of-handle e) (map of-handle handles) (blank-put (of-handle e) are.0.blank) are.0.none_released (new-handles-put (number + 1) handles are.1)
 
     module _ (gates : Gates (Box Contents)) where
       new-senders-put : (number : ℕ) (rows : List (List SendPassView)) (senders : List OutsideSender) → AreNewSenders gates number rows senders
@@ -137,34 +137,34 @@ module _ (to : ℕ) (measure : SysMsg → ℕ) where
           also 0 0 (of-sender s) (map of-sender senders) (blank-put (of-sender s) are.0.blank) are.0.none_released
           (new-senders-put (number + 1) rows senders are.1)
 
-    -- what all put and gave back, from the ends and from the senders
-    all-put : (ends senders new_ends new_senders : List View) (create orders : ℕ) → HavePut create ends → HavePut 0 senders
-        → AllPutAtMost to measure whos 0 ends new_ends → AllPutAtMost to measure whos orders senders new_senders
-        → total (put to measure whos) (new_ends ++ new_senders) + total (taken to measure whos) (new_ends ++ new_senders)
-        ≤ create + orders + total (back to measure whos) (new_ends ++ new_senders)
-    all-put ends senders new_ends new_senders create orders first other by_ends by_senders =
+    -- what all put and gave back, from the handles and from the senders
+    all-put : (handles senders new_handles new_senders : List View) (create orders : ℕ) → HavePut create handles → HavePut 0 senders
+        → AllPutAtMost to measure whos 0 handles new_handles → AllPutAtMost to measure whos orders senders new_senders
+        → total (put to measure whos) (new_handles ++ new_senders) + total (taken to measure whos) (new_handles ++ new_senders)
+        ≤ create + orders + total (back to measure whos) (new_handles ++ new_senders)
+    all-put handles senders new_handles new_senders create orders first other by_handles by_senders =
         let e = first.all_put in let e_back = first.none_back in let e_taken = first.none_taken in
         let s = other.all_put in let s_back = other.none_back in let s_taken = other.none_taken in
-        let puts = total_append (put to measure whos) new_ends new_senders in
-        let backs = total_append (back to measure whos) new_ends new_senders in
-        let takens = total_append (taken to measure whos) new_ends new_senders in
-        omega (arith, e, e_back, e_taken, s, s_back, s_taken, puts, backs, takens, by_ends, by_senders)
+        let puts = total_append (put to measure whos) new_handles new_senders in
+        let backs = total_append (back to measure whos) new_handles new_senders in
+        let takens = total_append (taken to measure whos) new_handles new_senders in
+        omega (arith, e, e_back, e_taken, s, s_back, s_taken, puts, backs, takens, by_handles, by_senders)
 
     -- and where nobody found the actor's list ended, all of it was put there
-    all-put-on : (ends senders new_ends new_senders : List View) (create orders : ℕ) → HavePut create ends → HavePut 0 senders
-        → AllPutAll to measure whos 0 ends new_ends → AllPutAll to measure whos orders senders new_senders
-        → total (ended to measure whos) (new_ends ++ new_senders) ≡ 0
-        → create + orders + total (back to measure whos) (new_ends ++ new_senders)
-        ≤ total (put to measure whos) (new_ends ++ new_senders) + total (taken to measure whos) (new_ends ++ new_senders)
-    all-put-on ends senders new_ends new_senders create orders first other by_ends by_senders never =
-        let found = total_append (ended to measure whos) new_ends new_senders in
-        let of_ends = by_ends (omega (arith, never, found)) in let of_senders = by_senders (omega (arith, never, found)) in
+    all-put-on : (handles senders new_handles new_senders : List View) (create orders : ℕ) → HavePut create handles → HavePut 0 senders
+        → AllPutAll to measure whos 0 handles new_handles → AllPutAll to measure whos orders senders new_senders
+        → total (ended to measure whos) (new_handles ++ new_senders) ≡ 0
+        → create + orders + total (back to measure whos) (new_handles ++ new_senders)
+        ≤ total (put to measure whos) (new_handles ++ new_senders) + total (taken to measure whos) (new_handles ++ new_senders)
+    all-put-on handles senders new_handles new_senders create orders first other by_handles by_senders never =
+        let found = total_append (ended to measure whos) new_handles new_senders in
+        let of_handles = by_handles (omega (arith, never, found)) in let of_senders = by_senders (omega (arith, never, found)) in
         let e = first.all_put in let e_back = first.none_back in let e_taken = first.none_taken in
         let s = other.all_put in let s_back = other.none_back in let s_taken = other.none_taken in
-        let puts = total_append (put to measure whos) new_ends new_senders in
-        let backs = total_append (back to measure whos) new_ends new_senders in
-        let takens = total_append (taken to measure whos) new_ends new_senders in
-        omega (arith, e, e_back, e_taken, s, s_back, s_taken, puts, backs, takens, of_ends, of_senders)
+        let puts = total_append (put to measure whos) new_handles new_senders in
+        let backs = total_append (back to measure whos) new_handles new_senders in
+        let takens = total_append (taken to measure whos) new_handles new_senders in
+        omega (arith, e, e_back, e_taken, s, s_back, s_taken, puts, backs, takens, of_handles, of_senders)
 
 -- ---- who was not found ended
 
@@ -197,38 +197,38 @@ module _ (report : Report) (id : ℕ) (a : ActorReport) (here : slice_get report
         let one = never-in (knows e).log (All-head (λ (x : E). ReportExtendsAll report (knows x)) e es all) in
         let rest = never-seen es (All-tail (λ (x : E). ReportExtendsAll report (knows x)) e es all) in omega (arith, one, rest)
 
-  module _ {A K : Type 0} (now : Built A K) (ends_seen : All (λ (e : WorkerEnd A K). ReportExtendsAll report (of-end e)) now.ends.items)
+  module _ {A K : Type 0} (now : Built A K) (handles_seen : All (λ (e : WorkerHandle A K). ReportExtendsAll report (of-handle e)) now.handles.items)
       (senders_seen : All (λ (s : OutsideSender). ReportExtendsAll report (of-sender s)) now.senders.items) where
     pub never-found : total (λ (v : View). total (ended_in id) v.log) (views_of now) ≡ 0
     never-found =
-        let both = total_append (λ (v : View). total (ended_in id) v.log) (map of-end now.ends.items) (map of-sender now.senders.items) in
-        let ends = never-seen of-end now.ends.items ends_seen in let senders = never-seen of-sender now.senders.items senders_seen in
-        omega (arith, both, ends, senders)
+        let both = total_append (λ (v : View). total (ended_in id) v.log) (map of-handle now.handles.items) (map of-sender now.senders.items) in
+        let handles = never-seen of-handle now.handles.items handles_seen in let senders = never-seen of-sender now.senders.items senders_seen in
+        omega (arith, both, handles, senders)
 
--- ends that only made runs kept their shares
-ends-shares : {A K : Type 0} (gives : ℕ → Moment → Reply → Type 0) (origin : Origin (Box Contents)) (throughput : ℕ) (old new : List (WorkerEnd A K))
-    → AllOnlyRuns gives origin throughput old new → shares_of_ends new ≡ shares_of_ends old
-ends-shares gives origin throughput [] [] all = refl
-ends-shares gives origin throughput [] (n ∷ new) all = absurd all
-ends-shares gives origin throughput (o ∷ old) [] all = absurd all
-ends-shares gives origin throughput (o ∷ old) (n ∷ new) all =
-    λ i. runs-share gives origin throughput (of-end o) all.0.turns (of-end n) all.0.made i ++ ends-shares gives origin throughput old new all.1 i
+-- handles that only made runs kept their shares
+handles-shares : {A K : Type 0} (gives : ℕ → Moment → Reply → Type 0) (origin : Origin (Box Contents)) (throughput : ℕ) (old new : List (WorkerHandle A K))
+    → AllOnlyRuns gives origin throughput old new → shares_of_handles new ≡ shares_of_handles old
+handles-shares gives origin throughput [] [] all = refl
+handles-shares gives origin throughput [] (n ∷ new) all = absurd all
+handles-shares gives origin throughput (o ∷ old) [] all = absurd all
+handles-shares gives origin throughput (o ∷ old) (n ∷ new) all =
+    λ i. runs-share gives origin throughput (of-handle o) all.0.turns (of-handle n) all.0.made i ++ handles-shares gives origin throughput old new all.1 i
 
 module _ {A K : Type 0} (gives : ℕ → Moment → Reply → Type 0) (plan : Plan) (orders : List (List Order)) (first now : Built A K)
     (begun : IsBegun gives plan first) (system : now.system ≡ first.system) (right : length orders ≡ plan.senders)
     (sent : HaveSent first.system.gates orders first.senders.items now.senders.items)
-    (runs : AllOnlyRuns gives (origin_of first.system.gates) plan.throughput first.ends.items now.ends.items) where
+    (runs : AllOnlyRuns gives (origin_of first.system.gates) plan.throughput first.handles.items now.handles.items) where
   as_many : length first.senders.items ≡ length orders
   as_many = (senders-there gives plan first begun).0 ∙ sym right
 
-  -- there are still no passes but those of the ends and senders
+  -- there are still no passes but those of the handles and senders
   whole-still : IsWhole (shares_of now)
   whole-still =
-      let ends = ends-shares gives (origin_of first.system.gates) plan.throughput first.ends.items now.ends.items runs in
+      let handles = handles-shares gives (origin_of first.system.gates) plan.throughput first.handles.items now.handles.items runs in
       let senders = shares-kept first.system.gates orders first.senders.items now.senders.items as_many sent in
-      subst IsWhole (λ i. sym ends i ++ sym senders i) begun.whole
+      subst IsWhole (λ i. sym handles i ++ sym senders i) begun.whole
 
-  -- the journals of the report are what came of the cells that these ends and senders gave back
+  -- the journals of the report are what came of the cells that these handles and senders gave back
   pub all-released : (report : Report) → ReleasesAddUpTo now report → (id : ℕ) (a : ActorReport) → slice_get report.actors.items id ≡ Some a
       → ReleasesAddUp id a.journal.entries (views_of now)
   all-released report released = released whole-still
@@ -237,14 +237,14 @@ module _ {A K : Type 0} (gives : ℕ → Moment → Reply → Type 0) (plan : Pl
     abbrev whos : List Identity
     whos = actors_in plan
 
-    first-ends : HavePut to measure whos (measure_to to measure (0, Create)) (map of-end first.ends.items)
-    first-ends =
-        let rest = new-ends-put to measure whos first.system.gates 1 begun.others begun.others_are in
+    first-handles : HavePut to measure whos (measure_to to measure (0, Create)) (map of-handle first.handles.items)
+    first-handles =
+        let rest = new-handles-put to measure whos first.system.gates 1 begun.others begun.others_are in
         let create = measure_to to measure (0, Create) in
-        let all = also to measure whos create 0 (of-end begun.end) (map of-end begun.others)
-        (created-put to measure whos (of-end begun.end) begun.created.0 begun.created.1) begun.none_released rest in
-        subst (λ n. HavePut to measure whos n (map of-end first.ends.items)) (let same : create + 0 ≡ create = omega arith in same)
-        (subst (λ l. HavePut to measure whos (create + 0) (map of-end l)) (sym begun.ends_are) all)
+        let all = also to measure whos create 0 (of-handle begun.handle) (map of-handle begun.others)
+        (created-put to measure whos (of-handle begun.handle) begun.created.0 begun.created.1) begun.none_released rest in
+        subst (λ n. HavePut to measure whos n (map of-handle first.handles.items)) (let same : create + 0 ≡ create = omega arith in same)
+        (subst (λ l. HavePut to measure whos (create + 0) (map of-handle l)) (sym begun.handles_are) all)
 
     first-senders : HavePut to measure whos 0 (map of-sender first.senders.items)
     first-senders = new-senders-put to measure whos first.system.gates most_actors begun.outside first.senders.items begun.senders
@@ -253,11 +253,11 @@ module _ {A K : Type 0} (gives : ℕ → Moment → Reply → Type 0) (plan : Pl
     came : ((ended : ActorId) → measure (Died ended) ≡ 0) → total (put to measure whos) (views_of now) + total (taken to measure whos) (views_of now)
         ≤ measure_to to measure (0, Create) + total (measure_to to measure) (flat_map terminates_of orders) + total (back to measure whos) (views_of now)
     came silent =
-        all-put to measure whos (map of-end first.ends.items) (map of-sender first.senders.items) (map of-end now.ends.items)
-        (map of-sender now.senders.items) (measure_to to measure (0, Create)) (total (measure_to to measure) (flat_map terminates_of orders)) first-ends
+        all-put to measure whos (map of-handle first.handles.items) (map of-sender first.senders.items) (map of-handle now.handles.items)
+        (map of-sender now.senders.items) (measure_to to measure (0, Create)) (total (measure_to to measure) (flat_map terminates_of orders)) first-handles
         first-senders
-        (ends-put to measure whos silent gives (origin_of first.system.gates) plan.throughput (of-plan gives plan first begun).who of-end
-        first.ends.items now.ends.items runs)
+        (handles-put to measure whos silent gives (origin_of first.system.gates) plan.throughput (of-plan gives plan first begun).who of-handle
+        first.handles.items now.handles.items runs)
         (senders-put to measure whos orders first.senders.items now.senders.items as_many sent.same_count
         (λ place of before next is was now_is. (sent.each place of before next is was now_is).0)
         (λ place s was. (new-at first.system.gates most_actors begun.outside first.senders.items place s begun.senders was).2))
@@ -266,11 +266,11 @@ module _ {A K : Type 0} (gives : ℕ → Moment → Reply → Type 0) (plan : Pl
         → measure_to to measure (0, Create) + total (measure_to to measure) (flat_map terminates_of orders) + total (back to measure whos) (views_of now)
         ≤ total (put to measure whos) (views_of now) + total (taken to measure whos) (views_of now)
     came-all =
-        all-put-on to measure whos (map of-end first.ends.items) (map of-sender first.senders.items) (map of-end now.ends.items)
-        (map of-sender now.senders.items) (measure_to to measure (0, Create)) (total (measure_to to measure) (flat_map terminates_of orders)) first-ends
+        all-put-on to measure whos (map of-handle first.handles.items) (map of-sender first.senders.items) (map of-handle now.handles.items)
+        (map of-sender now.senders.items) (measure_to to measure (0, Create)) (total (measure_to to measure) (flat_map terminates_of orders)) first-handles
         first-senders
-        (ends-put-all to measure whos gives (origin_of first.system.gates) plan.throughput (of-plan gives plan first begun).who of-end
-        first.ends.items now.ends.items runs)
+        (handles-put-all to measure whos gives (origin_of first.system.gates) plan.throughput (of-plan gives plan first begun).who of-handle
+        first.handles.items now.handles.items runs)
         (senders-put-all to measure whos orders first.senders.items now.senders.items as_many sent.same_count
         (λ place of before next is was now_is. (sent.each place of before next is was now_is).0)
         (λ place s was. (new-at first.system.gates most_actors begun.outside first.senders.items place s begun.senders was).2))
@@ -311,7 +311,7 @@ module _ {A K : Type 0} (gives : ℕ → Moment → Reply → Type 0) (plan : Pl
         at_least = λ open_yet measure. at-least who.this.0 measure report many released counts.pushed counted.put (never open_yet);
       }
 
-  -- what the report counts of each actor's list is what these ends and senders put there
+  -- what the report counts of each actor's list is what these handles and senders put there
   pub all-put-counted : (report : Report) → PutAddsUpTo now report → CountsAllPutBy plan report (views_of now)
   all-put-counted report counted id who a at here =
       let planned = still-planned gives plan first begun now system in
@@ -327,9 +327,9 @@ module _ {A K : Type 0} (gives : ℕ → Moment → Reply → Type 0) (plan : Pl
       → ReleasesAddUpTo now report
       → ((id : ℕ) (e : DirectoryEntry) (a : ActorReport) → slice_get (first_home now.system.gates).value.directory id ≡ Some e
       → slice_get report.actors.items id ≡ Some a → a.phase ≡ phase e.who a.journal.entries)
-      → All (λ (e : WorkerEnd A K). ReportExtendsAll report (of-end e)) now.ends.items
+      → All (λ (e : WorkerHandle A K). ReportExtendsAll report (of-handle e)) now.handles.items
       → All (λ (s : OutsideSender). ReportExtendsAll report (of-sender s)) now.senders.items → AllGetAskedFor plan orders report
-  all-get-asked report many counted released phases ends_seen senders_seen = λ id who a at here.
+  all-get-asked report many counted released phases handles_seen senders_seen = λ id who a at here.
       (let planned = still-planned gives plan first begun now system in
       let directory = (first_home now.system.gates).value.directory in
       let all : length report.actors.items ≡ length (actors_in plan) =
@@ -342,7 +342,7 @@ module _ {A K : Type 0} (gives : ℕ → Moment → Reply → Type 0) (plan : Pl
       (gets-asked report (e.0).who a all released (counted whole-still id e.0 a e.1 here)
       (λ open_yet. subst (λ n. total (λ (v : View). total (ended_in n) v.log) (views_of now) ≡ 0)
       (sym (ap (λ w. w.this.0) e.2 ∙ number-at plan id who at))
-      (never-found report id a here (open_phase open_yet) now ends_seen senders_seen))))
+      (never-found report id a here (open_phase open_yet) now handles_seen senders_seen))))
     where
       false_true : false ≡ true → ⊥
       false_true e = cc
@@ -353,7 +353,7 @@ module _ {A K : Type 0} (gives : ℕ → Moment → Reply → Type 0) (plan : Pl
       (counted : PutAddsUpTo now report)
       (shows : (id : ℕ) (e : DirectoryEntry) (a : ActorReport) → slice_get (first_home now.system.gates).value.directory id ≡ Some e
       → slice_get report.actors.items id ≡ Some a → IsReportOf after gives e.who a)
-      (ends_seen : All (λ (e : WorkerEnd A K). ReportExtendsAll report (of-end e)) now.ends.items) where
+      (handles_seen : All (λ (e : WorkerHandle A K). ReportExtendsAll report (of-handle e)) now.handles.items) where
     abbrev directory : List DirectoryEntry
     directory = (first_home now.system.gates).value.directory
 
@@ -373,15 +373,15 @@ module _ {A K : Type 0} (gives : ℕ → Moment → Reply → Type 0) (plan : Pl
     none-put : (to x : ℕ) (its : ActorReport) → slice_get report.actors.items x ≡ Some its → its.phase ≢ EndedPhase
         → total (put_by to (λ m. end_notice x m.1)) (views_of now) ≡ 0
     none-put to x its here open_yet =
-        let ends = ends-none after gives (actors_in plan) report as-planned shown x its here open_yet to (origin_of first.system.gates) plan.throughput
-        (of-plan gives plan first begun).who of-end first.ends.items now.ends.items runs ends_seen in
+        let handles = handles-none after gives (actors_in plan) report as-planned shown x its here open_yet to (origin_of first.system.gates) plan.throughput
+        (of-plan gives plan first begun).who of-handle first.handles.items now.handles.items runs handles_seen in
         let senders = senders-none to x orders first.senders.items now.senders.items as_many sent.same_count
         (λ place of before next is was now_is. (sent.each place of before next is was now_is).0)
         (λ place s was. (new-at first.system.gates most_actors begun.outside first.senders.items place s begun.senders was).2) in
-        let of_ends = (first-ends to (end_notice x)).all_put in let of_senders = (first-senders to (end_notice x)).all_put in
+        let of_handles = (first-handles to (end_notice x)).all_put in let of_senders = (first-senders to (end_notice x)).all_put in
         let created = by_test (0 == to) in
-        let both = total_append (put_by to (λ m. end_notice x m.1)) (map of-end now.ends.items) (map of-sender now.senders.items) in
-        omega (arith, ends, senders, of_ends, of_senders, created, both)
+        let both = total_append (put_by to (λ m. end_notice x m.1)) (map of-handle now.handles.items) (map of-sender now.senders.items) in
+        omega (arith, handles, senders, of_handles, of_senders, created, both)
       where
         by_test : (b : Bool) → ◌≡◌ {A = ℕ} (if b then 0 else 0) 0
         by_test true = refl

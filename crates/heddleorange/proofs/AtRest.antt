@@ -36,7 +36,7 @@ module _ {A : Type 0} (failed : FailedRun A) where
   rests-by error is other = rests (subst IsOther (sym is) other)
 
   -- it was short of memory
-  rests-short : IsWithoutMemory failed → LeavesNobodyToRun failed
+  pub rests-short : IsWithoutMemory failed → LeavesNobodyToRun failed
   rests-short short = rests-by NoMemory short.0 tt
 
   -- nothing was done

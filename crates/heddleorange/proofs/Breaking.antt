@@ -14,7 +14,7 @@ use Rattle.mb_startup.specs.Begun.{IsBegun}
 use Rattle.mb_build.proofs.NewHomesLemmas.{length-who}
 use Rattle.mb_build.specs.Planned.{IsDirectoryOf, actors_in}
 use Rattle.mb_dispatch.specs.Faults.{IsToNobody}
-use Rattle.mb_system.specs.Members.{AreEndsOf, ends_numbers}
+use Rattle.mb_system.specs.Members.{AreHandlesOf, handle_numbers}
 use Rattle.mb_system.specs.declared.built.Built.{Built}
 use Rattle.mb_system.specs.declared.system.System.{System}
 use Rattle.mb_system.specs.declared.failure.RunError.{RunError}
@@ -29,12 +29,13 @@ use Rattle.mb_shutdown.specs.declared.mismatch.Mismatch.{Mismatch}
 use Rattle.mb_shutdown.specs.declared.mismatch.Mismatch.TheVariants.{Held, List as Listed, Waiting}
 use Rattle.mb_shutdown.specs.declared.unfinished.UnfinishedActor.{UnfinishedActor}
 use Rattle.mb_startup.proofs.Directories.{actors-there, still-planned, still-there}
-use Rattle.heddleorange.specs.Sent.{BreaksOff}
 use Rattle.heddleorange.specs.NoReport.{HasFailedFor, IsErrorOfRun, IsRight, has_nobody, is_for_nobody}
-use Rattle.heddleorange.specs.Remains.{AreRemains, HasOwnEnds, IsBrokenOff, IsLackOf, IsToldAs, SawFull}
+use Rattle.heddleorange.specs.Remains.{AreRemains, HasOwnHandles, IsBrokenOff, IsLackOf, IsToldAs, SawFull}
 use Rattle.heddleorange.specs.declared.error.Error.{Error}
 use Rattle.heddleorange.specs.declared.failed_run.FailedRun.{FailedRun}
+use Rattle.heddleorange.proofs.AnyBreak.{BreaksOff}
 use Rattle.heddleorange.proofs.Identified.{as-planned}
+use Rattle.heddleorange.proofs.LastRun.{HaveRun}
 use Rattle.heddleorange.proofs.Recipients.{of-place}
 use Rattle.heddleorange.proofs.Remains.{remains, saw-full}
 use Rattle.heddleorange.proofs.Sent.{some-left}
@@ -66,11 +67,11 @@ for-nobody gates actors to (Tell payload) same (inr beyond) =
     either-true (to.0 == 0) (nat_lt actors to.0) (let lt : actors < to.0 = omega (arith, same, beyond) in grind (arith, nat_tests))
 for-nobody gates actors to Stop same beyond = let lt : actors < to.0 = omega (arith, same, beyond) in grind (arith, nat_tests)
 
--- the ends of a system that did run are its own, and there is one
-pub own-ends : {A K : Type 0} (built now : Built A K) → now.system ≡ built.system → built.ends.items ≢ []
-    → ends_numbers now.ends.items ≡ ends_numbers built.ends.items → AreEndsOf built.system.gates now.ends.items → HasOwnEnds now
-own-ends {A} {K} built now same some numbers ends =
-    (subst (λ (s : System A K). AreEndsOf s.gates now.ends.items) (sym same) ends, some-left built.ends.items now.ends.items some numbers)
+-- the handles of a system that did run are its own, and there is one
+pub own-handles : {A K : Type 0} (built now : Built A K) → now.system ≡ built.system → built.handles.items ≢ []
+    → handle_numbers now.handles.items ≡ handle_numbers built.handles.items → AreHandlesOf built.system.gates now.handles.items → HasOwnHandles now
+own-handles {A} {K} built now same some numbers handles =
+    (subst (λ (s : System A K). AreHandlesOf s.gates now.handles.items) (sym same) handles, some-left built.handles.items now.handles.items some numbers)
 
 module _ {A K : Type 0} (gives : ℕ → Moment → Reply → Type 0) (plan : Plan) (built now : Built A K) (begun : IsBegun gives plan built)
     (same : now.system ≡ built.system) (actors : ℕ) (orders : List (List Order)) (right : IsRight plan actors orders) where
@@ -79,7 +80,7 @@ module _ {A K : Type 0} (gives : ℕ → Moment → Reply → Type 0) (plan : Pl
       actors-there gives plan built begun ∙ length-who plan.journal plan.journal_limit plan.actors.items ∙ ap (λ n. n + 1) (as-planned plan actors right.0)
 
   -- orders that are right are for somebody
-  pub somebody : (error : RunError) → BreaksOff gives built.system now.ends.items orders error → error ≢ Fault.NoSuchActor
+  pub somebody : (error : RunError) → BreaksOff gives built.system now.handles.items orders error → error ≢ Fault.NoSuchActor
   somebody Fault.NoMemory broken is = subst IsNobody is tt
   somebody Fault.JournalFull broken is = subst IsNobody is tt
   somebody Fault.NoSuchActor (inl one) is =
@@ -89,42 +90,43 @@ module _ {A K : Type 0} (gives : ℕ → Moment → Reply → Type 0) (plan : Pl
       (for-nobody built.system.gates actors order.to order.what so-many one.3.3) in
       let known = All-contains (λ o. has_nobody actors o ≡ false) one.1 order (of-place actors orders one.0 one.1 right.2 one.2) one.3.1 in
       absurd (cc (nobody, known))
-  somebody Fault.NoSuchActor (inr (start, end, here, inl short)) is = absurd (let is = short.0 in cc is)
-  somebody Fault.NoSuchActor (inr (start, end, here, inr broken)) is = absurd broken
+  somebody Fault.NoSuchActor (inr (start, handle, here, inl short)) is = absurd (let is = short.0 in cc is)
+  somebody Fault.NoSuchActor (inr (start, handle, here, inr broken)) is = absurd broken
 
   planned : IsDirectoryOf plan (first_home now.system.gates).value.directory
   planned = still-planned gives plan built begun now same
 
-  left : (shown : List (Option UnfinishedActor)) → AreUnfinished gives now shown → AreRemains gives plan shown
-  left = remains gives plan now planned (still-there gives plan built begun now same)
+  left : HaveRun gives plan now → (shown : List (Option UnfinishedActor)) → AreUnfinished gives now shown → AreRemains gives plan shown
+  left ran = remains gives plan now planned ran (still-there gives plan built begun now same)
 
-  -- a journal was full that an end saw
-  pub full-seen : (error : RunError) → BreaksOff gives built.system now.ends.items orders error → error ≡ Fault.JournalFull
-      → SawFull (actors_of now.system.gates) plan.journal_limit now.ends.items
+  -- a journal was full that a handle saw
+  pub full-seen : (error : RunError) → BreaksOff gives built.system now.handles.items orders error → error ≡ Fault.JournalFull
+      → SawFull (actors_of now.system.gates) plan.journal_limit now.handles.items
   full-seen Fault.NoMemory broken is = absurd (subst IsNotFull is tt)
   full-seen Fault.NoSuchActor broken is = absurd (subst IsNotFull is tt)
   full-seen Fault.JournalFull (inl one) is = absurd one.3
-  full-seen Fault.JournalFull (inr (start, end, here, inl short)) is = absurd (let is = short.0 in cc is)
-  full-seen Fault.JournalFull (inr (start, end, here, inr full)) is =
-      saw-full gives plan now planned built.system (sym same) now.ends.items end here full.0
+  full-seen Fault.JournalFull (inr (start, handle, here, inl short)) is = absurd (let is = short.0 in cc is)
+  full-seen Fault.JournalFull (inr (start, handle, here, inr full)) is =
+      saw-full gives plan now planned built.system (sym same) now.handles.items handle here full.0
 
   -- how it is told
-  told-by : (fault : RunError) (shown : List (Option UnfinishedActor)) (error : Error) → fault ≢ Fault.NoSuchActor → AreUnfinished gives now shown
+  told-by : HaveRun gives plan now → (fault : RunError) (shown : List (Option UnfinishedActor)) (error : Error) → fault ≢ Fault.NoSuchActor
+      → AreUnfinished gives now shown
       → IsToldAs fault plan.journal_limit shown error → HasFailedFor gives plan actors orders shown error
-  told-by Fault.NoMemory shown error known are told =
-      subst (HasFailedFor gives plan actors orders shown) (sym told) (right, left shown are)
-  told-by Fault.NoSuchActor shown error known are told = absurd (known refl)
-  told-by Fault.JournalFull shown error known are (inl (id, is, full)) =
-      subst (HasFailedFor gives plan actors orders shown) (sym is) (right, left shown are, full)
-  told-by Fault.JournalFull shown error known are (inr (what, is, lacks)) =
-      subst (HasFailedFor gives plan actors orders shown) (sym is) (right, within-plan what lacks, inr (left shown are, lacks))
+  told-by ran Fault.NoMemory shown error known are told =
+      subst (HasFailedFor gives plan actors orders shown) (sym told) (right, left ran shown are)
+  told-by ran Fault.NoSuchActor shown error known are told = absurd (known refl)
+  told-by ran Fault.JournalFull shown error known are (inl (id, is, full)) =
+      subst (HasFailedFor gives plan actors orders shown) (sym is) (right, left ran shown are, full)
+  told-by ran Fault.JournalFull shown error known are (inr (what, is, lacks)) =
+      subst (HasFailedFor gives plan actors orders shown) (sym is) (right, within-plan what lacks, inr (left ran shown are, lacks))
     where
       within-plan : (w : Mismatch) → IsLackOf shown w → of_whom w < length (actors_in plan)
-      within-plan (Held id) none = (let lt = within shown id.0 None none in let many = (left shown are).same_count in omega (arith, lt, many))
+      within-plan (Held id) none = (let lt = within shown id.0 None none in let many = (left ran shown are).same_count in omega (arith, lt, many))
       within-plan (Listed id) none = absurd none
       within-plan (Waiting id) none = absurd none
 
-  pub may-break : (fault : RunError) (failed : FailedRun A) → BreaksOff gives built.system now.ends.items orders fault
+  pub may-break : HaveRun gives plan now → (fault : RunError) (failed : FailedRun A) → BreaksOff gives built.system now.handles.items orders fault
       → IsBrokenOff gives now fault plan.journal_limit failed → IsErrorOfRun gives plan actors orders failed
-  may-break fault failed broken (inl (are, told)) = told-by fault failed.actors.items failed.error (somebody fault broken) are told
-  may-break fault failed broken (inr (is, none)) = subst (HasFailedFor gives plan actors orders failed.actors.items) (sym is) (right, inl none)
+  may-break ran fault failed broken (inl (are, told)) = told-by ran fault failed.actors.items failed.error (somebody fault broken) are told
+  may-break ran fault failed broken (inr (is, none)) = subst (HasFailedFor gives plan actors orders failed.actors.items) (sym is) (right, inl none)

@@ -1,6 +1,6 @@
 -- The ledger of a run in numbers alone, from its story.
 use Rattle.std.proofs.Common.{◌≡◌, ℕ, zero, suc, ◌<◌, ◌≤◌, ℤ, List, [], ◌∷◌, length, cond, refl, sym, ◌∙◌, arith, count_by}
-use Rattle.std.specs.Prelude.{Err, IfOk, Ok, OnOk, Result, sum_by}
+use Rattle.std.specs.Prelude.{sum_by}
 use Rattle.std.proofs.lemmas.List.{length-append, length-map}
 use Rattle.std.proofs.lemmas.List.Sums.{sum_by-cons}
 use Rattle.mb_actor.specs.Behaviour.{Moment, Reply}
@@ -88,10 +88,3 @@ module _ (after : ℕ → List Message → ℤ) (gives : ℕ → Moment → Repl
       (let one = one-of-total (length report.senders.items) answered place (within report.senders.items place s at) in
       let own = (story.whole.sent place s at).0 in omega (arith, one, most, settled, few, own))))
       ∙ most ∙ settled
-
--- and so of a call that gives the report
-pub counts-of : {E : Type 0} (after : ℕ → List Message → ℤ) (gives : ℕ → Moment → Reply → Type 0) (plan : Plan) (actors : ℕ) (orders : List (List Order))
-    (result : Result Report E) → IfOk result (IsReportOfRun after gives plan orders) → OnOk result (IsRight plan actors orders)
-    → IfOk result AddsUpByCounts
-counts-of after gives plan actors orders (Ok report) story right = adds-up-by-counts after gives plan actors orders report right story
-counts-of after gives plan actors orders (Err error) story right = story

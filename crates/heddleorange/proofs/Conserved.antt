@@ -25,7 +25,7 @@ use Rattle.mb_quantity.specs.Quantity.{AllConserve, Conserves, Holding, sum_of}
 use Rattle.mb_report.specs.declared.report.ActorReport.{ActorReport}
 use Rattle.mb_report.specs.declared.report.Report.{Report}
 use Rattle.heddleorange.specs.declared.named_report.NamedReport.{NamedReport}
-use Rattle.heddleorange.proofs.FromStory.{all-states}
+use Rattle.heddleorange.proofs.FromStory.{states as states-of}
 use Rattle.heddleorange.proofs.Held.{guardian-evenly, holds-what-it-took, told-evenly}
 use Rattle.heddleorange.proofs.Identified.{actor-at}
 use Rattle.heddleorange.proofs.Ledger.{adds-up, lawful-at, line-count, whos}
@@ -35,6 +35,7 @@ use Rattle.heddleorange.specs.Ledger.{AddsUp, all_begun, all_cleaned, all_left, 
 use Rattle.heddleorange.specs.NoReport.{IsRight}
 use Rattle.heddleorange.specs.Reading.{entries_in, entries_of, journal_of, state_in, state_of}
 use Rattle.heddleorange.specs.States.{ShowsStates}
+use Rattle.heddleorange.specs.ReportsRun.{ReportsRun}
 use Rattle.heddleorange.specs.WholeRun.{IsReportOfRun, after_at, gives_at, gives_of}
 
 split : {X : Type 0} (xs : List X) (n : ℕ) → length xs ≡ n + 1 → (x : X) × (rest : List X) × (xs ≡ x ∷ rest)
@@ -148,7 +149,7 @@ module _ {A : Type 0} (after : A → List Message → ℤ) (gives : A → Moment
     G = gives_at actors gives
 
     states : ShowsStates after actors plan report
-    states = all-states actors after G plan orders {E = Unit {0}} (Ok report) story right
+    states = states-of actors after G plan orders report right story
 
     row : (k : ℕ) (actor : A) (who : Identity) (line : ActorReport) → slice_get actors k ≡ Some actor → slice_get (actors_in plan) (suc k) ≡ Some who
         → slice_get report.actors.items (suc k) ≡ Some line → IsRow actor who line
@@ -202,8 +203,7 @@ conserved-of after gives worth holdings actors plan orders (Err error) notice co
 pub named-conserved-of : {A E : Type 0} (after : A → List Message → ℤ) (gives : A → Moment → Reply → Type 0) (worth : Message → ℤ)
     (holdings : List (Option Holding)) (actors : List A) (plan : Plan) (orders : List (List Order)) (result : Result NamedReport E)
     → ((x : ActorId) → worth (Terminated x) ≡ pos 0) → AllConserve after gives worth holdings actors
-    → IfOk result (λ done. IsReportOfRun (after_at actors after) (gives_at actors gives) plan orders done.report) → OnOk result (IsRight plan (length actors) orders)
-    → IfOk result (λ done. IsConserved worth holdings orders done.report)
-named-conserved-of after gives worth holdings actors plan orders (Ok done) notice conserve story right =
-    conserved after gives worth notice done.report actors plan orders right story holdings conserve
-named-conserved-of after gives worth holdings actors plan orders (Err error) notice conserve story right = story
+    → IfOk result (λ done. ReportsRun after gives plan actors orders done.report) → IfOk result (λ done. IsConserved worth holdings orders done.report)
+named-conserved-of after gives worth holdings actors plan orders (Ok done) notice conserve told =
+    conserved after gives worth notice done.report actors plan orders told.right told.story holdings conserve
+named-conserved-of after gives worth holdings actors plan orders (Err error) notice conserve told = told

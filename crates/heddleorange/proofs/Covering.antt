@@ -28,15 +28,15 @@ use Rattle.mb_report.specs.declared.report.ActorReport.{ActorReport}
 use Rattle.mb_report.specs.declared.report.Report.{Report}
 use Rattle.mb_shutdown.specs.Seen.{ReportExtends, ReportExtendsAll}
 use Rattle.mb_system.specs.OnlyLooks.{OnlyLooks}
-use Rattle.mb_system.specs.Shares.{share_of_end, shares_of_ends, shares_of_senders}
-use Rattle.mb_system.specs.declared.end.WorkerEnd.{WorkerEnd}
+use Rattle.mb_system.specs.Shares.{share_of_handle, shares_of_handles, shares_of_senders}
+use Rattle.mb_system.specs.declared.handle.WorkerHandle.{WorkerHandle}
 use Rattle.mb_system.specs.Members.{OutsideSender}
 use Rattle.heddleorange.specs.Covering.{ChangedNoJournal}
 use Rattle.heddleorange.specs.Sent.{HaveSent}
 use Rattle.heddleorange.specs.Turns.{HaveTheirTurns, entry_count, turns_of}
 use Rattle.heddleorange.proofs.Covered.{WereAdded, of-all-added}
 use Rattle.heddleorange.proofs.Stretches.{each-among, each-before-run, each-right, run-adds}
-use Rattle.heddleorange.proofs.Unchanged.{changed-none-more, of-end, of-sender, shares-kept}
+use Rattle.heddleorange.proofs.Unchanged.{changed-none-more, of-handle, of-sender, shares-kept}
 
 -- ---- how many entries came back beside those that were taken
 
@@ -144,38 +144,38 @@ module _ (report : Report) (actor : ℕ) (a : ActorReport) (at : slice_get repor
   all-go-on (s ∷ log) each = (goes-on s each.0, all-go-on log each.1)
 
 module _ {A K : Type 0} (gives : ℕ → Moment → Reply → Type 0) (origin : Origin (Box Contents)) (throughput : ℕ) where
-  -- the first end made all turns, and the others and the senders did nothing
-  pub all-turns : (old new : WorkerEnd A K) (ends : List (WorkerEnd A K)) (senders : List OutsideSender) (turns : List Turn) → ends ≢ []
-      → old ≡ get_or ends 0 old → MadeRuns gives origin throughput (of-end old) turns (of-end new)
-      → IsWhole (shares_of_ends ends ++ shares_of_senders senders) → All ChangedNoJournal (map of-end ends ++ map of-sender senders)
-      → (report : Report) → All (λ (e : WorkerEnd A K). ReportExtendsAll report (of-end e)) (slice_set ends 0 new)
-      → (IsWhole (shares_of_ends (slice_set ends 0 new) ++ shares_of_senders senders) → (id : ℕ) (a : ActorReport)
-      → slice_get report.actors.items id ≡ Some a → ReleasesAddUp id a.journal.entries (map of-end (slice_set ends 0 new) ++ map of-sender senders))
+  -- the first handle made all turns, and the others and the senders did nothing
+  pub all-turns : (old new : WorkerHandle A K) (handles : List (WorkerHandle A K)) (senders : List OutsideSender) (turns : List Turn) → handles ≢ []
+      → old ≡ get_or handles 0 old → MadeRuns gives origin throughput (of-handle old) turns (of-handle new)
+      → IsWhole (shares_of_handles handles ++ shares_of_senders senders) → All ChangedNoJournal (map of-handle handles ++ map of-sender senders)
+      → (report : Report) → All (λ (e : WorkerHandle A K). ReportExtendsAll report (of-handle e)) (slice_set handles 0 new)
+      → (IsWhole (shares_of_handles (slice_set handles 0 new) ++ shares_of_senders senders) → (id : ℕ) (a : ActorReport)
+      → slice_get report.actors.items id ≡ Some a → ReleasesAddUp id a.journal.entries (map of-handle (slice_set handles 0 new) ++ map of-sender senders))
       → HaveTheirTurns report turns
   all-turns old new [] senders turns some is made whole none report extends add_up = absurd (some refl)
-  all-turns old new (x ∷ ends) senders turns some is made whole none report extends add_up = λ id a at.
-      (let others = map of-end ends ++ map of-sender senders in let to = a.journal.entries in
-      let share : share_of_end new ≡ share_of_end x = runs-share gives origin throughput (of-end old) turns (of-end new) made ∙ ap share_of_end is in
-      let all = subst IsWhole (λ i. (sym share i ++ shares_of_ends ends) ++ shares_of_senders senders) whole in
+  all-turns old new (x ∷ handles) senders turns some is made whole none report extends add_up = λ id a at.
+      (let others = map of-handle handles ++ map of-sender senders in let to = a.journal.entries in
+      let share : share_of_handle new ≡ share_of_handle x = runs-share gives origin throughput (of-handle old) turns (of-handle new) made ∙ ap share_of_handle is in
+      let all = subst IsWhole (λ i. (sym share i ++ shares_of_handles handles) ++ shares_of_senders senders) whole in
       let sum = add_up all id a at length in
-      let rest = unchanged-all id others (All-tail ChangedNoJournal (of-end x) others none) in
-      let first : back_by id length (of-end old) ≡ taken_by id length (of-end old) =
-      unchanged id (of-end old).releases
-      (subst (λ (e : WorkerEnd A K). ChangedNoJournal (of-end e)) (sym is) (All-head ChangedNoJournal (of-end x) others none)) in
-      let more = runs-add gives origin throughput id (of-end old) turns (of-end new) made in
-      let seen = all-go-on report id a at (of-end new).log (All-head (λ (e : WorkerEnd A K). ReportExtendsAll report (of-end e)) new ends extends) in
-      let added = were-added gives origin throughput id (of-end old) turns (of-end new) made [] to
+      let rest = unchanged-all id others (All-tail ChangedNoJournal (of-handle x) others none) in
+      let first : back_by id length (of-handle old) ≡ taken_by id length (of-handle old) =
+      unchanged id (of-handle old).releases
+      (subst (λ (e : WorkerHandle A K). ChangedNoJournal (of-handle e)) (sym is) (All-head ChangedNoJournal (of-handle x) others none)) in
+      let more = runs-add gives origin throughput id (of-handle old) turns (of-handle new) made in
+      let seen = all-go-on report id a at (of-handle new).log (All-head (λ (e : WorkerHandle A K). ReportExtendsAll report (of-handle e)) new handles extends) in
+      let added = were-added gives origin throughput id (of-handle old) turns (of-handle new) made [] to
       (λ journal each. record { newer = journal; joined = sym (append-nil journal) }) seen in
       of-all-added (turns_of id turns) to added (omega (arith, sum, rest, first, more)))
 
 module _ {A K : Type 0} where
   -- the same from before the senders carried out their orders
-  pub all-turns-since : (gates : Gates (Box Contents)) (orders : List (List Order)) (ends : List (WorkerEnd A K)) (old between sent : List OutsideSender)
+  pub all-turns-since : (gates : Gates (Box Contents)) (orders : List (List Order)) (handles : List (WorkerHandle A K)) (old between sent : List OutsideSender)
       → length old ≡ length orders → HaveSent gates orders old sent → between ≡ sent → (rest : Type 0)
-      → (IsWhole (shares_of_ends ends ++ shares_of_senders between) → All ChangedNoJournal (map of-end ends ++ map of-sender between) → rest)
-      → IsWhole (shares_of_ends ends ++ shares_of_senders old) → All ChangedNoJournal (map of-end ends ++ map of-sender old) → rest
-  all-turns-since gates orders ends old between sent many did is rest all whole none =
+      → (IsWhole (shares_of_handles handles ++ shares_of_senders between) → All ChangedNoJournal (map of-handle handles ++ map of-sender between) → rest)
+      → IsWhole (shares_of_handles handles ++ shares_of_senders old) → All ChangedNoJournal (map of-handle handles ++ map of-sender old) → rest
+  all-turns-since gates orders handles old between sent many did is rest all whole none =
       let shares : shares_of_senders between ≡ shares_of_senders old = ap shares_of_senders is ∙ shares-kept gates orders old sent many did in
-      all (subst (λ s. IsWhole (shares_of_ends ends ++ s)) (sym shares) whole)
-      (subst (λ l. All ChangedNoJournal (map of-end ends ++ map of-sender l)) (sym is)
-      (changed-none-more gates orders old sent many did (map of-end ends) none))
+      all (subst (λ s. IsWhole (shares_of_handles handles ++ s)) (sym shares) whole)
+      (subst (λ l. All ChangedNoJournal (map of-handle handles ++ map of-sender l)) (sym is)
+      (changed-none-more gates orders old sent many did (map of-handle handles) none))

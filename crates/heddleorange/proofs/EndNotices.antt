@@ -305,15 +305,15 @@ module _ (after : ℕ → List Message → ℤ) (gives : ℕ → Moment → Repl
           (later made.0 made.1 new (ran made.0 made.1 turn made.3) (made-runs made.1 turns new made.4))
 
       module _ {E : Type 0} (knows : E → View) where
-        -- ends that only made runs put no such notice into the list
-        pub ends-none : (old new : List E) → AllZip (λ (o n : E). OnlyRuns gives origin throughput (knows o) (knows n)) old new
+        -- handles that only made runs put no such notice into the list
+        pub handles-none : (old new : List E) → AllZip (λ (o n : E). OnlyRuns gives origin throughput (knows o) (knows n)) old new
             → All (λ (e : E). ReportExtendsAll report (knows e)) new → total put (map knows new) ≡ total put (map knows old)
-        ends-none [] [] all seen = refl
-        ends-none [] (n ∷ new) all seen = absurd all
-        ends-none (o ∷ old) [] all seen = absurd all
-        ends-none (o ∷ old) (n ∷ new) all seen =
+        handles-none [] [] all seen = refl
+        handles-none [] (n ∷ new) all seen = absurd all
+        handles-none (o ∷ old) [] all seen = absurd all
+        handles-none (o ∷ old) (n ∷ new) all seen =
             let first = (made-runs (knows o) all.0.turns (knows n) all.0.made).none (All-head (λ (e : E). ReportExtendsAll report (knows e)) n new seen) in
-            let rest = ends-none old new all.1 (All-tail (λ (e : E). ReportExtendsAll report (knows e)) n new seen) in omega (arith, first, rest)
+            let rest = handles-none old new all.1 (All-tail (λ (e : E). ReportExtendsAll report (knows e)) n new seen) in omega (arith, first, rest)
 
 -- ---- senders
 

@@ -20,7 +20,7 @@ use Rattle.mb_source.proofs.Given.{gave-none}
 use Rattle.mb_startup.proofs.Directories.{actors-there}
 use Rattle.mb_startup.specs.Begun.{IsBegun}
 use Rattle.mb_system.specs.declared.built.Built.{Built}
-use Rattle.mb_system.specs.declared.end.WorkerEnd.{WorkerEnd}
+use Rattle.mb_system.specs.declared.handle.WorkerHandle.{WorkerHandle}
 use Rattle.mb_system.specs.declared.failure.RunError.{RunError}
 use Rattle.mb_system.specs.Members.{OutsideSender}
 use Rattle.mb_system.specs.declared.system.System.{System}
@@ -33,9 +33,10 @@ use Rattle.heddleorange.specs.GivesBack.{GivesNothingBack, tells_of_nothing_done
 use Rattle.heddleorange.specs.NamedOrder.{NamesInLists}
 use Rattle.heddleorange.specs.NoReport.{IsErrorOfRun, IsRight, has_one_for_nobody}
 use Rattle.heddleorange.specs.Remains.{IsWithoutMemory}
-use Rattle.heddleorange.specs.Sent.{BreaksOff, BreaksOne, HasSentAndRetried, HaveSent}
+use Rattle.heddleorange.specs.Sent.{HasSentAndRetried, HaveSent}
 use Rattle.heddleorange.specs.declared.error.Error.{Error}
 use Rattle.heddleorange.specs.declared.failed_run.FailedRun.{FailedRun}
+use Rattle.heddleorange.proofs.AnyBreak.{BreaksOff, BreaksOne}
 use Rattle.heddleorange.proofs.GivesBack.{begun-in-lists}
 use Rattle.heddleorange.proofs.Identified.{as-planned}
 use Rattle.heddleorange.proofs.Jobs.{first-zip-of, placed-there}
@@ -156,12 +157,12 @@ ok-then (Err e) p f = tt
 -- a run beside senders with their sources was broken off
 module _ {A K S : Type 0} (gates : Gates (Box Contents)) (gives : S → Option Order → S → Type 0) (takes_back : S → Order → S → Type 0)
     (behaviours : ℕ → Moment → Reply → Type 0) (system : System A K) (same : gates ≡ system.gates) where
-  pub broke-from : (old ends : List (WorkerEnd A K)) (so sn : List OutsideSender) (qo qn : List (RecordedSource S)) (error : RunError)
-      → BreaksRunFrom gates gives takes_back behaviours system old ends (pairs so qo) (pairs sn qn) error
-      → BreaksOff behaviours system ends (orders_given (others_of system.gates) qo qn) error
-  broke-from old ends so sn qo qn error (inl by_end) = let one = first-zip-of _ _ old ends by_end in
-      inr (pass_view one.1.registrar.pass, one.3, placed-there ends one.0 one.3 one.4, inr one.5)
-  broke-from old ends so sn qo qn error (inr by_sender) =
+  pub broke-from : (old handles : List (WorkerHandle A K)) (so sn : List OutsideSender) (qo qn : List (RecordedSource S)) (error : RunError)
+      → BreaksRunFrom gates gives takes_back behaviours system old handles (pairs so qo) (pairs sn qn) error
+      → BreaksOff behaviours system handles (orders_given (others_of system.gates) qo qn) error
+  broke-from old handles so sn qo qn error (inl by_end) = let one = first-zip-of _ _ old handles by_end in
+      inr (pass_view one.1.registrar.pass, one.3, placed-there handles one.0 one.3 one.4, inr one.5)
+  broke-from old handles so sn qo qn error (inr by_sender) =
       inl (subst (λ (h : Gates (Box Contents)). BreaksOne h (orders_given (others_of h) qo qn) error) same
       (pairs-broke gates gives takes_back _ error so sn qo qn by_sender.1))
 

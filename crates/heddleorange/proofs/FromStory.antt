@@ -1,6 +1,6 @@
 -- What the story of a run says to whoever reads its report.
 use Rattle.std.proofs.Common.{◌≡◌, ℕ, suc, ◌+◌, ℤ, List, length, sym, ap, ◌∙◌, Some, None, arith, if◌then◌else◌, Bool}
-use Rattle.std.specs.Prelude.{Err, IfOk, Ok, OnOk, Option, Result, slice_get}
+use Rattle.std.specs.Prelude.{Option, slice_get}
 use Rattle.mb_actor.specs.Behaviour.{Moment, Reply}
 use Rattle.mb_actor.specs.declared.message.Message.{Message}
 use Rattle.mb_build.specs.Planned.{actors_in}
@@ -22,10 +22,10 @@ use Rattle.heddleorange.proofs.Ledger.{line-count}
 module _ {A : Type 0} (actors : List A) (after : A → List Message → ℤ) (gives : ℕ → Moment → Reply → Type 0) (plan : Plan) (orders : List (List Order))
   where
     module _ (report : Report) (right : IsRight plan (length actors) orders) (story : IsReportOfRun (after_at actors after) gives plan orders report) where
-      lines : length report.actors.items ≡ length actors + 1
+      pub lines : length report.actors.items ≡ length actors + 1
       lines = line-count (after_at actors after) gives plan (length actors) orders report right story
 
-      states : ShowsStates after actors plan report
+      pub states : ShowsStates after actors plan report
       states place actor handed =
           let many = lines in let directory = story.whole.same_count.0 in let lt = within actors place actor handed in
           let a = there report.actors.items (suc place) (omega (arith, many, lt)) in
@@ -43,13 +43,3 @@ module _ {A : Type 0} (actors : List A) (after : A → List Message → ℤ) (gi
                 ∙ ap (λ n. Some (after_at actors after n all)) of.0 ∙ ap (λ (o : Option A). Some (after_of after o all)) handed
                 ∙ ap (λ (j : List Entry). Some (after actor (messages who j))) (sym entries),
           )
-
-    pub all-lines : {E : Type 0} (result : Result Report E) → IfOk result (IsReportOfRun (after_at actors after) gives plan orders)
-        → OnOk result (IsRight plan (length actors) orders) → IfOk result (λ (report : Report). length report.actors.items ≡ length actors + 1)
-    all-lines (Ok report) story right = lines report right story
-    all-lines (Err error) story right = story
-
-    pub all-states : {E : Type 0} (result : Result Report E) → IfOk result (IsReportOfRun (after_at actors after) gives plan orders)
-        → OnOk result (IsRight plan (length actors) orders) → IfOk result (ShowsStates after actors plan)
-    all-states (Ok report) story right = states report right story
-    all-states (Err error) story right = story

@@ -91,11 +91,6 @@ pub named-failed : {A : Type 0} (gives : ℕ → Moment → Reply → Type 0) (p
 named-failed gives plan actors orders old new error left told =
     subst (λ (p : List (Option UnfinishedActor) × Error). HasFailedFor gives plan actors orders p.0 p.1) (λ i. (sym left i, sym error i)) told
 
-pub none-in-lists : {T A : Type 0} (actors : ℕ) (orders : List (List Order)) (result : Result T (FailedRun A)) → IfErr result GivesNothingBack
-    → IfErr result (λ failed. NamesInLists actors orders failed.error)
-none-in-lists actors orders (Ok x) none = tt
-none-in-lists actors orders (Err failed) none = begun-in-lists actors orders failed.error none.was_begun
-
 pub none-in-row : {T A : Type 0} (senders actors : ℕ) (row : List SenderOrder) (result : Result T (FailedRun A)) → IfErr result GivesNothingBack
     → IfErr result (λ failed. NamesInRow senders actors row failed.error)
 none-in-row senders actors row (Ok x) none = tt

@@ -1,33 +1,26 @@
 -- What each sender is to send, of orders that stand in one row.
 use Rattle.std.proofs.Common.{◌≡◌, ℕ, zero, suc, ◌+◌, ◌<◌, ◌≤◌, ◌==◌, Bool, true, false, cond, List, [], ◌∷◌, ◌++◌, length, map, refl, sym, ap, ◌∙◌}
-use Rattle.std.proofs.Common.{◌⊎◌, inl, inr, arith, eq-eqb, get_or, Some, subst, take, zero-add}
-use Rattle.std.specs.Prelude.{◌≢◌, ◌||◌, All, Contains, nat_le, slice_get}
+use Rattle.std.proofs.Common.{◌⊎◌, inl, inr, arith, eq-eqb, get_or, Some, take, zero-add}
+use Rattle.std.specs.Prelude.{◌≢◌, ◌||◌, All, nat_le, slice_get}
 use Rattle.std.specs.List.{list_any}
-use Rattle.std.specs.Global.{Box}
 use Rattle.std.proofs.lemmas.Bool.{cases_eq, ne_eqb}
 use Rattle.std.proofs.lemmas.Bool.Decides.{nat_tests}
 use Rattle.std.proofs.lemmas.List.{append-nil, map-append, take_more}
-use Rattle.std.proofs.lemmas.List.Elements.{All-cons, All-contains, All-head, All-nil, All-tail, Contains-append_right, filter-append}
+use Rattle.std.proofs.lemmas.List.Elements.{All-cons, All-head, All-nil, All-tail, filter-append}
 use Rattle.std.proofs.lemmas.Option.{same_Some}
 use Rattle.mb_build.specs.Numbers.{numbers}
-use Rattle.mb_dispatch.specs.Faults.{BreaksSending}
-use Rattle.mb_gate.specs.declared.gates.Gates.{Gates}
-use Rattle.mb_home.specs.Contents.{Contents}
 use Rattle.mb_msg.specs.declared.order.Order.{Order}
 use Rattle.mb_msg.specs.declared.order.SenderOrder.{SenderOrder}
 use Rattle.mb_shutdown.proofs.Lists.{from-mapped, length-mapped, mapped, within}
 use Rattle.mb_startup.proofs.There.{length-numbers, number-at}
-use Rattle.mb_system.specs.declared.failure.RunError.{RunError}
-use Rattle.mb_system.specs.declared.failure.RunError.TheVariants as Fault
 use Rattle.heddleorange.specs.NoReport.{has_nobody, has_one_for_nobody}
 use Rattle.heddleorange.specs.Orders.{is_from_nobody, lists_of, orders_of, senders_for, sends_by}
-use Rattle.heddleorange.specs.Sent.{BreaksOne}
 use Rattle.heddleorange.proofs.Recipients.{any-mapped, none-passes}
 
 -- ---- the orders of one sender
 
 -- those of two rows stand one after another
-orders-append : (from : ℕ) (xs ys : List SenderOrder) → orders_of from (xs ++ ys) ≡ orders_of from xs ++ orders_of from ys
+pub orders-append : (from : ℕ) (xs ys : List SenderOrder) → orders_of from (xs ++ ys) ≡ orders_of from xs ++ orders_of from ys
 orders-append from xs ys =
     ap (map (λ (s : SenderOrder). s.order)) (filter-append (λ (s : SenderOrder). s.from == from) xs ys)
     ∙ map-append (λ (s : SenderOrder). s.order) (sends_by from xs) (sends_by from ys)
@@ -58,18 +51,6 @@ pub others-next : (from : ℕ) (sends : List SenderOrder) (i : ℕ) (d : SenderO
 others-next from sends i d lt other =
     sym (orders-next from sends i d lt ∙ ap (λ l. orders_of from (take i sends) ++ l) (orders-other from (get_or sends i d) other)
     ∙ append-nil (orders_of from (take i sends)))
-
--- each order is among those of its sender
-among : (sends : List SenderOrder) (i : ℕ) (d : SenderOrder) → i < length sends
-    → Contains (orders_of (get_or sends i d).from sends) (get_or sends i d).order
-among [] i d lt = absurd (omega (arith, lt))
-among (s ∷ sends) zero d lt =
-    subst (λ l. Contains l s.order)
-    (sym (orders-append s.from (s ∷ []) sends ∙ ap (λ l. l ++ orders_of s.from sends) (orders-own s.from s refl))) (0, omega arith, refl)
-among (s ∷ sends) (suc i) d lt =
-    let next = get_or sends i d in
-    subst (λ l. Contains l next.order) (sym (orders-append next.from (s ∷ []) sends))
-    (Contains-append_right (orders_of next.from (s ∷ [])) (orders_of next.from sends) next.order (among sends i d (omega (arith, lt))))
 
 -- ---- how many senders there are
 
@@ -209,25 +190,3 @@ for-nobody actors senders sends all =
     any-mapped (list_any (has_nobody actors)) (λ number. orders_of number sends) (numbers 0 (senders_for senders sends))
     ∙ ap (λ m. list_any (λ n. list_any (has_nobody actors) (orders_of n sends)) (numbers 0 m)) (many-from senders sends all)
     ∙ any-list (has_nobody actors) senders sends all
-
--- ---- where one breaks off
-
-breaks-among : (gates : Gates (Box Contents)) (order : Order) (orders : List Order) (error : RunError) → Contains orders order
-    → BreaksSending gates (order ∷ []) error → BreaksSending gates orders error
-breaks-among gates order orders Fault.NoMemory is broken = tt
-breaks-among gates order orders Fault.JournalFull is broken = absurd broken
-breaks-among gates order orders Fault.NoSuchActor is broken =
-    let same : broken.0 ≡ order =
-    All-contains (λ o. o ≡ order) (order ∷ []) broken.0 (All-cons (λ o. o ≡ order) order [] refl (All-nil (λ o. o ≡ order))) broken.1 in
-    (broken.0, subst (Contains orders) (sym same) is, broken.2, broken.3)
-
-pub breaks-one : (gates : Gates (Box Contents)) (senders : ℕ) (sends : List SenderOrder) (i : ℕ) (d : SenderOrder) (error : RunError)
-    → i < length sends → (get_or sends i d).from < senders → All (λ (s : SenderOrder). s.from < senders) sends
-    → BreaksSending gates ((get_or sends i d).order ∷ []) error → BreaksOne gates (lists_of senders sends) error
-breaks-one gates senders sends i d error lt from all broken =
-    let send = get_or sends i d in let many = many-from senders sends all in (
-      send.from,
-      orders_of send.from sends,
-      list-at senders sends send.from (omega (arith, from, many)),
-      breaks-among gates send.order (orders_of send.from sends) error (among sends i d lt) broken,
-    )

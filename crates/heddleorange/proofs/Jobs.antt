@@ -12,7 +12,7 @@ use Rattle.mb_gate.specs.declared.gates.Gates.{Gates}
 use Rattle.mb_home.specs.Contents.{Contents}
 use Rattle.mb_msg.specs.declared.order.Order.{Order}
 use Rattle.mb_system.specs.Members.{IsSenderOf, OutsideSender}
-use Rattle.mb_system.specs.declared.end.WorkerEnd.{WorkerEnd}
+use Rattle.mb_system.specs.declared.handle.WorkerHandle.{WorkerHandle}
 use Rattle.mb_system.specs.declared.failure.RunError.{RunError}
 use Rattle.mb_system.specs.declared.system.System.{System}
 use Rattle.mb_gate.specs.Accessors.{pass_view}
@@ -23,7 +23,8 @@ use Rattle.mb_dispatch.specs.declared.job.Job.{Job}
 use Rattle.mb_dispatch.proofs.Alike.{from-looks}
 use Rattle.mb_dispatch.proofs.Breaking.{job-sending}
 use Rattle.mb_shutdown.proofs.Lists.{from-mapped, length-mapped, mapped}
-use Rattle.heddleorange.specs.Sent.{BreaksOff, HasSentAndRetried, HaveSent}
+use Rattle.heddleorange.specs.Sent.{HasSentAndRetried, HaveSent}
+use Rattle.heddleorange.proofs.AnyBreak.{BreaksOff}
 
 -- one of some
 pub some-one : {X : Type 0} (xs : List X) → xs ≢ [] → (x : X) × Contains xs x
@@ -130,12 +131,12 @@ module _ {A K : Type 0} where
             (subst (HasSentAndRetried gates (sends_in j.0) (sender_in j.0)) d.2 here))
 
   -- why a run of these jobs is broken off, in the words of the orders
-  module _ (gives : ℕ → Moment → Reply → Type 0) (system : System A K) (old ends : List (WorkerEnd A K)) (jobs : List (Job A K)) (orders : List (List Order))
+  module _ (gives : ℕ → Moment → Reply → Type 0) (system : System A K) (old handles : List (WorkerHandle A K)) (jobs : List (Job A K)) (orders : List (List Order))
       (sends : map sends_in jobs ≡ orders) where
-    pub broke-off : (after : List (Job A K)) (error : RunError) → BreaksRun gives system old ends jobs after error
-        → BreaksOff gives system ends orders error
-    broke-off after error (inl by_end) = let one = first-zip-of _ _ old ends by_end in
-        inr (pass_view one.1.registrar.pass, one.3, placed-there ends one.0 one.3 one.4, inr one.5)
+    pub broke-off : (after : List (Job A K)) (error : RunError) → BreaksRun gives system old handles jobs after error
+        → BreaksOff gives system handles orders error
+    broke-off after error (inl by_end) = let one = first-zip-of _ _ old handles by_end in
+        inr (pass_view one.1.registrar.pass, one.3, placed-there handles one.0 one.3 one.4, inr one.5)
     broke-off after error (inr by_job) =
         let one = first-zip-of _ _ jobs after by_job.1 in
         let sent = ap (λ l. slice_get l one.0) (sym sends) ∙ mapped sends_in jobs one.0 one.1 one.2 in

@@ -1,6 +1,6 @@
 -- What a report keeps of its run, from its story.
 use Rattle.std.proofs.Common.{◌≡◌, ℕ, zero, suc, ◌+◌, ℤ, List, [], ◌∷◌, sym, ap, ◌∙◌, arith, Some}
-use Rattle.std.specs.Prelude.{All, Err, IfOk, Ok, Result, slice_get}
+use Rattle.std.specs.Prelude.{All, slice_get}
 use Rattle.std.proofs.lemmas.Option.{none-some, same_Some}
 use Rattle.mb_actor.specs.Behaviour.{Moment, Reply}
 use Rattle.mb_actor.specs.declared.message.Message.{Message}
@@ -35,7 +35,8 @@ pub keeps-planned : (plan : Plan) (place : ℕ) (who : Identity) → slice_get (
 keeps-planned plan zero who is = ap (λ (w : Identity). w.retention) (sym (same_Some _ who is))
 keeps-planned plan (suc place) who is = keeps-of _ plan.journal plan.journal_limit _ 1 _ _ place who is
 
-keeps : (after : ℕ → List Message → ℤ) (gives : ℕ → Moment → Reply → Type 0) (plan : Plan) (orders : List (List Order)) (report : Report)
+-- so does the report
+pub keeps : (after : ℕ → List Message → ℤ) (gives : ℕ → Moment → Reply → Type 0) (plan : Plan) (orders : List (List Order)) (report : Report)
     → IsReportOfRun after gives plan orders report → KeepsAsPlanned plan report
 keeps after gives plan orders report story = record {
   all = record {
@@ -72,9 +73,3 @@ keeps after gives plan orders report story = record {
     cleaned =
         each-place (λ (a : ActorReport). a.cleaned.retention ≡ retention_of plan.journal) report.actors.items
         (λ id a at. (let row = row-of id a at in (story.whole.actors id row.0 a row.1 at).0.cleaned_kept ∙ of-row id row.0 row.1))
-
--- and so of a call that gives the report
-pub kept-of : {E : Type 0} (after : ℕ → List Message → ℤ) (gives : ℕ → Moment → Reply → Type 0) (plan : Plan) (orders : List (List Order))
-    (result : Result Report E) → IfOk result (IsReportOfRun after gives plan orders) → IfOk result (KeepsAsPlanned plan)
-kept-of after gives plan orders (Ok report) story = keeps after gives plan orders report story
-kept-of after gives plan orders (Err error) story = story

@@ -1,7 +1,7 @@
 -- The ledger of a run, from its story.
 use Rattle.std.proofs.Common.{◌≡◌, ℕ, zero, suc, ◌+◌, ◌-◌, ◌<◌, ◌≤◌, ℤ, Bool, true, false, List, [], ◌∷◌, ◌++◌, length, refl, sym, ap, ◌∙◌, subst}
 use Rattle.std.proofs.Common.{arith, Some, None, Option}
-use Rattle.std.specs.Prelude.{All, Err, IfOk, Ok, OnOk, Result, if◌then◌else◌, nat_lt, slice_get, sum_by}
+use Rattle.std.specs.Prelude.{All, if◌then◌else◌, nat_lt, slice_get, sum_by}
 use Rattle.std.proofs.lemmas.Bool.Decides.{nat_tests}
 use Rattle.std.proofs.lemmas.List.{length-map}
 use Rattle.std.proofs.lemmas.List.Elements.{All-same, All-weaker}
@@ -294,10 +294,3 @@ module _ (after : ℕ → List Message → ℤ) (gives : ℕ → Moment → Repl
       let c = sum-flat weight (λ (r : ActorReport). r.left.items) report.actors.items in
       let d = sum-flat weight (λ (s : SenderReport). envelopes_of s.dead.items) report.senders.items in
       omega (arith, sent, all, came, refused, parts, a, b, c, d)
-
--- and so of a call that gives the report
-pub ledger-of : {E : Type 0} (after : ℕ → List Message → ℤ) (gives : ℕ → Moment → Reply → Type 0) (plan : Plan) (actors : ℕ) (orders : List (List Order))
-    (result : Result Report E) → IfOk result (IsReportOfRun after gives plan orders) → OnOk result (IsRight plan actors orders)
-    → IfOk result (AddsUp plan orders)
-ledger-of after gives plan actors orders (Ok report) story right = adds-up after gives plan actors orders report right story
-ledger-of after gives plan actors orders (Err error) story right = story

@@ -1,4 +1,7 @@
 pub mod Sent
+pub mod AnyBreak
+pub mod BrokenOff
+pub mod LastRun
 pub mod Chosen
 pub mod WholeRun
 pub mod Remains
@@ -24,7 +27,10 @@ pub mod Covered
 pub mod Lookup
 pub mod InOrder
 pub mod InTurn
-pub mod QuietReport
+pub mod ReportsRun
+pub mod GivesNoReport
+pub mod RunEnds
+pub mod SentAndRun
 pub mod MadeTurns
 pub mod Stretches
 pub mod Unchanged
@@ -45,7 +51,7 @@ pub mod TimesTold
 pub mod EndsDue
 pub mod ArrivedLaw
 pub mod PassedOn
-pub mod Adding
+pub mod AddingOne
 pub mod AddingAll
 pub mod ByCounts
 pub mod Kept

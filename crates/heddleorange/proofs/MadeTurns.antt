@@ -1,4 +1,4 @@
--- What the runs of mailboxes that an end made are in the words of the plan.
+-- What the runs of mailboxes that a handle made are in the words of the plan.
 use Rattle.std.proofs.Common.{◌≡◌, ◌+◌, ◌<◌, ◌≤◌, ℕ, List, [], ◌∷◌, length, subst, sym, ◌∙◌}
 use Rattle.std.specs.Prelude.{All, Err, IfOk, Ok, Result}
 use Rattle.std.specs.Global.{Box}

@@ -1,4 +1,4 @@
--- What all ends and senders put into an actor's list is among what the journals, and the orders, have to send.
+-- What all handles and senders put into an actor's list is among what the journals, and the orders, have to send.
 use Rattle.std.proofs.Common.{◌≡◌, ◌≤◌, ◌+◌, ℕ, zero, suc, true, List, [], ◌∷◌, ◌++◌, Some, ap, arith, length, map, refl, reverse, sym, ◌∙◌}
 use Rattle.std.specs.Prelude.{slice_get}
 use Rattle.std.specs.Global.{Box}
@@ -102,14 +102,14 @@ module _ (to : ℕ) (measure : SysMsg → ℕ) (whos : List Identity) where
         (after 0 0 made.0 made.1 new (ran made.0 made.1 turn made.3) (made-runs made.1 turns new made.4))
 
     module _ {E : Type 0} (knows : E → View) where
-      -- all ends only made runs
-      pub ends-put : (old new : List E) → AllZip (λ (o n : E). OnlyRuns gives origin throughput (knows o) (knows n)) old new
+      -- all handles only made runs
+      pub handles-put : (old new : List E) → AllZip (λ (o n : E). OnlyRuns gives origin throughput (knows o) (knows n)) old new
           → AllPutAtMost 0 (map knows old) (map knows new)
-      ends-put [] [] all = omega arith
-      ends-put [] (n ∷ new) all = absurd all
-      ends-put (o ∷ old) [] all = absurd all
-      ends-put (o ∷ old) (n ∷ new) all =
-          let first = made-runs (knows o) all.0.turns (knows n) all.0.made in let rest = ends-put old new all.1 in omega (arith, first, rest)
+      handles-put [] [] all = omega arith
+      handles-put [] (n ∷ new) all = absurd all
+      handles-put (o ∷ old) [] all = absurd all
+      handles-put (o ∷ old) (n ∷ new) all =
+          let first = made-runs (knows o) all.0.turns (knows n) all.0.made in let rest = handles-put old new all.1 in omega (arith, first, rest)
 
   -- ---- senders
 

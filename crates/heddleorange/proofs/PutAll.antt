@@ -130,10 +130,10 @@ module _ (to : ℕ) (measure : SysMsg → ℕ) (whos : List Identity) where
   looked : (old new : View) → OnlyLooks old new → PutsAll 0 old new
   looked old new looks =
       let none = only-looks looks.looks looks.only in
-      let ends = ap (total (ended_in to)) looks.log ∙ total_append (ended_in to) looks.looks old.log in
+      let handles = ap (total (ended_in to)) looks.log ∙ total_append (ended_in to) looks.looks old.log in
       let puts = more-puts looks.looks old.log in let log = ap (λ l. put to measure whos (record old { log = l })) looks.log in
       let same = all-same (due_to to measure) 0 whos old new looks.gives_back in
-      record { grows = omega (arith, none, ends); all = λ never. omega (arith, puts, log, same) }
+      record { grows = omega (arith, none, handles); all = λ never. omega (arith, puts, log, same) }
     where
       -- what came first was put there too
       more-puts : (looks log : List Observation)
@@ -177,15 +177,15 @@ module _ (to : ℕ) (measure : SysMsg → ℕ) (whos : List Identity) where
         (after 0 0 made.0 made.1 new (ran made.0 made.1 turn made.3) (made-runs made.1 turns new made.4))
 
     module _ {E : Type 0} (knows : E → View) where
-      -- all ends only made runs
-      pub ends-put-all : (old new : List E) → AllZip (λ (o n : E). OnlyRuns gives origin throughput (knows o) (knows n)) old new
+      -- all handles only made runs
+      pub handles-put-all : (old new : List E) → AllZip (λ (o n : E). OnlyRuns gives origin throughput (knows o) (knows n)) old new
           → AllPutAll 0 (map knows old) (map knows new)
-      ends-put-all [] [] all never = omega arith
-      ends-put-all [] (n ∷ new) all never = absurd all
-      ends-put-all (o ∷ old) [] all never = absurd all
-      ends-put-all (o ∷ old) (n ∷ new) all never =
+      handles-put-all [] [] all never = omega arith
+      handles-put-all [] (n ∷ new) all never = absurd all
+      handles-put-all (o ∷ old) [] all never = absurd all
+      handles-put-all (o ∷ old) (n ∷ new) all never =
           let first = (made-runs (knows o) all.0.turns (knows n) all.0.made).all (omega (arith, never)) in
-          let rest = ends-put-all old new all.1 (omega (arith, never)) in omega (arith, first, rest)
+          let rest = handles-put-all old new all.1 (omega (arith, never)) in omega (arith, first, rest)
 
   -- ---- senders
 

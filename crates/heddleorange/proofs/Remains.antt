@@ -1,5 +1,5 @@
 -- What is left of the actors of a run of a plan.
-use Rattle.std.proofs.Common.{◌≡◌, ◌⊎◌, inl, inr, ℕ, zero, suc, ◌+◌, ◌<◌, ◌≤◌, List, [], ◌∷◌, length, length-append, refl, sym, ap, ◌∙◌, subst, arith}
+use Rattle.std.proofs.Common.{◌≡◌, ◌⊎◌, inl, inr, ℕ, zero, suc, ◌+◌, ◌<◌, ◌≤◌, List, [], ◌∷◌, length, length-append, map, refl, sym, ap, ◌∙◌, subst, arith}
 use Rattle.std.proofs.Common.{Bool, true, false, None, Option, Some}
 use Rattle.std.specs.Prelude.{Contains, nat_le, slice_get}
 use Rattle.std.specs.List.{AllZip, list_any}
@@ -28,20 +28,21 @@ use Rattle.mb_msg.specs.declared.id.ActorId.{ActorId}
 use Rattle.mb_msg.specs.declared.journal_mode.JournalMode.{JournalMode}
 use Rattle.mb_msg.specs.declared.plan.Plan.{Plan}
 use Rattle.mb_msg.specs.declared.strategy.Strategy.{Strategy}
-use Rattle.mb_shutdown.proofs.Lists.{at-place, mapped-to, there, within}
-use Rattle.mb_shutdown.specs.Homes.{BoxedHome}
+use Rattle.mb_shutdown.proofs.Lists.{at-place, length-mapped, mapped-to, there, within}
+use Rattle.mb_shutdown.specs.Homes.{ReturnedHome}
 use Rattle.mb_shutdown.specs.Unfinished.{AreUnfinished, ShowsCellNow, ShowsHome}
 use Rattle.mb_shutdown.specs.declared.unfinished.UnfinishedActor.{UnfinishedActor}
 use Rattle.mb_dispatch.specs.Faults.{CameToLimit}
-use Rattle.mb_system.specs.Members.{AreEndsOf, IsEndOf}
+use Rattle.mb_system.specs.Members.{AreHandlesOf, IsHandleOf}
 use Rattle.mb_system.specs.declared.built.Built.{Built}
-use Rattle.mb_system.specs.declared.end.WorkerEnd.{WorkerEnd}
+use Rattle.mb_system.specs.declared.handle.WorkerHandle.{WorkerHandle}
 use Rattle.mb_system.specs.declared.failure.RunError.{RunError}
 use Rattle.mb_system.specs.declared.failure.RunError.TheVariants as Fault
 use Rattle.mb_system.specs.declared.system.System.{System}
 use Rattle.mb_shutdown.specs.declared.mismatch.Mismatch.TheVariants.{Held}
 use Rattle.heddleorange.specs.declared.error.Error.TheVariants.{JournalFull, Mismatch}
-use Rattle.heddleorange.specs.Remains.{AreRemains, HasOwnEnds, IsFirstFull, IsLeftOf, IsToldAs, LackOne, SawFull, ShowFull, is_full}
+use Rattle.heddleorange.specs.Remains.{AreRemains, HasOwnHandles, IsFirstFull, IsLeftOf, IsToldAs, LackOne, SawFull, ShowFull, is_full}
+use Rattle.heddleorange.proofs.LastRun.{HaveRun, knew, know-together, port-of}
 use Rattle.heddleorange.proofs.Recipients.{none-passes}
 
 -- each actor's journal may have as many entries as the plan says
@@ -68,8 +69,8 @@ from-zip R (a ∷ xs) (b ∷ ys) zero y all is = (a, refl, subst (R a) (same_Som
 from-zip R (a ∷ xs) (b ∷ ys) (suc i) y all is = from-zip R xs ys i y all.1 is
 
 -- a home that is shown came back
-came-back : (left : Option BoxedHome) (a : UnfinishedActor) → ShowsHome left (Some a)
-    → (l : BoxedHome) × (left ≡ Some l) × ShowsCellNow l.home.value.cell a
+came-back : (left : Option ReturnedHome) (a : UnfinishedActor) → ShowsHome left (Some a)
+    → (l : ReturnedHome) × (left ≡ Some l) × ShowsCellNow l.home.value.cell a
 came-back (Some l) a shows = (l, refl, shows)
 came-back None a shows = absurd shows
 
@@ -86,13 +87,20 @@ left-of gives home who a same lawful shows = record {
 
 module _ {A K : Type 0} (gives : ℕ → Moment → Reply → Type 0) (plan : Plan) (built : Built A K)
     (planned : IsDirectoryOf plan (first_home built.system.gates).value.directory) where
-  pub remains : actors_of built.system.gates ≡ length (actors_in plan) → (shown : List (Option UnfinishedActor)) → AreUnfinished gives built shown
-      → AreRemains gives plan shown
-  remains many shown are = record {
+  pub remains : HaveRun gives plan built → actors_of built.system.gates ≡ length (actors_in plan) → (shown : List (Option UnfinishedActor))
+      → AreUnfinished gives built shown → AreRemains gives plan shown
+  remains ran many shown are = record {
     gates = built.system.gates;
     planned = planned;
     view = are.view;
     homes = are.homes;
+    began = ran.began;
+    began_new = ran.began_new;
+    handles = map knew built.handles.items;
+    all_handles = length-mapped knew built.handles.items ∙ ran.many;
+    ports = map port-of built.handles.items;
+    together = know-together gives built.handles.items are.view are.back;
+    runs = ran.runs;
     same_count = (let long = AllZip-long ShowsHome are.homes.all shown are.homes.shows in let all = are.homes.left.same_count in
         omega (arith, long, all, many));
     each = λ id who a at here.
@@ -112,17 +120,17 @@ module _ {A K : Type 0} (gives : ℕ → Moment → Reply → Type 0) (plan : Pl
   }
 
   -- of these gates, by what was known at the end
-  pub remains-with : actors_of built.system.gates ≡ length (actors_in plan) → (shown : List (Option UnfinishedActor))
+  pub remains-with : HaveRun gives plan built → actors_of built.system.gates ≡ length (actors_in plan) → (shown : List (Option UnfinishedActor))
       → (are : AreUnfinished gives built shown)
       → (r : AreRemains gives plan shown) × (r.gates ≡ built.system.gates) × (r.view ≡ are.view)
   unfolding remains
-  remains-with many shown are = (remains many shown are, refl, refl)
+  remains-with ran many shown are = (remains ran many shown are, refl, refl)
 
-  -- an end met a journal at its limit, and so saw it
-  pub saw-full : (system : System A K) → system ≡ built.system → (ends : List (WorkerEnd A K)) (end : WorkerEnd A K) → Contains ends end
-      → CameToLimit gives system end → SawFull (actors_of built.system.gates) plan.journal_limit ends
-  saw-full system same ends end here came = record {
-    end = end;
+  -- a handle met a journal at its limit, and so saw it
+  pub saw-full : (system : System A K) → system ≡ built.system → (handles : List (WorkerHandle A K)) (handle : WorkerHandle A K) → Contains handles handle
+      → CameToLimit gives system handle → SawFull (actors_of built.system.gates) plan.journal_limit handles
+  saw-full system same handles handle here came = record {
+    handle = handle;
     present = here;
     actor = held_actor came.claim;
     within = subst (λ (s : System A K). held_actor came.claim < actors_of s.gates) same came.fresh.same_gates.present;
@@ -147,13 +155,13 @@ pub as-many : {A K : Type 0} (gives : ℕ → Moment → Reply → Type 0) (buil
 as-many gives built shown are =
     let long = AllZip-long ShowsHome are.homes.all shown are.homes.shows in let all = are.homes.left.same_count in omega (arith, long, all)
 
--- a system that has an end has no more than so many actors
-pub few-actors : {A K : Type 0} (built : Built A K) → HasOwnEnds built → actors_of built.system.gates ≤ 64
-few-actors {A} {K} built own = first built.ends.items own.0 own.1
+-- a system that has a handle has no more than so many actors
+pub few-actors : {A K : Type 0} (built : Built A K) → HasOwnHandles built → actors_of built.system.gates ≤ 64
+few-actors {A} {K} built own = first built.handles.items own.0 own.1
   where
-    first : (ends : List (WorkerEnd A K)) → AreEndsOf built.system.gates ends → 0 < length ends → actors_of built.system.gates ≤ 64
+    first : (handles : List (WorkerHandle A K)) → AreHandlesOf built.system.gates handles → 0 < length handles → actors_of built.system.gates ≤ 64
     first [] ours some = absurd (omega (arith, some))
-    first (e ∷ ends) ours some = (All-head (λ (x : WorkerEnd A K). IsEndOf built.system.gates x.registrar) e ends ours).2
+    first (e ∷ handles) ours some = (All-head (λ (x : WorkerHandle A K). IsHandleOf built.system.gates x.registrar) e handles ours).2
 
 -- whether a full journal is shown
 at-most : (a b : ℕ) → a ≤ b → nat_le a b ≡ true
@@ -185,17 +193,17 @@ pub told-lack : (fault : RunError) (limit : ℕ) (shown : List (Option Unfinishe
 told-lack fault limit shown id is none =
     subst (λ f. IsToldAs f limit shown (Mismatch (Held id))) (sym is) (inr (Held id, refl, none))
 
--- a journal that an end saw at the limit is shown, or nothing is shown of its actor
+-- a journal that a handle saw at the limit is shown, or nothing is shown of its actor
 module _ {A K : Type 0} (gives : ℕ → Moment → Reply → Type 0) (built : Built A K) (limit : ℕ) where
   pub shows-full : (shown : List (Option UnfinishedActor)) → AreUnfinished gives built shown
-      → SawFull (actors_of built.system.gates) limit built.ends.items → ShowFull limit shown ⊎ LackOne shown
+      → SawFull (actors_of built.system.gates) limit built.handles.items → ShowFull limit shown ⊎ LackOne shown
   shows-full shown are saw =
       let long = AllZip-long ShowsHome are.homes.all shown are.homes.shows in let all = are.homes.left.same_count in let lt = saw.within in
       let at = there shown saw.actor (omega (arith, long, all, lt)) in by-place at.0 at.1
     where
       among : IsAmong (Saw saw.actor saw.journal) are.view.log
-      among = among_part (Saw saw.actor saw.journal) (pass_view saw.end.registrar.pass).log are.view.log
-          (All-contains (λ (e : WorkerEnd A K). IsPart (pass_view e.registrar.pass).log are.view.log) built.ends.items saw.end are.seen saw.present)
+      among = among_part (Saw saw.actor saw.journal) (pass_view saw.handle.registrar.pass).log are.view.log
+          (All-contains (λ (e : WorkerHandle A K). IsPart (pass_view e.registrar.pass).log are.view.log) built.handles.items saw.handle are.seen saw.present)
           saw.seen
 
       by-place : (o : Option UnfinishedActor) → slice_get shown saw.actor ≡ Some o → ShowFull limit shown ⊎ LackOne shown

@@ -1,6 +1,6 @@
 -- What a whole run says of the headline, from its story.
 use Rattle.std.proofs.Common.{◌≡◌, ℕ, zero, suc, ◌+◌, ◌<◌, ℤ, List, [], ◌∷◌, ◌++◌, length, map, refl, sym, ap, ◌∙◌, subst, arith, Some}
-use Rattle.std.specs.Prelude.{All, Err, IfOk, Ok, OnOk, Result, slice_get}
+use Rattle.std.specs.Prelude.{All, slice_get}
 use Rattle.std.proofs.lemmas.List.{length-append}
 use Rattle.mb_actor.specs.Behaviour.{Moment, Reply}
 use Rattle.mb_actor.specs.declared.message.Message.{Message}
@@ -90,10 +90,3 @@ module _ (after : ℕ → List Message → ℤ) (gives : ℕ → Moment → Repl
     to_an_actor = sent-there;
     at_rest = nobody-has-to-run after gives story.directory story.log story.outside report story.whole;
   }
-
--- and so of a call that gives the report
-pub headline-of : {E : Type 0} (after : ℕ → List Message → ℤ) (gives : ℕ → Moment → Reply → Type 0) (plan : Plan) (actors : ℕ) (orders : List (List Order))
-    (result : Result Report E) → IfOk result (IsReportOfRun after gives plan orders) → OnOk result (IsRight plan actors orders)
-    → IfOk result (RunHeadline plan orders)
-headline-of after gives plan actors orders (Ok report) story right = run-headline after gives plan actors orders report right story
-headline-of after gives plan actors orders (Err error) story right = story

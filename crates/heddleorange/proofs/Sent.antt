@@ -1,7 +1,7 @@
 -- Senders that carry out their orders, one after another.
 use Rattle.std.proofs.Common.{◌≡◌, ◌⊎◌, inl, inr, ℕ, zero, suc, ◌+◌, ◌-◌, ◌<◌, ◌≤◌, List, [], ◌∷◌, length, map, refl, sym, ap, ◌∙◌, subst, Some}
 use Rattle.std.proofs.Common.{arith, get_or, Vec}
-use Rattle.std.specs.Prelude.{◌≢◌, All, Contains, Err, IfErr, IfOk, IsErrAnd, Ok, OnOk, Result, slice_get, slice_set}
+use Rattle.std.specs.Prelude.{◌≢◌, All, Err, IfErr, IfOk, IsErrAnd, Ok, OnOk, Result, slice_get, slice_set}
 use Rattle.std.specs.Global.{Box, Global}
 use Rattle.std.proofs.lemmas.Bool.{cases_eq}
 use Rattle.std.proofs.lemmas.List.{length-set}
@@ -14,13 +14,13 @@ use Rattle.mb_gate.specs.Rule.{IsPart}
 use Rattle.mb_gate.specs.Untouched.{Origin}
 use Rattle.mb_gate.specs.declared.gates.Gates.{Gates}
 use Rattle.mb_home.specs.Contents.{Contents}
-use Rattle.mb_register.specs.Owed.{IsNobody}
+use Rattle.mb_register.specs.ActorSet.{IsNobody}
 use Rattle.mb_shutdown.proofs.Lists.{mapped, same-maps, there}
 use Rattle.mb_system.specs.Belonging.{BelongsTogether, senders_numbers}
 use Rattle.mb_system.specs.Obligations.{HasNoObligationTo}
-use Rattle.mb_system.specs.Members.{IsEndOf, IsSenderOf, OutsideSender, StillSee, end_caller, ends_numbers}
+use Rattle.mb_system.specs.Members.{IsHandleOf, IsSenderOf, OutsideSender, StillSee, handle_caller, handle_numbers}
 use Rattle.mb_system.specs.declared.built.Built.{Built}
-use Rattle.mb_system.specs.declared.end.WorkerEnd.{WorkerEnd}
+use Rattle.mb_system.specs.declared.handle.WorkerHandle.{WorkerHandle}
 use Rattle.mb_msg.specs.declared.order.Order.{Order}
 use Rattle.mb_dispatch.proofs.Alike.{look-alike}
 use Rattle.mb_dispatch.proofs.Together.{again, by_of}
@@ -42,13 +42,25 @@ module _ {T E : Type 0} where
   on-ok (Ok x) p = p
   on-ok (Err e) p = tt
 
-  pub on-all : {P Q R S : Type 0} (r : Result T E) → OnOk r P → OnOk r Q → OnOk r R → (P → Q → R → S) → OnOk r S
-  on-all (Ok x) p q s all = all p q s
-  on-all (Err e) p q s all = tt
-
   pub ok-gives : (P : T → Type 0) (Q : Type 0) (r : Result T E) → ((x : T) → P x → Q) → IfOk r P → OnOk r Q
   ok-gives P Q (Ok x) f p = f x p
   ok-gives P Q (Err e) f p = tt
+
+  pub all-ok : {P : Type 0} {Q R S : T → Type 0} (r : Result T E) → OnOk r P → IfOk r Q → IfOk r R → ((x : T) → P → Q x → R x → S x) → IfOk r S
+  all-ok (Ok x) p q s all = all x p q s
+  all-ok (Err e) p q s all = tt
+
+  pub ok-both : {P Q S : Type 0} (r : Result T E) → OnOk r P → OnOk r Q → (P → Q → S) → OnOk r S
+  ok-both (Ok x) p q both = both p q
+  ok-both (Err e) p q both = tt
+
+  pub ok-of : {P : T → Type 0} {Q : Type 0} (r : Result T E) → IfOk r P → ((x : T) → P x → Q) → OnOk r Q
+  ok-of (Ok x) p f = f x p
+  ok-of (Err e) p f = tt
+
+  pub ok-each : {P Q : T → Type 0} (r : Result T E) → IfOk r P → ((x : T) → P x → Q x) → IfOk r Q
+  ok-each (Ok x) p f = f x p
+  ok-each (Err e) p f = tt
 
   pub err-weaker : (P Q : E → Type 0) (r : Result T E) → ((e : E) → P e → Q e) → IfErr r P → IfErr r Q
   err-weaker P Q (Ok x) f p = tt
@@ -141,63 +153,58 @@ module _ {A K : Type 0} where
   -- all belongs together after that
   pub together-kept : (orders : List (List Order)) (old new : Built A K) → length old.senders.items ≡ length orders → new.system ≡ old.system
       → BelongsTogether old → HaveSent old.system.gates orders old.senders.items new.senders.items
-      → All (λ (e : WorkerEnd A K). IsEndOf old.system.gates e.registrar) new.ends.items
+      → All (λ (e : WorkerHandle A K). IsHandleOf old.system.gates e.registrar) new.handles.items
       → All (λ (s : OutsideSender). IsSenderOf old.system.gates s) new.senders.items → BelongsTogether new
-  together-kept orders old new as_many same was sent ends senders =
-      again old new same ends senders (senders-kept old.system.gates orders old.senders.items new.senders.items as_many sent) was
+  together-kept orders old new as_many same was sent handles senders =
+      again old new same handles senders (senders-kept old.system.gates orders old.senders.items new.senders.items as_many sent) was
 
-  -- an end is put in the place of the first, whose number it has
-  pub first-number : (old new : WorkerEnd A K) (ends : List (WorkerEnd A K)) → ends ≢ [] → old ≡ get_or ends 0 old → new.number ≡ old.number
-      → ends_numbers (slice_set ends 0 new) ≡ ends_numbers ends
+  -- a handle is put in the place of the first, whose number it has
+  pub first-number : (old new : WorkerHandle A K) (handles : List (WorkerHandle A K)) → handles ≢ [] → old ≡ get_or handles 0 old → new.number ≡ old.number
+      → handle_numbers (slice_set handles 0 new) ≡ handle_numbers handles
   first-number old new [] some is same = absurd (some refl)
-  first-number old new (x ∷ ends) some is same = ap (λ n. n ∷ ends_numbers ends) (same ∙ ap (λ (w : WorkerEnd A K). w.number) is)
+  first-number old new (x ∷ handles) some is same = ap (λ n. n ∷ handle_numbers handles) (same ∙ ap (λ (w : WorkerHandle A K). w.number) is)
 
-  -- it is one of the ends then
-  pub first-there : (new : WorkerEnd A K) (ends : List (WorkerEnd A K)) → ends ≢ [] → Contains (slice_set ends 0 new) new
-  first-there new [] some = absurd (some refl)
-  first-there new (x ∷ ends) some = (0, omega arith, refl)
-
-  -- where ends have the numbers of others that there are, there is one
-  pub some-left : (old new : List (WorkerEnd A K)) → old ≢ [] → ends_numbers new ≡ ends_numbers old → 0 < length new
+  -- where handles have the numbers of others that there are, there is one
+  pub some-left : (old new : List (WorkerHandle A K)) → old ≢ [] → handle_numbers new ≡ handle_numbers old → 0 < length new
   some-left [] new some same = absurd (some refl)
   some-left (x ∷ old) [] some same = let long = ap length same in absurd (omega (arith, long))
   some-left (x ∷ old) (y ∷ new) some same = omega arith
 
-  pub some-still : (old new : List (WorkerEnd A K)) → old ≢ [] → ends_numbers new ≡ ends_numbers old → new ≢ []
+  pub some-still : (old new : List (WorkerHandle A K)) → old ≢ [] → handle_numbers new ≡ handle_numbers old → new ≢ []
   some-still old new some same none = let long = some-left old new some same in let zero = ap length none in omega (arith, long, zero)
 
-  -- an end that goes on from the first is put in its place
-  see-same : (ends : List (WorkerEnd A K)) → StillSee ends ends
+  -- a handle that goes on from the first is put in its place
+  see-same : (handles : List (WorkerHandle A K)) → StillSee handles handles
   see-same [] = tt
-  see-same (x ∷ ends) = (part-same (pass_view x.registrar.pass).log, see-same ends)
+  see-same (x ∷ handles) = (part-same (pass_view x.registrar.pass).log, see-same handles)
 
-  pub see-on : (old new : WorkerEnd A K) (ends : List (WorkerEnd A K)) → ends ≢ [] → old ≡ get_or ends 0 old
-      → IsPart (pass_view old.registrar.pass).log (pass_view new.registrar.pass).log → StillSee ends (slice_set ends 0 new)
+  pub see-on : (old new : WorkerHandle A K) (handles : List (WorkerHandle A K)) → handles ≢ [] → old ≡ get_or handles 0 old
+      → IsPart (pass_view old.registrar.pass).log (pass_view new.registrar.pass).log → StillSee handles (slice_set handles 0 new)
   see-on old new [] some is saw = absurd (some refl)
-  see-on old new (x ∷ ends) some is saw =
-      (subst (λ (e : WorkerEnd A K). IsPart (pass_view e.registrar.pass).log (pass_view new.registrar.pass).log) is saw, see-same ends)
+  see-on old new (x ∷ handles) some is saw =
+      (subst (λ (e : WorkerHandle A K). IsPart (pass_view e.registrar.pass).log (pass_view new.registrar.pass).log) is saw, see-same handles)
 
-  -- an end that only made runs since is put in its place
-  runs-same : (gives : ℕ → Moment → Reply → Type 0) (origin : Origin (Box Contents)) (throughput : ℕ) (ends : List (WorkerEnd A K))
-      → AllOnlyRuns gives origin throughput ends ends
+  -- a handle that only made runs since is put in its place
+  runs-same : (gives : ℕ → Moment → Reply → Type 0) (origin : Origin (Box Contents)) (throughput : ℕ) (handles : List (WorkerHandle A K))
+      → AllOnlyRuns gives origin throughput handles handles
   runs-same gives origin throughput [] = tt
-  runs-same gives origin throughput (x ∷ ends) =
-      (no-run gives origin throughput (pass_view x.registrar.pass), runs-same gives origin throughput ends)
+  runs-same gives origin throughput (x ∷ handles) =
+      (no-run gives origin throughput (pass_view x.registrar.pass), runs-same gives origin throughput handles)
 
-  pub ran-on : (gives : ℕ → Moment → Reply → Type 0) (origin : Origin (Box Contents)) (throughput : ℕ) (old new : WorkerEnd A K)
-      (ends : List (WorkerEnd A K)) → ends ≢ [] → old ≡ get_or ends 0 old
+  pub ran-on : (gives : ℕ → Moment → Reply → Type 0) (origin : Origin (Box Contents)) (throughput : ℕ) (old new : WorkerHandle A K)
+      (handles : List (WorkerHandle A K)) → handles ≢ [] → old ≡ get_or handles 0 old
       → OnlyRuns gives origin throughput (pass_view old.registrar.pass) (pass_view new.registrar.pass)
-      → AllOnlyRuns gives origin throughput ends (slice_set ends 0 new)
+      → AllOnlyRuns gives origin throughput handles (slice_set handles 0 new)
   ran-on gives origin throughput old new [] some is ran = absurd (some refl)
-  ran-on gives origin throughput old new (x ∷ ends) some is ran = (
-    subst (λ (e : WorkerEnd A K). OnlyRuns gives origin throughput (pass_view e.registrar.pass) (pass_view new.registrar.pass)) is ran,
-    runs-same gives origin throughput ends,
+  ran-on gives origin throughput old new (x ∷ handles) some is ran = (
+    subst (λ (e : WorkerHandle A K). OnlyRuns gives origin throughput (pass_view e.registrar.pass) (pass_view new.registrar.pass)) is ran,
+    runs-same gives origin throughput handles,
   )
 
-  -- the first of the ends, which ran, found nothing more
-  pub found-nothing : (gives : ℕ → Moment → Reply → Type 0) (gates : Gates (Box Contents)) (ends : List (WorkerEnd A K)) (e : WorkerEnd A K)
-      → ends ≢ [] → IsNobody e.registrar.owed → HasNoObligationTo (actors_of gates) (end_caller e.registrar)
-      → FoundPoolEmpty gives e → FoundNothing gives gates (slice_set ends 0 e)
+  -- the first of the handles, which ran, found nothing more
+  pub found-nothing : (gives : ℕ → Moment → Reply → Type 0) (gates : Gates (Box Contents)) (handles : List (WorkerHandle A K)) (e : WorkerHandle A K)
+      → handles ≢ [] → IsNobody e.registrar.owed → HasNoObligationTo (actors_of gates) (handle_caller e.registrar)
+      → FoundPoolEmpty gives e → FoundNothing gives gates (slice_set handles 0 e)
   found-nothing gives gates [] e some nobody settled empty = absurd (some refl)
-  found-nothing gives gates (x ∷ ends) e some nobody settled empty =
-      record { first = e; rest = ends; are = refl; nobody = nobody; settled = settled; empty = empty }
+  found-nothing gives gates (x ∷ handles) e some nobody settled empty =
+      record { first = e; rest = handles; are = refl; nobody = nobody; settled = settled; empty = empty }

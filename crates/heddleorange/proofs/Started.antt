@@ -126,13 +126,13 @@ module _ (who : Identity) (gives : Moment → Reply → Type 0) (before : List E
   none-given : (m : SysMsg) (a : Option Answer) (effects : List Effect) → is_last who (System number m (Applied a effects)) before ≡ false
       → is_start (System number m (Applied a effects)) before ≡ false → is_restart who (System number m (Applied a effects)) before ≡ false
       → IsGiven who gives before (call_of who before (System number m (Applied a effects))) a effects → effects ≡ []
-  none-given m a effects ends starts restarts given =
+  none-given m a effects handles starts restarts given =
       let e : Entry = System number m (Applied a effects) in
       let silent : call_of who before e ≡ None =
       (λ i. if an_actor i then None
       else (if starts i then Some Start
       else (if restarts i then Some (Restart (restart_cause m))
-      else (if ends i && was_live who (e ∷ before) then Some Stop
+      else (if handles i && was_live who (e ∷ before) then Some Stop
       else None)))) in
       (subst (λ call. IsGiven who gives before call a effects) silent given).1
 
@@ -177,9 +177,9 @@ module _ (who : Identity) (gives : Moment → Reply → Type 0) where
     still-rests childless = subst rests (sym now) (by_ending (is_ending e before))
       where
         phase_if : Bool → Phase
-        phase_if ends = if (ends && true) || false then Ended else (if ends then Ending else Fresh)
+        phase_if handles = if (handles && true) || false then Ended else (if handles then Ending else Fresh)
 
-        by_ending : (ends : Bool) → rests (phase_if ends)
+        by_ending : (handles : Bool) → rests (phase_if handles)
         by_ending true = tt
         by_ending false = tt
 

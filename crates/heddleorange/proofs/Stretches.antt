@@ -24,7 +24,7 @@ use Rattle.mb_report.specs.declared.report.ActorReport.{ActorReport}
 use Rattle.mb_report.specs.declared.report.Report.{Report}
 use Rattle.mb_shutdown.specs.Seen.{ReportExtends, ReportExtendsAll}
 use Rattle.mb_system.specs.OnlyLooks.{OnlyLooks}
-use Rattle.mb_system.specs.declared.end.WorkerEnd.{WorkerEnd}
+use Rattle.mb_system.specs.declared.handle.WorkerHandle.{WorkerHandle}
 use Rattle.heddleorange.specs.Turns.{AreOfTurn, AreStretches, IsStretch}
 use Rattle.heddleorange.proofs.Covered.{systems-append}
 
@@ -133,10 +133,10 @@ module _ (gives : ℕ → Moment → Reply → Type 0) (origin : Origin (Box Con
       (stretch-of made.0 made.1 turn made.3 (each-before gives origin throughput (ReportExtends report) made.1 turns new made.4 each))
       (stretches-of made.1 turns new made.4 each)
 
--- the first end is one of which the report tells
-pub first-extends : {A K : Type 0} (report : Report) (ends : List (WorkerEnd A K)) (end : WorkerEnd A K) → ends ≢ []
-    → All (λ (e : WorkerEnd A K). ReportExtendsAll report (pass_view e.registrar.pass)) (slice_set ends 0 end)
-    → Each (ReportExtends report) (pass_view end.registrar.pass).log
-first-extends report [] end some all = absurd (some refl)
-first-extends report (e ∷ ends) end some all =
-    All-head (λ (e : WorkerEnd _ _). ReportExtendsAll report (pass_view e.registrar.pass)) end ends all
+-- the first handle is one of which the report tells
+pub first-extends : {A K : Type 0} (report : Report) (handles : List (WorkerHandle A K)) (handle : WorkerHandle A K) → handles ≢ []
+    → All (λ (e : WorkerHandle A K). ReportExtendsAll report (pass_view e.registrar.pass)) (slice_set handles 0 handle)
+    → Each (ReportExtends report) (pass_view handle.registrar.pass).log
+first-extends report [] handle some all = absurd (some refl)
+first-extends report (e ∷ handles) handle some all =
+    All-head (λ (e : WorkerHandle _ _). ReportExtendsAll report (pass_view e.registrar.pass)) handle handles all

@@ -15,10 +15,10 @@ use Rattle.mb_msg.specs.declared.plan.Plan.{Plan}
 use Rattle.mb_queue.specs.Passes.{SendPassView}
 use Rattle.mb_register.specs.Views.{GivesBackUnchanged, IsUnchanged}
 use Rattle.mb_shutdown.proofs.Lists.{there, within}
-use Rattle.mb_startup.specs.Begun.{AreNewEnds, AreNewSenders, IsBegun}
+use Rattle.mb_startup.specs.Begun.{AreNewHandles, AreNewSenders, IsBegun}
 use Rattle.mb_system.specs.Shares.{share_of_sender, shares_of_senders, views_of}
 use Rattle.mb_system.specs.declared.built.Built.{Built}
-use Rattle.mb_system.specs.declared.end.WorkerEnd.{WorkerEnd}
+use Rattle.mb_system.specs.declared.handle.WorkerHandle.{WorkerHandle}
 use Rattle.mb_system.specs.Members.{OutsideSender}
 use Rattle.heddleorange.specs.Covering.{ChangedNoJournal}
 use Rattle.heddleorange.specs.Sent.{HaveSent}
@@ -28,7 +28,7 @@ use Rattle.heddleorange.specs.Sent.{HaveSent}
 no-releases : (v : View) → v.releases ≡ [] → ChangedNoJournal v
 no-releases v none = subst (Each IsUnchanged) (sym none) tt
 
--- what a sender and an end know
+-- what a sender and a handle know
 abbrev pub of-sender : OutsideSender → View
 of-sender s = pass_view s.registrar.pass
 
@@ -42,22 +42,22 @@ new-senders gates number (row ∷ rows) (s ∷ senders) are =
     (new-senders gates (number + 1) rows senders are.1)
 
 module _ {A K : Type 0} where
-  abbrev pub of-end : WorkerEnd A K → View
-  of-end e = pass_view e.registrar.pass
+  abbrev pub of-handle : WorkerHandle A K → View
+  of-handle e = pass_view e.registrar.pass
 
-  new-ends : (gates : Gates (Box Contents)) (number : ℕ) (ends : List (WorkerEnd A K)) → AreNewEnds gates number ends
-      → All ChangedNoJournal (map of-end ends)
-  new-ends gates number [] are = All-nil ChangedNoJournal
-  new-ends gates number (e ∷ ends) are =
-      All-cons ChangedNoJournal (of-end e) (map of-end ends) (no-releases (of-end e) are.0.none_released) (new-ends gates (number + 1) ends are.1)
+  new-handles : (gates : Gates (Box Contents)) (number : ℕ) (handles : List (WorkerHandle A K)) → AreNewHandles gates number handles
+      → All ChangedNoJournal (map of-handle handles)
+  new-handles gates number [] are = All-nil ChangedNoJournal
+  new-handles gates number (e ∷ handles) are =
+      All-cons ChangedNoJournal (of-handle e) (map of-handle handles) (no-releases (of-handle e) are.0.none_released) (new-handles gates (number + 1) handles are.1)
 
   pub changed-none : (gives : ℕ → Moment → Reply → Type 0) (plan : Plan) (built : Built A K) → IsBegun gives plan built
       → All ChangedNoJournal (views_of built)
   changed-none gives plan built begun =
-      let ends = All-cons ChangedNoJournal (of-end begun.end) (map of-end begun.others) (no-releases (of-end begun.end) begun.none_released)
-      (new-ends built.system.gates 1 begun.others begun.others_are) in
-      All-append ChangedNoJournal (map of-end built.ends.items) (map of-sender built.senders.items)
-      (subst (λ l. All ChangedNoJournal (map of-end l)) (sym begun.ends_are) ends)
+      let handles = All-cons ChangedNoJournal (of-handle begun.handle) (map of-handle begun.others) (no-releases (of-handle begun.handle) begun.none_released)
+      (new-handles built.system.gates 1 begun.others begun.others_are) in
+      All-append ChangedNoJournal (map of-handle built.handles.items) (map of-sender built.senders.items)
+      (subst (λ l. All ChangedNoJournal (map of-handle l)) (sym begun.handles_are) handles)
       (new-senders built.system.gates most_actors begun.outside built.senders.items begun.senders)
 
 -- ---- sending

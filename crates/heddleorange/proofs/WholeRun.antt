@@ -33,19 +33,19 @@ use Rattle.mb_shutdown.specs.Homes.{HomesReturned}
 use Rattle.mb_shutdown.specs.Seen.{ReportExtendsAll}
 use Rattle.mb_shutdown.specs.CompleteReport.{IsCompleteReport}
 use Rattle.mb_shutdown.proofs.Lists.{at-place, each-place, from-mapped, length-mapped, mapped-to, there, within}
-use Rattle.mb_startup.specs.Begun.{AreNewEnds, AreNewSenders, IsBegun}
+use Rattle.mb_startup.specs.Begun.{AreNewHandles, AreNewSenders, IsBegun}
 use Rattle.mb_system.specs.Belonging.{senders_numbers}
-use Rattle.mb_system.specs.Members.{OutsideSender, StillSee, ends_numbers}
+use Rattle.mb_system.specs.Members.{OutsideSender, StillSee, handle_numbers}
 use Rattle.mb_dispatch.specs.Orders.{addressed, addressed_system, terminates_of}
 use Rattle.mb_system.specs.Shares.{views_of}
 use Rattle.mb_system.specs.declared.built.Built.{Built}
-use Rattle.mb_system.specs.declared.end.WorkerEnd.{WorkerEnd}
+use Rattle.mb_system.specs.declared.handle.WorkerHandle.{WorkerHandle}
 use Rattle.mb_msg.specs.declared.order.Order.{Order}
 use Rattle.mb_startup.proofs.Directories.{of-plan}
 use Rattle.mb_shutdown.specs.Belonging.{AreAnswers, AreThere, HasAllSeen, directory_of}
 use Rattle.mb_shutdown.specs.Refused.{HasHomesReturned}
 use Rattle.mb_shutdown.proofs.Parts.{part-trans}
-use Rattle.mb_startup.proofs.There.{ends-there, length-numbers, number-at, senders-there}
+use Rattle.mb_startup.proofs.There.{handles-there, length-numbers, number-at, senders-there}
 use Rattle.heddleorange.specs.Asked.{AllGetAskedFor}
 use Rattle.heddleorange.specs.Notices.{EachNoticeIsTrue}
 use Rattle.heddleorange.specs.Sent.{HaveSent}
@@ -79,37 +79,37 @@ module _ (gates : Gates (Box Contents)) where
       let rest = new-at (number + 1) rows senders place s are.1 is in (rest.0 ∙ (omega arith), rest.1, rest.2)
 
 -- what holds at each place of two lists holds of what is known at each place
-zip-mapped : {X Y : Type 0} (R : Y → Y → Type 0) (f : X → Y) (xs ys : List X) → AllZip (λ x y. R (f x) (f y)) xs ys → AllZip R (map f xs) (map f ys)
+pub zip-mapped : {X Y : Type 0} (R : Y → Y → Type 0) (f : X → Y) (xs ys : List X) → AllZip (λ x y. R (f x) (f y)) xs ys → AllZip R (map f xs) (map f ys)
 zip-mapped R f [] [] all = tt
 zip-mapped R f [] (y ∷ ys) all = absurd all
 zip-mapped R f (x ∷ xs) [] all = absurd all
 zip-mapped R f (x ∷ xs) (y ∷ ys) all = (all.0, zip-mapped R f xs ys all.1)
 
--- new ends saw nothing
-all-blank : {A K : Type 0} (gates : Gates (Box Contents)) (number : ℕ) (ends : List (WorkerEnd A K)) → AreNewEnds gates number ends
-    → All (λ (v : View). v.log ≡ []) (map (λ (e : WorkerEnd A K). pass_view e.registrar.pass) ends)
+-- new handles saw nothing
+pub all-blank : {A K : Type 0} (gates : Gates (Box Contents)) (number : ℕ) (handles : List (WorkerHandle A K)) → AreNewHandles gates number handles
+    → All (λ (v : View). v.log ≡ []) (map (λ (e : WorkerHandle A K). pass_view e.registrar.pass) handles)
 all-blank gates number [] new = All-nil (λ (v : View). v.log ≡ [])
-all-blank gates number (e ∷ ends) new =
-    All-cons (λ (v : View). v.log ≡ []) (pass_view e.registrar.pass) (map (λ (x : WorkerEnd _ _). pass_view x.registrar.pass) ends) new.0.blank
-    (all-blank gates (number + 1) ends new.1)
+all-blank gates number (e ∷ handles) new =
+    All-cons (λ (v : View). v.log ≡ []) (pass_view e.registrar.pass) (map (λ (x : WorkerHandle _ _). pass_view x.registrar.pass) handles) new.0.blank
+    (all-blank gates (number + 1) handles new.1)
 
 module _ {A K : Type 0} where
-  -- what the first of the ends had seen is among all that they saw
-  led : (log : List Observation) (end : WorkerEnd A K) (others now : List (WorkerEnd A K)) → StillSee (end ∷ others) now
-      → All (λ (e : WorkerEnd A K). IsPart (pass_view e.registrar.pass).log log) now → IsPart (pass_view end.registrar.pass).log log
-  led log end others [] saw seen = absurd saw
-  led log end others (e ∷ now) saw seen =
-      part-trans (pass_view end.registrar.pass).log (pass_view e.registrar.pass).log log saw.0
-      (All-head (λ (x : WorkerEnd A K). IsPart (pass_view x.registrar.pass).log log) e now seen)
+  -- what the first of the handles had seen is among all that they saw
+  led : (log : List Observation) (handle : WorkerHandle A K) (others now : List (WorkerHandle A K)) → StillSee (handle ∷ others) now
+      → All (λ (e : WorkerHandle A K). IsPart (pass_view e.registrar.pass).log log) now → IsPart (pass_view handle.registrar.pass).log log
+  led log handle others [] saw seen = absurd saw
+  led log handle others (e ∷ now) saw seen =
+      part-trans (pass_view handle.registrar.pass).log (pass_view e.registrar.pass).log log saw.0
+      (All-head (λ (x : WorkerHandle A K). IsPart (pass_view x.registrar.pass).log log) e now seen)
 
 module _ {A K : Type 0} (gives : ℕ → Moment → Reply → Type 0) (plan : Plan) (built : Built A K) (begun : IsBegun gives plan built) where
   module _ (orders : List (List Order)) (now : Built A K) (right : length orders ≡ plan.senders) (system : now.system ≡ built.system)
-      (ends : ends_numbers now.ends.items ≡ ends_numbers built.ends.items)
+      (handles : handle_numbers now.handles.items ≡ handle_numbers built.handles.items)
       (sent : HaveSent built.system.gates orders built.senders.items now.senders.items) where
-    pub no-end-missing : AreThere now.system.workers (ends_numbers now.ends.items)
-    no-end-missing =
+    pub no-handle-missing : AreThere now.system.workers (handle_numbers now.handles.items)
+    no-handle-missing =
         let workers : now.system.workers ≡ plan.workers = ap (λ s. s.workers) system ∙ begun.numbers.0 in
-        all-there now.system.workers (ends_numbers now.ends.items) (ends ∙ (ends-there gives plan built begun) ∙ ap (numbers 0) (sym workers))
+        all-there now.system.workers (handle_numbers now.handles.items) (handles ∙ (handles-there gives plan built begun) ∙ ap (numbers 0) (sym workers))
 
     pub no-sender-missing : AreThere now.system.senders (senders_numbers now.senders.items)
     no-sender-missing =
@@ -178,20 +178,20 @@ module _ {A K : Type 0} (gives : ℕ → Moment → Reply → Type 0) (plan : Pl
             ∙ one.keep_letters ∙ began
 
     pub story : (after : ℕ → List Message → ℤ) (report : Report) (log : List Observation) (answers : List (List SentEnvelope))
-        → StillSee built.ends.items now.ends.items
-        → AllOnlyRuns gives (origin_of built.system.gates) plan.throughput built.ends.items now.ends.items → HasAllSeen now log
+        → StillSee built.handles.items now.handles.items
+        → AllOnlyRuns gives (origin_of built.system.gates) plan.throughput built.handles.items now.handles.items → HasAllSeen now log
         → AreAnswers now.system.senders now.senders.items answers
         → IsCompleteReport after gives (first_home now.system.gates).value.directory log answers report
         → KeepsLetters now report
-        → All (λ (e : WorkerEnd A K). ReportExtendsAll report (pass_view e.registrar.pass)) now.ends.items
+        → All (λ (e : WorkerHandle A K). ReportExtendsAll report (pass_view e.registrar.pass)) now.handles.items
         → All (λ (s : OutsideSender). ReportExtendsAll report (pass_view s.registrar.pass)) now.senders.items
         → HasHomesReturned gives now report
         → ((id : ℕ) (a : ActorReport) → slice_get report.actors.items id ≡ Some a → ReleasesAddUp id a.journal.entries (views_of now))
         → CountsAllPutBy plan report (views_of now) → AllGetAskedFor plan orders report → EachNoticeIsTrue report
         → IsReportOfRun after gives plan orders report
-    story after report log answers saw runs seen answered whole letters ends_seen senders_seen home releases put asked notices =
+    story after report log answers saw runs seen answered whole letters handles_seen senders_seen home releases put asked notices =
         let knows = λ (s : OutsideSender). pass_view s.registrar.pass in
-        let knew = λ (e : WorkerEnd A K). pass_view e.registrar.pass in
+        let knew = λ (e : WorkerHandle A K). pass_view e.registrar.pass in
         let IsTold = λ (v : View). IsPart v.log log × ReportExtendsAll report v in record {
           directory = (first_home built.system.gates).value.directory;
           planned = of-plan gives plan built begun;
@@ -211,25 +211,25 @@ module _ {A K : Type 0} (gives : ℕ → Moment → Reply → Type 0) (plan : Pl
           };
           knew = map knows now.senders.items;
           all_knew = length-mapped knows now.senders.items ∙ sent.same_count ∙ (senders-there gives plan built begun).0;
-          ends = map knew now.ends.items;
-          all_ends = length-mapped knew now.ends.items
-              ∙ sym (length-mapped (λ (e : WorkerEnd A K). e.number) now.ends.items) ∙ ap length (ends ∙ (ends-there gives plan built begun)) ∙ length-numbers 0 plan.workers;
+          handles = map knew now.handles.items;
+          all_handles = length-mapped knew now.handles.items
+              ∙ sym (length-mapped (λ (e : WorkerHandle A K). e.number) now.handles.items) ∙ ap length (handles ∙ (handles-there gives plan built begun)) ∙ length-numbers 0 plan.workers;
           seen = (
             All-map IsTold knows now.senders.items (λ k d lt. (seen.1 k d lt, senders_seen k d lt)),
-            All-map IsTold knew now.ends.items (λ k d lt. (seen.0 k d lt, ends_seen k d lt)),
+            All-map IsTold knew now.handles.items (λ k d lt. (seen.0 k d lt, handles_seen k d lt)),
           );
           origin = origin_of built.system.gates;
           same_gates = (refl, sym built.system.directory);
-          began = map knew built.ends.items;
-          began_new = subst (λ (l : List (WorkerEnd A K)). AreNewViews (map knew l)) (sym begun.ends_are)
+          began = map knew built.handles.items;
+          began_new = subst (λ (l : List (WorkerHandle A K)). AreNewViews (map knew l)) (sym begun.handles_are)
               (begun.created, all-blank built.system.gates 1 begun.others begun.others_are);
-          runs = zip-mapped (OnlyRuns gives (origin_of built.system.gates) plan.throughput) knew built.ends.items now.ends.items runs;
+          runs = zip-mapped (OnlyRuns gives (origin_of built.system.gates) plan.throughput) knew built.handles.items now.handles.items runs;
           releases = releases;
           put = put;
           created = (
             begun.created.0,
             subst (λ l. IsPart l log) begun.created.1
-                (led log begun.end begun.others now.ends.items (subst (λ l. StillSee l now.ends.items) begun.ends_are saw) seen.0),
+                (led log begun.handle begun.others now.handles.items (subst (λ l. StillSee l now.handles.items) begun.handles_are saw) seen.0),
           );
           asked = asked;
           notices = notices;

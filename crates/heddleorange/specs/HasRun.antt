@@ -5,22 +5,22 @@ use Rattle.mb_gate.specs.Untouched.{origin_of}
 use Rattle.mb_msg.specs.declared.order.Order.{Order}
 use Rattle.mb_msg.specs.declared.plan.Plan.{Plan}
 use Rattle.mb_startup.specs.Begun.{IsBegun}
-use Rattle.mb_system.specs.Members.{StillSee, ends_numbers}
+use Rattle.mb_system.specs.Members.{StillSee, handle_numbers}
 use Rattle.mb_system.specs.declared.built.Built.{Built}
 use Rattle.heddleorange.specs.NoReport.{IsRight}
 use Rattle.heddleorange.specs.Sent.{HaveSent}
 use Rattle.heddleorange.specs.Workers.{AllOnlyRuns}
 
--- It is the system that was built of this plan, with all its ends, which forgot nothing that they saw. Each end only made runs of mailboxes of this
+-- It is the system that was built of this plan, with all its handles, which forgot nothing that they saw. Each handle only made runs of mailboxes of this
 -- system, by the plan's throughput, and each of its senders carried out the orders of its place.
 pub record HasRun {A K : Type 0} (gives : ℕ → Moment → Reply → Type 0) (plan : Plan) (orders : List (List Order)) (now : Built A K) : Type 0 where
   pub first : Built A K
   pub begun : IsBegun gives plan first
   pub system : now.system ≡ first.system
-  pub ends : ends_numbers now.ends.items ≡ ends_numbers first.ends.items
+  pub handles : handle_numbers now.handles.items ≡ handle_numbers first.handles.items
   pub sent : HaveSent first.system.gates orders first.senders.items now.senders.items
-  pub log_kept : StillSee first.ends.items now.ends.items
-  pub runs : AllOnlyRuns gives (origin_of first.system.gates) plan.throughput first.ends.items now.ends.items
+  pub log_kept : StillSee first.handles.items now.handles.items
+  pub runs : AllOnlyRuns gives (origin_of first.system.gates) plan.throughput first.handles.items now.handles.items
 
 -- It has run so, by a plan and orders that are right, and with this limit of its journals.
 pub record HasRunWithin {A K : Type 0} (gives : ℕ → Moment → Reply → Type 0) (limit : ℕ) (now : Built A K) : Type 0 where

@@ -1,4 +1,6 @@
 pub mod Sent
+pub mod BrokenOff
+pub mod LastRun
 pub mod Workers
 pub mod Asked
 pub mod Arrived
@@ -19,6 +21,12 @@ pub mod Turns
 pub mod Covering
 pub mod NamedOrder
 pub mod GivesBack
+pub mod ReportsRun
+pub mod GivesNoReport
+pub mod SentAndRun
+pub mod RanQuietly
+pub mod TellsTurns
+pub mod Settings
 pub mod Added
 pub mod AddedAll
 pub mod Notices

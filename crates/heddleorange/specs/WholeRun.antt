@@ -66,10 +66,10 @@ CountsAllPutBy plan report vs = (id : ℕ) (who : Identity) (a : ActorReport) �
     → slice_get report.actors.items id ≡ Some a → (counts : CountsSystems [] who a) × IsAllPut id counts.pushed vs
 
 -- The report of a whole run. It tells of all actors of this plan, and of the plan's senders outside, each of which carried out the orders of its
--- place. It tells of all that the senders and the workers' ends saw, and extends that; and they saw that a Create went into the guardian's list. It
--- is made of what gates with this directory gave back. From what it knew in the new system to what it saw, each end only made runs of mailboxes of
--- these gates, by the plan's throughput. The journal of each actor is what came of an empty one in the cells that these ends and senders gave back, so
--- what these runs added. What came into an actor's list of system messages is what these ends and senders put there, the answers for lists that had ended
+-- place. It tells of all that the senders and the workers' handles saw, and extends that; and they saw that a Create went into the guardian's list. It
+-- is made of what gates with this directory gave back. From what it knew in the new system to what it saw, each handle only made runs of mailboxes of
+-- these gates, by the plan's throughput. The journal of each actor is what came of an empty one in the cells that these handles and senders gave back, so
+-- what these runs added. What came into an actor's list of system messages is what these handles and senders put there, the answers for lists that had ended
 -- too. But for such answers it is what orders, entries of journals and the start of the guardian asked for; into the list of an actor which has ended came
 -- no more than that. Each notice of an end that came to an actor is of an actor that has ended. As much is kept of each sender's dead letters as the plan says of journals.
 pub record IsReportOfRun (after : ℕ → List Message → ℤ) (gives : ℕ → Moment → Reply → Type 0) (plan : Plan) (orders : List (List Order)) (report : Report)
@@ -83,16 +83,16 @@ pub record IsReportOfRun (after : ℕ → List Message → ℤ) (gives : ℕ →
   pub homes : IsOfHomes gives directory report
   pub knew : List View
   pub all_knew : length knew ≡ plan.senders
-  pub ends : List View
-  pub all_ends : length ends ≡ plan.workers
-  pub seen : All (λ (v : View). IsPart v.log log × ReportExtendsAll report v) knew × All (λ (v : View). IsPart v.log log × ReportExtendsAll report v) ends
+  pub handles : List View
+  pub all_handles : length handles ≡ plan.workers
+  pub seen : All (λ (v : View). IsPart v.log log × ReportExtendsAll report v) knew × All (λ (v : View). IsPart v.log log × ReportExtendsAll report v) handles
   pub origin : Origin (Box Contents)
   pub same_gates : (origin.first.value ≡ homes.first) × (origin.actors ≡ length directory)
   pub began : List View
   pub began_new : AreNewViews began
-  pub runs : AllZip (OnlyRuns gives origin plan.throughput) began ends
-  pub releases : (id : ℕ) (a : ActorReport) → slice_get report.actors.items id ≡ Some a → ReleasesAddUp id a.journal.entries (ends ++ knew)
-  pub put : CountsAllPutBy plan report (ends ++ knew)
+  pub runs : AllZip (OnlyRuns gives origin plan.throughput) began handles
+  pub releases : (id : ℕ) (a : ActorReport) → slice_get report.actors.items id ≡ Some a → ReleasesAddUp id a.journal.entries (handles ++ knew)
+  pub put : CountsAllPutBy plan report (handles ++ knew)
   pub created : (number : ℕ) × IsPart (Pushed 0 number Create ∷ []) log
   pub asked : AllGetAskedFor plan orders report
   pub notices : EachNoticeIsTrue report

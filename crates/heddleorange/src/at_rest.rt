@@ -10,7 +10,7 @@ ghost use Rattle.heddleorange.specs.AtRest.{LeavesNobodyToRun};
 ghost use Rattle.heddleorange.specs.GivesBack.{GivesNothingBack};
 ghost use Rattle.heddleorange.specs.HasRun.{HasRun, HasRunWithin};
 ghost use Rattle.heddleorange.specs.NoReport.{IsErrorOfRun, IsRight};
-ghost use Rattle.heddleorange.specs.Remains.{BringsOwnEnds, IsFailureFor};
+ghost use Rattle.heddleorange.specs.Remains.{BringsOwnHandles, IsFailureFor};
 ghost use Rattle.heddleorange.specs.WholeRun.{IsReportOfRun};
 
 use crate::broken_off::broken_off;
@@ -27,7 +27,7 @@ use std::alloc::Global;
 use std::sync::Wait;
 
 /// Ends a system that has run, as `finish_run` does, once it is at rest: as long as a look at its end finds an actor that has something to
-/// run, its first end runs on this thread what there is to run. This is the limit of its journals.
+/// run, its first handle runs on this thread what there is to run. This is the limit of its journals.
 pub(crate) fn finish_at_rest<A: Actor, K: Behaviours, R: Wait>(
     rt: &R,
     built: Built<A, K>,
@@ -68,7 +68,7 @@ fn left_to_run<A: Actor, K: Behaviours, R: Wait>(
     error: FinishError<A, K>,
 ) -> Result<Built<A, K>, FailedRun<A>>
     requires whole { (actors : ℕ) × IsOfWhole actors error }
-    requires own_ends { BringsOwnEnds error }
+    requires own_handles { BringsOwnHandles error }
     ensures again { IfOk result (λ left. (id : Id) × (error ≡ NotQuiet id left)) }
     ensures why { IfErr result (IsFailureFor K.gives error) }
     ensures at_rest { IfErr result LeavesNobodyToRun }
@@ -81,7 +81,7 @@ fn left_to_run<A: Actor, K: Behaviours, R: Wait>(
             alloc,
             Error::Mismatch(mismatch),
         )),
-        FinishError::MissingEnd(_, _) => unreachable!(),
+        FinishError::MissingHandle(_, _) => unreachable!(),
         FinishError::MissingSender(_, _) => unreachable!(),
     }
 }

@@ -4,8 +4,8 @@ ghost use Rattle.std.specs.List.{list_any, position_from};
 ghost use Rattle.mb_build.specs.BehavesAsPlanned.{BehaveAsPlanned};
 ghost use Rattle.mb_build.specs.Reasons.{reasons};
 ghost use Rattle.mb_startup.specs.Begun.{IsBegun};
-ghost use Rattle.heddleorange.specs.AtRest.{LeavesNobodyToRun};
 ghost use Rattle.heddleorange.specs.GivesBack.{GivesBack, GivesNothingBack};
+ghost use Rattle.heddleorange.specs.GivesNoReport.{GivesNoReport};
 ghost use Rattle.heddleorange.specs.NamedOrder.{IsFirstForNobody, NamesInLists, NamesInRow};
 ghost use Rattle.heddleorange.specs.NoReport.{IsErrorOfRun, IsRight, IsUnfit, has_nobody, has_one_for_nobody};
 ghost use Rattle.heddleorange.specs.Orders.{is_from_nobody, lists_of};
@@ -17,7 +17,6 @@ use mb_actor::{Actor, Behaviours};
 use mb_build::check_plan;
 use mb_msg::{ActorId, Order, Plan, SenderOrder};
 use mb_source::has_nobody;
-use mb_startup::{BuildError, build};
 use mb_system::Built;
 use std::alloc::Global;
 use std::sync::Wait;
@@ -33,10 +32,7 @@ pub(crate) fn begin<A: Actor, K: Behaviours, R: Wait>(
     requires behaved { BehaveAsPlanned A.content A.after A.gives K.after K.gives 1 actors.items }
     ensures begun { IfOk result (IsBegun K.gives plan) }
     ensures right { OnOk result (IsRight plan (length actors.items) (map (λ orders. orders.items) sends.now)) }
-    ensures refused { IfErr result (IsErrorOfRun K.gives plan (length actors.items) (map (λ orders. orders.items) sends.now)) }
-    ensures which { IfErr result (λ failed. NamesInLists (length actors.items) (map (λ orders. orders.items) sends.now) failed.error) }
-    ensures at_rest { IfErr result LeavesNobodyToRun }
-    ensures back { IfErr result (GivesBack plan actors.items []) }
+    ensures failure { IfErr result (GivesNoReport K.gives plan actors.items [] (map (λ orders. orders.items) sends.now)) }
 {
     if let Err(error) = check(&plan, actors.len(), sends) {
         return Err(FailedRun::refused(alloc, error, plan, actors));
@@ -78,10 +74,9 @@ pub(crate) fn build_checked<A: Actor, K: Behaviours, R: Wait>(
     ensures refused { IfErr result IsWithoutMemory }
     ensures back { IfErr result GivesNothingBack }
 {
-    match build::<A, K, R>(rt, alloc, plan, actors) {
+    match mb_startup::build_checked::<A, K, R>(rt, alloc, plan, actors) {
         Ok(built) => Ok(built),
-        Err(BuildError::NoMemory) => Err(FailedRun::without_actors(alloc, Error::NoMemory)),
-        Err(BuildError::BadPlan(_, _, _)) => unreachable!(),
+        Err(_) => Err(FailedRun::without_actors(alloc, Error::NoMemory)),
     }
 }
 
@@ -194,15 +189,8 @@ fn first_such_sender(actors: usize, sends: &[Vec<Order>]) -> Option<usize>
         .position(|orders| has_such_an_order(actors, orders))
 }
 
-// Whether one of the orders of this sender can.
-fn has_such_an_order(actors: usize, orders: &Vec<Order>) -> bool
-    ensures { result ≡ list_any (has_nobody actors) orders.now.items }
-{
-    has_one_of_these(actors, orders)
-}
-
 // Whether one of these can.
-fn has_one_of_these(actors: usize, orders: &[Order]) -> bool
+fn has_such_an_order(actors: usize, orders: &[Order]) -> bool
     ensures { result ≡ list_any (has_nobody actors) orders.now }
 {
     orders.iter().any(|order| has_nobody(actors, order))

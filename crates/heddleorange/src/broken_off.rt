@@ -4,7 +4,7 @@ ghost use Rattle.std.specs.List.{position_from};
 ghost use Rattle.mb_gate.specs.Accessors.{actors_of};
 ghost use Rattle.mb_system.specs.declared.failure.RunError.TheVariants.{JournalFull, NoSuchActor};
 ghost use Rattle.heddleorange.specs.GivesBack.{GivesNothingBack, tells_of_nothing_done};
-ghost use Rattle.heddleorange.specs.Remains.{HasOwnEnds, IsBrokenOff, IsToldAs, LackOne, SawFull, ShowFull, is_full};
+ghost use Rattle.heddleorange.specs.Remains.{HasOwnHandles, IsBrokenOff, IsToldAs, LackOne, SawFull, ShowFull, is_full};
 
 use crate::error::Error;
 use crate::failed_run::FailedRun;
@@ -23,9 +23,9 @@ pub(crate) fn broken_off<A: Actor, K: Behaviours, R: Wait>(
     fault: RunError,
     limit: u64,
 ) -> FailedRun<A>
-    requires own_ends { HasOwnEnds built }
+    requires own_handles { HasOwnHandles built }
     requires somebody { fault ≢ NoSuchActor }
-    requires full { fault ≡ JournalFull → SawFull (actors_of built.system.gates) limit built.ends.items }
+    requires full { fault ≡ JournalFull → SawFull (actors_of built.system.gates) limit built.handles.items }
     ensures left { IsBrokenOff K.gives built fault limit result }
     ensures back { GivesNothingBack result }
 {

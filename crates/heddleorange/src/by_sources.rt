@@ -1,5 +1,5 @@
 //! A run whose senders take their orders from sources, on as many threads as there are workers.
-ghost use Rattle.std.specs.Prelude.{◌≡◌, ◌+◌, ℤ, pos, [], All, IfErr, IfOk, List, OnOk, Option, length};
+ghost use Rattle.std.specs.Prelude.{◌≡◌, ℤ, pos, [], All, IfErr, IfOk, List, OnOk, Option, length};
 ghost use Rattle.std.specs.List.{AllZip};
 ghost use Rattle.mb_actor.specs.declared.message.Message.{Message};
 ghost use Rattle.mb_actor.specs.declared.message.Message.TheVariants.{Terminated};
@@ -7,16 +7,10 @@ ghost use Rattle.mb_msg.specs.declared.id.ActorId.{ActorId as Id};
 ghost use Rattle.mb_quantity.specs.Quantity.{AllConserve, Holding};
 ghost use Rattle.mb_source.specs.Given.{Gave, GaveAll};
 ghost use Rattle.heddleorange.specs.Conservation.{IsConserved};
-ghost use Rattle.heddleorange.specs.AtRest.{LeavesNobodyToRun};
 ghost use Rattle.heddleorange.specs.FromSources.{orders_given};
-ghost use Rattle.heddleorange.specs.GivesBack.{GivesBack};
-ghost use Rattle.heddleorange.specs.Kept.{KeepsAsPlanned};
-ghost use Rattle.heddleorange.specs.Ledger.{AddsUp, AddsUpByCounts};
-ghost use Rattle.heddleorange.specs.NamedOrder.{NamesInLists};
-ghost use Rattle.heddleorange.specs.NoReport.{IsErrorOfRun, IsRight};
-ghost use Rattle.heddleorange.specs.RunHeadline.{RunHeadline};
-ghost use Rattle.heddleorange.specs.States.{ShowsStates};
-ghost use Rattle.heddleorange.specs.WholeRun.{IsReportOfRun, after_at, gives_at};
+ghost use Rattle.heddleorange.specs.GivesNoReport.{GivesNoReport};
+ghost use Rattle.heddleorange.specs.ReportsRun.{ReportsRun};
+ghost use Rattle.heddleorange.specs.WholeRun.{gives_at};
 
 use crate::failed_run::FailedRun;
 use crate::named_report::NamedReport;
@@ -40,23 +34,12 @@ impl<A: Actor + Send> PlannedSystem<A> {
         sources: &mut [RecordedSource<S>],
     ) -> Result<NamedReport, FailedRun<A>>
         requires unused { All (λ actor. A.content actor ≡ A.after actor []) self.actors.items }
-        ensures story { IfOk result (λ done. IsReportOfRun (after_at self.actors.items A.after) (gives_at self.actors.items A.gives) self.plan
+        ensures report { IfOk result (λ done. ReportsRun A.after A.gives self.plan self.actors.items
             (orders_given (length self.actors.items) sources.old sources.new) done.report) }
-        ensures right { OnOk result (IsRight self.plan (length self.actors.items) (orders_given (length self.actors.items) sources.old sources.new)) }
-        ensures refused { IfErr result (IsErrorOfRun (gives_at self.actors.items A.gives) self.plan (length self.actors.items)
+        ensures failure { IfErr result (GivesNoReport (gives_at self.actors.items A.gives) self.plan self.actors.items self.names.texts.items
             (orders_given (length self.actors.items) sources.old sources.new)) }
-        ensures which { IfErr result (λ failed. NamesInLists (length self.actors.items)
-            (orders_given (length self.actors.items) sources.old sources.new) failed.error) }
         ensures gave { AllZip (Gave S.gives S.takes_back (length self.actors.items)) sources.old sources.new }
         ensures gave_all { OnOk result (AllZip (GaveAll S.gives S.takes_back (length self.actors.items)) sources.old sources.new) }
-        ensures at_rest { IfErr result LeavesNobodyToRun }
-        ensures back { IfErr result (GivesBack self.plan self.actors.items self.names.texts.items) }
-        ensures states { IfOk result (λ done. ShowsStates A.after self.actors.items self.plan done.report) }
-        ensures lines { IfOk result (λ done. length done.report.actors.items ≡ length self.actors.items + 1) }
-        ensures headline { IfOk result (λ done. RunHeadline self.plan (orders_given (length self.actors.items) sources.old sources.new) done.report) }
-        ensures ledger { IfOk result (λ done. AddsUp self.plan (orders_given (length self.actors.items) sources.old sources.new) done.report) }
-        ensures counts { IfOk result (λ done. AddsUpByCounts done.report) }
-        ensures kept { IfOk result (λ done. KeepsAsPlanned self.plan done.report) }
         ensures names { IfOk result (λ done. done.names.texts.items ≡ self.names.texts.items) }
         ensures conserved { (worth : Message → ℤ) (holdings : List (Option Holding)) → ((ended : Id) → worth (Terminated ended) ≡ pos 0)
             → AllConserve A.after A.gives worth holdings self.actors.items
@@ -88,23 +71,12 @@ impl<A: Actor + Send> NewSystem<A> {
         alloc: Global,
         sources: &mut [RecordedSource<S>],
     ) -> Result<NamedReport, FailedRun<A>>
-        ensures story { IfOk result (λ done. IsReportOfRun (after_at self.system.actors.items A.after) (gives_at self.system.actors.items A.gives) self.system.plan
+        ensures report { IfOk result (λ done. ReportsRun A.after A.gives self.system.plan self.system.actors.items
             (orders_given (length self.system.actors.items) sources.old sources.new) done.report) }
-        ensures right { OnOk result (IsRight self.system.plan (length self.system.actors.items) (orders_given (length self.system.actors.items) sources.old sources.new)) }
-        ensures refused { IfErr result (IsErrorOfRun (gives_at self.system.actors.items A.gives) self.system.plan (length self.system.actors.items)
+        ensures failure { IfErr result (GivesNoReport (gives_at self.system.actors.items A.gives) self.system.plan self.system.actors.items self.system.names.texts.items
             (orders_given (length self.system.actors.items) sources.old sources.new)) }
-        ensures which { IfErr result (λ failed. NamesInLists (length self.system.actors.items)
-            (orders_given (length self.system.actors.items) sources.old sources.new) failed.error) }
         ensures gave { AllZip (Gave S.gives S.takes_back (length self.system.actors.items)) sources.old sources.new }
         ensures gave_all { OnOk result (AllZip (GaveAll S.gives S.takes_back (length self.system.actors.items)) sources.old sources.new) }
-        ensures at_rest { IfErr result LeavesNobodyToRun }
-        ensures back { IfErr result (GivesBack self.system.plan self.system.actors.items self.system.names.texts.items) }
-        ensures states { IfOk result (λ done. ShowsStates A.after self.system.actors.items self.system.plan done.report) }
-        ensures lines { IfOk result (λ done. length done.report.actors.items ≡ length self.system.actors.items + 1) }
-        ensures headline { IfOk result (λ done. RunHeadline self.system.plan (orders_given (length self.system.actors.items) sources.old sources.new) done.report) }
-        ensures ledger { IfOk result (λ done. AddsUp self.system.plan (orders_given (length self.system.actors.items) sources.old sources.new) done.report) }
-        ensures counts { IfOk result (λ done. AddsUpByCounts done.report) }
-        ensures kept { IfOk result (λ done. KeepsAsPlanned self.system.plan done.report) }
         ensures names { IfOk result (λ done. done.names.texts.items ≡ self.system.names.texts.items) }
         ensures conserved { (worth : Message → ℤ) (holdings : List (Option Holding)) → ((ended : Id) → worth (Terminated ended) ≡ pos 0)
             → AllConserve A.after A.gives worth holdings self.system.actors.items

@@ -9,7 +9,7 @@ ghost use Rattle.mb_system.specs.Belonging.{BelongsTogether};
 ghost use Rattle.heddleorange.specs.GivesBack.{GivesNothingBack, tells_of_nothing_done};
 ghost use Rattle.heddleorange.specs.HasRun.{HasRun};
 ghost use Rattle.heddleorange.specs.NoReport.{IsErrorOfRun, IsRight};
-ghost use Rattle.heddleorange.specs.Remains.{BringsOwnEnds, HasOwnEnds, IsFailureFor, IsLeftFor};
+ghost use Rattle.heddleorange.specs.Remains.{BringsOwnHandles, HasOwnHandles, IsFailureFor, IsLeftFor};
 ghost use Rattle.heddleorange.specs.WholeRun.{IsReportOfRun};
 
 use crate::error::Error;
@@ -34,7 +34,7 @@ pub(crate) fn finish_run<A: Actor, K: Behaviours, R: Wait>(
     ensures refused { IfErr result (λ failed. (plan : PlanOf) (actors : ℕ) (orders : List (List OrderOf)) → IsRight plan actors orders
         → HasRun K.gives plan orders built → IsErrorOfRun K.gives plan actors orders failed) }
     ensures back { IfErr result GivesNothingBack }
-    ensures seen { IfOk result (λ report. All (λ e. ReportExtendsAll report (pass_view e.registrar.pass)) built.ends.items) }
+    ensures seen { IfOk result (λ report. All (λ e. ReportExtendsAll report (pass_view e.registrar.pass)) built.handles.items) }
     ensures releases { IfOk result (ReleasesAddUpTo built) }
 {
     let alloc = built.system.alloc;
@@ -44,14 +44,14 @@ pub(crate) fn finish_run<A: Actor, K: Behaviours, R: Wait>(
     }
 }
 
-// The failure of a system that gave no report although all its ends and senders came back.
+// The failure of a system that gave no report although all its handles and senders came back.
 fn without_report<A: Actor, K: Behaviours, R: Wait>(
     rt: &R,
     alloc: Global,
     error: FinishError<A, K>,
 ) -> FailedRun<A>
     requires whole { (actors : ℕ) × IsOfWhole actors error }
-    requires own_ends { BringsOwnEnds error }
+    requires own_handles { BringsOwnHandles error }
     ensures why { IsFailureFor K.gives error result }
     ensures back { GivesNothingBack result }
 {
@@ -61,18 +61,19 @@ fn without_report<A: Actor, K: Behaviours, R: Wait>(
         FinishError::Mismatch(mismatch) => {
             FailedRun::without_actors(alloc, Error::Mismatch(mismatch))
         }
-        FinishError::MissingEnd(_, _) => unreachable!(),
+        FinishError::MissingHandle(_, _) => unreachable!(),
         FinishError::MissingSender(_, _) => unreachable!(),
     }
 }
 
-/// What is left of the actors of a system that has no report for this reason.
+/// What is left of the actors of a system that has no report for this reason, which is told in any case. Nothing is shown if memory was refused for
+/// that.
 pub(crate) fn left_for<A: Actor, K: Behaviours, R: Wait>(
     rt: &R,
     built: Built<A, K>,
     error: Error,
 ) -> FailedRun<A>
-    requires own_ends { HasOwnEnds built }
+    requires own_handles { HasOwnHandles built }
     requires begun { tells_of_nothing_done error ≡ false }
     ensures left { IsLeftFor K.gives built error result }
     ensures back { GivesNothingBack result }
@@ -85,6 +86,6 @@ pub(crate) fn left_for<A: Actor, K: Behaviours, R: Wait>(
             untouched: None,
             names: Names::new(alloc),
         },
-        Err(_) => FailedRun::without_actors(alloc, Error::NoMemory),
+        Err(_) => FailedRun::without_actors(alloc, error),
     }
 }

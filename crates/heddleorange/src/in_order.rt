@@ -1,18 +1,13 @@
 //! A whole run on one thread, where the orders of all senders stand in one row.
-ghost use Rattle.std.specs.Prelude.{◌≡◌, ◌+◌, [], All, IfErr, IfOk, OnOk, length};
-ghost use Rattle.mb_msg.specs.JournalMode.{retention_of};
+ghost use Rattle.std.specs.Prelude.{◌≡◌, [], All, IfErr, IfOk, OnOk, length};
 ghost use Rattle.mb_build.specs.BehavesAsPlanned.{BehaveAsPlanned};
-ghost use Rattle.mb_dispatch.specs.Runs.{turns_in};
 ghost use Rattle.heddleorange.specs.GivesBack.{GivesBack};
-ghost use Rattle.heddleorange.specs.Kept.{KeepsAsPlanned};
-ghost use Rattle.heddleorange.specs.Ledger.{AddsUp, AddsUpByCounts};
 ghost use Rattle.heddleorange.specs.NamedOrder.{NamesInRow};
 ghost use Rattle.heddleorange.specs.NoReport.{IsErrorOfRun, IsRight};
 ghost use Rattle.heddleorange.specs.Orders.{lists_of};
-ghost use Rattle.heddleorange.specs.RunHeadline.{RunHeadline};
-ghost use Rattle.heddleorange.specs.States.{ShowsStates};
-ghost use Rattle.heddleorange.specs.Turns.{AreStretches, AreTurnsOf, CoverJournals};
-ghost use Rattle.heddleorange.specs.WholeRun.{IsReportOfRun, after_at, gives_at};
+ghost use Rattle.heddleorange.specs.ReportsRun.{ReportsRun};
+ghost use Rattle.heddleorange.specs.TellsTurns.{TellsTurns};
+ghost use Rattle.heddleorange.specs.WholeRun.{IsReportOfRun, gives_at};
 
 use crate::begin::begin_in_order;
 use crate::broken_off::broken_off;
@@ -51,22 +46,11 @@ pub fn run_in_order<A: Actor, R: Wait>(
     sends: &[SenderOrder],
 ) -> Result<QuietRun, FailedRun<A>>
     requires unused { All (λ actor. A.content actor ≡ A.after actor []) actors.items }
-    ensures story { IfOk result (λ run. IsReportOfRun (after_at actors.items A.after) (gives_at actors.items A.gives) plan
-        (lists_of plan.senders sends.now) run.report) }
-    ensures right { OnOk result (IsRight plan (length actors.items) (lists_of plan.senders sends.now)) }
+    ensures report { IfOk result (λ run. ReportsRun A.after A.gives plan actors.items (lists_of plan.senders sends.now) run.report) }
+    ensures turns { IfOk result (λ run. TellsTurns plan run.report run.turns) }
     ensures refused { IfErr result (IsErrorOfRun (gives_at actors.items A.gives) plan (length actors.items) (lists_of plan.senders sends.now)) }
     ensures which { IfErr result (λ failed. NamesInRow plan.senders (length actors.items) sends.now failed.error) }
     ensures back { IfErr result (GivesBack plan actors.items []) }
-    ensures states { IfOk result (λ run. ShowsStates A.after actors.items plan run.report) }
-    ensures lines { IfOk result (λ run. length run.report.actors.items ≡ length actors.items + 1) }
-    ensures headline { IfOk result (λ run. RunHeadline plan (lists_of plan.senders sends.now) run.report) }
-    ensures ledger { IfOk result (λ run. AddsUp plan (lists_of plan.senders sends.now) run.report) }
-    ensures counts { IfOk result (λ run. AddsUpByCounts run.report) }
-    ensures kept { IfOk result (λ run. KeepsAsPlanned plan run.report) }
-    ensures turns { IfOk result (λ run. AreTurnsOf plan (turns_in run.turns)) }
-    ensures stretches { IfOk result (λ run. AreStretches run.report (turns_in run.turns)) }
-    ensures covers { IfOk result (λ run. CoverJournals run.report (turns_in run.turns)) }
-    ensures kept_turns { IfOk result (λ run. run.turns.list.retention ≡ retention_of plan.journal) }
 {
     run_planned_in_order::<A, Brand, R>(rt, alloc, plan, actors, sends)
 }
@@ -85,10 +69,7 @@ fn run_planned_in_order<A: Actor, K: Behaviours, R: Wait>(
     ensures refused { IfErr result (IsErrorOfRun K.gives plan (length actors.items) (lists_of plan.senders sends.now)) }
     ensures which { IfErr result (λ failed. NamesInRow plan.senders (length actors.items) sends.now failed.error) }
     ensures back { IfErr result (GivesBack plan actors.items []) }
-    ensures turns { IfOk result (λ run. AreTurnsOf plan (turns_in run.turns)) }
-    ensures stretches { IfOk result (λ run. AreStretches run.report (turns_in run.turns)) }
-    ensures covers { IfOk result (λ run. CoverJournals run.report (turns_in run.turns)) }
-    ensures kept_turns { IfOk result (λ run. run.turns.list.retention ≡ retention_of plan.journal) }
+    ensures turns { IfOk result (λ run. TellsTurns plan run.report run.turns) }
 {
     let (limit, keeps) = (plan.journal_limit, plan.journal);
     let mut built = begin_in_order::<A, K, R>(rt, alloc, plan, actors, sends)?;

@@ -9,6 +9,7 @@
 //! `FailedRun` says why, and shows what is left of the actors. To drive a system by hand, use `mb_dispatch`.
 #![tactic(auto)]
 
+mod adding;
 mod at_rest;
 mod begin;
 mod begin_from;

@@ -1,23 +1,18 @@
 //! A planned system all of whose actors are new.
-ghost use Rattle.std.specs.Prelude.{◌≡◌, ◌⊎◌, ◌+◌, ◌<◌, ◌≤◌, ◌↔◌, ℤ, pos, [], All, IfErr, IfOk, IsErrOf, None, Some, List, OnOk, Option, length, map};
+ghost use Rattle.std.specs.Prelude.{◌≡◌, ◌⊎◌, ◌+◌, ◌<◌, ◌≤◌, ◌↔◌, ℤ, pos, [], All, IfErr, IfOk, IsErrOf, None, Some, List, OnErr, OnOk, Option, length, map};
 ghost use Rattle.mb_actor.specs.declared.message.Message.{Message};
 ghost use Rattle.mb_actor.specs.declared.message.Message.TheVariants.{Terminated};
 ghost use Rattle.mb_msg.specs.declared.id.ActorId.{ActorId as Id};
 ghost use Rattle.mb_quantity.specs.Quantity.{AllConserve, Holding};
 ghost use Rattle.mb_build.specs.declared.check.PlanError.TheVariants.{Actors, Parent};
-ghost use Rattle.heddleorange.specs.Added.{IsAdded};
+ghost use Rattle.heddleorange.specs.Added.{Adds, AddsNothing, RefusesPlace};
 ghost use Rattle.heddleorange.specs.AddedAll.{AreAdded, first_taken, names_behind};
 ghost use Rattle.heddleorange.specs.Conservation.{IsConserved};
-ghost use Rattle.heddleorange.specs.AtRest.{LeavesNobodyToRun};
-ghost use Rattle.heddleorange.specs.GivesBack.{GivesBack};
-ghost use Rattle.heddleorange.specs.Kept.{KeepsAsPlanned};
-ghost use Rattle.heddleorange.specs.Ledger.{AddsUp, AddsUpByCounts};
+ghost use Rattle.heddleorange.specs.GivesNoReport.{GivesNoReport};
 ghost use Rattle.heddleorange.specs.Names.{name_by_default, number_of, texts_of};
-ghost use Rattle.heddleorange.specs.NamedOrder.{NamesInLists};
-ghost use Rattle.heddleorange.specs.NoReport.{IsErrorOfRun, IsRight};
-ghost use Rattle.heddleorange.specs.RunHeadline.{RunHeadline};
-ghost use Rattle.heddleorange.specs.States.{ShowsStates};
-ghost use Rattle.heddleorange.specs.WholeRun.{IsReportOfRun, after_at, gives_at};
+ghost use Rattle.heddleorange.specs.ReportsRun.{ReportsRun};
+ghost use Rattle.heddleorange.specs.Settings.{HasSettings};
+ghost use Rattle.heddleorange.specs.WholeRun.{gives_at};
 ghost use Rattle.heddleorange.specs.declared.error.Error.TheVariants.{BadPlan, NameTaken, NoMemory};
 
 use crate::error::Error;
@@ -47,12 +42,7 @@ impl<A: Actor> NewSystem<A> {
         ensures actors { result.system.actors.items ≡ [] }
         ensures planned { result.system.plan.actors.items ≡ [] }
         ensures named { result.system.names.texts.items ≡ [] }
-        ensures throughput { result.system.plan.throughput ≡ settings.throughput }
-        ensures workers { result.system.plan.workers ≡ settings.workers }
-        ensures pool { result.system.plan.pool ≡ settings.pool }
-        ensures senders { result.system.plan.senders ≡ settings.senders }
-        ensures journal { result.system.plan.journal ≡ settings.journal }
-        ensures journal_limit { result.system.plan.journal_limit ≡ settings.journal_limit }
+        ensures settings { HasSettings settings result.system.plan }
     {
         NewSystem {
             system: PlannedSystem::new(alloc, settings),
@@ -61,7 +51,10 @@ impl<A: Actor> NewSystem<A> {
 
     /// Adds an actor with its plan, as `PlannedSystem::add` does.
     pub fn add(&mut self, plan: ActorPlan, actor: Unused<A>) -> Result<ActorId, Error>
-        ensures added { IsAdded self.old.system plan actor.actor (name_by_default (length self.old.system.actors.items + 1)) result self.new.system }
+        ensures added { IfOk result (λ id. Adds self.old.system plan actor.actor (name_by_default (length self.old.system.actors.items + 1)) id self.new.system) }
+        ensures unchanged { OnErr result (AddsNothing self.old.system self.new.system) }
+        ensures settings { self.new.system.plan ≡ record self.old.system.plan { actors = self.new.system.plan.actors } }
+        ensures refused { RefusesPlace (length self.old.system.actors.items) plan.parent result }
         ensures errors { IfErr result (λ error. (error ≡ BadPlan Actors) ⊎ ((id : Id) × (error ≡ BadPlan (Parent id))) ⊎ (error ≡ NoMemory)) }
     {
         let Unused { actor } = actor;
@@ -75,7 +68,10 @@ impl<A: Actor> NewSystem<A> {
         plan: ActorPlan,
         actor: Unused<A>,
     ) -> Result<ActorId, Error>
-        ensures added { IsAdded self.old.system plan actor.actor name.now result self.new.system }
+        ensures added { IfOk result (λ id. Adds self.old.system plan actor.actor name.now id self.new.system) }
+        ensures unchanged { OnErr result (AddsNothing self.old.system self.new.system) }
+        ensures settings { self.new.system.plan ≡ record self.old.system.plan { actors = self.new.system.plan.actors } }
+        ensures refused { RefusesPlace (length self.old.system.actors.items) plan.parent result }
         ensures taken { (id : Id) → IsErrOf result (NameTaken id) ↔ ((length self.old.system.actors.items < 63)
             × (plan.parent.0 ≤ length self.old.system.actors.items) × (number_of self.old.system.names.texts.items name.now ≡ Some id.0)) }
         ensures errors { IfErr result (λ error. (error ≡ BadPlan Actors) ⊎ ((id : Id) × (error ≡ BadPlan (Parent id))) ⊎ (error ≡ NoMemory)
@@ -136,20 +132,10 @@ impl<A: Actor + Send> NewSystem<A> {
         alloc: Global,
         sends: &[Vec<Order>],
     ) -> Result<NamedReport, FailedRun<A>>
-        ensures story { IfOk result (λ done. IsReportOfRun (after_at self.system.actors.items A.after) (gives_at self.system.actors.items A.gives) self.system.plan
+        ensures report { IfOk result (λ done. ReportsRun A.after A.gives self.system.plan self.system.actors.items
             (map (λ orders. orders.items) sends.now) done.report) }
-        ensures right { OnOk result (IsRight self.system.plan (length self.system.actors.items) (map (λ orders. orders.items) sends.now)) }
-        ensures refused { IfErr result (IsErrorOfRun (gives_at self.system.actors.items A.gives) self.system.plan (length self.system.actors.items)
+        ensures failure { IfErr result (GivesNoReport (gives_at self.system.actors.items A.gives) self.system.plan self.system.actors.items self.system.names.texts.items
             (map (λ orders. orders.items) sends.now)) }
-        ensures which { IfErr result (λ failed. NamesInLists (length self.system.actors.items) (map (λ orders. orders.items) sends.now) failed.error) }
-        ensures at_rest { IfErr result LeavesNobodyToRun }
-        ensures back { IfErr result (GivesBack self.system.plan self.system.actors.items self.system.names.texts.items) }
-        ensures states { IfOk result (λ done. ShowsStates A.after self.system.actors.items self.system.plan done.report) }
-        ensures lines { IfOk result (λ done. length done.report.actors.items ≡ length self.system.actors.items + 1) }
-        ensures headline { IfOk result (λ done. RunHeadline self.system.plan (map (λ orders. orders.items) sends.now) done.report) }
-        ensures ledger { IfOk result (λ done. AddsUp self.system.plan (map (λ orders. orders.items) sends.now) done.report) }
-        ensures counts { IfOk result (λ done. AddsUpByCounts done.report) }
-        ensures kept { IfOk result (λ done. KeepsAsPlanned self.system.plan done.report) }
         ensures names { IfOk result (λ done. done.names.texts.items ≡ self.system.names.texts.items) }
         ensures conserved { (worth : Message → ℤ) (holdings : List (Option Holding)) → ((ended : Id) → worth (Terminated ended) ≡ pos 0)
             → AllConserve A.after A.gives worth holdings self.system.actors.items → IfOk result (λ done. IsConserved worth holdings (map (λ orders. orders.items) sends.now) done.report) }

@@ -34,7 +34,7 @@ pub fn handled(report: &Report, id: ActorId) -> Option<usize>
 /// The envelopes that this actor sent and that were refused when it sent them, in order. `None` where there is no such actor.
 /// The senders outside come behind the actors: the first has the number after the last actor's.
 ///
-/// All can be read where the plan says that journals keep their entries (the clause `kept` of a run), and the newest where journals keep the newest;
+/// All can be read where the plan says that journals keep their entries (`kept` of a run's `report`), and the newest where journals keep the newest;
 /// their numbers, also by receiver and by reason, always.
 pub fn dead_letters(report: &Report, id: ActorId) -> Option<&DeadLetters>
     ensures { option_copied result ≡ dead_in report.now id.0 }

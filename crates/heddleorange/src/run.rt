@@ -1,15 +1,10 @@
 //! A whole run of actors, on one thread or on several.
-ghost use Rattle.std.specs.Prelude.{◌≡◌, ◌+◌, [], All, IfErr, IfOk, OnOk, length, map};
+ghost use Rattle.std.specs.Prelude.{◌≡◌, [], All, IfErr, IfOk, OnOk, length, map};
 ghost use Rattle.mb_build.specs.BehavesAsPlanned.{BehaveAsPlanned};
-ghost use Rattle.heddleorange.specs.AtRest.{LeavesNobodyToRun};
-ghost use Rattle.heddleorange.specs.GivesBack.{GivesBack};
-ghost use Rattle.heddleorange.specs.Kept.{KeepsAsPlanned};
-ghost use Rattle.heddleorange.specs.Ledger.{AddsUp, AddsUpByCounts};
-ghost use Rattle.heddleorange.specs.NamedOrder.{NamesInLists};
-ghost use Rattle.heddleorange.specs.NoReport.{IsErrorOfRun, IsRight};
-ghost use Rattle.heddleorange.specs.RunHeadline.{RunHeadline};
-ghost use Rattle.heddleorange.specs.States.{ShowsStates};
-ghost use Rattle.heddleorange.specs.WholeRun.{IsReportOfRun, after_at, gives_at};
+ghost use Rattle.heddleorange.specs.GivesNoReport.{GivesNoReport};
+ghost use Rattle.heddleorange.specs.NoReport.{IsRight};
+ghost use Rattle.heddleorange.specs.ReportsRun.{ReportsRun};
+ghost use Rattle.heddleorange.specs.WholeRun.{IsReportOfRun, gives_at};
 
 use crate::at_rest::finish_at_rest;
 use crate::begin::begin;
@@ -40,19 +35,8 @@ pub fn run_here<A: Actor, R: Wait>(
     sends: &[Vec<Order>],
 ) -> Result<Report, FailedRun<A>>
     requires unused { All (λ actor. A.content actor ≡ A.after actor []) actors.items }
-    ensures story { IfOk result (IsReportOfRun (after_at actors.items A.after) (gives_at actors.items A.gives) plan
-        (map (λ orders. orders.items) sends.now)) }
-    ensures right { OnOk result (IsRight plan (length actors.items) (map (λ orders. orders.items) sends.now)) }
-    ensures refused { IfErr result (IsErrorOfRun (gives_at actors.items A.gives) plan (length actors.items) (map (λ orders. orders.items) sends.now)) }
-    ensures which { IfErr result (λ failed. NamesInLists (length actors.items) (map (λ orders. orders.items) sends.now) failed.error) }
-    ensures at_rest { IfErr result LeavesNobodyToRun }
-    ensures back { IfErr result (GivesBack plan actors.items []) }
-    ensures states { IfOk result (ShowsStates A.after actors.items plan) }
-    ensures lines { IfOk result (λ report. length report.actors.items ≡ length actors.items + 1) }
-    ensures headline { IfOk result (RunHeadline plan (map (λ orders. orders.items) sends.now)) }
-    ensures ledger { IfOk result (AddsUp plan (map (λ orders. orders.items) sends.now)) }
-    ensures counts { IfOk result AddsUpByCounts }
-    ensures kept { IfOk result (KeepsAsPlanned plan) }
+    ensures report { IfOk result (ReportsRun A.after A.gives plan actors.items (map (λ orders. orders.items) sends.now)) }
+    ensures failure { IfErr result (GivesNoReport (gives_at actors.items A.gives) plan actors.items [] (map (λ orders. orders.items) sends.now)) }
 {
     run_planned::<A, Brand, R>(rt, alloc, plan, actors, sends)
 }
@@ -67,19 +51,8 @@ pub fn run_on_threads<A: Actor + Send, R: Threads + Wait + Sync>(
     sends: &[Vec<Order>],
 ) -> Result<Report, FailedRun<A>>
     requires unused { All (λ actor. A.content actor ≡ A.after actor []) actors.items }
-    ensures story { IfOk result (IsReportOfRun (after_at actors.items A.after) (gives_at actors.items A.gives) plan
-        (map (λ orders. orders.items) sends.now)) }
-    ensures right { OnOk result (IsRight plan (length actors.items) (map (λ orders. orders.items) sends.now)) }
-    ensures refused { IfErr result (IsErrorOfRun (gives_at actors.items A.gives) plan (length actors.items) (map (λ orders. orders.items) sends.now)) }
-    ensures which { IfErr result (λ failed. NamesInLists (length actors.items) (map (λ orders. orders.items) sends.now) failed.error) }
-    ensures at_rest { IfErr result LeavesNobodyToRun }
-    ensures back { IfErr result (GivesBack plan actors.items []) }
-    ensures states { IfOk result (ShowsStates A.after actors.items plan) }
-    ensures lines { IfOk result (λ report. length report.actors.items ≡ length actors.items + 1) }
-    ensures headline { IfOk result (RunHeadline plan (map (λ orders. orders.items) sends.now)) }
-    ensures ledger { IfOk result (AddsUp plan (map (λ orders. orders.items) sends.now)) }
-    ensures counts { IfOk result AddsUpByCounts }
-    ensures kept { IfOk result (KeepsAsPlanned plan) }
+    ensures report { IfOk result (ReportsRun A.after A.gives plan actors.items (map (λ orders. orders.items) sends.now)) }
+    ensures failure { IfErr result (GivesNoReport (gives_at actors.items A.gives) plan actors.items [] (map (λ orders. orders.items) sends.now)) }
 {
     run_planned_on_threads::<A, Brand, R>(rt, alloc, plan, actors, sends)
 }
@@ -95,10 +68,7 @@ fn run_planned<A: Actor, K: Behaviours, R: Wait>(
     requires behaved { BehaveAsPlanned A.content A.after A.gives K.after K.gives 1 actors.items }
     ensures story { IfOk result (IsReportOfRun K.after K.gives plan (map (λ orders. orders.items) sends.now)) }
     ensures right { OnOk result (IsRight plan (length actors.items) (map (λ orders. orders.items) sends.now)) }
-    ensures refused { IfErr result (IsErrorOfRun K.gives plan (length actors.items) (map (λ orders. orders.items) sends.now)) }
-    ensures which { IfErr result (λ failed. NamesInLists (length actors.items) (map (λ orders. orders.items) sends.now) failed.error) }
-    ensures at_rest { IfErr result LeavesNobodyToRun }
-    ensures back { IfErr result (GivesBack plan actors.items []) }
+    ensures failure { IfErr result (GivesNoReport K.gives plan actors.items [] (map (λ orders. orders.items) sends.now)) }
 {
     let limit = plan.journal_limit;
     let mut built = begin::<A, K, R>(rt, alloc, plan, actors, sends)?;
@@ -119,10 +89,7 @@ fn run_planned_on_threads<A: Actor + Send, K: Behaviours + Send, R: Threads + Wa
     requires behaved { BehaveAsPlanned A.content A.after A.gives K.after K.gives 1 actors.items }
     ensures story { IfOk result (IsReportOfRun K.after K.gives plan (map (λ orders. orders.items) sends.now)) }
     ensures right { OnOk result (IsRight plan (length actors.items) (map (λ orders. orders.items) sends.now)) }
-    ensures refused { IfErr result (IsErrorOfRun K.gives plan (length actors.items) (map (λ orders. orders.items) sends.now)) }
-    ensures which { IfErr result (λ failed. NamesInLists (length actors.items) (map (λ orders. orders.items) sends.now) failed.error) }
-    ensures at_rest { IfErr result LeavesNobodyToRun }
-    ensures back { IfErr result (GivesBack plan actors.items []) }
+    ensures failure { IfErr result (GivesNoReport K.gives plan actors.items [] (map (λ orders. orders.items) sends.now)) }
 {
     let limit = plan.journal_limit;
     let mut built = begin::<A, K, R>(rt, alloc, plan, actors, sends)?;

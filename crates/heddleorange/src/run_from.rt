@@ -1,18 +1,13 @@
 //! A whole run of actors whose senders take their orders from sources.
-ghost use Rattle.std.specs.Prelude.{◌≡◌, ◌+◌, [], All, IfErr, IfOk, OnOk, length};
+ghost use Rattle.std.specs.Prelude.{◌≡◌, [], All, IfErr, IfOk, OnOk, length};
 ghost use Rattle.std.specs.List.{AllZip};
 ghost use Rattle.mb_build.specs.BehavesAsPlanned.{BehaveAsPlanned};
 ghost use Rattle.mb_source.specs.Given.{Gave, GaveAll};
-ghost use Rattle.heddleorange.specs.AtRest.{LeavesNobodyToRun};
 ghost use Rattle.heddleorange.specs.FromSources.{orders_given};
-ghost use Rattle.heddleorange.specs.GivesBack.{GivesBack};
-ghost use Rattle.heddleorange.specs.Kept.{KeepsAsPlanned};
-ghost use Rattle.heddleorange.specs.Ledger.{AddsUp, AddsUpByCounts};
-ghost use Rattle.heddleorange.specs.NamedOrder.{NamesInLists};
-ghost use Rattle.heddleorange.specs.NoReport.{IsErrorOfRun, IsRight};
-ghost use Rattle.heddleorange.specs.RunHeadline.{RunHeadline};
-ghost use Rattle.heddleorange.specs.States.{ShowsStates};
-ghost use Rattle.heddleorange.specs.WholeRun.{IsReportOfRun, after_at, gives_at};
+ghost use Rattle.heddleorange.specs.GivesNoReport.{GivesNoReport};
+ghost use Rattle.heddleorange.specs.NoReport.{IsRight};
+ghost use Rattle.heddleorange.specs.ReportsRun.{ReportsRun};
+ghost use Rattle.heddleorange.specs.WholeRun.{IsReportOfRun, gives_at};
 
 use crate::at_rest::finish_at_rest;
 use crate::begin_from::begin_from;
@@ -44,22 +39,11 @@ pub fn run_here_from<A: Actor, S: Source, R: Wait>(
     sources: &mut [RecordedSource<S>],
 ) -> Result<Report, FailedRun<A>>
     requires unused { All (λ actor. A.content actor ≡ A.after actor []) actors.items }
-    ensures story { IfOk result (IsReportOfRun (after_at actors.items A.after) (gives_at actors.items A.gives) plan
+    ensures report { IfOk result (ReportsRun A.after A.gives plan actors.items (orders_given (length actors.items) sources.old sources.new)) }
+    ensures failure { IfErr result (GivesNoReport (gives_at actors.items A.gives) plan actors.items []
         (orders_given (length actors.items) sources.old sources.new)) }
-    ensures right { OnOk result (IsRight plan (length actors.items) (orders_given (length actors.items) sources.old sources.new)) }
-    ensures refused { IfErr result (IsErrorOfRun (gives_at actors.items A.gives) plan (length actors.items)
-        (orders_given (length actors.items) sources.old sources.new)) }
-    ensures which { IfErr result (λ failed. NamesInLists (length actors.items) (orders_given (length actors.items) sources.old sources.new) failed.error) }
     ensures gave { AllZip (Gave S.gives S.takes_back (length actors.items)) sources.old sources.new }
     ensures gave_all { OnOk result (AllZip (GaveAll S.gives S.takes_back (length actors.items)) sources.old sources.new) }
-    ensures at_rest { IfErr result LeavesNobodyToRun }
-    ensures back { IfErr result (GivesBack plan actors.items []) }
-    ensures states { IfOk result (ShowsStates A.after actors.items plan) }
-    ensures lines { IfOk result (λ report. length report.actors.items ≡ length actors.items + 1) }
-    ensures headline { IfOk result (RunHeadline plan (orders_given (length actors.items) sources.old sources.new)) }
-    ensures ledger { IfOk result (AddsUp plan (orders_given (length actors.items) sources.old sources.new)) }
-    ensures counts { IfOk result AddsUpByCounts }
-    ensures kept { IfOk result (KeepsAsPlanned plan) }
 {
     run_planned_from::<A, Brand, S, R>(rt, alloc, plan, actors, sources)
 }
@@ -74,22 +58,11 @@ pub fn run_on_threads_from<A: Actor + Send, S: Source + Send, R: Threads + Wait 
     sources: &mut [RecordedSource<S>],
 ) -> Result<Report, FailedRun<A>>
     requires unused { All (λ actor. A.content actor ≡ A.after actor []) actors.items }
-    ensures story { IfOk result (IsReportOfRun (after_at actors.items A.after) (gives_at actors.items A.gives) plan
+    ensures report { IfOk result (ReportsRun A.after A.gives plan actors.items (orders_given (length actors.items) sources.old sources.new)) }
+    ensures failure { IfErr result (GivesNoReport (gives_at actors.items A.gives) plan actors.items []
         (orders_given (length actors.items) sources.old sources.new)) }
-    ensures right { OnOk result (IsRight plan (length actors.items) (orders_given (length actors.items) sources.old sources.new)) }
-    ensures refused { IfErr result (IsErrorOfRun (gives_at actors.items A.gives) plan (length actors.items)
-        (orders_given (length actors.items) sources.old sources.new)) }
-    ensures which { IfErr result (λ failed. NamesInLists (length actors.items) (orders_given (length actors.items) sources.old sources.new) failed.error) }
     ensures gave { AllZip (Gave S.gives S.takes_back (length actors.items)) sources.old sources.new }
     ensures gave_all { OnOk result (AllZip (GaveAll S.gives S.takes_back (length actors.items)) sources.old sources.new) }
-    ensures at_rest { IfErr result LeavesNobodyToRun }
-    ensures back { IfErr result (GivesBack plan actors.items []) }
-    ensures states { IfOk result (ShowsStates A.after actors.items plan) }
-    ensures lines { IfOk result (λ report. length report.actors.items ≡ length actors.items + 1) }
-    ensures headline { IfOk result (RunHeadline plan (orders_given (length actors.items) sources.old sources.new)) }
-    ensures ledger { IfOk result (AddsUp plan (orders_given (length actors.items) sources.old sources.new)) }
-    ensures counts { IfOk result AddsUpByCounts }
-    ensures kept { IfOk result (KeepsAsPlanned plan) }
 {
     run_planned_on_threads_from::<A, Brand, S, R>(rt, alloc, plan, actors, sources)
 }
@@ -105,12 +78,9 @@ fn run_planned_from<A: Actor, K: Behaviours, S: Source, R: Wait>(
     requires behaved { BehaveAsPlanned A.content A.after A.gives K.after K.gives 1 actors.items }
     ensures story { IfOk result (IsReportOfRun K.after K.gives plan (orders_given (length actors.items) sources.old sources.new)) }
     ensures right { OnOk result (IsRight plan (length actors.items) (orders_given (length actors.items) sources.old sources.new)) }
-    ensures refused { IfErr result (IsErrorOfRun K.gives plan (length actors.items) (orders_given (length actors.items) sources.old sources.new)) }
-    ensures which { IfErr result (λ failed. NamesInLists (length actors.items) (orders_given (length actors.items) sources.old sources.new) failed.error) }
+    ensures failure { IfErr result (GivesNoReport K.gives plan actors.items [] (orders_given (length actors.items) sources.old sources.new)) }
     ensures gave { AllZip (Gave S.gives S.takes_back (length actors.items)) sources.old sources.new }
     ensures gave_all { OnOk result (AllZip (GaveAll S.gives S.takes_back (length actors.items)) sources.old sources.new) }
-    ensures at_rest { IfErr result LeavesNobodyToRun }
-    ensures back { IfErr result (GivesBack plan actors.items []) }
 {
     let limit = plan.journal_limit;
     let mut built = begin_from::<A, K, R>(rt, alloc, plan, actors, sources.len())?;
@@ -136,12 +106,9 @@ fn run_planned_on_threads_from<
     requires behaved { BehaveAsPlanned A.content A.after A.gives K.after K.gives 1 actors.items }
     ensures story { IfOk result (IsReportOfRun K.after K.gives plan (orders_given (length actors.items) sources.old sources.new)) }
     ensures right { OnOk result (IsRight plan (length actors.items) (orders_given (length actors.items) sources.old sources.new)) }
-    ensures refused { IfErr result (IsErrorOfRun K.gives plan (length actors.items) (orders_given (length actors.items) sources.old sources.new)) }
-    ensures which { IfErr result (λ failed. NamesInLists (length actors.items) (orders_given (length actors.items) sources.old sources.new) failed.error) }
+    ensures failure { IfErr result (GivesNoReport K.gives plan actors.items [] (orders_given (length actors.items) sources.old sources.new)) }
     ensures gave { AllZip (Gave S.gives S.takes_back (length actors.items)) sources.old sources.new }
     ensures gave_all { OnOk result (AllZip (GaveAll S.gives S.takes_back (length actors.items)) sources.old sources.new) }
-    ensures at_rest { IfErr result LeavesNobodyToRun }
-    ensures back { IfErr result (GivesBack plan actors.items []) }
 {
     let limit = plan.journal_limit;
     let mut built = begin_from::<A, K, R>(rt, alloc, plan, actors, sources.len())?;

@@ -2,13 +2,11 @@
 ghost use Rattle.std.specs.Prelude.{◌≡◌, ◌≢◌, [], IfErr, OnOk, length};
 ghost use Rattle.std.specs.List.{AllZip};
 ghost use Rattle.mb_dispatch.specs.Sources.{others_of};
-ghost use Rattle.mb_gate.specs.Untouched.{origin_of};
 ghost use Rattle.mb_source.specs.Given.{Gave, GaveAll};
 ghost use Rattle.mb_system.specs.Belonging.{BelongsTogether};
-ghost use Rattle.mb_system.specs.Members.{AreEndsOf, StillSee, ends_numbers};
+ghost use Rattle.heddleorange.specs.BrokenOff.{BreaksHereFrom, BreaksTogetherFrom};
 ghost use Rattle.heddleorange.specs.FromSources.{orders_given};
-ghost use Rattle.heddleorange.specs.Sent.{BreaksOff, HaveSent};
-ghost use Rattle.heddleorange.specs.Workers.{AllOnlyRuns};
+ghost use Rattle.heddleorange.specs.SentAndRun.{HasSentAndRun, IsSameSystem};
 
 use crate::sending::run_first;
 use mb_actor::{Actor, Behaviours};
@@ -20,7 +18,7 @@ use std::sync::Wait;
 use std::thread::Threads;
 
 /// Has each sender send what the source at its place gives, until it has no more, and then runs on this thread what there is to run. Then
-/// neither the senders nor the ends owe anybody a look.
+/// neither the senders nor the handles owe anybody a look.
 ///
 /// It answers the first error of a sender, in their order, and else that of the run.
 pub(crate) fn send_from_and_run<A: Actor, K: Behaviours, S: Source, R: Wait>(
@@ -29,19 +27,12 @@ pub(crate) fn send_from_and_run<A: Actor, K: Behaviours, S: Source, R: Wait>(
     sources: &mut [RecordedSource<S>],
 ) -> Result<(), RunError>
     requires together { BelongsTogether built.old }
-    requires not_empty { built.old.ends.items ≢ [] }
+    requires not_empty { built.old.handles.items ≢ [] }
     requires same_count { length built.old.senders.items ≡ length sources.old }
-    ensures system { built.new.system ≡ built.old.system }
-    ensures together { OnOk result (BelongsTogether built.new) }
-    ensures ends { ends_numbers built.new.ends.items ≡ ends_numbers built.old.ends.items }
-    ensures same_gates { AreEndsOf built.old.system.gates built.new.ends.items }
-    ensures sent { OnOk result (HaveSent built.old.system.gates (orders_given (others_of built.old.system.gates) sources.old sources.new)
-        built.old.senders.items built.new.senders.items) }
-    ensures log_kept { OnOk result (StillSee built.old.ends.items built.new.ends.items) }
-    ensures runs { OnOk result (AllOnlyRuns K.gives (origin_of built.old.system.gates) built.old.system.throughput built.old.ends.items
-        built.new.ends.items) }
-    ensures fault { IfErr result (BreaksOff K.gives built.old.system built.new.ends.items
-        (orders_given (others_of built.old.system.gates) sources.old sources.new)) }
+    ensures same_system { IsSameSystem built.old built.new }
+    ensures ran { OnOk result (HasSentAndRun K.gives (orders_given (others_of built.old.system.gates) sources.old sources.new)
+        built.old built.new) }
+    ensures fault { IfErr result (BreaksHereFrom K.gives S.gives S.takes_back sources.old sources.new built.old built.new) }
     ensures gave { AllZip (Gave S.gives S.takes_back (others_of built.old.system.gates)) sources.old sources.new }
     ensures gave_all { OnOk result (AllZip (GaveAll S.gives S.takes_back (others_of built.old.system.gates)) sources.old sources.new) }
 {
@@ -53,7 +44,7 @@ pub(crate) fn send_from_and_run<A: Actor, K: Behaviours, S: Source, R: Wait>(
 
 /// Runs the workers while each sender sends what the source at its place gives, each on a thread of its own.
 ///
-/// It answers the first error of the ends, then of the senders.
+/// It answers the first error of the handles, then of the senders.
 pub(crate) fn run_from_together<
     A: Actor + Send,
     K: Behaviours + Send,
@@ -61,26 +52,19 @@ pub(crate) fn run_from_together<
     R: Threads + Wait + Sync,
 >(rt: &R, built: &mut Built<A, K>, sources: &mut [RecordedSource<S>]) -> Result<(), RunError>
     requires together { BelongsTogether built.old }
-    requires not_empty { built.old.ends.items ≢ [] }
+    requires not_empty { built.old.handles.items ≢ [] }
     requires same_count { length built.old.senders.items ≡ length sources.old }
-    ensures system { built.new.system ≡ built.old.system }
-    ensures together { OnOk result (BelongsTogether built.new) }
-    ensures ends { ends_numbers built.new.ends.items ≡ ends_numbers built.old.ends.items }
-    ensures same_gates { AreEndsOf built.old.system.gates built.new.ends.items }
-    ensures sent { OnOk result (HaveSent built.old.system.gates (orders_given (others_of built.old.system.gates) sources.old sources.new)
-        built.old.senders.items built.new.senders.items) }
-    ensures log_kept { OnOk result (StillSee built.old.ends.items built.new.ends.items) }
-    ensures runs { OnOk result (AllOnlyRuns K.gives (origin_of built.old.system.gates) built.old.system.throughput built.old.ends.items
-        built.new.ends.items) }
-    ensures fault { IfErr result (BreaksOff K.gives built.old.system built.new.ends.items
-        (orders_given (others_of built.old.system.gates) sources.old sources.new)) }
+    ensures same_system { IsSameSystem built.old built.new }
+    ensures ran { OnOk result (HasSentAndRun K.gives (orders_given (others_of built.old.system.gates) sources.old sources.new)
+        built.old built.new) }
+    ensures fault { IfErr result (BreaksTogetherFrom K.gives S.gives S.takes_back sources.old sources.new built.old built.new) }
     ensures gave { AllZip (Gave S.gives S.takes_back (others_of built.old.system.gates)) sources.old sources.new }
     ensures gave_all { OnOk result (AllZip (GaveAll S.gives S.takes_back (others_of built.old.system.gates)) sources.old sources.new) }
 {
     run_from(
         rt,
         &built.system,
-        &mut built.ends,
+        &mut built.handles,
         &mut built.senders,
         sources,
     )

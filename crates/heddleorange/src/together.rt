@@ -1,10 +1,8 @@
 //! Sending and running on threads: each sender has a job with what it is to send, beside the workers.
-ghost use Rattle.std.specs.Prelude.{◌≡◌, ◌≢◌, [], IfErr, IfOk, OnOk, length, map};
-ghost use Rattle.mb_gate.specs.Untouched.{origin_of};
+ghost use Rattle.std.specs.Prelude.{◌≡◌, ◌≢◌, ◌≤◌, [], IfErr, IfOk, OnOk, length, map, vec_capacity};
 ghost use Rattle.mb_system.specs.Belonging.{BelongsTogether};
-ghost use Rattle.mb_system.specs.Members.{AreEndsOf, StillSee, ends_numbers};
-ghost use Rattle.heddleorange.specs.Sent.{BreaksOff, HaveSent};
-ghost use Rattle.heddleorange.specs.Workers.{AllOnlyRuns};
+ghost use Rattle.heddleorange.specs.BrokenOff.{BreaksTogether};
+ghost use Rattle.heddleorange.specs.SentAndRun.{HasSentAndRun, IsSameSystem};
 
 use mb_actor::{Actor, Behaviours};
 use mb_dispatch::{Job, run};
@@ -16,10 +14,10 @@ use std::sync::Wait;
 use std::thread::Threads;
 
 /// Runs the workers while each sender sends what stands at its place, each on a thread of its own. Then neither the senders nor
-/// the ends owe anybody a look.
+/// the handles owe anybody a look.
 ///
-/// It answers the first error of the ends, then of the senders, or `NoMemory` if there was no memory for the jobs. The senders are
-/// in their jobs meanwhile; after an error they stay there.
+/// It answers the first error of the handles, then of the senders. The senders are in their jobs meanwhile, and come back from there, also
+/// after an error. If there was no memory for the jobs, it answers `NoMemory`, and nothing was run.
 pub(crate) fn run_together<A: Actor + Send, K: Behaviours + Send, R: Threads + Wait + Sync>(
     rt: &R,
     alloc: Global,
@@ -27,29 +25,22 @@ pub(crate) fn run_together<A: Actor + Send, K: Behaviours + Send, R: Threads + W
     sends: &[Vec<Order>],
 ) -> Result<(), RunError>
     requires together { BelongsTogether built.old }
-    requires not_empty { built.old.ends.items ≢ [] }
+    requires not_empty { built.old.handles.items ≢ [] }
     requires same_count { length built.old.senders.items ≡ length sends.now }
-    ensures system { built.new.system ≡ built.old.system }
-    ensures together { OnOk result (BelongsTogether built.new) }
-    ensures ends { ends_numbers built.new.ends.items ≡ ends_numbers built.old.ends.items }
-    ensures same_gates { AreEndsOf built.old.system.gates built.new.ends.items }
-    ensures sent { OnOk result (HaveSent built.old.system.gates (map (λ orders. orders.items) sends.now) built.old.senders.items
-        built.new.senders.items) }
-    ensures log_kept { OnOk result (StillSee built.old.ends.items built.new.ends.items) }
-    ensures runs { OnOk result (AllOnlyRuns K.gives (origin_of built.old.system.gates) built.old.system.throughput built.old.ends.items
-        built.new.ends.items) }
-    ensures fault { IfErr result (BreaksOff K.gives built.old.system built.new.ends.items (map (λ orders. orders.items) sends.now)) }
+    ensures same_system { IsSameSystem built.old built.new }
+    ensures ran { OnOk result (HasSentAndRun K.gives (map (λ orders. orders.items) sends.now) built.old built.new) }
+    ensures fault { IfErr result (BreaksTogether K.gives (map (λ orders. orders.items) sends.now) built.old built.new) }
 {
+    let Ok(room) = Vec::with_capacity(alloc, built.senders.len()) else {
+        return Err(RunError::NoMemory);
+    };
     let senders = mem::replace(&mut built.senders, Vec::new(alloc));
     let Ok(mut jobs) = jobs_of(alloc, senders, sends) else {
         return Err(RunError::NoMemory);
     };
-    run(rt, &built.system, &mut built.ends, &mut jobs)?;
-    let Ok(senders) = senders_of(alloc, jobs) else {
-        return Err(RunError::NoMemory);
-    };
-    built.senders = senders;
-    Ok(())
+    let outcome = run(rt, &built.system, &mut built.handles, &mut jobs);
+    built.senders = senders_of(room, jobs);
+    outcome
 }
 
 // A job for each sender, with what stands at its place.
@@ -81,15 +72,16 @@ fn copy_of(alloc: Global, orders: &[Order]) -> Result<Vec<Order>, AllocError>
 
 // The senders of these jobs.
 fn senders_of<A: Actor, K: Behaviours>(
-    alloc: Global,
+    room: Vec<Sender<A, K>>,
     jobs: Vec<Job<A, K>>,
-) -> Result<Vec<Sender<A, K>>, AllocError>
-    ensures { IfOk result (λ senders. senders.items ≡ map (λ job. job.sender) jobs.items) }
+) -> Vec<Sender<A, K>>
+    requires room { (room.items ≡ []) × (length jobs.items ≤ vec_capacity room) }
+    ensures { result.items ≡ map (λ job. job.sender) jobs.items }
 {
-    let mut senders = Vec::with_capacity(alloc, jobs.len())?;
+    let mut senders = room;
     for job in jobs {
         let Job { sender, sends: _ } = job;
-        senders.push(sender)?;
+        senders.push_reserved(sender);
     }
-    Ok(senders)
+    senders
 }

@@ -15,13 +15,13 @@ use Rattle.mb_journal.specs.Identity.{Identity}
 use Rattle.mb_cell.specs.CellView.{CellView, with_entry}
 use Rattle.mb_report.specs.declared.report.ActorReport.{ActorReport}
 use Rattle.mb_causal_order.specs.Merged.{AreInOrder, IsCaused, IsMerged, IsSentBefore}
-use Rattle.mb_causal_order.specs.Places.{earliest, entries_of, entry_at, journal_of, standing}
+use Rattle.mb_causal_order.specs.Places.{earliest, entries_of, entry_at, journal_of, entries_placed}
 use Rattle.mb_causal_order.specs.Replayed.{AnswersByCells, AppliesEntry, IsAccounted, IsReady, IsReplayed, IsSentFor, outstanding}
 use Rattle.mb_causal_order.specs.Sent.{acts_at, acts_of_entry, sent}
 use Rattle.mb_causal_order.specs.SystemMessages.{HasAnswered, comes, is_of_new, messages_come, messages_sent, sends, sent_from_outside}
 use Rattle.mb_causal_order.specs.declared.outstanding.Row.{Row}
 use Rattle.mb_causal_order.specs.declared.place.Place.{Place}
-use Rattle.mb_causal_order.proofs.Order.{come-more, earliest-more, journal-at, length-earliest, one_if, sent-next, standing-more}
+use Rattle.mb_causal_order.proofs.Order.{come-more, earliest-more, journal-at, length-earliest, one_if, sent-next, entries_placed-more}
 use Rattle.mb_causal_order.proofs.NoCell.{no_cell}
 
 -- what a Died may answer passes the test, by the cells' parents too
@@ -37,23 +37,23 @@ pub sent-for : (who : List Identity) (orders : List SenderOrder) (actors : List 
     (a : ℕ) (e : Entry) → IsAccounted who orders actors order cells rows → a < length cells →
     ((d : CellView) (test : ℕ → SysMsg → Bool) → AnswersByCells cells test →
     one_if (is_of_new (test a) (get_or cells a d).journal (Some e)) ≤ outstanding test rows) →
-    slice_get (reverse (journal_of actors a)) (standing a order) ≡ Some e → IsSentFor who orders actors order a
+    slice_get (reverse (journal_of actors a)) (entries_placed a order) ≡ Some e → IsSentFor who orders actors order a
 sent-for who orders actors order cells rows a e accounted within is_sent found = λ test closed.
     let all = accounted.sent test closed in
     let one = is_sent no_cell test (answers who orders actors order cells rows test accounted closed) in
     let same : one_if (is_of_new (test a) (get_or cells a no_cell).journal (Some e))
-    ≡ one_if (is_of_new (test a) (earliest (standing a order) (journal_of actors a)) (slice_get (reverse (journal_of actors a)) (standing a order))) =
+    ≡ one_if (is_of_new (test a) (earliest (entries_placed a order) (journal_of actors a)) (slice_get (reverse (journal_of actors a)) (entries_placed a order))) =
     ap (λ j. one_if (is_of_new (test a) j (Some e))) (accounted.each a no_cell within).journal
-    ∙ ap (λ o. one_if (is_of_new (test a) (earliest (standing a order) (journal_of actors a)) o)) (sym found) in
+    ∙ ap (λ o. one_if (is_of_new (test a) (earliest (entries_placed a order) (journal_of actors a)) o)) (sym found) in
     omega (arith, all, one, same)
 
 -- how many entries of an actor stand is how many its cell has
-pub entries-standing : (who : List Identity) (orders : List SenderOrder) (actors : List ActorReport) (order : List Place) (cells : List CellView)
+pub entries-entries_placed : (who : List Identity) (orders : List SenderOrder) (actors : List ActorReport) (order : List Place) (cells : List CellView)
     (rows : List Row) (a : ℕ) (d : CellView) → IsAccounted who orders actors order cells rows → a < length actors →
-    length (get_or cells a d).journal ≡ standing a order
-entries-standing who orders actors order cells rows a d accounted within =
+    length (get_or cells a d).journal ≡ entries_placed a order
+entries-entries_placed who orders actors order cells rows a d accounted within =
     let many = accounted.as_many in
-    ap length (accounted.each a d (omega (arith, many, within))).journal ∙ length-earliest (standing a order) (journal_of actors a) (accounted.within a)
+    ap length (accounted.each a d (omega (arith, many, within))).journal ∙ length-earliest (entries_placed a order) (journal_of actors a) (accounted.within a)
 
 -- an envelope was sent by the entries that stand, if its sender's cell says so
 pub sent-at : (who : List Identity) (orders : List SenderOrder) (actors : List ActorReport) (order : List Place) (cells : List CellView) (rows : List Row)
@@ -65,7 +65,7 @@ sent-at who orders actors order cells rows e n accounted told passes within =
     let cell = accounted.each e.by.0 no_cell (omega (arith, many, within)) in
     let kept = told no_cell in
     let same : sent (Some (get_or cells e.by.0 no_cell).who) (get_or cells e.by.0 no_cell).journal
-    ≡ sent (slice_get who e.by.0) (earliest (standing e.by.0 order) (journal_of actors e.by.0)) =
+    ≡ sent (slice_get who e.by.0) (earliest (entries_placed e.by.0 order) (journal_of actors e.by.0)) =
     ap (λ w. sent w (get_or cells e.by.0 no_cell).journal) (sym cell.same_actor) ∙ ap (λ l. sent (slice_get who e.by.0) l) cell.journal in
     let below : e.number < n = ltb-true e.number n passes in
     omega (arith, kept, same, below)
@@ -74,10 +74,10 @@ sent-at who orders actors order cells rows e n accounted told passes within =
 pub ended-at : (who : List Identity) (orders : List SenderOrder) (actors : List ActorReport) (order : List Place) (cells : List CellView) (rows : List Row)
     (a : ℕ) (r : ActorReport) (n m : ℕ) → IsAccounted who orders actors order cells rows → a < length actors → r ≡ get_or actors a r →
     ((d : CellView) → n ≡ length (get_or cells a d).journal) → m ≡ length r.journal.entries → IsTrue (nat_eq n m) →
-    standing a order ≡ length (journal_of actors a)
+    entries_placed a order ≡ length (journal_of actors a)
 ended-at who orders actors order cells rows a r n m accounted within is_r is_n is_m passes =
     let past : n ≡ m = eqb-true n m passes in
-    sym (entries-standing who orders actors order cells rows a no_cell accounted within)
+    sym (entries-entries_placed who orders actors order cells rows a no_cell accounted within)
     ∙ (sym (is_n no_cell) ∙ (past ∙ (is_m ∙ ap length (sym (journal-at actors a r within is_r)))))
 
 -- an entry that is next and whose cause stands may come next
@@ -89,8 +89,8 @@ pub ready-at : (who : List Identity) (orders : List SenderOrder) (actors : List 
     one_if (is_of_new (test a) (get_or cells a d).journal (Some e)) ≤ outstanding test rows) → IsReady who orders actors order a
 ready-at who orders actors order cells rows a r e index accounted within is_r is_index has_more found caused is_sent =
     let j : journal_of actors a ≡ r.journal.entries = journal-at actors a r within is_r in
-    let n : index ≡ standing a order = is_index no_cell ∙ entries-standing who orders actors order cells rows a no_cell accounted within in
-    let here : slice_get (reverse (journal_of actors a)) (standing a order) ≡ Some e =
+    let n : index ≡ entries_placed a order = is_index no_cell ∙ entries-entries_placed who orders actors order cells rows a no_cell accounted within in
+    let here : slice_get (reverse (journal_of actors a)) (entries_placed a order) ≡ Some e =
     sym (ap (λ m. slice_get (reverse (journal_of actors a)) m) n) ∙ (ap (λ l. slice_get (reverse l) index) j ∙ found) in
     let many = accounted.as_many in
     record {
@@ -107,9 +107,9 @@ pub merged : (who : List Identity) (orders : List SenderOrder) (actors : List Ac
 merged who orders actors order cells rows accounted all =
     record { in_order = accounted.in_order; all = λ a. by_place a (cases_lt a (length actors)) }
   where
-    by_place : (a : ℕ) → (a < length actors) ⊎ (length actors ≤ a) → standing a order ≡ length (journal_of actors a)
+    by_place : (a : ℕ) → (a < length actors) ⊎ (length actors ≤ a) → entries_placed a order ≡ length (journal_of actors a)
     by_place a (inl inside) =
-        sym (entries-standing who orders actors order cells rows a no_cell accounted inside) ∙ all a no_cell inside
+        sym (entries-entries_placed who orders actors order cells rows a no_cell accounted inside) ∙ all a no_cell inside
     by_place a (inr outside) =
         let none : length (journal_of actors a) ≡ 0 = ap (λ o. length (entries_of o)) (slice_get_past actors a outside) in
         omega (arith, none, accounted.within a)
@@ -130,7 +130,7 @@ all-more actors cells n m r inside is_r is_m is_past so_far a d within = by_plac
 
 module _ (who : List Identity) (orders : List SenderOrder) (actors : List ActorReport) (order : List Place) (cells new : List CellView)
     (rows rest : List Row) (a index : ℕ) (e : Entry) (accounted : IsAccounted who orders actors order cells rows) (within : a < length cells)
-    (has_more : standing a order < length (journal_of actors a)) (is : index ≡ standing a order) (found : slice_get (reverse (journal_of actors a)) index ≡ Some e)
+    (has_more : entries_placed a order < length (journal_of actors a)) (is : index ≡ entries_placed a order) (found : slice_get (reverse (journal_of actors a)) index ≡ Some e)
     (applies : AppliesEntry a e cells new rows rest) where
   abbrev pub place : Place
   place = record { actor = a; index = index }
@@ -138,33 +138,33 @@ module _ (who : List Identity) (orders : List SenderOrder) (actors : List ActorR
   abbrev next_cell : CellView → CellView
   next_cell d = record (with_entry (get_or cells a d) e) { acts = [] }
 
-  here : slice_get (reverse (journal_of actors a)) (standing a order) ≡ Some e
+  here : slice_get (reverse (journal_of actors a)) (entries_placed a order) ≡ Some e
   here = ap (λ n. slice_get (reverse (journal_of actors a)) n) (sym is) ∙ found
 
   -- the cell of the actor has the entry
-  replayed-here : (d : CellView) → IsReplayed (slice_get who a) (earliest (standing a (place ∷ order)) (journal_of actors a)) (next_cell d)
+  replayed-here : (d : CellView) → IsReplayed (slice_get who a) (earliest (entries_placed a (place ∷ order)) (journal_of actors a)) (next_cell d)
   replayed-here d =
       let old = accounted.each a d within in record {
         same_actor = old.same_actor;
         journal = ap (λ j. e ∷ j) old.journal
-            ∙ (sym (earliest-more (standing a order) (journal_of actors a) e here)
-            ∙ sym (ap (λ n. earliest n (journal_of actors a)) (standing-more a place order true (eq-eqb a a refl))));
+            ∙ (sym (earliest-more (entries_placed a order) (journal_of actors a) e here)
+            ∙ sym (ap (λ n. earliest n (journal_of actors a)) (entries_placed-more a place order true (eq-eqb a a refl))));
         carried_out = refl;
       }
 
   each-more : (b : ℕ) (d : CellView) → b < length new → (same : Bool) → (a == b) ≡ same →
-      IsReplayed (slice_get who b) (earliest (standing b (place ∷ order)) (journal_of actors b)) (get_or new b d)
+      IsReplayed (slice_get who b) (earliest (entries_placed b (place ∷ order)) (journal_of actors b)) (get_or new b d)
   each-more b d inside true is_same =
-      subst (λ (n : ℕ). IsReplayed (slice_get who n) (earliest (standing n (place ∷ order)) (journal_of actors n)) (get_or new n d)) (eqb-true a b is_same)
-      (subst (λ (x : CellView). IsReplayed (slice_get who a) (earliest (standing a (place ∷ order)) (journal_of actors a)) x)
+      subst (λ (n : ℕ). IsReplayed (slice_get who n) (earliest (entries_placed n (place ∷ order)) (journal_of actors n)) (get_or new n d)) (eqb-true a b is_same)
+      (subst (λ (x : CellView). IsReplayed (slice_get who a) (earliest (entries_placed a (place ∷ order)) (journal_of actors a)) x)
       (sym (ap (λ l. get_or l a d) (applies.cells d) ∙ get_or-set_same cells a (next_cell d) d within)) (replayed-here d))
   each-more b d inside false is_same =
-      let as_before : standing b (place ∷ order) ≡ standing b order = omega (arith, standing-more b place order false is_same) in
+      let as_before : entries_placed b (place ∷ order) ≡ entries_placed b order = omega (arith, entries_placed-more b place order false is_same) in
       let as_many : length new ≡ length cells = ap length (applies.cells d) ∙ length-set cells a (next_cell d) in
       let kept : get_or new b d ≡ get_or cells b d =
       ap (λ l. get_or l b d) (applies.cells d) ∙ get_or-set_other cells a b (next_cell d) d (λ (x : b ≡ a). eqb-false a b is_same (sym x)) in
       subst (λ (n : ℕ). IsReplayed (slice_get who b) (earliest n (journal_of actors b)) (get_or new b d)) (sym as_before)
-      (subst (λ (x : CellView). IsReplayed (slice_get who b) (earliest (standing b order) (journal_of actors b)) x) (sym kept)
+      (subst (λ (x : CellView). IsReplayed (slice_get who b) (earliest (entries_placed b order) (journal_of actors b)) x) (sym kept)
       (accounted.each b d (omega (arith, inside, as_many))))
 
   -- what the cell has to do is what the entry says
@@ -195,13 +195,13 @@ module _ (who : List Identity) (orders : List SenderOrder) (actors : List ActorR
       let sent_here = ap (λ l. count_by (sends test) l) acts-here in
       omega (arith, old, step, come, come_here, sent, sent_here)
 
-  within-here : standing a (place ∷ order) ≤ length (journal_of actors a)
-  within-here = omega (arith, standing-more a place order true (eq-eqb a a refl), has_more)
+  within-here : entries_placed a (place ∷ order) ≤ length (journal_of actors a)
+  within-here = omega (arith, entries_placed-more a place order true (eq-eqb a a refl), has_more)
 
-  within-more : (b : ℕ) (same : Bool) → (a == b) ≡ same → standing b (place ∷ order) ≤ length (journal_of actors b)
+  within-more : (b : ℕ) (same : Bool) → (a == b) ≡ same → entries_placed b (place ∷ order) ≤ length (journal_of actors b)
   within-more b true is_same =
-      subst (λ (n : ℕ). standing n (place ∷ order) ≤ length (journal_of actors n)) (eqb-true a b is_same) within-here
-  within-more b false is_same = omega (arith, standing-more b place order false is_same, accounted.within b)
+      subst (λ (n : ℕ). entries_placed n (place ∷ order) ≤ length (journal_of actors n)) (eqb-true a b is_same) within-here
+  within-more b false is_same = omega (arith, entries_placed-more b place order false is_same, accounted.within b)
 
   -- all of it
   pub accounted-more : AreInOrder who orders actors (place ∷ order) → IsAccounted who orders actors (place ∷ order) new rest
@@ -224,7 +224,7 @@ unfolding AreInOrder
 taken-accounted who orders actors items new_items cells new rows rest a r e index accounted ready is_r is_index found applies grown =
     let order : List Place = reverse items in
     let j : journal_of actors a ≡ r.journal.entries = journal-at actors a r ready.an_actor is_r in
-    let n : index ≡ standing a order = is_index no_cell ∙ entries-standing who orders actors order cells rows a no_cell accounted ready.an_actor in
+    let n : index ≡ entries_placed a order = is_index no_cell ∙ entries-entries_placed who orders actors order cells rows a no_cell accounted ready.an_actor in
     let there : slice_get (reverse (journal_of actors a)) index ≡ Some e = ap (λ l. slice_get (reverse l) index) j ∙ found in
     let flipped : reverse new_items ≡ record { actor = a; index = index } ∷ order =
     ap reverse grown ∙ reverse-append items (record { actor = a; index = index } ∷ []) in

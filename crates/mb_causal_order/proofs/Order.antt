@@ -10,7 +10,7 @@ use Rattle.mb_msg.specs.declared.system.SysMsg.{SysMsg}
 use Rattle.mb_journal.specs.Entry.{Entry}
 use Rattle.mb_journal.specs.Identity.{Identity}
 use Rattle.mb_report.specs.declared.report.ActorReport.{ActorReport}
-use Rattle.mb_causal_order.specs.Places.{earliest, entries_of, is_of, journal_of, standing}
+use Rattle.mb_causal_order.specs.Places.{earliest, entries_of, is_of, journal_of, entries_placed}
 use Rattle.mb_causal_order.specs.SystemMessages.{comes, is_of_new, messages_come, messages_sent, sent_from_outside}
 use Rattle.mb_causal_order.specs.declared.place.Place.{Place}
 
@@ -18,10 +18,10 @@ use Rattle.mb_causal_order.specs.declared.place.Place.{Place}
 abbrev pub one_if : Bool → ℕ
 one_if b = cond b 1 0
 
-pub standing-more : (a : ℕ) (p : Place) (order : List Place) (b : Bool) → (p.actor == a) ≡ b →
-    standing a (p ∷ order) ≡ standing a order + cond b 1 0
-standing-more a p order b is =
-    let both : standing a (p ∷ order) ≡ count_by (is_of a) (p ∷ []) + standing a order =
+pub entries_placed-more : (a : ℕ) (p : Place) (order : List Place) (b : Bool) → (p.actor == a) ≡ b →
+    entries_placed a (p ∷ order) ≡ entries_placed a order + cond b 1 0
+entries_placed-more a p order b is =
+    let both : entries_placed a (p ∷ order) ≡ count_by (is_of a) (p ∷ []) + entries_placed a order =
     sum_by-append (λ (x : Place). cond (is_of a x) 1 0) (p ∷ []) order in
     let here : count_by (is_of a) (p ∷ []) ≡ 0 + cond b 1 0 = ap (λ x. 0 + cond x 1 0) is in
     omega (arith, here, both)
@@ -36,9 +36,9 @@ come-more actors test p order =
 
 -- those that came by the next entry of an actor are among those that were sent
 pub sent-next : (who : List Identity) (orders : List SenderOrder) (actors : List ActorReport) (order : List Place) (a index : ℕ)
-    (test : ℕ → SysMsg → Bool) → index ≡ standing a order →
+    (test : ℕ → SysMsg → Bool) → index ≡ entries_placed a order →
     messages_come actors test order
-    + one_if (is_of_new (test a) (earliest (standing a order) (journal_of actors a)) (slice_get (reverse (journal_of actors a)) (standing a order)))
+    + one_if (is_of_new (test a) (earliest (entries_placed a order) (journal_of actors a)) (slice_get (reverse (journal_of actors a)) (entries_placed a order)))
     ≤ messages_sent who actors test order + sent_from_outside orders test →
     messages_come actors test (record { actor = a; index = index } ∷ order) ≤ messages_sent who actors test order + sent_from_outside orders test
 sent-next who orders actors order a index test is sent =

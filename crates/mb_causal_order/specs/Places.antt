@@ -22,8 +22,8 @@ abbrev pub is_of : ℕ → Place → Bool
 is_of a p = p.actor == a
 
 -- how many entries of the actor of this number stand in an order
-abbrev pub standing : ℕ → List Place → ℕ
-standing a order = count_by (is_of a) order
+abbrev pub entries_placed : ℕ → List Place → ℕ
+entries_placed a order = count_by (is_of a) order
 
 -- the entry at a place, if there is one
 abbrev pub entry_at : List ActorReport → Place → Option Entry

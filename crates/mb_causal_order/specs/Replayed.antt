@@ -10,7 +10,7 @@ use Rattle.mb_journal.specs.Identity.{Identity}
 use Rattle.mb_cell.specs.CellView.{CellView, with_entry}
 use Rattle.mb_report.specs.declared.report.ActorReport.{ActorReport}
 use Rattle.mb_causal_order.specs.Merged.{AreInOrder, IsCaused}
-use Rattle.mb_causal_order.specs.Places.{earliest, journal_of, standing}
+use Rattle.mb_causal_order.specs.Places.{earliest, journal_of, entries_placed}
 use Rattle.mb_causal_order.specs.SystemMessages.{HasAnswered, is_of_new, messages_come, messages_sent, sends, sent_from_outside}
 use Rattle.mb_causal_order.specs.declared.outstanding.Row.{Row}
 use Rattle.mb_causal_order.specs.declared.place.Place.{Place}
@@ -53,9 +53,9 @@ pub record IsAccounted (who : List Identity) (orders : List SenderOrder) (actors
     (rows : List Row) : Type 0 where
   pub in_order : AreInOrder who orders actors order
   pub as_many : length cells ≡ length actors
-  pub within : (a : ℕ) → standing a order ≤ length (journal_of actors a)
+  pub within : (a : ℕ) → entries_placed a order ≤ length (journal_of actors a)
   pub each : (a : ℕ) (d : CellView) → a < length cells
-      → IsReplayed (slice_get who a) (earliest (standing a order) (journal_of actors a)) (get_or cells a d)
+      → IsReplayed (slice_get who a) (earliest (entries_placed a order) (journal_of actors a)) (get_or cells a d)
   pub sent : (test : ℕ → SysMsg → Bool) → HasAnswered who test
       → outstanding test rows + messages_come actors test order ≤ messages_sent who actors test order + sent_from_outside orders test
 
@@ -64,12 +64,12 @@ abbrev pub IsSentFor : List Identity → List SenderOrder → List ActorReport �
 IsSentFor who orders actors order a =
     (test : ℕ → SysMsg → Bool) → HasAnswered who test
     → messages_come actors test order
-    + (if is_of_new (test a) (earliest (standing a order) (journal_of actors a)) (slice_get (reverse (journal_of actors a)) (standing a order)) then 1 else 0)
+    + (if is_of_new (test a) (earliest (entries_placed a order) (journal_of actors a)) (slice_get (reverse (journal_of actors a)) (entries_placed a order)) then 1 else 0)
     ≤ messages_sent who actors test order + sent_from_outside orders test
 
 -- the next entry of the actor of this number may come next
 pub record IsReady (who : List Identity) (orders : List SenderOrder) (actors : List ActorReport) (order : List Place) (a : ℕ) : Type 0 where
   pub an_actor : a < length actors
-  pub has_more : standing a order < length (journal_of actors a)
-  pub caused : (e : Entry) → slice_get (reverse (journal_of actors a)) (standing a order) ≡ Some e → IsCaused who actors order e
+  pub has_more : entries_placed a order < length (journal_of actors a)
+  pub caused : (e : Entry) → slice_get (reverse (journal_of actors a)) (entries_placed a order) ≡ Some e → IsCaused who actors order e
   pub sent : IsSentFor who orders actors order a

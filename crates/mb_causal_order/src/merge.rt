@@ -7,7 +7,7 @@ ghost use Rattle.mb_journal.specs.JournalView.{entry_with};
 ghost use Rattle.mb_cell.specs.CellView.{CellView};
 ghost use Rattle.mb_build.specs.Planned.{actors_in};
 ghost use Rattle.mb_causal_order.specs.Merged.{IsCaused, IsEndedBefore, IsMerged, IsSentBefore};
-ghost use Rattle.mb_causal_order.specs.Places.{journal_of, standing};
+ghost use Rattle.mb_causal_order.specs.Places.{journal_of, entries_placed};
 ghost use Rattle.mb_causal_order.specs.Replayed.{IsReady};
 ghost use Rattle.mb_causal_order.specs.ReplayOf.{IsReplayOf};
 ghost use Rattle.mb_causal_order.specs.declared.place.Place.{Place};
@@ -137,7 +137,7 @@ fn has_ended(actors: &[ActorReport], replay: &Replay<'_>, message: SysMsg) -> bo
 fn is_past(actors: &[ActorReport], replay: &Replay<'_>, number: usize) -> bool
     requires all_cells { length replay.now.cells.items ≡ length actors.now }
     ensures { (who : List Identity) (sends : List Sending) (order : List Place) → IsReplayOf who sends actors.now order replay.now → IsTrue result
-        → number < length actors.now → standing number order ≡ length (journal_of actors.now number) }
+        → number < length actors.now → entries_placed number order ≡ length (journal_of actors.now number) }
 {
     if number >= actors.len() {
         return true;

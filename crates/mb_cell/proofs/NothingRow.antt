@@ -23,9 +23,9 @@ use Rattle.mb_journal.proofs.TerminateSteps.{ending_again-tests, ending_again-st
 use Rattle.mb_journal.proofs.TestLemmas.{if_true, if_false, if_same}
 use Rattle.mb_cell.specs.Agrees.{Agrees}
 use Rattle.mb_supervision.specs.CellStateRecord.{CellState}
-use Rattle.mb_cell.specs.Nothing.{DoesNothing}
-use Rattle.mb_cell.specs.Nothing.DoesNothing.{started_already, fresh_recreate, fresh_suspend, fresh_resume, fresh_failed, fresh_died}
-use Rattle.mb_cell.specs.Nothing.DoesNothing.{of_guardian, of_no_child, ends_already}
+use Rattle.mb_cell.specs.WithoutEffect.{DoesNothing}
+use Rattle.mb_cell.specs.WithoutEffect.DoesNothing.{started_already, fresh_recreate, fresh_suspend, fresh_resume, fresh_failed, fresh_died}
+use Rattle.mb_cell.specs.WithoutEffect.DoesNothing.{of_guardian, of_no_child, ends_already}
 use Rattle.mb_supervision.specs.Rows.{ignored}
 use Rattle.mb_cell.proofs.RowLaws.{open_cell_state, cell_state-after, booked-open, blank-before}
 use Rattle.mb_cell.proofs.SilentRow.{IsSilentRow, silent, silent-call}

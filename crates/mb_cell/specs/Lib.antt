@@ -1,6 +1,7 @@
 pub mod Agrees
 pub mod ByNewest
 pub mod MayHandle
-pub mod Nothing
+pub mod WithoutEffect
 pub mod Unsent
 pub mod CellView
+pub mod NewActor

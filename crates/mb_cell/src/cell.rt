@@ -4,7 +4,6 @@ ghost use Rattle.std.specs.Prelude.{IsTrue, IsSome, IsOk, IsErrOf, OnOk, OnErr, 
 ghost use Rattle.std.specs.List.{All};
 ghost use Rattle.mb_msg.specs.JournalMode.{keeps_all, retention_of};
 ghost use Rattle.mb_msg.specs.Limits.{most_actors, most_entries};
-ghost use Rattle.mb_actor.specs.Behaviour.{AllowsSame};
 ghost use Rattle.mb_actor.specs.OutboxView.{is_tell};
 ghost use Rattle.mb_journal.specs.Acts.{stop_acts};
 ghost use Rattle.mb_journal.specs.Aside.{aside as aside_of, next_front as front_of};
@@ -15,6 +14,7 @@ ghost use Rattle.mb_journal.specs.Life.{closed, phase as phase_of};
 ghost use Rattle.mb_journal.specs.Remaining.{all_set_aside, was_applied};
 ghost use Rattle.mb_journal.specs.Suspension.{count as count_of};
 ghost use Rattle.mb_supervision.specs.ActQueue.{act_of};
+ghost use Rattle.mb_cell.specs.NewActor.{IsNewActor};
 
 mod apply;
 mod auto_receive;
@@ -123,9 +123,7 @@ impl<A: Actor, K: Behaviours> Cell<A, K> {
         requires within_limit { length prepared.items ≤ most_actors }
         requires numbered { All (λ x. x.0 < most_actors) prepared.items }
         requires within_journal { journal_limit ≤ most_entries }
-        requires unused { IfSome actor (λ a. A.content a ≡ A.after a []) }
-        requires behaves { IfSome actor (λ a. A.after a ≡ K.after this.0) }
-        requires allows { IfSome actor (λ a. AllowsSame (A.gives a) (K.gives this.0)) }
+        requires new_actor { IfSome actor (IsNewActor A.content A.after A.gives (K.after this.0) (K.gives this.0)) }
         ensures fresh { IfOk result (λ cell. cell ≡ record {
           who = record {
             this = this;

@@ -28,17 +28,17 @@ pub(crate) fn write_foot<W: Write>(
     if geometry.is_tall() {
         write_names(w, picture, lanes, geometry, geometry.lanes_end())?;
     }
-    let top = geometry.standing_top();
+    let top = geometry.snapshot_top();
     for (lane, id) in lanes.ids.iter().enumerate() {
         if let Some(actor) = picture.report.actors.get(*id as usize) {
-            write_standing(w, actor, geometry.x(lane), top)?;
+            write_snapshot(w, actor, geometry.x(lane), top)?;
         }
     }
     Ok(())
 }
 
 /// Its phase and state, what is left to it, and what is set aside.
-fn write_standing<W: Write>(w: &mut W, actor: &ActorReport, x: u64, top: u64) -> io::Result<()> {
+fn write_snapshot<W: Write>(w: &mut W, actor: &ActorReport, x: u64, top: u64) -> io::Result<()> {
     write_phase(w, actor, x, top)?;
     let left = actor.left.len();
     let aside = actor.aside.len();

@@ -137,14 +137,14 @@ impl Geometry {
     }
 
     /// Where the lines begin that say what became of each actor.
-    pub(crate) fn standing_top(&self) -> u64 {
+    pub(crate) fn snapshot_top(&self) -> u64 {
         let room = if self.is_tall() { BOX } else { 0 };
         self.lanes_end().saturating_add(room)
     }
 
     /// Where the legend begins.
     pub(crate) fn legend_top(&self) -> u64 {
-        self.standing_top().saturating_add(FOOT)
+        self.snapshot_top().saturating_add(FOOT)
     }
 
     pub(crate) fn width(&self) -> u64 {

@@ -6,7 +6,7 @@ use crate::words::{EffectWords, EntryLine, Message, Name, Outcome, phase_word};
 use mb_actor::Effect;
 use mb_journal::Received;
 use mb_report::ActorReport;
-use mb_trace::Standing;
+use mb_trace::ActorSnapshot;
 use std::io::Write;
 use std::{fmt, io};
 
@@ -78,7 +78,7 @@ fn write_entry<W: Write>(
     )?;
     write_sender(w, SenderWords { names, came }, cause)?;
     write_value(w, "", &[], &Outcome::of(came), "</td>")?;
-    write_standing(w, shown.after)?;
+    write_snapshot(w, shown.after)?;
     write_effects(w, names, shown.entry.effects)
 }
 
@@ -98,7 +98,7 @@ fn write_sender<W: Write>(
 }
 
 /// How the actor stands after it.
-fn write_standing<W: Write>(w: &mut W, after: Standing) -> io::Result<()> {
+fn write_snapshot<W: Write>(w: &mut W, after: ActorSnapshot) -> io::Result<()> {
     let phase = phase_word(after.phase);
     write_value(w, "<td>", &[], &phase, "</td><td>")?;
     write_value(w, "", &[], &after.suspended, "</td><td>")?;

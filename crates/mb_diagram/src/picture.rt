@@ -3,7 +3,7 @@ use crate::order::EntryOrder;
 use mb_journal::EntryRef;
 use mb_msg::{ActorId, DeadLetter};
 use mb_report::Report;
-use mb_trace::Standing;
+use mb_trace::ActorSnapshot;
 
 /// An entry of a journal in the order of a run.
 #[derive(Clone, Copy)]
@@ -15,9 +15,9 @@ pub struct PictureEntry<'a> {
     /// The entry.
     pub entry: EntryRef<'a>,
     /// How the actor stood before it.
-    pub before: Standing,
+    pub before: ActorSnapshot,
     /// How the actor stands after it.
-    pub after: Standing,
+    pub after: ActorSnapshot,
     /// Whether the picture shows it.
     pub is_shown: bool,
 }

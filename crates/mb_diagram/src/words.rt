@@ -6,7 +6,7 @@ use mb_actor::{Answer, Effect, Phase};
 use mb_journal::Received;
 use mb_msg::limits::ACTORS;
 use mb_msg::{ActorId, Body, Cause, DeadLetterReason, SysMsg};
-use mb_trace::Standing;
+use mb_trace::ActorSnapshot;
 use std::fmt;
 
 /// The name of a sender: of an actor, or of one outside.
@@ -317,8 +317,8 @@ fn outcome_word(outcome: Outcome) -> &'static str {
 /// What an entry, or some, changed of how their actor stands: the phase and the suspensions where they are others, and the state.
 #[derive(Clone, Copy)]
 pub(crate) struct Change {
-    pub(crate) before: Standing,
-    pub(crate) after: Standing,
+    pub(crate) before: ActorSnapshot,
+    pub(crate) after: ActorSnapshot,
     /// What stands in front of it, if there is anything.
     pub(crate) lead: &'static str,
 }

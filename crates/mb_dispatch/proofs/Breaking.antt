@@ -29,11 +29,11 @@ use Rattle.mb_dispatch.specs.Found.{FoundPoolEmpty}
 use Rattle.mb_dispatch.specs.Jobs.{IsDone}
 use Rattle.mb_dispatch.specs.Orders.{HasSent, order_for}
 use Rattle.mb_dispatch.specs.Parallel.{FirstZip}
-use Rattle.mb_register.specs.Owed.{is_owed}
+use Rattle.mb_register.specs.ActorSet.{has_actor}
 use Rattle.mb_register.specs.Registering.{QueueAccount, StopsAt}
-use Rattle.mb_system.specs.Members.{OutsideSender, end_caller, sender_caller}
+use Rattle.mb_system.specs.Members.{OutsideSender, handle_caller, sender_caller}
 use Rattle.mb_system.specs.RunErrors.{of_ready, of_send}
-use Rattle.mb_system.specs.declared.end.WorkerEnd.{WorkerEnd}
+use Rattle.mb_system.specs.declared.handle.WorkerHandle.{WorkerHandle}
 use Rattle.mb_system.specs.declared.failure.RunError.{RunError}
 use Rattle.mb_system.specs.declared.failure.RunError.TheVariants.{JournalFull, NoMemory, NoSuchActor}
 use Rattle.mb_dispatch.specs.declared.job.Job.{Job}
@@ -152,17 +152,17 @@ refused-for gates to what P M (Err x) (p, inr m) memory known Refusal.NoMemory e
 refused-for gates to what P M (Err x) (p, inr m) memory known Refusal.NoSuchActor e = absurd (subst IsOfMemory (sym (memory m) ∙ e) tt)
 
 module _ {A K : Type 0} (gives : ℕ → Moment → Reply → Type 0) (system : System A K) where
-  -- a run of a mailbox by this end was broken off
-  came-to-limit : (before : View) (end : WorkerEnd A K) (claim : Claim (Box Contents)) → IsFreshClaim gives (Some (origin_of system.gates)) claim
+  -- a run of a mailbox by this handle was broken off
+  came-to-limit : (before : View) (handle : WorkerHandle A K) (claim : Claim (Box Contents)) → IsFreshClaim gives (Some (origin_of system.gates)) claim
       → (result : Result Turn ReadyError)
       → (journal : List Entry) × MatchResult result
       (λ turn. (stopped : Stopped) × HadRoom stopped
-      × LeavesRun system.throughput claim before (pass_view end.registrar.pass) journal turn stopped)
-      (λ _. (turn : Turn) × LeavesRun system.throughput claim before (pass_view end.registrar.pass) journal turn NoRoom
+      × LeavesRun system.throughput claim before (pass_view handle.registrar.pass) journal turn stopped)
+      (λ _. (turn : Turn) × LeavesRun system.throughput claim before (pass_view handle.registrar.pass) journal turn NoRoom
       × (IsErrOf result Ready.JournalFull → claim.home.value.cell.who.limit ≤ length journal))
-      → result ≡ Err Ready.JournalFull → BreaksWork gives system before end JournalFull
-  came-to-limit before end claim fresh (Ok turn) ran e = absurd (subst (λ (r : Result Turn ReadyError). OnErr r ⊥) e tt)
-  came-to-limit before end claim fresh (Err error) (journal, ran) e = (
+      → result ≡ Err Ready.JournalFull → BreaksWork gives system before handle JournalFull
+  came-to-limit before handle claim fresh (Ok turn) ran e = absurd (subst (λ (r : Result Turn ReadyError). OnErr r ⊥) e tt)
+  came-to-limit before handle claim fresh (Err error) (journal, ran) e = (
     record {
       claim = claim;
       fresh = fresh;
@@ -175,10 +175,10 @@ module _ {A K : Type 0} (gives : ℕ → Moment → Reply → Type 0) (system : 
     no-run gives (origin_of system.gates) system.throughput before,
   )
 
-  came-short : (before : View) (end : WorkerEnd A K) (claim : Claim (Box Contents)) → IsFreshClaim gives (Some (origin_of system.gates)) claim
-      → (journal : List Entry) × (turn : Turn) × LeavesRun system.throughput claim before (pass_view end.registrar.pass) journal turn NoRoom
-      × IsShortOfMemory claim.home.value.cell.who journal → BreaksWork gives system before end NoMemory
-  came-short before end claim fresh ran = inl (
+  came-short : (before : View) (handle : WorkerHandle A K) (claim : Claim (Box Contents)) → IsFreshClaim gives (Some (origin_of system.gates)) claim
+      → (journal : List Entry) × (turn : Turn) × LeavesRun system.throughput claim before (pass_view handle.registrar.pass) journal turn NoRoom
+      × IsShortOfMemory claim.home.value.cell.who journal → BreaksWork gives system before handle NoMemory
+  came-short before handle claim fresh ran = inl (
     record {
       claim = claim;
       fresh = fresh;
@@ -191,66 +191,59 @@ module _ {A K : Type 0} (gives : ℕ → Moment → Reply → Type 0) (system : 
     no-run gives (origin_of system.gates) system.throughput before,
   )
 
-  breaks-work : (before : View) (end : WorkerEnd A K) (fault : RunError) → (fault ≡ JournalFull → BreaksWork gives system before end JournalFull)
-      → (fault ≡ NoMemory → BreaksWork gives system before end NoMemory) → fault ≢ NoSuchActor → BreaksWork gives system before end fault
-  breaks-work before end NoMemory full short known = short refl
-  breaks-work before end JournalFull full short known = full refl
-  breaks-work before end NoSuchActor full short known = known refl
+  breaks-work : (before : View) (handle : WorkerHandle A K) (fault : RunError) → (fault ≡ JournalFull → BreaksWork gives system before handle JournalFull)
+      → (fault ≡ NoMemory → BreaksWork gives system before handle NoMemory) → fault ≢ NoSuchActor → BreaksWork gives system before handle fault
+  breaks-work before handle NoMemory full short known = short refl
+  breaks-work before handle JournalFull full short known = full refl
+  breaks-work before handle NoSuchActor full short known = known refl
 
   -- whatever its error says
-  pub breaks-mailbox : (before : View) (end : WorkerEnd A K) (claim : Claim (Box Contents)) → IsFreshClaim gives (Some (origin_of system.gates)) claim
+  pub breaks-mailbox : (before : View) (handle : WorkerHandle A K) (claim : Claim (Box Contents)) → IsFreshClaim gives (Some (origin_of system.gates)) claim
       → (result : Result Turn ReadyError) (error : ReadyError) → result ≡ Err error
       → (journal : List Entry) × MatchResult result
       (λ turn. (stopped : Stopped) × HadRoom stopped
-      × LeavesRun system.throughput claim before (pass_view end.registrar.pass) journal turn stopped)
-      (λ _. (turn : Turn) × LeavesRun system.throughput claim before (pass_view end.registrar.pass) journal turn NoRoom
+      × LeavesRun system.throughput claim before (pass_view handle.registrar.pass) journal turn stopped)
+      (λ _. (turn : Turn) × LeavesRun system.throughput claim before (pass_view handle.registrar.pass) journal turn NoRoom
       × (IsErrOf result Ready.JournalFull → claim.home.value.cell.who.limit ≤ length journal))
       → (IsErrOf result Ready.NoMemory → (journal : List Entry) × (turn : Turn)
-      × LeavesRun system.throughput claim before (pass_view end.registrar.pass) journal turn NoRoom
+      × LeavesRun system.throughput claim before (pass_view handle.registrar.pass) journal turn NoRoom
       × IsShortOfMemory claim.home.value.cell.who journal)
-      → BreaksWork gives system before end (of_ready error)
-  breaks-mailbox before end claim fresh result error is ran short =
-      breaks-work before end (of_ready error)
-      (λ full. came-to-limit before end claim fresh result ran (is ∙ ap Err (full-of-ready error full)))
-      (λ memory. came-short before end claim fresh (short (is ∙ ap Err (short-of-ready error memory))))
+      → BreaksWork gives system before handle (of_ready error)
+  breaks-mailbox before handle claim fresh result error is ran short =
+      breaks-work before handle (of_ready error)
+      (λ full. came-to-limit before handle claim fresh result ran (is ∙ ap Err (full-of-ready error full)))
+      (λ memory. came-short before handle claim fresh (short (is ∙ ap Err (short-of-ready error memory))))
       (ready-is-known error)
 
   -- the pool refused again the claim of an actor to which a look is owed
-  pub breaks-retry : (start : View) (end : WorkerEnd A K) (old : QueueAccount (Box Contents)) {T : Type 0} (P : T → Type 0) (r : Result T RunError)
-      → MatchResult r P (λ _. StopsAt old (end_caller end.registrar).account) → OnErr r (IsErrOf r NoMemory)
-      → OnlyRunsBySystem gives system start (pass_view end.registrar.pass) → IfErr r (BreaksWork gives system start end)
-  breaks-retry start end old P (Ok x) stops refused runs = tt
-  breaks-retry start end old {T} P (Err e) stops refused runs =
-      subst (λ (q : Result T RunError). IfErr q (BreaksWork gives system start end)) (sym refused)
+  pub breaks-retry : (start : View) (handle : WorkerHandle A K) (old : QueueAccount (Box Contents)) {T : Type 0} (P : T → Type 0) (r : Result T RunError)
+      → MatchResult r P (λ _. StopsAt old (handle_caller handle.registrar).account) → OnErr r (IsErrOf r NoMemory)
+      → OnlyRunsBySystem gives system start (pass_view handle.registrar.pass) → IfErr r (BreaksWork gives system start handle)
+  breaks-retry start handle old P (Ok x) stops refused runs = tt
+  breaks-retry start handle old {T} P (Err e) stops refused runs =
+      subst (λ (q : Result T RunError). IfErr q (BreaksWork gives system start handle)) (sym refused)
       (inr ((held_actor stops.claim, stops.still), runs))
 
   -- it made runs before that
-  pub breaks-after : (start between : View) (end : WorkerEnd A K) (error : RunError) → OnlyRunsBySystem gives system start between
-      → BreaksWork gives system between end error → BreaksWork gives system start end error
-  breaks-after start between end NoMemory first (inl (last, runs)) =
+  pub breaks-after : (start between : View) (handle : WorkerHandle A K) (error : RunError) → OnlyRunsBySystem gives system start between
+      → BreaksWork gives system between handle error → BreaksWork gives system start handle error
+  breaks-after start between handle NoMemory first (inl (last, runs)) =
       inl (last, runs-then gives (origin_of system.gates) system.throughput start between last.before first runs)
-  breaks-after start between end NoMemory first (inr (owes, runs)) =
-      inr (owes, runs-then gives (origin_of system.gates) system.throughput start between (pass_view end.registrar.pass) first runs)
-  breaks-after start between end JournalFull first (last, runs) =
+  breaks-after start between handle NoMemory first (inr (owes, runs)) =
+      inr (owes, runs-then gives (origin_of system.gates) system.throughput start between (pass_view handle.registrar.pass) first runs)
+  breaks-after start between handle JournalFull first (last, runs) =
       (last, runs-then gives (origin_of system.gates) system.throughput start between last.before first runs)
-  breaks-after start between end NoSuchActor first broken = broken
+  breaks-after start between handle NoSuchActor first broken = broken
 
   -- whatever came of it
-  pub runs-or-breaks : {T : Type 0} (start : View) (end : WorkerEnd A K) (r : Result T RunError)
-      → OnOk r (OnlyRunsBySystem gives system start (pass_view end.registrar.pass)) → IfErr r (BreaksWork gives system start end)
-      → RunsOrBreaks gives system start end
-  runs-or-breaks start end (Ok x) runs broken = inl runs
-  runs-or-breaks start end (Err error) runs broken = inr (error, broken)
-
-  -- it worked to its end
-  pub has-worked : {T : Type 0} (start : View) (end : WorkerEnd A K) (r : Result T RunError)
-      → OnOk r ((id : ℕ) → id < actors_of system.gates → is_owed end.registrar.owed id ≡ false) → OnOk r (FoundPoolEmpty gives end)
-      → OnOk r (OnlyRunsBySystem gives system start (pass_view end.registrar.pass)) → OnOk r (HasWorked gives system start end)
-  has-worked start end (Ok x) nobody empty runs = (nobody, empty, runs)
-  has-worked start end (Err error) nobody empty runs = tt
+  pub runs-or-breaks : {T : Type 0} (start : View) (handle : WorkerHandle A K) (r : Result T RunError)
+      → OnOk r (OnlyRunsBySystem gives system start (pass_view handle.registrar.pass)) → IfErr r (BreaksWork gives system start handle)
+      → RunsOrBreaks gives system start handle
+  runs-or-breaks start handle (Ok x) runs broken = inl runs
+  runs-or-breaks start handle (Err error) runs broken = inr (error, broken)
 
   -- first it only looked at actors
-  module _ (x y z : WorkerEnd A K) (looks : OnlyLooks (pass_view x.registrar.pass) (pass_view y.registrar.pass)) where
+  module _ (x y z : WorkerHandle A K) (looks : OnlyLooks (pass_view x.registrar.pass) (pass_view y.registrar.pass)) where
     looked : OnlyRunsBySystem gives system (pass_view x.registrar.pass) (pass_view y.registrar.pass)
     looked = of-looks gives (origin_of system.gates) system.throughput (pass_view x.registrar.pass) (pass_view y.registrar.pass) looks
 
@@ -272,38 +265,38 @@ module _ {A K : Type 0} (gives : ℕ → Moment → Reply → Type 0) (system : 
         (pass_view z.registrar.pass) looked runs)
     runs-or-broke-then (inr (error, broken)) = inr (error, broke-then error broken)
 
-  -- what each end did, and why the run is broken off: by the first of its ends that was, or else by the first of its jobs
-  abbrev Look : WorkerEnd A K → WorkerEnd A K → Type 0
+  -- what each handle did, and why the run is broken off: by the first of its handles that was, or else by the first of its jobs
+  abbrev Look : WorkerHandle A K → WorkerHandle A K → Type 0
   Look x y = OnlyLooks (pass_view x.registrar.pass) (pass_view y.registrar.pass)
 
-  abbrev Worked : WorkerEnd A K → WorkerEnd A K → Type 0
+  abbrev Worked : WorkerHandle A K → WorkerHandle A K → Type 0
   Worked x y = HasWorked gives system (pass_view x.registrar.pass) y
 
-  abbrev Broke : RunError → WorkerEnd A K → WorkerEnd A K → Type 0
+  abbrev Broke : RunError → WorkerHandle A K → WorkerHandle A K → Type 0
   Broke error x y = BreaksWork gives system (pass_view x.registrar.pass) y error
 
-  -- beside ends there were tasks of any kind
+  -- beside handles there were tasks of any kind
   module _ {T : Type 0} (Did : T → T → Type 0) (Failed : RunError → T → T → Type 0) where
-    abbrev BreaksBeside : List (WorkerEnd A K) → List (WorkerEnd A K) → List T → List T → RunError → Type 0
-    BreaksBeside old ends before after error =
-        FirstZip Worked (Broke error) old ends ⊎ (AllZip Worked old ends × FirstZip Did (Failed error) before after)
+    abbrev BreaksBeside : List (WorkerHandle A K) → List (WorkerHandle A K) → List T → List T → RunError → Type 0
+    BreaksBeside old handles before after error =
+        FirstZip Worked (Broke error) old handles ⊎ (AllZip Worked old handles × FirstZip Did (Failed error) before after)
 
-    pub breaks-beside : (old started ends : List (WorkerEnd A K)) (before after : List T) (of_ends of_tasks r : Result (Unit {0}) RunError)
-        → AllZip Look old started → MatchResult of_ends (λ _. r ≡ of_tasks) (λ _. r ≡ of_ends) → OnOk of_ends (AllZip Worked started ends)
-        → IfErr of_ends (λ error. FirstZip Worked (Broke error) started ends) → IfErr of_tasks (λ error. FirstZip Did (Failed error) before after)
-        → IfErr r (BreaksBeside old ends before after)
-    breaks-beside old started ends before after (Ok x) (Ok y) r looks is worked by_end by_task =
-        subst (λ (q : Result (Unit {0}) RunError). IfErr q (BreaksBeside old ends before after)) (sym is) tt
-    breaks-beside old started ends before after (Ok x) (Err error) r looks is worked by_end by_task =
-        subst (λ (q : Result (Unit {0}) RunError). IfErr q (BreaksBeside old ends before after)) (sym is)
-        (inr (zip_then Look Worked Worked worked-then old started ends looks worked, by_task))
-    breaks-beside old started ends before after (Err error) b r looks is worked by_end by_task =
-        subst (λ (q : Result (Unit {0}) RunError). IfErr q (BreaksBeside old ends before after)) (sym is)
-        (inl (first_then Look Worked (Broke error) worked-then (λ x y z l broken. broke-then x y z l error broken) old started ends looks by_end))
+    pub breaks-beside : (old started handles : List (WorkerHandle A K)) (before after : List T) (of_handles of_tasks r : Result (Unit {0}) RunError)
+        → AllZip Look old started → MatchResult of_handles (λ _. r ≡ of_tasks) (λ _. r ≡ of_handles) → OnOk of_handles (AllZip Worked started handles)
+        → IfErr of_handles (λ error. FirstZip Worked (Broke error) started handles) → IfErr of_tasks (λ error. FirstZip Did (Failed error) before after)
+        → IfErr r (BreaksBeside old handles before after)
+    breaks-beside old started handles before after (Ok x) (Ok y) r looks is worked by_end by_task =
+        subst (λ (q : Result (Unit {0}) RunError). IfErr q (BreaksBeside old handles before after)) (sym is) tt
+    breaks-beside old started handles before after (Ok x) (Err error) r looks is worked by_end by_task =
+        subst (λ (q : Result (Unit {0}) RunError). IfErr q (BreaksBeside old handles before after)) (sym is)
+        (inr (zip_then Look Worked Worked worked-then old started handles looks worked, by_task))
+    breaks-beside old started handles before after (Err error) b r looks is worked by_end by_task =
+        subst (λ (q : Result (Unit {0}) RunError). IfErr q (BreaksBeside old handles before after)) (sym is)
+        (inl (first_then Look Worked (Broke error) worked-then (λ x y z l broken. broke-then x y z l error broken) old started handles looks by_end))
 
-  pub breaks-run : (old started ends : List (WorkerEnd A K)) (before after : List (Job A K)) (of_ends of_jobs r : Result (Unit {0}) RunError)
-      → AllZip Look old started → MatchResult of_ends (λ _. r ≡ of_jobs) (λ _. r ≡ of_ends) → OnOk of_ends (AllZip Worked started ends)
-      → IfErr of_ends (λ error. FirstZip Worked (Broke error) started ends)
+  pub breaks-run : (old started handles : List (WorkerHandle A K)) (before after : List (Job A K)) (of_handles of_jobs r : Result (Unit {0}) RunError)
+      → AllZip Look old started → MatchResult of_handles (λ _. r ≡ of_jobs) (λ _. r ≡ of_handles) → OnOk of_handles (AllZip Worked started handles)
+      → IfErr of_handles (λ error. FirstZip Worked (Broke error) started handles)
       → IfErr of_jobs (λ error. FirstZip (IsDone system.gates) (λ o n. BreaksJob system.gates o.sends.items o.sender n.sender error) before after)
-      → IfErr r (BreaksRun gives system old ends before after)
+      → IfErr r (BreaksRun gives system old handles before after)
   breaks-run = breaks-beside (IsDone system.gates) (λ error o n. BreaksJob system.gates o.sends.items o.sender n.sender error)

@@ -1,4 +1,4 @@
--- A worker's end loses no claim.
+-- A worker's handle loses no claim.
 use Rattle.std.proofs.Common.{◌≡◌, ◌==◌, ℕ, ◌+◌, if◌then◌else◌, List, [], ◌∷◌, ◌++◌, refl, sym, ap, ◌∙◌, arith, append_assoc, append-nil, map, subst, Option, Some}
 use Rattle.std.specs.Prelude.{option_to_list}
 use Rattle.std.specs.Global.{Box}
@@ -11,9 +11,9 @@ use Rattle.mb_register.specs.Caller.{Caller}
 use Rattle.mb_register.specs.Registering.{QueueAccount, LosesNoClaim, claims_of_actor}
 use Rattle.mb_register.proofs.ClaimCounts.{loses-handed, loses-none, loses-then}
 use Rattle.mb_mailbox.specs.Ran.{LosesNoClaimBut}
-use Rattle.mb_system.specs.Members.{claims_taken, end_caller}
+use Rattle.mb_system.specs.Members.{claims_taken, handle_caller}
 use Rattle.mb_system.specs.Registered.{AreRegistered, nobody, one_more}
-use Rattle.mb_system.specs.declared.end.WorkerEnd.{WorkerEnd}
+use Rattle.mb_system.specs.declared.handle.WorkerHandle.{WorkerHandle}
 use Rattle.mb_dispatch.specs.Claims.{RunsEachClaim, RunsEachClaimBut}
 
 -- numbers that are added up
@@ -49,25 +49,25 @@ abbrev of-actor : ℕ → Claim (Box Contents) → ℕ
 of-actor actor claim = if held_actor claim == actor then 1 else 0
 
 module _ {A K : Type 0} where
-  taken-is : (old new : WorkerEnd A K) → new.taken ≡ old.taken → claims_taken new ≡ claims_taken old
+  taken-is : (old new : WorkerHandle A K) → new.taken ≡ old.taken → claims_taken new ≡ claims_taken old
   taken-is old new same = ap (map (λ claim. claim.value)) same
 
   -- nothing was done
-  pub claims-none : (end : WorkerEnd A K) → RunsEachClaim end end
-  claims-none end = record {
+  pub claims-none : (handle : WorkerHandle A K) → RunsEachClaim handle handle
+  claims-none handle = record {
     went = [];
     back = [];
     took = [];
-    pushed = sym (append-nil end.registrar.run_queue.pushed);
-    refused = sym (append-nil end.registrar.run_queue.refused);
-    taken = sym (append-nil (claims_taken end));
+    pushed = sym (append-nil handle.registrar.run_queue.pushed);
+    refused = sym (append-nil handle.registrar.run_queue.refused);
+    taken = sym (append-nil (claims_taken handle));
     got = λ actor. got-none _ _ refl;
     returned = λ actor. gave-some _ _ 0 refl;
   }
 
   -- a claim was taken, or none
-  pub claims-took : (next : Option (Claim (Box Contents))) (old new : WorkerEnd A K) → new.registrar.pass ≡ old.registrar.pass
-      → (end_caller new.registrar).account ≡ (end_caller old.registrar).account → claims_taken new ≡ claims_taken old ++ option_to_list next
+  pub claims-took : (next : Option (Claim (Box Contents))) (old new : WorkerHandle A K) → new.registrar.pass ≡ old.registrar.pass
+      → (handle_caller new.registrar).account ≡ (handle_caller old.registrar).account → claims_taken new ≡ claims_taken old ++ option_to_list next
       → RunsEachClaimBut (option_to_list next) old new
   claims-took next old new pass account taken = record {
     went = [];
@@ -81,8 +81,8 @@ module _ {A K : Type 0} where
   }
 
   -- actors were registered
-  pub claims-registered : (old new : WorkerEnd A K)
-      → LosesNoClaim (end_caller old.registrar).account (end_caller new.registrar).account (pass_view old.registrar.pass) (pass_view new.registrar.pass)
+  pub claims-registered : (old new : WorkerHandle A K)
+      → LosesNoClaim (handle_caller old.registrar).account (handle_caller new.registrar).account (pass_view old.registrar.pass) (pass_view new.registrar.pass)
       → new.taken ≡ old.taken → RunsEachClaim old new
   claims-registered old new loses same = record {
     went = loses.went;
@@ -95,13 +95,13 @@ module _ {A K : Type 0} where
     returned = λ actor. gave-back _ _ _ (loses.returned actor);
   }
 
-  pub claims-registered-all : (old new : WorkerEnd A K) (count : ℕ) → AreRegistered (end_caller old.registrar) count (end_caller new.registrar)
+  pub claims-registered-all : (old new : WorkerHandle A K) (count : ℕ) → AreRegistered (handle_caller old.registrar) count (handle_caller new.registrar)
       → new.taken ≡ old.taken → RunsEachClaim old new
   claims-registered-all old new count all same =
-      claims-registered old new (loses-registered (end_caller old.registrar) count (end_caller new.registrar) all) same
+      claims-registered old new (loses-registered (handle_caller old.registrar) count (handle_caller new.registrar) all) same
 
   -- one thing was done after another
-  pub claims-then : (held : List (Claim (Box Contents))) (a b c : WorkerEnd A K) → RunsEachClaim a b → RunsEachClaimBut held b c
+  pub claims-then : (held : List (Claim (Box Contents))) (a b c : WorkerHandle A K) → RunsEachClaim a b → RunsEachClaimBut held b c
       → RunsEachClaimBut held a c
   claims-then held a b c x y = record {
     went = x.went ++ y.went;
@@ -117,8 +117,8 @@ module _ {A K : Type 0} where
   }
 
   -- the claim that was held was run
-  pub claims-ran : (claim : Claim (Box Contents)) (a b c : WorkerEnd A K) → RunsEachClaimBut (claim ∷ []) a b
-      → LosesNoClaimBut (held_actor claim) (end_caller b.registrar) (end_caller c.registrar) → c.taken ≡ b.taken → RunsEachClaim a c
+  pub claims-ran : (claim : Claim (Box Contents)) (a b c : WorkerHandle A K) → RunsEachClaimBut (claim ∷ []) a b
+      → LosesNoClaimBut (held_actor claim) (handle_caller b.registrar) (handle_caller c.registrar) → c.taken ≡ b.taken → RunsEachClaim a c
   claims-ran claim a b c x y same = record {
     went = x.went ++ y.went;
     back = x.back ++ y.back;
@@ -132,22 +132,22 @@ module _ {A K : Type 0} where
   }
 
   -- a claim was taken, and run
-  pub tried-ran : (claim : Claim (Box Contents)) (first old tried new : WorkerEnd A K) (next : Option (Claim (Box Contents))) → next ≡ Some claim
+  pub tried-ran : (claim : Claim (Box Contents)) (first old tried new : WorkerHandle A K) (next : Option (Claim (Box Contents))) → next ≡ Some claim
       → RunsEachClaim first old → tried.registrar.pass ≡ old.registrar.pass
-      → (end_caller tried.registrar).account ≡ (end_caller old.registrar).account → claims_taken tried ≡ claims_taken old ++ option_to_list next
-      → LosesNoClaimBut (held_actor claim) (end_caller tried.registrar) (end_caller new.registrar) → new.taken ≡ tried.taken → RunsEachClaim first new
+      → (handle_caller tried.registrar).account ≡ (handle_caller old.registrar).account → claims_taken tried ≡ claims_taken old ++ option_to_list next
+      → LosesNoClaimBut (held_actor claim) (handle_caller tried.registrar) (handle_caller new.registrar) → new.taken ≡ tried.taken → RunsEachClaim first new
   tried-ran claim first old tried new next is ran pass account taken loses same =
       claims-ran claim first tried new
       (claims-then (claim ∷ []) first old tried ran
       (subst (λ o. RunsEachClaimBut (option_to_list o) old tried) is (claims-took next old tried pass account taken))) loses same
 
-  pub next-ran : (claim : Claim (Box Contents)) (first old between new : WorkerEnd A K) (next : Option (Claim (Box Contents))) → next ≡ Some claim
+  pub next-ran : (claim : Claim (Box Contents)) (first old between new : WorkerHandle A K) (next : Option (Claim (Box Contents))) → next ≡ Some claim
       → RunsEachClaim first old → RunsEachClaimBut (option_to_list next) old between
-      → LosesNoClaimBut (held_actor claim) (end_caller between.registrar) (end_caller new.registrar) → new.taken ≡ between.taken → RunsEachClaim first new
+      → LosesNoClaimBut (held_actor claim) (handle_caller between.registrar) (handle_caller new.registrar) → new.taken ≡ between.taken → RunsEachClaim first new
   next-ran claim first old between new next is ran took loses same =
       claims-ran claim first between new
       (claims-then (claim ∷ []) first old between ran (subst (λ o. RunsEachClaimBut (option_to_list o) old between) is took)) loses same
 
   -- none was taken, and then something was done
-  pub none-then : (first old tried new : WorkerEnd A K) → tried ≡ old → RunsEachClaim first old → RunsEachClaim tried new → RunsEachClaim first new
+  pub none-then : (first old tried new : WorkerHandle A K) → tried ≡ old → RunsEachClaim first old → RunsEachClaim tried new → RunsEachClaim first new
   none-then first old tried new still ran did = claims-then [] first tried new (subst (RunsEachClaim first) (sym still) ran) did

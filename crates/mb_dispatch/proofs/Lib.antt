@@ -2,6 +2,7 @@ pub mod Puts
 pub mod Counts
 pub mod Sending
 pub mod Sides
+pub mod Worked
 pub mod Ended
 pub mod Firsts
 pub mod Breaking
@@ -12,7 +13,7 @@ pub mod There
 pub mod Runs
 pub mod Claims
 pub mod AllTogether
-pub mod Rest
+pub mod RestingActors
 pub mod Continuing
 pub mod SameSender
 pub mod Pairs

@@ -74,9 +74,9 @@ pub counts-put-none : (id : ℕ) (refused : Option DeadLetterReason) (to : ℕ) 
 counts-put-none id None to measure = refl
 counts-put-none id (Some why) to measure = refl
 
-pub counts-end-none : (id : ℕ) (refused : Option DeadLetterReason) (to : ℕ) → total (ended_in to) (counts id refused) ≡ total (refused_of to) []
-counts-end-none id None to = refl
-counts-end-none id (Some why) to = refl
+pub counts-handle-none : (id : ℕ) (refused : Option DeadLetterReason) (to : ℕ) → total (ended_in to) (counts id refused) ≡ total (refused_of to) []
+counts-handle-none id None to = refl
+counts-handle-none id (Some why) to = refl
 
 only-looks-put-none : (to : ℕ) (measure : ℕ × SysMsg → ℕ) (looks : List Observation)
     → Each (λ (s : Observation). (id : ℕ) × (true ≡ true) × IsLook id s) looks → total (put_in to measure) looks ≡ 0
@@ -84,11 +84,11 @@ only-looks-put-none to measure [] each = refl
 only-looks-put-none to measure (s ∷ looks) each =
     let one = look-puts-none to measure each.0.0 s each.0.2 in let rest = only-looks-put-none to measure looks each.1 in omega (arith, one, rest)
 
-only-looks-end-none : (to : ℕ) (looks : List Observation) → Each (λ (s : Observation). (id : ℕ) × (true ≡ true) × IsLook id s) looks
+only-looks-handle-none : (to : ℕ) (looks : List Observation) → Each (λ (s : Observation). (id : ℕ) × (true ≡ true) × IsLook id s) looks
     → total (ended_in to) looks ≡ 0
-only-looks-end-none to [] each = refl
-only-looks-end-none to (s ∷ looks) each =
-    let one = look-ends-none to each.0.0 s each.0.2 in let rest = only-looks-end-none to looks each.1 in omega (arith, one, rest)
+only-looks-handle-none to [] each = refl
+only-looks-handle-none to (s ∷ looks) each =
+    let one = look-ends-none to each.0.0 s each.0.2 in let rest = only-looks-handle-none to looks each.1 in omega (arith, one, rest)
 
 -- who only looked put nothing
 looks-put : (old new : View) → OnlyLooks old new → PutsAsSent old new
@@ -104,6 +104,6 @@ pub looks-log : (old new : View) → OnlyLooks old new → LogsAsSent old new
 looks-log old new only = record {
   put = looks-put old new only;
   refused = λ to. (let log = ap (total (ended_in to)) only.log ∙ total_append (ended_in to) only.looks old.log in
-      let none = only-looks-end-none to only.looks only.only in let told = ap (total (refused_of to)) only.sent_system in
+      let none = only-looks-handle-none to only.looks only.only in let told = ap (total (refused_of to)) only.sent_system in
       omega (arith, log, none, told));
 }

@@ -24,7 +24,7 @@ use Rattle.mb_gate.specs.View.{SentSystem, Observation, View, obligation_to}
 use Rattle.mb_gate.specs.declared.gates.Gates.{Gates}
 use Rattle.mb_home.specs.Contents.{Contents}
 use Rattle.mb_status.specs.Mailbox.{word_of}
-use Rattle.mb_register.specs.Owed.{is_owed}
+use Rattle.mb_register.specs.ActorSet.{has_actor}
 use Rattle.mb_core.specs.Actor.{nothing}
 use Rattle.mb_register.specs.Sending.{counts}
 use Rattle.mb_register.specs.Views.{Does, GivesBackUnchanged}
@@ -51,7 +51,7 @@ use Rattle.mb_ghost.specs.Summed.{total}
 use Rattle.mb_msg.specs.declared.system.SysMsg.{SysMsg}
 use Rattle.mb_system.specs.OnlyLooks.{OnlyLooks}
 use Rattle.mb_dispatch.proofs.Counts.{counts-none, counts-posting, counts-then, does-counts, looks-count}
-use Rattle.mb_dispatch.proofs.Puts.{LogsAsSent, counts-end-none, counts-put-none, does-log, logs-none, logs-then, looks-log}
+use Rattle.mb_dispatch.proofs.Puts.{LogsAsSent, counts-handle-none, counts-put-none, does-log, logs-none, logs-then, looks-log}
 use Rattle.mb_system.proofs.Obligations.{obligations-at}
 use Rattle.mb_system.proofs.Saw.{saw-more, saw-same, saw-then}
 
@@ -268,7 +268,7 @@ module _ (by : SenderId) (number : ℕ) (to : ActorId) (body : Body) (posted pos
         ),
         sent.counted.sent_system ∙ same,
         then-at to.0 old told.between new read (does-at to.0 (counts to.0 sent.refused) [] told.between new sent.counted
-            (counts-put-none to.0 sent.refused) (counts-end-none to.0 sent.refused)),
+            (counts-put-none to.0 sent.refused) (counts-handle-none to.0 sent.refused)),
       )
       by_look Closed is_dead = (
         (
@@ -363,7 +363,7 @@ sent-stopped to stopped a b send_log s = let stop = sent-terminate to.0 (pass_vi
 }
 
 -- a sender that looks at the receiver and still owes all looks that it owed forgets nothing
-module _ (actors : ℕ) (to : ActorId) (a b : OutsideSender) (discharged : (obligation_to to.0 (pass_view b.registrar.pass) ≡ nothing) ⊎ (is_owed b.registrar.owed to.0 ≡ true)) (still : (id : ℕ) → is_owed a.registrar.owed id ≡ true → is_owed b.registrar.owed id ≡ true) where
+module _ (actors : ℕ) (to : ActorId) (a b : OutsideSender) (discharged : (obligation_to to.0 (pass_view b.registrar.pass) ≡ nothing) ⊎ (has_actor b.registrar.owed to.0 ≡ true)) (still : (id : ℕ) → has_actor a.registrar.owed id ≡ true → has_actor b.registrar.owed id ≡ true) where
   pub obligations-told : (body : Body) (put : SendOutcome) → IsTold a.send_log.by a.send_log.sent to body a.send_log.posted b.send_log.posted
       a.sends.items (pass_view a.registrar.pass) (pass_view b.registrar.pass) put
       → KeepsObligations actors (sender_caller a.registrar) (sender_caller b.registrar)

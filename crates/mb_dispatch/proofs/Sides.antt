@@ -6,8 +6,8 @@ use Rattle.std.specs.List.{AllZip}
 use Rattle.std.proofs.lemmas.List.Elements.{All-cons, All-nil, All-set}
 use Rattle.mb_gate.specs.declared.gates.Gates.{Gates}
 use Rattle.mb_home.specs.Contents.{Contents}
-use Rattle.mb_system.specs.Members.{AreEndsOf, IsEndOf, ends_numbers}
-use Rattle.mb_system.specs.declared.end.WorkerEnd.{WorkerEnd}
+use Rattle.mb_system.specs.Members.{AreHandlesOf, IsHandleOf, handle_numbers}
+use Rattle.mb_system.specs.declared.handle.WorkerHandle.{WorkerHandle}
 use Rattle.mb_dispatch.specs.Parallel.{FirstZip}
 
 module _ {T : Type 0} where
@@ -71,13 +71,13 @@ module _ {T : Type 0} where
   first_then R D F d f (x ∷ xs) (y ∷ ys) (z ∷ zs) p (inl here) = inl (f x y z p.0 here)
   first_then R D F d f (x ∷ xs) (y ∷ ys) (z ∷ zs) p (inr there) = inr (d x y z p.0 there.0, first_then R D F d f xs ys zs p.1 there.1)
 
--- another end stands first, with the same number
+-- another handle stands first, with the same number
 module _ {A K : Type 0} (gates : Gates (Box Contents)) where
-  pub first_changed : (ends : List (WorkerEnd A K)) (other new : WorkerEnd A K) → AreEndsOf gates ends → IsEndOf gates new.registrar
-      → new.number ≡ (get_or ends 0 other).number → AreEndsOf gates (set ends 0 new) × (ends_numbers (set ends 0 new) ≡ ends_numbers ends)
-  first_changed ends other new all ours same = (
-    All-set (λ (e : WorkerEnd A K). IsEndOf gates e.registrar) ends 0 new ours all,
-    same_first (λ (e : WorkerEnd A K). e.number) ends other new same,
+  pub first_changed : (handles : List (WorkerHandle A K)) (other new : WorkerHandle A K) → AreHandlesOf gates handles → IsHandleOf gates new.registrar
+      → new.number ≡ (get_or handles 0 other).number → AreHandlesOf gates (set handles 0 new) × (handle_numbers (set handles 0 new) ≡ handle_numbers handles)
+  first_changed handles other new all ours same = (
+    All-set (λ (e : WorkerHandle A K). IsHandleOf gates e.registrar) handles 0 new ours all,
+    same_first (λ (e : WorkerHandle A K). e.number) handles other new same,
   )
 
 -- r is the first fault of a and b
@@ -102,10 +102,10 @@ module _ {E : Type 0} where
   ok_rest P (Ok x) b r is p = subst (λ (q : Result (Unit {0}) E). OnOk q P) (sym is) p
   ok_rest P (Err e) b r is p = subst (λ (q : Result (Unit {0}) E). OnOk q P) (sym is) tt
 
--- it holds, so it holds of an answer of none
-pub if_none : {T P : Type 0} (r : Option T) → P → IfNone r P
-if_none None p = p
-if_none (Some x) p = tt
+-- it holds, and of an answer of none also this
+pub if_none_and : {T : Type 0} (P Q : Type 0) (r : Option T) → P → IfNone r Q → IfNone r (P × Q)
+if_none_and P Q None p q = (p, q)
+if_none_and P Q (Some x) p q = tt
 
 -- what holds of none holds of these, of which there is none
 pub none-there : {T : Type 0} (xs : List T) → length xs ≡ 0 → (P : List T → Type 0) → P [] → P xs

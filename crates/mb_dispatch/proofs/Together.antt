@@ -1,4 +1,4 @@
--- All that belongs to a system still does, after something was done with its ends and its senders.
+-- All that belongs to a system still does, after something was done with its handles and its senders.
 use Rattle.std.proofs.Common.{◌≡◌, ◌≢◌, ◌+◌, ◌-◌, ◌<◌, ◌≤◌, List, ℕ, Vec, length, map, get_or, set, sym, ap, ◌∙◌, subst}
 use Rattle.std.specs.Prelude.{All, AllPairs}
 use Rattle.std.specs.Global.{Box, Global}
@@ -11,10 +11,10 @@ use Rattle.mb_msg.specs.declared.id.SenderId.{SenderId}
 use Rattle.mb_gate.specs.declared.gates.Gates.{Gates}
 use Rattle.mb_home.specs.Contents.{Contents}
 use Rattle.mb_system.specs.Belonging.{BelongsTogether}
-use Rattle.mb_system.specs.Members.{AreEndsOf, IsEndOf, IsSenderOf, OutsideSender, ends_numbers}
+use Rattle.mb_system.specs.Members.{AreHandlesOf, IsHandleOf, IsSenderOf, OutsideSender, handle_numbers}
 use Rattle.mb_dispatch.specs.Jobs.{AreJobsOf, jobs_senders}
 use Rattle.mb_system.specs.declared.built.Built.{Built}
-use Rattle.mb_system.specs.declared.end.WorkerEnd.{WorkerEnd}
+use Rattle.mb_system.specs.declared.handle.WorkerHandle.{WorkerHandle}
 use Rattle.mb_dispatch.specs.declared.job.Job.{Job}
 use Rattle.mb_system.specs.declared.system.System.{System}
 use Rattle.mb_dispatch.proofs.Alike.{all-alike, as-long, from-looks, look-alike, twice}
@@ -29,12 +29,12 @@ module _ {A K : Type 0} where
   abbrev pub sender_in : Job A K → OutsideSender
   sender_in j = j.sender
 
-  -- the ends and the senders are of the system still, and those are the same senders
-  pub again : (old new : Built A K) → new.system ≡ old.system → AreEndsOf old.system.gates new.ends.items
+  -- the handles and the senders are of the system still, and those are the same senders
+  pub again : (old new : Built A K) → new.system ≡ old.system → AreHandlesOf old.system.gates new.handles.items
       → AreSendersOf old.system.gates new.senders.items → map by_of new.senders.items ≡ map by_of old.senders.items → BelongsTogether old
       → BelongsTogether new
-  again old new same ends senders by was = record {
-    ends = subst (λ (s : System A K). AreEndsOf s.gates new.ends.items) (sym same) ends;
+  again old new same handles senders by was = record {
+    handles = subst (λ (s : System A K). AreHandlesOf s.gates new.handles.items) (sym same) handles;
     senders = subst (λ (s : System A K). AreSendersOf s.gates new.senders.items) (sym same) senders;
     once = subst (AllPairs (λ a b. a ≢ b))
         (sym (look-alike by_of (λ (b : SenderId). b.0 - most_actors) new.senders.items old.senders.items by)) was.once;
@@ -44,22 +44,22 @@ module _ {A K : Type 0} where
         was.numbered);
   }
 
-  -- the end, or the sender, of this place did something
-  pub end-again : (old new : Built A K) (place : ℕ) (e : WorkerEnd A K) → new.system ≡ old.system → new.senders.items ≡ old.senders.items
-      → new.ends.items ≡ set old.ends.items place e → IsEndOf old.system.gates e.registrar → BelongsTogether old → BelongsTogether new
-  end-again old new place e same senders ends ours was =
-      let P = λ (x : WorkerEnd A K). IsEndOf old.system.gates x.registrar in
+  -- the handle, or the sender, of this place did something
+  pub handle-again : (old new : Built A K) (place : ℕ) (e : WorkerHandle A K) → new.system ≡ old.system → new.senders.items ≡ old.senders.items
+      → new.handles.items ≡ set old.handles.items place e → IsHandleOf old.system.gates e.registrar → BelongsTogether old → BelongsTogether new
+  handle-again old new place e same senders handles ours was =
+      let P = λ (x : WorkerHandle A K). IsHandleOf old.system.gates x.registrar in
       let Q = λ (x : OutsideSender). IsSenderOf old.system.gates x in
-      again old new same (All-same P new.ends.items (set old.ends.items place e) ends (All-set P old.ends.items place e ours was.ends))
+      again old new same (All-same P new.handles.items (set old.handles.items place e) handles (All-set P old.handles.items place e ours was.handles))
       (All-same Q new.senders.items old.senders.items senders was.senders) (ap (map by_of) senders) was
 
-  pub sender-again : (old new : Built A K) (place : ℕ) (s s' : OutsideSender) → new.system ≡ old.system → new.ends.items ≡ old.ends.items
+  pub sender-again : (old new : Built A K) (place : ℕ) (s s' : OutsideSender) → new.system ≡ old.system → new.handles.items ≡ old.handles.items
       → new.senders.items ≡ set old.senders.items place s' → IsSenderOf old.system.gates s'
       → s'.send_log.by ≡ (get_or old.senders.items place s).send_log.by → BelongsTogether old → BelongsTogether new
-  sender-again old new place s s' same ends senders ours by was =
-      let P = λ (x : WorkerEnd A K). IsEndOf old.system.gates x.registrar in
+  sender-again old new place s s' same handles senders ours by was =
+      let P = λ (x : WorkerHandle A K). IsHandleOf old.system.gates x.registrar in
       let Q = λ (x : OutsideSender). IsSenderOf old.system.gates x in
-      again old new same (All-same P new.ends.items old.ends.items ends was.ends)
+      again old new same (All-same P new.handles.items old.handles.items handles was.handles)
       (All-same Q new.senders.items (set old.senders.items place s') senders (All-set Q old.senders.items place s' ours was.senders))
       (ap (map by_of) senders ∙ map-set_same by_of old.senders.items place s' s by) was
 
@@ -71,19 +71,19 @@ module _ {A K : Type 0} where
       (subst (AreSendersOf built.system.gates) (sym are) was.senders)
 
   -- all belongs together after a run, whatever that answered
-  pub run-again : (old new : Built A K) (before after : List (Job A K)) → new.system ≡ old.system → AreEndsOf old.system.gates new.ends.items
+  pub run-again : (old new : Built A K) (before after : List (Job A K)) → new.system ≡ old.system → AreHandlesOf old.system.gates new.handles.items
       → map sender_in before ≡ old.senders.items → AreJobsOf old.system.gates after → jobs_senders after ≡ jobs_senders before
       → new.senders.items ≡ map sender_in after → BelongsTogether old → BelongsTogether new
-  run-again old new before after same ends were ours by are was =
+  run-again old new before after same handles were ours by are was =
       let Q = λ (x : OutsideSender). IsSenderOf old.system.gates x in
-      again old new same ends (All-same Q new.senders.items (map sender_in after) are (All-map Q sender_in after ours))
+      again old new same handles (All-same Q new.senders.items (map sender_in after) are (All-map Q sender_in after ours))
       (ap (map by_of) are ∙ twice sender_in by_of after ∙ by ∙ sym (twice sender_in by_of before) ∙ ap (map by_of) were) was
 
-  -- ends, and jobs, that were lent to a run as a slice come back
-  pub ends-back : (v : Vec (WorkerEnd A K) Global) (lent new : List (WorkerEnd A K)) → lent ≡ v.items → ends_numbers new ≡ ends_numbers lent
+  -- handles, and jobs, that were lent to a run as a slice come back
+  pub handles-back : (v : Vec (WorkerHandle A K) Global) (lent new : List (WorkerHandle A K)) → lent ≡ v.items → handle_numbers new ≡ handle_numbers lent
       → (with_items v new).items ≡ new
-  ends-back v lent new is same =
-      with_items_is v new (as-long (λ (e : WorkerEnd A K). e.number) new lent same ∙ ap length is ∙ sym v.ok.0)
+  handles-back v lent new is same =
+      with_items_is v new (as-long (λ (e : WorkerHandle A K). e.number) new lent same ∙ ap length is ∙ sym v.ok.0)
 
   pub jobs-back : (v : Vec (Job A K) Global) (lent new : List (Job A K)) → lent ≡ v.items → jobs_senders new ≡ jobs_senders lent
       → (with_items v new).items ≡ new

@@ -7,7 +7,7 @@ use Rattle.mb_gate.specs.ClaimCounts.{claims_got, claims_returned}
 use Rattle.mb_gate.specs.NotRun.{shares_in}
 use Rattle.mb_gate.specs.Together.{together}
 use Rattle.mb_gate.specs.View.{View}
-use Rattle.mb_system.specs.declared.end.WorkerEnd.{WorkerEnd}
+use Rattle.mb_system.specs.declared.handle.WorkerHandle.{WorkerHandle}
 use Rattle.mb_system.specs.declared.system.System.{System}
 use Rattle.mb_dispatch.specs.declared.job.Job.{Job}
 
@@ -27,11 +27,11 @@ module _ {A K : Type 0} where
   abbrev pub views_of_jobs : List (Job A K) → List View
   views_of_jobs = map (λ (j : Job A K). pass_view j.sender.registrar.pass)
 
-  -- What these ends and the senders of these jobs know.
-  abbrev pub views_of : List (WorkerEnd A K) → List (Job A K) → List View
-  views_of ends jobs = map (λ (e : WorkerEnd A K). pass_view e.registrar.pass) ends ++ views_of_jobs jobs
+  -- What these handles and the senders of these jobs know.
+  abbrev pub views_of : List (WorkerHandle A K) → List (Job A K) → List View
+  views_of handles jobs = map (λ (e : WorkerHandle A K). pass_view e.registrar.pass) handles ++ views_of_jobs jobs
 
-  -- The system is at rest, where there are as many ends as it has workers, and as many jobs as it has senders: no claim is out.
-  abbrev pub IsAtRest : System A K → List (WorkerEnd A K) → List (Job A K) → Type 0
-  IsAtRest system ends jobs =
-      length ends ≡ system.workers → length jobs ≡ system.senders → NoClaimIsLeft (actors_of system.gates) (views_of ends jobs)
+  -- The system is at rest, where there are as many handles as it has workers, and as many jobs as it has senders: no claim is out.
+  abbrev pub IsAtRest : System A K → List (WorkerHandle A K) → List (Job A K) → Type 0
+  IsAtRest system handles jobs =
+      length handles ≡ system.workers → length jobs ≡ system.senders → NoClaimIsLeft (actors_of system.gates) (views_of handles jobs)

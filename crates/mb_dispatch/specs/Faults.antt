@@ -16,10 +16,10 @@ use Rattle.mb_home.specs.Fresh.{IsFreshClaim}
 use Rattle.mb_msg.specs.declared.order.Order.{Order}
 use Rattle.mb_msg.specs.declared.order.OrderKind.{OrderKind}
 use Rattle.mb_msg.specs.declared.order.OrderKind.TheVariants.{Stop, Tell}
-use Rattle.mb_register.specs.Owed.{is_owed}
+use Rattle.mb_register.specs.ActorSet.{has_actor}
 use Rattle.mb_mailbox.specs.Ran.{IsShortOfMemory, LeavesRun}
 use Rattle.mb_mailbox.specs.declared.turn.Turn.{Turn}
-use Rattle.mb_system.specs.declared.end.WorkerEnd.{WorkerEnd}
+use Rattle.mb_system.specs.declared.handle.WorkerHandle.{WorkerHandle}
 use Rattle.mb_system.specs.declared.failure.RunError.{RunError}
 use Rattle.mb_system.specs.declared.failure.RunError.TheVariants.{JournalFull, NoMemory, NoSuchActor}
 use Rattle.mb_system.specs.Members.{OutsideSender}
@@ -59,7 +59,7 @@ StopsFor gates orders old new fault = (stops : StopsWithin orders old new) × Is
 
 -- The sender carried out all of these orders, and owes an actor a look still: the pool refused its claim again.
 abbrev pub HasSentAndOwes : List Order → OutsideSender → OutsideSender → Type 0
-HasSentAndOwes orders old new = HasSent orders old new × (id : ℕ) × (is_owed new.registrar.owed id ≡ true)
+HasSentAndOwes orders old new = HasSent orders old new × (id : ℕ) × (has_actor new.registrar.owed id ≡ true)
 
 -- A job of these orders is broken off for this reason: that of the order that was refused, at which its sender stopped; or `NoMemory`, where the
 -- sender carried out all of them, and owes an actor a look still.
@@ -67,59 +67,59 @@ abbrev pub BreaksJob : Gates (Box Contents) → List Order → OutsideSender →
 BreaksJob gates orders old new fault = StopsFor gates orders old new fault ⊎ ((fault ≡ NoMemory) × HasSentAndOwes orders old new)
 
 module _ {A K : Type 0} (gives : ℕ → Moment → Reply → Type 0) (system : System A K) where
-  -- A run of a mailbox by this end had no room, since the actor's journal had come to its limit.
-  pub record CameToLimit (end : WorkerEnd A K) : Type 0 where
+  -- A run of a mailbox by this handle had no room, since the actor's journal had come to its limit.
+  pub record CameToLimit (handle : WorkerHandle A K) : Type 0 where
     pub claim : Claim (Box Contents)
     pub fresh : IsFreshClaim gives (Some (origin_of system.gates)) claim
     pub before : View
     pub journal : List Entry
     pub turn : Turn
-    pub left : LeavesRun system.throughput claim before (pass_view end.registrar.pass) journal turn NoRoom
+    pub left : LeavesRun system.throughput claim before (pass_view handle.registrar.pass) journal turn NoRoom
     pub full : claim.home.value.cell.who.limit ≤ length journal
 
-  -- A run of a mailbox by this end had no room, though its actor's journal had not come to its limit, or since the actor ended: then memory was
+  -- A run of a mailbox by this handle had no room, though its actor's journal had not come to its limit, or since the actor ended: then memory was
   -- asked for.
-  pub record CameShort (end : WorkerEnd A K) : Type 0 where
+  pub record CameShort (handle : WorkerHandle A K) : Type 0 where
     pub claim : Claim (Box Contents)
     pub fresh : IsFreshClaim gives (Some (origin_of system.gates)) claim
     pub before : View
     pub journal : List Entry
     pub turn : Turn
-    pub left : LeavesRun system.throughput claim before (pass_view end.registrar.pass) journal turn NoRoom
+    pub left : LeavesRun system.throughput claim before (pass_view handle.registrar.pass) journal turn NoRoom
     pub short : IsShortOfMemory claim.home.value.cell.who journal
 
-  -- The end owes an actor a look: the pool refused its claim.
-  abbrev pub OwesLook : WorkerEnd A K → Type 0
-  OwesLook end = (id : ℕ) × (is_owed end.registrar.owed id ≡ true)
+  -- The handle owes an actor a look: the pool refused its claim.
+  abbrev pub OwesLook : WorkerHandle A K → Type 0
+  OwesLook handle = (id : ℕ) × (has_actor handle.registrar.owed id ≡ true)
 
-  -- From the first view to the second the end only made runs, of mailboxes of claims of this system by its throughput.
+  -- From the first view to the second the handle only made runs, of mailboxes of claims of this system by its throughput.
   abbrev pub OnlyRunsBySystem : View → View → Type 0
   OnlyRunsBySystem = OnlyRuns gives (origin_of system.gates) system.throughput
 
-  -- The end only made runs from this view on, and is broken off for this reason: `JournalFull` only if a journal came to its limit in the last run;
+  -- The handle only made runs from this view on, and is broken off for this reason: `JournalFull` only if a journal came to its limit in the last run;
   -- `NoMemory` only if the last run was short of memory, or the pool refused the claim of an actor to which a look is owed since.
-  abbrev pub BreaksWork : View → WorkerEnd A K → RunError → Type 0
-  BreaksWork start end NoMemory = ((last : CameShort end) × OnlyRunsBySystem start last.before)
-      ⊎ (OwesLook end × OnlyRunsBySystem start (pass_view end.registrar.pass))
-  BreaksWork start end JournalFull = (last : CameToLimit end) × OnlyRunsBySystem start last.before
-  BreaksWork start end NoSuchActor = ⊥
+  abbrev pub BreaksWork : View → WorkerHandle A K → RunError → Type 0
+  BreaksWork start handle NoMemory = ((last : CameShort handle) × OnlyRunsBySystem start last.before)
+      ⊎ (OwesLook handle × OnlyRunsBySystem start (pass_view handle.registrar.pass))
+  BreaksWork start handle JournalFull = (last : CameToLimit handle) × OnlyRunsBySystem start last.before
+  BreaksWork start handle NoSuchActor = ⊥
 
-  -- A quiet run is broken off for this reason: as any work of an end, or memory was refused for one more answer.
-  abbrev pub BreaksQuietRun : View → WorkerEnd A K → RunError → Type 0
-  BreaksQuietRun start end error = ((error ≡ NoMemory) × OnlyRunsBySystem start (pass_view end.registrar.pass)) ⊎ BreaksWork start end error
+  -- A quiet run is broken off for this reason: as any work of a handle, or memory was refused for one more answer.
+  abbrev pub BreaksQuietRun : View → WorkerHandle A K → RunError → Type 0
+  BreaksQuietRun start handle error = ((error ≡ NoMemory) × OnlyRunsBySystem start (pass_view handle.registrar.pass)) ⊎ BreaksWork start handle error
 
-  -- The end only made runs from this view on, up to its end, or until it was broken off.
-  abbrev pub RunsOrBreaks : View → WorkerEnd A K → Type 0
-  RunsOrBreaks start end = OnlyRunsBySystem start (pass_view end.registrar.pass) ⊎ ((error : RunError) × BreaksWork start end error)
+  -- The handle only made runs from this view on, up to its end, or until it was broken off.
+  abbrev pub RunsOrBreaks : View → WorkerHandle A K → Type 0
+  RunsOrBreaks start handle = OnlyRunsBySystem start (pass_view handle.registrar.pass) ⊎ ((error : RunError) × BreaksWork start handle error)
 
-  -- The end has worked to its end from this view on: it only made runs, owes nobody a look, and found the pool empty last.
-  abbrev pub HasWorked : View → WorkerEnd A K → Type 0
-  HasWorked start end = ((id : ℕ) → id < actors_of system.gates → is_owed end.registrar.owed id ≡ false) × FoundPoolEmpty gives end
-      × OnlyRunsBySystem start (pass_view end.registrar.pass)
+  -- The handle has worked to its end from this view on: it only made runs, owes nobody a look, and found the pool empty last.
+  abbrev pub HasWorked : View → WorkerHandle A K → Type 0
+  HasWorked start handle = ((id : ℕ) → id < actors_of system.gates → has_actor handle.registrar.owed id ≡ false) × FoundPoolEmpty gives handle
+      × OnlyRunsBySystem start (pass_view handle.registrar.pass)
 
-  -- A run by these ends with these jobs, each given before and after it, is broken off for this reason: that of the first end that was broken off,
+  -- A run by these handles with these jobs, each given before and after it, is broken off for this reason: that of the first handle that was broken off,
   -- or, if all have worked to their end, that of the first job that was.
-  abbrev pub BreaksRun : List (WorkerEnd A K) → List (WorkerEnd A K) → List (Job A K) → List (Job A K) → RunError → Type 0
+  abbrev pub BreaksRun : List (WorkerHandle A K) → List (WorkerHandle A K) → List (Job A K) → List (Job A K) → RunError → Type 0
   BreaksRun old new before after error =
       FirstZip (λ o n. HasWorked (pass_view o.registrar.pass) n) (λ o n. BreaksWork (pass_view o.registrar.pass) n error) old new
       ⊎ (AllZip (λ o n. HasWorked (pass_view o.registrar.pass) n) old new

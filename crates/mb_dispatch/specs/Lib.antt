@@ -2,12 +2,13 @@ pub mod Orders
 pub mod Parallel
 pub mod Found
 pub mod Jobs
+pub mod Senders
 pub mod Faults
 pub mod Runs
 pub mod Claims
 pub mod Working
 pub mod AtRest
-pub mod Rest
+pub mod RestingActors
 pub mod AtFirst
 pub mod Paired
 pub mod Sources

@@ -1,4 +1,4 @@
--- The runs of mailboxes that a worker's end made, as a chain of what it knew.
+-- The runs of mailboxes that a worker's handle made, as a chain of what it knew.
 use Rattle.std.specs.Prelude.{ℕ, List, [], ◌∷◌, Some}
 use Rattle.std.specs.Global.{Box}
 use Rattle.mb_actor.specs.Behaviour.{Moment, Reply}
@@ -19,7 +19,7 @@ abbrev pub turns_in : Turns → List Turn
 turns_in turns = turns.list.items
 
 module _ (gives : ℕ → Moment → Reply → Type 0) (origin : Origin (Box Contents)) (throughput : ℕ) where
-  -- The end ran the mailbox of a claim of these gates, by this throughput, and there was room for all that the run took. The result names the actor
+  -- The handle ran the mailbox of a claim of these gates, by this throughput, and there was room for all that the run took. The result names the actor
   -- and counts the entries that the run added to its journal.
   pub record RanMailbox (old new : View) (turn : Turn) : Type 0 where
     pub claim : Claim (Box Contents)
@@ -29,14 +29,14 @@ module _ (gives : ℕ → Moment → Reply → Type 0) (origin : Origin (Box Con
     pub room : HadRoom stopped
     pub left : LeavesRun throughput claim old new journal turn stopped
 
-  -- These are the results of all runs that the end made, in order, each of a run that began with what the end knew then. Between them it only looked
+  -- These are the results of all runs that the handle made, in order, each of a run that began with what the handle knew then. Between them it only looked
   -- at actors.
   abbrev pub MadeRuns : View → List Turn → View → Type 0
   MadeRuns old [] new = OnlyLooks old new
   MadeRuns old (turn ∷ turns) new =
       (before : View) × (after : View) × OnlyLooks old before × RanMailbox before after turn × MadeRuns after turns new
 
-  -- The end made runs, one after another, and only looked at actors between them. It took nothing and sent nothing beside these runs.
+  -- The handle made runs, one after another, and only looked at actors between them. It took nothing and sent nothing beside these runs.
   pub record OnlyRuns (old new : View) : Type 0 where
     pub turns : List Turn
     pub made : MadeRuns old turns new

@@ -11,7 +11,7 @@ use Rattle.mb_source.specs.Given.{Gave, GaveAll, given_since, sendable}
 use Rattle.mb_source.specs.RecordedSource.{RecordedSource}
 use Rattle.mb_system.specs.Members.{IsSenderOf, OutsideSender, sender_caller}
 use Rattle.mb_system.specs.Obligations.{KeepsObligations, OwesNobody}
-use Rattle.mb_system.specs.declared.end.WorkerEnd.{WorkerEnd}
+use Rattle.mb_system.specs.declared.handle.WorkerHandle.{WorkerHandle}
 use Rattle.mb_system.specs.declared.failure.RunError.{RunError}
 use Rattle.mb_system.specs.declared.system.System.{System}
 use Rattle.mb_dispatch.specs.Claims.{SenderLosesNoClaim}
@@ -54,9 +54,9 @@ module _ {S : Type 0} (gates : Gates (Box Contents)) (gives : S → Option Order
     pub obligations : KeepsObligations (actors_of gates) (sender_caller old.0.registrar) (sender_caller new.0.registrar)
 
 module _ {A K S : Type 0} (gates : Gates (Box Contents)) (gives : S → Option Order → S → Type 0) (takes_back : S → Order → S → Type 0) where
-  -- A run by these ends of the system, beside senders with their sources, each given before and after it, is broken off for this reason: that of
-  -- the first end that was broken off, or, if all have worked to their end, that of the first sender that was.
-  abbrev pub BreaksRunFrom : (ℕ → Moment → Reply → Type 0) → System A K → List (WorkerEnd A K) → List (WorkerEnd A K)
+  -- A run by these handles of the system, beside senders with their sources, each given before and after it, is broken off for this reason: that of
+  -- the first handle that was broken off, or, if all have worked to their end, that of the first sender that was.
+  abbrev pub BreaksRunFrom : (ℕ → Moment → Reply → Type 0) → System A K → List (WorkerHandle A K) → List (WorkerHandle A K)
       → List (OutsideSender × RecordedSource S) → List (OutsideSender × RecordedSource S) → RunError → Type 0
   BreaksRunFrom behaviours system old new before after error =
       FirstZip (λ o n. HasWorked behaviours system (pass_view o.registrar.pass) n)

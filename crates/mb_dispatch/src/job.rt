@@ -1,12 +1,11 @@
 //! The job of a sender in a run.
 ghost use Rattle.std.specs.Prelude.{◌≡◌, IfErr, OnErr, OnOk};
-ghost use Rattle.mb_gate.specs.Accessors.{actors_of};
-ghost use Rattle.mb_system.specs.Obligations.{KeepsObligations, OwesNobody};
 ghost use Rattle.mb_dispatch.specs.Claims.{SenderLosesNoClaim};
 ghost use Rattle.mb_dispatch.specs.Faults.{BreaksJob};
-ghost use Rattle.mb_system.specs.Members.{IsSenderOf, sender_caller};
+ghost use Rattle.mb_system.specs.Members.{IsSenderOf};
 ghost use Rattle.mb_dispatch.specs.Jobs.{ForgetsNobody};
-ghost use Rattle.mb_dispatch.specs.Orders.{HasSent, HasSentSome};
+ghost use Rattle.mb_dispatch.specs.Orders.{HasSentSome};
+ghost use Rattle.mb_dispatch.specs.Senders.{CarriesOutAndRetries};
 
 use crate::order::send_all;
 use crate::parallel::Task;
@@ -25,18 +24,14 @@ pub struct Job<A: Actor, K: Behaviours> {
 }
 
 impl<A: Actor, K: Behaviours> Task<System<A, K>> for Job<A, K> {
-    ghost use Rattle.std.specs.Prelude.{◌≡◌, IfErr, OnOk};
-    ghost use Rattle.mb_dispatch.specs.Claims.{SenderLosesNoClaim};
+    ghost use Rattle.std.specs.Prelude.{IfErr, OnOk};
     ghost use Rattle.mb_dispatch.specs.Faults.{BreaksJob};
     ghost use Rattle.mb_system.specs.Members.{IsSenderOf};
-    ghost use Rattle.mb_dispatch.specs.Jobs.{ForgetsNobody, IsDone};
-    ghost use Rattle.mb_dispatch.specs.Orders.{HasSentSome};
+    ghost use Rattle.mb_dispatch.specs.Jobs.{IsDone, KeepsJob};
 
     ghost ready = { λ system job. IsSenderOf system.gates job.sender };
 
-    ghost keeps = { λ system old new. IsSenderOf system.gates new.sender × (new.sender.send_log.by ≡ old.sender.send_log.by)
-        × HasSentSome old.sends.items old.sender new.sender × ForgetsNobody system.gates old.sender new.sender × (new.sends ≡ old.sends)
-        × SenderLosesNoClaim old.sender new.sender };
+    ghost keeps = { λ system old new. KeepsJob system.gates old new };
 
     ghost done = { λ system old new. IsDone system.gates old new };
 
@@ -46,10 +41,7 @@ impl<A: Actor, K: Behaviours> Task<System<A, K>> for Job<A, K> {
     /// what was sent before stays sent. Whatever comes of it, the job is done then, and no claim is lost.
     fn perform<R: Wait>(&mut self, rt: &R, shared: &System<A, K>) -> Result<(), RunError>
         requires ready { IsSenderOf shared.now.gates self.old.sender }
-        ensures keeps { IsSenderOf shared.now.gates self.new.sender × (self.new.sender.send_log.by ≡ self.old.sender.send_log.by)
-            × HasSentSome self.old.sends.items self.old.sender self.new.sender
-            × ForgetsNobody shared.now.gates self.old.sender self.new.sender × (self.new.sends ≡ self.old.sends)
-            × SenderLosesNoClaim self.old.sender self.new.sender }
+        ensures keeps { KeepsJob shared.now.gates self.old self.new }
         ensures done { OnOk result (IsDone shared.now.gates self.old self.new) }
         ensures fails { IfErr result (BreaksJob shared.now.gates self.old.sends.items self.old.sender self.new.sender) }
     {
@@ -59,8 +51,10 @@ impl<A: Actor, K: Behaviours> Task<System<A, K>> for Job<A, K> {
     }
 }
 
-// Sends all, then looks after each actor that is owed a look.
-fn send_and_retry<A: Actor, K: Behaviours, R: Wait>(
+/// Carries out all these orders, as `send_all` does, and then registers each actor again to which the sender owes a look. It stops at the first
+/// fault: of `send_all`; or `NoMemory`, where all was sent, and the pool refused a claim again. What was sent before stays sent, and no actor of the
+/// sender's set is forgotten. No claim is lost.
+pub fn send_and_retry<A: Actor, K: Behaviours, R: Wait>(
     rt: &R,
     system: &System<A, K>,
     sender: &mut Sender<A, K>,
@@ -69,9 +63,7 @@ fn send_and_retry<A: Actor, K: Behaviours, R: Wait>(
     requires same_gates { IsSenderOf system.now.gates sender.old }
     ensures same_gates { IsSenderOf system.now.gates sender.new }
     ensures same_sender { sender.new.send_log.by ≡ sender.old.send_log.by }
-    ensures sent { OnOk result (HasSent orders.now sender.old sender.new × OwesNobody system.now.gates sender.new) }
-    ensures obligations { OnOk result (KeepsObligations (actors_of system.now.gates) (sender_caller sender.old.registrar)
-        (sender_caller sender.new.registrar)) }
+    ensures done { OnOk result (CarriesOutAndRetries system.now.gates orders.now sender.old sender.new) }
     ensures still { ForgetsNobody system.now.gates sender.old sender.new }
     ensures claims { SenderLosesNoClaim sender.old sender.new }
     ensures stopped { OnErr result (HasSentSome orders.now sender.old sender.new) }

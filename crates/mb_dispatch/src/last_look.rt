@@ -2,7 +2,7 @@
 ghost use Rattle.std.specs.Prelude.{◌≡◌, ◌<◌, ◌⊎◌, ℕ, length, true};
 ghost use Rattle.mb_gate.specs.Accessors.{actors_of, gates_id, pass_id, pass_view};
 ghost use Rattle.mb_gate.specs.Together.{NoClaimIsOut, together};
-ghost use Rattle.mb_system.specs.Members.{AreEndsOf, IsEndOf, IsSenderOf};
+ghost use Rattle.mb_system.specs.Members.{AreHandlesOf, IsHandleOf, IsSenderOf};
 ghost use Rattle.mb_dispatch.specs.AtRest.{IsAtRest, NoClaimIsLeft, all_together, views_of, views_of_jobs};
 ghost use Rattle.mb_dispatch.specs.Jobs.{AreJobsOf};
 
@@ -11,47 +11,47 @@ use crate::job::Job;
 use mb_actor::{Actor, Behaviours};
 use mb_gate::{Gates, Pass};
 use mb_home::BoxedHome;
-use mb_system::{System, WorkerEnd};
+use mb_system::{System, WorkerHandle};
 
-/// Whether no claim is out, by all that these ends and the senders of these jobs know together. Where an end or a sender of the system is
+/// Whether no claim is out, by all that these handles and the senders of these jobs know together. Where a handle or a sender of the system is
 /// missing, nobody can tell, and the answer is yes.
 pub(crate) fn is_settled<A: Actor, K: Behaviours>(
     system: &System<A, K>,
-    ends: &mut [WorkerEnd<A, K>],
+    handles: &mut [WorkerHandle<A, K>],
     jobs: &mut [Job<A, K>],
 ) -> bool
-    requires ends { AreEndsOf system.now.gates ends.old }
+    requires handles { AreHandlesOf system.now.gates handles.old }
     requires jobs { AreJobsOf system.now.gates jobs.old }
-    ensures same { (ends.new ≡ ends.old) × (jobs.new ≡ jobs.old) }
-    ensures at_rest { result ≡ true → IsAtRest system.now ends.old jobs.old }
+    ensures same { (handles.new ≡ handles.old) × (jobs.new ≡ jobs.old) }
+    ensures at_rest { result ≡ true → IsAtRest system.now handles.old jobs.old }
 {
-    if ends.len() != system.workers as usize || jobs.len() != system.senders as usize {
+    if handles.len() != system.workers as usize || jobs.len() != system.senders as usize {
         return true;
     }
-    look_by_all(&system.gates, ends, jobs, false)
+    look_by_all(&system.gates, handles, jobs, false)
 }
 
-// Whether no claim is out, by all that these ends and the senders of these jobs know together. If the others are to look first, without
-// the first end, the answer is no.
+// Whether no claim is out, by all that these handles and the senders of these jobs know together. If the others are to look first, without
+// the first handle, the answer is no.
 //
 // Nobody asks for that. It makes a cycle of these calls, in which the prover compares fewer types. Outside of a cycle it meets its step limit
-// at a call of `at_first` with workers' ends.
+// at a call of `at_first` with workers' handles.
 #[cycle(all)]
 fn look_by_all<A: Actor, K: Behaviours>(
     gates: &Gates<BoxedHome<A, K>>,
-    ends: &mut [WorkerEnd<A, K>],
+    handles: &mut [WorkerHandle<A, K>],
     jobs: &mut [Job<A, K>],
     others_first: bool,
 ) -> bool
-    requires ends { AreEndsOf gates.now ends.old }
+    requires handles { AreHandlesOf gates.now handles.old }
     requires jobs { AreJobsOf gates.now jobs.old }
-    ensures same { (ends.new ≡ ends.old) × (jobs.new ≡ jobs.old) }
-    ensures back { result ≡ true → (length ends.old ≡ 0) ⊎ NoClaimIsLeft (actors_of gates.now) (views_of ends.old jobs.old) }
+    ensures same { (handles.new ≡ handles.old) × (jobs.new ≡ jobs.old) }
+    ensures back { result ≡ true → (length handles.old ≡ 0) ⊎ NoClaimIsLeft (actors_of gates.now) (views_of handles.old jobs.old) }
 {
     let looked = at_first(
-        ends,
-        &mut |first: &mut WorkerEnd<A, K>, others: &mut [WorkerEnd<A, K>]| -> bool
-            requires { IsEndOf gates.now first.old.registrar × AreEndsOf gates.now others.old × AreJobsOf gates.now jobs.now }
+        handles,
+        &mut |first: &mut WorkerHandle<A, K>, others: &mut [WorkerHandle<A, K>]| -> bool
+            requires { IsHandleOf gates.now first.old.registrar × AreHandlesOf gates.now others.old × AreJobsOf gates.now jobs.now }
             ensures { (first.new ≡ first.old) × (others.new ≡ others.old) × (jobs.exit.now ≡ jobs.entry.now)
                 × (result ≡ true → (id : ℕ) → id < actors_of gates.entry.now
                 → NoClaimIsOut id (all_together (pass_view first.old.registrar.pass) (views_of others.old jobs.entry.now))) }
@@ -66,13 +66,13 @@ fn look_by_all<A: Actor, K: Behaviours>(
 #[cycle(all)]
 fn look_from<A: Actor, K: Behaviours>(
     gates: &Gates<BoxedHome<A, K>>,
-    first: &mut WorkerEnd<A, K>,
-    others: &mut [WorkerEnd<A, K>],
+    first: &mut WorkerHandle<A, K>,
+    others: &mut [WorkerHandle<A, K>],
     jobs: &mut [Job<A, K>],
     others_first: bool,
 ) -> bool
-    requires first { IsEndOf gates.now first.old.registrar }
-    requires ends { AreEndsOf gates.now others.old }
+    requires first { IsHandleOf gates.now first.old.registrar }
+    requires handles { AreHandlesOf gates.now others.old }
     requires jobs { AreJobsOf gates.now jobs.old }
     ensures same { (first.new ≡ first.old) × (others.new ≡ others.old) × (jobs.new ≡ jobs.old) }
     ensures back { result ≡ true → (id : ℕ) → id < actors_of gates.now
@@ -82,33 +82,33 @@ fn look_from<A: Actor, K: Behaviours>(
         look_by_all(gates, others, jobs, false);
         return false;
     }
-    look_with_ends(gates, &mut first.registrar.pass, others, jobs)
+    look_with_handles(gates, &mut first.registrar.pass, others, jobs)
 }
 
-// Whether no claim is out, by all that the pass, these ends and the senders of these jobs know together.
-#[cycle(ends)]
-fn look_with_ends<A: Actor, K: Behaviours>(
+// Whether no claim is out, by all that the pass, these handles and the senders of these jobs know together.
+#[cycle(handles)]
+fn look_with_handles<A: Actor, K: Behaviours>(
     gates: &Gates<BoxedHome<A, K>>,
     pass: &mut Pass<BoxedHome<A, K>>,
-    ends: &mut [WorkerEnd<A, K>],
+    handles: &mut [WorkerHandle<A, K>],
     jobs: &mut [Job<A, K>],
 ) -> bool
     requires same_gates { pass_id pass.old ≡ gates_id gates.now }
-    requires ends { AreEndsOf gates.now ends.old }
+    requires handles { AreHandlesOf gates.now handles.old }
     requires jobs { AreJobsOf gates.now jobs.old }
-    ensures same { (pass.new ≡ pass.old) × (ends.new ≡ ends.old) × (jobs.new ≡ jobs.old) }
+    ensures same { (pass.new ≡ pass.old) × (handles.new ≡ handles.old) × (jobs.new ≡ jobs.old) }
     ensures back { result ≡ true → (id : ℕ) → id < actors_of gates.now
-        → NoClaimIsOut id (all_together (pass_view pass.old) (views_of ends.old jobs.old)) }
+        → NoClaimIsOut id (all_together (pass_view pass.old) (views_of handles.old jobs.old)) }
 {
     let looked = at_first(
-        ends,
-        &mut |end: &mut WorkerEnd<A, K>, others: &mut [WorkerEnd<A, K>]| -> bool
-            requires { (pass_id pass.now ≡ gates_id gates.now) × IsEndOf gates.now end.old.registrar
-                × AreEndsOf gates.now others.old × AreJobsOf gates.now jobs.now }
-            ensures { (pass.exit.now ≡ pass.entry.now) × (end.new ≡ end.old) × (others.new ≡ others.old) × (jobs.exit.now ≡ jobs.entry.now)
+        handles,
+        &mut |handle: &mut WorkerHandle<A, K>, others: &mut [WorkerHandle<A, K>]| -> bool
+            requires { (pass_id pass.now ≡ gates_id gates.now) × IsHandleOf gates.now handle.old.registrar
+                × AreHandlesOf gates.now others.old × AreJobsOf gates.now jobs.now }
+            ensures { (pass.exit.now ≡ pass.entry.now) × (handle.new ≡ handle.old) × (others.new ≡ others.old) × (jobs.exit.now ≡ jobs.entry.now)
                 × (result ≡ true → (id : ℕ) → id < actors_of gates.entry.now
-                → NoClaimIsOut id (all_together (together (pass_view pass.entry.now) (pass_view end.old.registrar.pass)) (views_of others.old jobs.entry.now))) }
-        { look_with_end(gates, pass, end, others, jobs) },
+                → NoClaimIsOut id (all_together (together (pass_view pass.entry.now) (pass_view handle.old.registrar.pass)) (views_of others.old jobs.entry.now))) }
+        { look_with_handle(gates, pass, handle, others, jobs) },
     );
     let Some(answer) = looked else {
         return look_with_jobs(gates, pass, jobs);
@@ -116,31 +116,31 @@ fn look_with_ends<A: Actor, K: Behaviours>(
     answer
 }
 
-#[cycle(ends)]
-fn look_with_end<A: Actor, K: Behaviours>(
+#[cycle(handles)]
+fn look_with_handle<A: Actor, K: Behaviours>(
     gates: &Gates<BoxedHome<A, K>>,
     pass: &mut Pass<BoxedHome<A, K>>,
-    end: &mut WorkerEnd<A, K>,
-    others: &mut [WorkerEnd<A, K>],
+    handle: &mut WorkerHandle<A, K>,
+    others: &mut [WorkerHandle<A, K>],
     jobs: &mut [Job<A, K>],
 ) -> bool
     requires same_gates { pass_id pass.old ≡ gates_id gates.now }
-    requires end { IsEndOf gates.now end.old.registrar }
-    requires ends { AreEndsOf gates.now others.old }
+    requires handle { IsHandleOf gates.now handle.old.registrar }
+    requires handles { AreHandlesOf gates.now others.old }
     requires jobs { AreJobsOf gates.now jobs.old }
-    ensures same { (pass.new ≡ pass.old) × (end.new ≡ end.old) × (others.new ≡ others.old) × (jobs.new ≡ jobs.old) }
+    ensures same { (pass.new ≡ pass.old) × (handle.new ≡ handle.old) × (others.new ≡ others.old) × (jobs.new ≡ jobs.old) }
     ensures back { result ≡ true → (id : ℕ) → id < actors_of gates.now
-        → NoClaimIsOut id (all_together (together (pass_view pass.old) (pass_view end.old.registrar.pass)) (views_of others.old jobs.old)) }
+        → NoClaimIsOut id (all_together (together (pass_view pass.old) (pass_view handle.old.registrar.pass)) (views_of others.old jobs.old)) }
 {
     gates.look_together(
         pass,
-        &mut end.registrar.pass,
+        &mut handle.registrar.pass,
         &mut |all: &mut Pass<BoxedHome<A, K>>| -> bool
-            requires { (pass_id all.old ≡ gates_id gates.now) × AreEndsOf gates.now others.now × AreJobsOf gates.now jobs.now }
+            requires { (pass_id all.old ≡ gates_id gates.now) × AreHandlesOf gates.now others.now × AreJobsOf gates.now jobs.now }
             ensures { (all.new ≡ all.old) × (others.exit.now ≡ others.entry.now) × (jobs.exit.now ≡ jobs.entry.now)
                 × (result ≡ true → (id : ℕ) → id < actors_of gates.entry.now
                 → NoClaimIsOut id (all_together (pass_view all.old) (views_of others.entry.now jobs.entry.now))) }
-        { look_with_ends(gates, all, others, jobs) },
+        { look_with_handles(gates, all, others, jobs) },
     )
 }
 

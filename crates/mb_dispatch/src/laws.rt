@@ -1,5 +1,5 @@
 //! What holds of a system at rest (this project's own profile).
-ghost use Rattle.mb_dispatch.specs.Rest.{ShowsRest};
+ghost use Rattle.mb_dispatch.specs.RestingActors.{ShowsRest};
 
 use mb_gate::MailboxState;
 

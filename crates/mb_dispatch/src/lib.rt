@@ -18,11 +18,11 @@ mod turns;
 mod working;
 
 pub use from_source::{send_from, send_from_each};
-pub use job::Job;
+pub use job::{Job, send_and_retry};
 pub use laws::what_is_at_rest_has_nothing_to_run;
 pub use mb_mailbox::{Turn, run_mailbox};
 pub use mb_send::{Look, SendError, SendOutcome, Ticket};
-pub use mb_system::{Built, RunError, Sender, System, WorkerEnd};
+pub use mb_system::{Built, RunError, Sender, System, WorkerHandle};
 pub use order::send_all;
 pub use quiet::run_quietly;
 pub use running::run;

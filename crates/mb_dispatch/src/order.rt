@@ -1,12 +1,9 @@
 //! Carrying out what a sender outside the actors is to send.
-ghost use Rattle.std.specs.Prelude.{◌≡◌, [], ◌∷◌, IfErr, OnErr, OnOk};
-ghost use Rattle.mb_dispatch.specs.Claims.{SenderLosesNoClaim};
+ghost use Rattle.std.specs.Prelude.{[], ◌∷◌, IfErr, OnErr, OnOk};
 ghost use Rattle.mb_dispatch.specs.Faults.{BreaksSending, IsRefusedFor, StopsFor};
-ghost use Rattle.mb_gate.specs.Accessors.{actors_of};
-ghost use Rattle.mb_system.specs.Obligations.{KeepsObligations};
-ghost use Rattle.mb_system.specs.Members.{IsSenderOf, sender_caller};
+ghost use Rattle.mb_system.specs.Members.{IsSenderOf};
 ghost use Rattle.mb_dispatch.specs.Orders.{HasSent, HasSentUpTo, StopsWithin, order_for};
-ghost use Rattle.mb_register.specs.Caller.{OwesForRefusals};
+ghost use Rattle.mb_dispatch.specs.Senders.{CarriesOut, KeepsSender};
 
 use mb_actor::{Actor, Behaviours};
 use mb_msg::{ActorId, Order, OrderKind};
@@ -24,13 +21,8 @@ pub fn send_all<A: Actor, K: Behaviours, R: Wait>(
     orders: &[Order],
 ) -> Result<(), RunError>
     requires same_gates { IsSenderOf system.now.gates sender.old }
-    ensures same_gates { IsSenderOf system.now.gates sender.new }
-    ensures same_sender { sender.new.send_log.by ≡ sender.old.send_log.by }
-    ensures sent { OnOk result (HasSent orders.now sender.old sender.new) }
-    ensures obligations { OnOk result (KeepsObligations (actors_of system.now.gates) (sender_caller sender.old.registrar)
-        (sender_caller sender.new.registrar)) }
-    ensures owed { OwesForRefusals (sender_caller sender.old.registrar).account (sender_caller sender.new.registrar).account }
-    ensures claims { SenderLosesNoClaim sender.old sender.new }
+    ensures keeps { KeepsSender system.now.gates sender.old sender.new }
+    ensures done { OnOk result (CarriesOut system.now.gates orders.now sender.old sender.new) }
     ensures stopped { OnErr result (StopsWithin orders.now sender.old sender.new) }
     ensures fault { IfErr result (BreaksSending system.now.gates orders.now) }
     ensures reason { IfErr result (StopsFor system.now.gates orders.now sender.old sender.new) }
@@ -49,13 +41,8 @@ fn send_often<A: Actor, K: Behaviours, R: Wait>(
     order: Order,
 ) -> Result<(), RunError>
     requires same_gates { IsSenderOf system.now.gates sender.old }
-    ensures same_gates { IsSenderOf system.now.gates sender.new }
-    ensures same_sender { sender.new.send_log.by ≡ sender.old.send_log.by }
-    ensures sent { OnOk result (HasSent (order ∷ []) sender.old sender.new) }
-    ensures obligations { OnOk result (KeepsObligations (actors_of system.now.gates) (sender_caller sender.old.registrar)
-        (sender_caller sender.new.registrar)) }
-    ensures owed { OwesForRefusals (sender_caller sender.old.registrar).account (sender_caller sender.new.registrar).account }
-    ensures claims { SenderLosesNoClaim sender.old sender.new }
+    ensures keeps { KeepsSender system.now.gates sender.old sender.new }
+    ensures done { OnOk result (CarriesOut system.now.gates (order ∷ []) sender.old sender.new) }
     ensures stopped { OnErr result (HasSentUpTo [] order sender.old sender.new) }
     ensures fault { IfErr result (BreaksSending system.now.gates (order ∷ [])) }
     ensures reason { IfErr result (IsRefusedFor system.now.gates order.to order.what) }
@@ -76,13 +63,8 @@ fn send<A: Actor, K: Behaviours, R: Wait>(
     what: OrderKind,
 ) -> Result<(), RunError>
     requires same_gates { IsSenderOf system.now.gates sender.old }
-    ensures same_gates { IsSenderOf system.now.gates sender.new }
-    ensures same_sender { sender.new.send_log.by ≡ sender.old.send_log.by }
-    ensures sent { OnOk result (HasSent (order_for to what 1 ∷ []) sender.old sender.new) }
-    ensures obligations { OnOk result (KeepsObligations (actors_of system.now.gates) (sender_caller sender.old.registrar)
-        (sender_caller sender.new.registrar)) }
-    ensures owed { OwesForRefusals (sender_caller sender.old.registrar).account (sender_caller sender.new.registrar).account }
-    ensures claims { SenderLosesNoClaim sender.old sender.new }
+    ensures keeps { KeepsSender system.now.gates sender.old sender.new }
+    ensures done { OnOk result (CarriesOut system.now.gates (order_for to what 1 ∷ []) sender.old sender.new) }
     ensures unsent { OnErr result (HasSent [] sender.old sender.new) }
     ensures fault { IfErr result (BreaksSending system.now.gates (order_for to what 1 ∷ [])) }
     ensures reason { IfErr result (IsRefusedFor system.now.gates to what) }

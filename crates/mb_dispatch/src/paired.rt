@@ -1,10 +1,10 @@
 //! Tasks each of which has a value of its own beside it, done in parallel.
-ghost use Rattle.std.specs.Prelude.{◌≡◌, All, IfErr, OnOk, length};
+ghost use Rattle.std.specs.Prelude.{All, IfErr, OnOk};
 ghost use Rattle.std.specs.List.{AllZip};
 ghost use Rattle.std.specs.Thread.{IsSend, IsSync};
 ghost use Rattle.mb_system.specs.declared.failure.RunError.{RunError as Fault};
 ghost use Rattle.mb_dispatch.specs.Parallel.{FirstZip, HasEnded, HaveEnded};
-ghost use Rattle.mb_dispatch.specs.Paired.{pairs};
+ghost use Rattle.mb_dispatch.specs.Paired.{AreReady, pairs};
 
 use crate::parallel::{Task, each_in_parallel, first_error};
 use mb_system::RunError;
@@ -39,8 +39,7 @@ pub(crate) fn each_in_turn<R: Wait, S, V, T: PairedTask<S, V>>(
     tasks: &mut [T],
     values: &mut [V],
 ) -> Result<(), RunError>
-    requires same_count { length tasks.old ≡ length values.old }
-    requires ready { All (T.ready shared.now) (pairs tasks.old values.old) }
+    requires { AreReady (T.ready shared.now) tasks.old values.old }
     ensures ended { HaveEnded (T.keeps shared.now) (T.done shared.now) (T.fails shared.now) (pairs tasks.old values.old)
         (pairs tasks.new values.new) result }
 {
@@ -66,8 +65,7 @@ pub(crate) fn each_pair_in_parallel<
     V: Send,
     T: PairedTask<S, V> + Send,
 >(rt: &R, shared: &S, tasks: &mut [T], values: &mut [V]) -> Result<(), RunError>
-    requires same_count { length tasks.old ≡ length values.old }
-    requires ready { All (T.ready shared.now) (pairs tasks.old values.old) }
+    requires { AreReady (T.ready shared.now) tasks.old values.old }
     ensures ended { HaveEnded (T.keeps shared.now) (T.done shared.now) (T.fails shared.now) (pairs tasks.old values.old)
         (pairs tasks.new values.new) result }
 {
@@ -92,8 +90,7 @@ fn one_pair_beside_others<R: Threads + Wait + Sync, S: Sync, V: Send, T: PairedT
     values: &mut [V],
 ) -> (Result<(), RunError>, Result<(), RunError>)
     requires one { T.ready shared.now (one.old, value.old) }
-    requires same_count { length others.old ≡ length values.old }
-    requires others { All (T.ready shared.now) (pairs others.old values.old) }
+    requires others { AreReady (T.ready shared.now) others.old values.old }
     ensures one { HasEnded (T.keeps shared.now) (T.done shared.now) (T.fails shared.now) (one.old, value.old) (one.new, value.new) result.0 }
     ensures others { HaveEnded (T.keeps shared.now) (T.done shared.now) (T.fails shared.now) (pairs others.old values.old)
         (pairs others.new values.new) result.1 }
@@ -101,8 +98,8 @@ fn one_pair_beside_others<R: Threads + Wait + Sync, S: Sync, V: Send, T: PairedT
     let (of_others, of_one) = join_mut(
         rt,
         &mut || -> Result<(), RunError>
-            requires { IsSync R.row × IsSync S.row × IsSend V.row × IsSend T.row × (length others.now ≡ length values.now)
-                × All (T.ready shared.now) (pairs others.now values.now) }
+            requires { IsSync R.row × IsSync S.row × IsSend V.row × IsSend T.row
+                × AreReady (T.ready shared.now) others.now values.now }
             ensures { HaveEnded (T.keeps shared.entry.now) (T.done shared.entry.now) (T.fails shared.entry.now)
                 (pairs others.entry.now values.entry.now) (pairs others.exit.now values.exit.now) result }
         { each_pair_in_parallel(rt, shared, others, values) },
@@ -130,8 +127,7 @@ pub(crate) fn pairs_in_parallel<
     values: &mut [V],
     those: &mut [U],
 ) -> (Result<(), RunError>, Result<(), RunError>)
-    requires same_count { length these.old ≡ length values.old }
-    requires these_ready { All (T.ready shared.now) (pairs these.old values.old) }
+    requires these_ready { AreReady (T.ready shared.now) these.old values.old }
     requires those_ready { All (U.ready shared.now) those.old }
     ensures these { HaveEnded (T.keeps shared.now) (T.done shared.now) (T.fails shared.now) (pairs these.old values.old)
         (pairs these.new values.new) result.0 }
@@ -144,7 +140,7 @@ pub(crate) fn pairs_in_parallel<
             ensures { HaveEnded (U.keeps shared.entry.now) (U.done shared.entry.now) (U.fails shared.entry.now) those.entry.now those.exit.now result }
         { each_in_parallel(rt, shared, those) },
         &mut || -> Result<(), RunError>
-            requires { (length these.now ≡ length values.now) × All (T.ready shared.now) (pairs these.now values.now) }
+            requires { AreReady (T.ready shared.now) these.now values.now }
             ensures { HaveEnded (T.keeps shared.entry.now) (T.done shared.entry.now) (T.fails shared.entry.now)
                 (pairs these.entry.now values.entry.now) (pairs these.exit.now values.exit.now) result }
         { each_pair_in_parallel(rt, shared, these, values) },

@@ -86,11 +86,8 @@ pub fn both_in_parallel<R: Threads + Wait + Sync, S: Sync, T: Task<S> + Send, U:
 ) -> (Result<(), RunError>, Result<(), RunError>)
     requires these_ready { All (T.ready shared.now) these.old }
     requires those_ready { All (U.ready shared.now) those.old }
-    ensures keeps { AllZip (T.keeps shared.now) these.old these.new × AllZip (U.keeps shared.now) those.old those.new }
-    ensures done { OnOk result.0 (AllZip (T.done shared.now) these.old these.new)
-        × OnOk result.1 (AllZip (U.done shared.now) those.old those.new) }
-    ensures fails { IfErr result.0 (λ fault. FirstZip (T.done shared.now) (λ old new. T.fails shared.now old new fault) these.old these.new)
-        × IfErr result.1 (λ fault. FirstZip (U.done shared.now) (λ old new. U.fails shared.now old new fault) those.old those.new) }
+    ensures these { HaveEnded (T.keeps shared.now) (T.done shared.now) (T.fails shared.now) these.old these.new result.0 }
+    ensures those { HaveEnded (U.keeps shared.now) (U.done shared.now) (U.fails shared.now) those.old those.new result.1 }
 {
     if these.is_empty() {
         return (Ok(()), each_in_parallel(rt, shared, those));

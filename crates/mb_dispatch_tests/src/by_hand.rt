@@ -1,4 +1,4 @@
-//! Systems whose ends and senders are called one by one, and whose end is refused.
+//! Systems whose handles and senders are called one by one, and whose end is refused.
 use crate::system_script::SystemStep::{
     Finish, Journal, Look, LoseSenders, Put, Register, Run, Send, Turn, Work,
 };
@@ -121,7 +121,7 @@ const LED: &[SystemScript] = &[BY_HAND, PUT_BY_AN_OLD_TICKET, TOLD_AFTER_THE_END
 const COMES_BACK: &[SystemScript] = &[NOT_QUIET, WITHOUT_A_SENDER, FULL_JOURNAL];
 
 #[test]
-fn an_end_and_a_sender_are_led_by_hand(rt: HostRuntime) {
+fn a_handle_and_a_sender_are_led_by_hand(rt: HostRuntime) {
     play(&rt, rt.alloc(), LED)
 }
 

@@ -10,7 +10,7 @@ use mb_testkit::{Adding, TestActor};
 /// Why there is no report.
 #[derive(Clone, Copy, Debug)]
 pub enum FinishRefusal {
-    MissingEnd(u32),
+    MissingHandle(u32),
     MissingSender(u32),
     NotQuiet(u16),
     NoMemory,
@@ -29,8 +29,8 @@ pub(crate) fn refusal_of(error: FinishError<TestActor, Adding>) -> Unfinished<Te
     requires back { ComesBack error }
 {
     match error {
-        FinishError::MissingEnd(number, back) => {
-            come_back(FinishRefusal::MissingEnd(number), back)
+        FinishError::MissingHandle(number, back) => {
+            come_back(FinishRefusal::MissingHandle(number), back)
         }
         FinishError::MissingSender(number, back) => {
             come_back(FinishRefusal::MissingSender(number), back)

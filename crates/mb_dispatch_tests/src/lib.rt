@@ -15,13 +15,13 @@ mod closing;
 #[cfg(test)]
 mod crowd;
 #[cfg(test)]
-mod end_call;
-#[cfg(test)]
 mod ended;
 #[cfg(test)]
 mod family;
 #[cfg(test)]
 mod farewell;
+#[cfg(test)]
+mod handle_call;
 #[cfg(test)]
 mod kept_turns;
 #[cfg(test)]

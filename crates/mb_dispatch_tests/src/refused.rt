@@ -1,7 +1,7 @@
 //! A whole run on one thread, whose calls are made again where memory was refused: `tools/refuse_each_allocation system` runs
 //! this with each allocation refused in turn.
 use crate::closing::{FinishRefusal, Unfinished};
-use crate::end_call::{EndAnswer, EndCall};
+use crate::handle_call::{HandleAnswer, HandleCall};
 use crate::sender_call::{SenderAnswer, SenderCall};
 use crate::system_driver::SystemDriver;
 use crate::test_system::{TestSystem, system_of};
@@ -137,11 +137,14 @@ fn tell_at_last<S: SystemDriver, R: Wait>(
 
 /// Runs all, again where memory was refused; answers whether it ran.
 fn run_at_last<S: SystemDriver, R: Wait>(rt: &R, company: &mut S) -> bool {
-    let answer = match company.lead(rt, EndCall::RunQuietly) {
-        Some(EndAnswer::Turns(Err(RunError::NoMemory))) => company.lead(rt, EndCall::RunQuietly),
+    let answer = match company.lead(rt, HandleCall::RunQuietly) {
+        Some(HandleAnswer::Turns(Err(RunError::NoMemory))) => company.lead(
+            rt,
+            HandleCall::RunQuietly,
+        ),
         answer => answer,
     };
-    matches!(answer, Some(EndAnswer::Turns(Ok(_))))
+    matches!(answer, Some(HandleAnswer::Turns(Ok(_))))
 }
 
 /// Ends the system, again where memory was refused.

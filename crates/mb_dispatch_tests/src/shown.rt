@@ -1,5 +1,5 @@
 //! Answers of the dispatcher, and of whole runs, as texts.
-use crate::end_call::EndAnswer;
+use crate::handle_call::HandleAnswer;
 use crate::sender_call::SenderAnswer;
 use heddleorange::{Error, FailedRun};
 use mb_dispatch::{Look, RunError, SendError, SendOutcome, Turn};
@@ -32,15 +32,15 @@ fn error_text(alloc: Global, error: Error) -> Option<String> {
     format!(in alloc; "{error:?}").ok()
 }
 
-/// What an end answered: of each run its actor, its system messages and its envelopes; or why the runs were broken off.
-pub fn end_text(alloc: Global, answer: EndAnswer) -> Result<String, AllocError> {
+/// What a handle answered: of each run its actor, its system messages and its envelopes; or why the runs were broken off.
+pub fn handle_text(alloc: Global, answer: HandleAnswer) -> Result<String, AllocError> {
     match answer {
-        EndAnswer::Turns(Ok(turns)) => turns_text(alloc, turns.kept()),
-        EndAnswer::Turns(Err(error)) => broken_off_text(alloc, error),
-        EndAnswer::Registered(is_done) => done_text(alloc, is_done),
-        EndAnswer::Turned(turn) => turn_text(alloc, &turn),
-        EndAnswer::Worked(Ok(())) => String::from_str(alloc, "done"),
-        EndAnswer::Worked(Err(error)) => broken_off_text(alloc, error),
+        HandleAnswer::Turns(Ok(turns)) => turns_text(alloc, turns.kept()),
+        HandleAnswer::Turns(Err(error)) => broken_off_text(alloc, error),
+        HandleAnswer::Registered(is_done) => done_text(alloc, is_done),
+        HandleAnswer::Turned(turn) => turn_text(alloc, &turn),
+        HandleAnswer::Worked(Ok(())) => String::from_str(alloc, "done"),
+        HandleAnswer::Worked(Err(error)) => broken_off_text(alloc, error),
     }
 }
 

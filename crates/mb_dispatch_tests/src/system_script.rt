@@ -17,7 +17,7 @@ pub enum SystemStep {
     Look(u16),
     /// It puts a message that adds this value, by the ticket that it had last.
     Put(i64),
-    /// The first end runs all claims: what each run did.
+    /// The first handle runs all claims: what each run did.
     Run,
     /// It registers an actor.
     Register(u16),

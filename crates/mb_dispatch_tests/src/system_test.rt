@@ -1,8 +1,8 @@
 //! A system on which a story goes on step by step.
 use crate::closing::{FinishRefusal, Unfinished};
-use crate::end_call::EndCall;
+use crate::handle_call::HandleCall;
 use crate::sender_call::{SenderAnswer, SenderCall};
-use crate::shown::{end_text, sender_text};
+use crate::shown::{handle_text, sender_text};
 use crate::system_driver::SystemDriver;
 use crate::system_script::SystemStep;
 use mb_dispatch::{Look, Ticket};
@@ -60,7 +60,7 @@ impl<S: SystemDriver> SystemTest<S> {
     }
 
     fn finish<R: Wait>(&mut self, rt: &R) -> Option<String> {
-        match self.end(rt)? {
+        match self.handle(rt)? {
             Ok(report) => {
                 let text = text_of(self.alloc, &report, self.count);
                 self.report = Some(report);
@@ -71,7 +71,7 @@ impl<S: SystemDriver> SystemTest<S> {
     }
 
     // The report of the system; or why it goes on.
-    fn end<R: Wait>(&mut self, rt: &R) -> Option<Result<Report, FinishRefusal>> {
+    fn handle<R: Wait>(&mut self, rt: &R) -> Option<Result<Report, FinishRefusal>> {
         match self.company.take()?.finish(rt) {
             Ok(report) => Some(Ok(report)),
             Err(Unfinished { why, back }) => {
@@ -109,13 +109,13 @@ fn lead<S: SystemDriver, R: Wait>(
             company.lose_senders();
             return String::from_str(alloc, "lost").ok();
         }
-        SystemStep::Run => EndCall::RunQuietly,
-        SystemStep::Register(id) => EndCall::Register(ActorId(id)),
-        SystemStep::Turn => EndCall::Turn,
-        SystemStep::Work => EndCall::Work,
+        SystemStep::Run => HandleCall::RunQuietly,
+        SystemStep::Register(id) => HandleCall::Register(ActorId(id)),
+        SystemStep::Turn => HandleCall::Turn,
+        SystemStep::Work => HandleCall::Work,
         _ => return None,
     };
-    end_text(alloc, company.lead(rt, call)?).ok()
+    handle_text(alloc, company.lead(rt, call)?).ok()
 }
 
 fn send_all<S: SystemDriver, R: Wait>(

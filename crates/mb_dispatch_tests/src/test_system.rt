@@ -2,10 +2,10 @@
 ghost use Rattle.mb_system.specs.Belonging.{BelongsTogether};
 
 use crate::closing::{Unfinished, refusal_of};
-use crate::end_call::{EndAnswer, EndCall, call_end};
+use crate::handle_call::{HandleAnswer, HandleCall, call_handle};
 use crate::sender_call::{SenderAnswer, SenderCall, call_sender};
 use crate::system_driver::SystemDriver;
-use mb_dispatch::{Built, Sender, System, WorkerEnd};
+use mb_dispatch::{Built, Sender, System, WorkerHandle};
 use mb_report::Report;
 use mb_shutdown::finish;
 use mb_startup::{BuildError, build};
@@ -14,11 +14,11 @@ use std::alloc::Global;
 use std::marker::Model;
 use std::sync::Wait;
 
-/// A system of test actors with its ends, and with those of its senders that were not dropped. (Of actors of any kind it would cost
+/// A system of test actors with its handles, and with those of its senders that were not dropped. (Of actors of any kind it would cost
 /// more to prove: each caller of `SystemDriver` would have to find its impl for this kind.)
 pub struct TestSystem {
     pub(crate) system: System<TestActor, Adding>,
-    pub(crate) ends: Vec<WorkerEnd<TestActor, Adding>>,
+    pub(crate) handles: Vec<WorkerHandle<TestActor, Adding>>,
     pub(crate) senders: Vec<Sender<TestActor, Adding>>,
 }
 
@@ -27,7 +27,7 @@ impl Drop for TestSystem {
     fn drop(self) {
         let TestSystem {
             system: _,
-            ends: _,
+            handles: _,
             senders: _,
         } = self;
     }
@@ -41,7 +41,7 @@ impl Model for TestSystem {
     ghost view = { λ company. tt };
 
     ghost invariant = { λ company.
-        BelongsTogether (record { system = company.system; ends = company.ends; senders = company.senders }) };
+        BelongsTogether (record { system = company.system; handles = company.handles; senders = company.senders }) };
 }
 
 /// The system of this story, or why none can be built.
@@ -69,12 +69,12 @@ impl TestSystem {
     {
         let Built {
             system,
-            ends,
+            handles,
             senders,
         } = built;
         TestSystem {
             system,
-            ends,
+            handles,
             senders,
         }
     }
@@ -84,12 +84,12 @@ impl SystemDriver for TestSystem {
     fn finish<R: Wait>(self, rt: &R) -> Result<Report, Unfinished<TestSystem>> {
         let TestSystem {
             system,
-            ends,
+            handles,
             senders,
         } = self;
         let built = Built {
             system,
-            ends,
+            handles,
             senders,
         };
         match finish(rt, built) {
@@ -102,11 +102,11 @@ impl SystemDriver for TestSystem {
         self.senders.clear();
     }
 
-    fn lead<R: Wait>(&mut self, rt: &R, call: EndCall) -> Option<EndAnswer> {
-        if self.ends.len() == 0 {
+    fn lead<R: Wait>(&mut self, rt: &R, call: HandleCall) -> Option<HandleAnswer> {
+        if self.handles.len() == 0 {
             return None;
         }
-        call_end(rt, &self.system, &mut self.ends[0], call)
+        call_handle(rt, &self.system, &mut self.handles[0], call)
     }
 
     fn send<R: Wait>(&mut self, rt: &R, call: SenderCall) -> Option<SenderAnswer> {

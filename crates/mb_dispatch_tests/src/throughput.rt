@@ -73,7 +73,7 @@ const SUSPENDED: SystemScript = SystemScript {
     ],
 };
 
-/// Once more by one end that steals.
+/// Once more by one handle that steals.
 const ONE_AT_A_TIME_BY_STEALING: SystemScript = SystemScript {
     story: TestCase {
         workers: 1,

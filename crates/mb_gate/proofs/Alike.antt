@@ -14,7 +14,7 @@ use Rattle.mb_gate.specs.Shown.{ReleasesAlike}
 use Rattle.mb_gate.proofs.Numbers.{among_first, among_more, among_left, among_right}
 use Rattle.mb_gate.proofs.OneNumber.{first_or_rest, among_either}
 use Rattle.mb_gate.proofs.Views.{owes_here, owes_else}
-use Rattle.mb_gate.proofs.Parting.{obligation_by-added}
+use Rattle.mb_gate.proofs.SplitsAndJoins.{obligation_by-added}
 
 -- two lists in either order have the same in them
 swapped : (s x : Observation) (a b : List Observation) → IsAmong s (x ∷ (a ++ b)) → IsAmong s (x ∷ (b ++ a))

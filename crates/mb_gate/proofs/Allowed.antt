@@ -150,7 +150,7 @@ use Rattle.mb_gate.proofs.Views.{drained_nothing}
 use Rattle.mb_gate.proofs.StatusSteps.{reads, is_home, is_held, schedules, writes, idles, idles_closed}
 use Rattle.mb_gate.proofs.WaitingSteps.{sends, unsends, takes_some, counts, looks, sees, glances}
 use Rattle.mb_gate.proofs.ListSteps.{is_shelved, is_lent, grips, enlists, unloads, refuses}
-use Rattle.mb_gate.proofs.Parting.{parts, takes_over, each_without, no_counts_on, no_counts_off, no_puts, vouches_without}
+use Rattle.mb_gate.proofs.SplitsAndJoins.{parts, takes_over, each_without, no_counts_on, no_counts_off, no_puts, vouches_without}
 use Rattle.mb_gate.specs.Waiting.{on_by, off_by}
 use Rattle.mb_gate.specs.PutIn.{put_by}
 use Rattle.mb_gate.specs.Releases.{taken_by, back_by}

@@ -5,7 +5,7 @@ pub mod Facts
 pub mod Words
 pub mod StatusSteps
 pub mod WaitingSteps
-pub mod Parting
+pub mod SplitsAndJoins
 pub mod Alike
 pub mod ListSteps
 pub mod ListBits

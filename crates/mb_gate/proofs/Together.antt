@@ -98,7 +98,7 @@ use Rattle.mb_gate.specs.Rule.{
 use Rattle.mb_gate.proofs.Allowed.{words_few, slots_few}
 use Rattle.mb_gate.proofs.Facts.{no_share}
 use Rattle.mb_gate.proofs.Numbers.{among_first, among_more}
-use Rattle.mb_gate.proofs.Parting.{same_balance, same_releases, obligation_by-added, takes_over}
+use Rattle.mb_gate.proofs.SplitsAndJoins.{same_balance, same_releases, obligation_by-added, takes_over}
 use Rattle.mb_gate.proofs.WaitingSteps.{glances}
 use Rattle.mb_gate.proofs.Whole.{own_claims}
 

@@ -80,7 +80,7 @@ use Rattle.mb_gate.specs.Rule.{
   Fact,
 }
 use Rattle.mb_gate.proofs.Facts.{still_kept, still_shelved}
-use Rattle.mb_gate.proofs.Parting.{same_balance, same_releases}
+use Rattle.mb_gate.proofs.SplitsAndJoins.{same_balance, same_releases}
 use Rattle.mb_gate.proofs.StatusSteps.{is_held}
 use Rattle.mb_gate.proofs.Views.{extends_self, grown, goes_on}
 

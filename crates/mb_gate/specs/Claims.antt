@@ -55,23 +55,27 @@ abbrev pub IsKnownClosed : ℕ → List ℕ → View → Type 0
 IsKnownClosed actor shut v = IsAmong actor shut ⊎ HasSeenClosed actor v
 
 module _ {H : Type 0} (is_of : ℕ → H → Type 0) (facts : H → HomeFacts) where
-  -- A seat has the claim of the actor with this status and carries its cell, which may go home: it is the actor's own, its journal goes on
-  -- from the one that was taken, its word is the one of the status; it knows how many its list gave, and each message that it says the list
-  -- gave is known to be given; each actor that it says is closed is known to be; and unless the actor is open and its last drain gave
-  -- something, nothing is left beside it.
+  -- The home may go back into its actor's slot, from a claim that was taken so, by whom knows this: it is the actor's own, its journal goes on from
+  -- the one that was taken, its word is the one of the status once idle; it knows how many messages its list gave, and each message that it says the
+  -- list gave is known to be given; each actor that it says is closed is known to be; and unless the actor is open and its last drain gave something,
+  -- nothing is left beside the cell.
+  pub record MayGoHome (actor : ℕ) (status : Mailbox) (taken : Held) (known : View) (home : H) : Type 0 where
+    pub home_of_actor : is_of actor home
+    pub extends : Extends (facts home).journal taken.journal
+    pub fold : word_of (facts home).mailbox ≡ word_of (idle status)
+    pub count : (facts home).given ≡ taken.given
+    pub known_closed : Each (λ other. IsKnownClosed other taken.closed_to known) (facts home).closed_to
+    pub drained : Each (λ m. IsAmong m taken.drained) (facts home).drained
+    pub rest : (status.closed ≡ true) ⊎ (taken.gave ≡ false) → (facts home).no_backlog
+
+  -- A seat has the claim of the actor with this status and carries its cell, which may go home.
   pub record IsReadyToRelease (actor : ℕ) (status : Mailbox) (me : Me (Slot H) View) : Type 0 where
     pub home : H
     pub carried : me.1 ≡ (slot_at actor 0, Home home) ∷ []
     pub has : me.0.claim ≡ Some (held_in me.0)
     pub of : (held_in me.0).actor ≡ actor
     pub word : (held_in me.0).word ≡ word_of status
-    pub of_actor : is_of actor home
-    pub extends : Extends (facts home).journal (held_in me.0).journal
-    pub fold : word_of (facts home).mailbox ≡ word_of (idle status)
-    pub count : (facts home).given ≡ (held_in me.0).given
-    pub known_closed : Each (λ other. IsKnownClosed other (held_in me.0).closed_to me.0) (facts home).closed_to
-    pub drained : Each (λ m. IsAmong m (held_in me.0).drained) (facts home).drained
-    pub rest : (status.closed ≡ true) ⊎ ((held_in me.0).gave ≡ false) → (facts home).no_backlog
+    pub may_go_home : MayGoHome actor status (held_in me.0) me.0 home
     pub share : is_some_item me.0.share ≡ true
 
 -- the cell that the seat carried went home, which was taken with a journal that goes on from all that the seat has seen

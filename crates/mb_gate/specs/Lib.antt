@@ -10,6 +10,7 @@ pub mod Claims
 pub mod Rule
 pub mod TableSteps
 pub mod Accessors
+pub mod ClaimSteps
 pub mod PooledClaims
 pub mod Tries
 pub mod Starts

@@ -24,6 +24,11 @@ pub record HasClaim {H : Type 0} (actor : ℕ) (m : Me (Slot H) View) : Type 0 w
   pub has : m.0.claim ≡ Some (held_in m.0)
   pub of : (held_in m.0).actor ≡ actor
 
+-- The seat has the claim of the actor, and has taken its list.
+pub record HoldsList {H : Type 0} (actor : ℕ) (word : ℕ) (m : Me (Slot H) View) : Type 0 where
+  pub lent : IsOut actor word m
+  pub holder : HasClaim actor m
+
 -- The seat may take out the actor's list: it is the seat of a pass, or it has the actor's claim.
 abbrev pub may_lock_list : ℕ → View → Bool
 may_lock_list actor v = is_some_item v.share || is_some (claim_for actor v)

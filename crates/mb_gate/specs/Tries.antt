@@ -8,7 +8,7 @@ use Rattle.mb_gate.specs.HomeFacts.{HomeFacts}
 use Rattle.mb_gate.specs.declared.slot.Slot.{Slot}
 use Rattle.mb_gate.specs.declared.slot.Slot.TheVariants.{Home}
 use Rattle.mb_status.specs.Mailbox.{Mailbox, word_of}
-use Rattle.mb_gate.specs.View.{View, winning, reading}
+use Rattle.mb_gate.specs.View.{View, claim_alone, winning, reading}
 use Rattle.mb_gate.specs.Rule.{is_some_item}
 use Rattle.mb_gate.specs.Claims.{claimed}
 use Rattle.mb_gate.specs.TableSteps.{ExtendsSeen, StaysClosed}
@@ -21,6 +21,11 @@ use Rattle.mb_gate.specs.declared.schedule.ScheduleOutcome.TheVariants.{Got, Alr
 pub record IsFree (seen : Mailbox) : Type 0 where
   pub open_yet : seen.closed ≡ false
   pub free : seen.scheduled ≡ false
+
+-- A free status, and the same one scheduled (`Mailbox.setAsScheduled`).
+pub record BecomesScheduled (old new : Mailbox) : Type 0 where
+  pub free : IsFree old
+  pub scheduled : new ≡ record old { scheduled = true }
 
 -- What the seat has once its exchange won: the claim of the actor with this status, the cell, and nothing else.
 pub record WonClaim {H : Type 0} (facts : H → HomeFacts) (actor : ℕ) (status : Mailbox) (me : Me (Slot H) View) : Type 0 where
@@ -38,6 +43,13 @@ pub record WonClaim {H : Type 0} (facts : H → HomeFacts) (actor : ℕ) (status
   })
   pub no_list : me.0.list ≡ None
   pub share : is_some_item me.0.share ≡ true
+
+-- The claim was split off a seat that had this: it has that seat's claim of the actor, with this status, and the cell that the seat carried. Nothing
+-- was sent in its run yet.
+pub record IsSplitOff {H : Type 0} (actor : ℕ) (status : Mailbox) (me : Me (Slot H) View) (split : Claim H) : Type 0 where
+  pub claim : (claim_view split ≡ claim_alone me.0) × (held_actor split ≡ actor) × (status_of split ≡ status)
+  pub home : me.1 ≡ (slot_at actor 0, Home split.home) ∷ []
+  pub recorded : recorded_by split ≡ []
 
 -- A claim that was got is of these gates.
 abbrev pub IsClaimOf : {H : Type 0} → TableId → ScheduleOutcome H → Type 0

@@ -1,17 +1,17 @@
 //! What the holder of a claim does to its actor's status, and how it gives the cell back.
-ghost use Rattle.std.specs.Prelude.{◌≡◌, ◌⊎◌, ◌<◌, [], ◌∷◌, None, not, true, false};
-ghost use Rattle.mb_status.specs.Mailbox.{most_suspensions, should_process, suspend, resume, closed_mailbox, idle, word_of};
+ghost use Rattle.std.specs.Prelude.{◌≡◌, ◌<◌, [], ◌∷◌, None, not, true};
+ghost use Rattle.mb_status.specs.Mailbox.{most_suspensions, should_process, suspend, resume, closed_mailbox, word_of};
 ghost use Rattle.mb_ghost.specs.Layout.{slot_at};
-ghost use Rattle.mb_gate.specs.View.{idling, taking_in, writing};
+ghost use Rattle.mb_gate.specs.View.{idling, taking_in};
 ghost use Rattle.mb_gate.specs.TableSteps.{IsHolderChange};
-ghost use Rattle.mb_gate.specs.Claims.{is_busy, IsReadyToRelease, Idled, IsKnownClosed};
+ghost use Rattle.mb_gate.specs.Claims.{held_in, is_busy, MayGoHome, IsReadyToRelease, Idled};
+ghost use Rattle.mb_gate.specs.ClaimSteps.{ChangesStatus};
 ghost use Rattle.mb_gate.specs.Returned.{GoesOn};
-ghost use Rattle.mb_gate.specs.Rule.{Extends, IsAmong, is_some_item};
+ghost use Rattle.mb_gate.specs.Rule.{is_some_item};
 ghost use Rattle.mb_gate.specs.SentSystem.{HasSentDueSince};
 ghost use Rattle.mb_ghost.specs.Seen.{Each};
 ghost use Rattle.mb_gate.specs.Accessors.{gates_id, pass_id, claim_id, actors_of, first_home, pass_view};
-ghost use Rattle.mb_gate.specs.Accessors.{claim_view, held_actor, status_of, taken_with, closed_with, gave_last, given_to};
-ghost use Rattle.mb_gate.specs.Accessors.{drained_by, recorded_by, SameTaken};
+ghost use Rattle.mb_gate.specs.Accessors.{claim_view, held_actor, status_of, taken_with, recorded_by};
 ghost use Rattle.mb_gate.specs.declared.slot.Slot.TheVariants.{Empty, Home};
 
 use crate::claim::Claim;
@@ -34,11 +34,7 @@ impl<H: MailboxState> Gates<H> {
         requires same_gates { claim_id claim.old ≡ gates_id self.now }
         requires present { held_actor claim.old < actors_of self.now }
         requires within_limit { (status_of claim.old).count < most_suspensions }
-        ensures same_gates { (claim_id claim.new ≡ claim_id claim.old) × (held_actor claim.new ≡ held_actor claim.old) }
-        ensures status { status_of claim.new ≡ suspend (status_of claim.old) }
-        ensures known { claim_view claim.new ≡ writing (word_of (status_of claim.new)) (claim_view claim.old) }
-        ensures home { claim.new.home ≡ claim.old.home }
-        ensures taken { SameTaken claim.old claim.new }
+        ensures written { ChangesStatus claim.old claim.new (suspend (status_of claim.old)) }
         ensures first { result ≡ should_process (status_of claim.old) }
     {
         let mut status = claim.status;
@@ -52,11 +48,7 @@ impl<H: MailboxState> Gates<H> {
     pub fn resume(&self, claim: &mut Claim<H>) -> bool
         requires same_gates { claim_id claim.old ≡ gates_id self.now }
         requires present { held_actor claim.old < actors_of self.now }
-        ensures same_gates { (claim_id claim.new ≡ claim_id claim.old) × (held_actor claim.new ≡ held_actor claim.old) }
-        ensures status { status_of claim.new ≡ resume (status_of claim.old) }
-        ensures known { claim_view claim.new ≡ writing (word_of (status_of claim.new)) (claim_view claim.old) }
-        ensures home { claim.new.home ≡ claim.old.home }
-        ensures taken { SameTaken claim.old claim.new }
+        ensures written { ChangesStatus claim.old claim.new (resume (status_of claim.old)) }
         ensures last { result ≡ should_process (status_of claim.new) }
     {
         let mut status = claim.status;
@@ -70,11 +62,7 @@ impl<H: MailboxState> Gates<H> {
     pub fn close_mailbox(&self, claim: &mut Claim<H>) -> bool
         requires same_gates { claim_id claim.old ≡ gates_id self.now }
         requires present { held_actor claim.old < actors_of self.now }
-        ensures same_gates { (claim_id claim.new ≡ claim_id claim.old) × (held_actor claim.new ≡ held_actor claim.old) }
-        ensures status { status_of claim.new ≡ closed_mailbox }
-        ensures known { claim_view claim.new ≡ writing (word_of (status_of claim.new)) (claim_view claim.old) }
-        ensures home { claim.new.home ≡ claim.old.home }
-        ensures taken { SameTaken claim.old claim.new }
+        ensures written { ChangesStatus claim.old claim.new closed_mailbox }
         ensures first { result ≡ not (status_of claim.old).closed }
     {
         let mut status = claim.status;
@@ -90,11 +78,7 @@ impl<H: MailboxState> Gates<H> {
         requires busy { is_busy (word_of status) ≡ true }
         requires closed { (status_of claim.old).closed ≡ true → word_of status ≡ 1 }
         requires changes { IsHolderChange (status_of claim.old) status }
-        ensures same_gates { (claim_id claim.new ≡ claim_id claim.old) × (held_actor claim.new ≡ held_actor claim.old) }
-        ensures status { status_of claim.new ≡ status }
-        ensures known { claim_view claim.new ≡ writing (word_of status) (claim_view claim.old) }
-        ensures home { claim.new.home ≡ claim.old.home }
-        ensures taken { SameTaken claim.old claim.new }
+        ensures written { ChangesStatus claim.old claim.new status }
     {
         let index = word_index(claim.actor, STATUS);
         self.table
@@ -114,16 +98,10 @@ impl<H: MailboxState> Gates<H> {
     pub fn release(&self, claim: Claim<H>, pass: &mut Pass<H>)
         requires same_gates { (claim_id claim ≡ gates_id self.now) × (pass_id pass.old ≡ gates_id self.now) }
         requires present { held_actor claim < actors_of self.now }
-        requires home_of_actor { H.is_of (first_home self.now) (held_actor claim) claim.home }
-        requires extends { Extends (H.facts claim.home).journal (taken_with claim) }
-        requires fold { word_of (H.facts claim.home).mailbox ≡ word_of (idle (status_of claim)) }
-        requires count { (H.facts claim.home).given ≡ given_to claim }
-        requires known_closed { Each (λ other. IsKnownClosed other (closed_with claim) (taking_in (claim_view claim) (pass_view pass.old)))
-            (H.facts claim.home).closed_to }
-        requires drained { Each (λ m. IsAmong m (drained_by claim)) (H.facts claim.home).drained }
+        requires may_go_home { MayGoHome (H.is_of (first_home self.now)) H.facts (held_actor claim) (status_of claim) (held_in (claim_view claim))
+            (taking_in (claim_view claim) (pass_view pass.old)) claim.home }
         requires told { HasSentDueSince (H.who claim.home) (held_actor claim) (status_of claim).closed (H.facts claim.home).journal
             (taken_with claim) (recorded_by claim) }
-        requires rest { ((status_of claim).closed ≡ true) ⊎ (gave_last claim ≡ false) → (H.facts claim.home).no_backlog }
         ensures same_gates { pass_id pass.new ≡ pass_id pass.old }
         ensures known { pass_view pass.new ≡ idling (held_actor claim) (H.facts claim.home).journal (taking_in (claim_view claim) (pass_view pass.old)) }
         ensures goes_on { Each (GoesOn (held_actor claim) (taken_with claim)) (pass_view pass.old).log }

@@ -1,19 +1,19 @@
 //! The lists of system messages. Each is behind a gate, which is locked for one step and then opened again.
 ghost use Rattle.std.specs.Prelude.{◌≡◌, ◌+◌, ◌^◌, ◌<◌, [], ◌∷◌};
-ghost use Rattle.std.specs.Prelude.{◌++◌, false, true, None, IfErr, IfOk, IfSome, MatchBool, if◌then◌else◌, is_err};
+ghost use Rattle.std.specs.Prelude.{false, true, None, IfErr, IfOk, IfSome, MatchBool, if◌then◌else◌, is_err};
 ghost use Rattle.atomic_table.specs.Table.{rest};
 ghost use Rattle.mb_syslist.specs.MessageList.{pushed, with_last};
-ghost use Rattle.mb_gate.specs.View.{enlisting, refusing, draining, ending, looking, given_after};
+ghost use Rattle.mb_gate.specs.View.{enlisting, refusing, draining, ending, looking};
 ghost use Rattle.mb_gate.specs.Rule.{is_some_item};
 ghost use Rattle.mb_gate.specs.Claims.{held_in};
 ghost use Rattle.mb_gate.specs.NamedActors.{NamesBelow, EachNamesBelow};
 ghost use Rattle.mb_gate.specs.ClaimCounts.{WasHeldBy};
 ghost use Rattle.mb_gate.specs.TableSteps.{ListLocked};
-ghost use Rattle.mb_gate.specs.Lists.{IsOut, HasClaim, IsNumberedFrom, may_lock_list};
+ghost use Rattle.mb_gate.specs.Lists.{IsOut, HasClaim, HoldsList, IsNumberedFrom, may_lock_list};
 ghost use Rattle.mb_gate.specs.ListWord.{is_locked, is_ended};
 ghost use Rattle.mb_gate.specs.Accessors.{gates_id, pass_id, claim_id, actors_of, pass_view};
-ghost use Rattle.mb_gate.specs.Accessors.{claim_view, held_actor, status_of, taken_with, closed_with, gave_last, given_to};
-ghost use Rattle.mb_gate.specs.Accessors.{drained_by, recorded_by, IsRecorded, SameTaken};
+ghost use Rattle.mb_gate.specs.Accessors.{claim_view, held_actor, status_of, gave_last, given_to, IsRecorded, SameTaken};
+ghost use Rattle.mb_gate.specs.ClaimSteps.{IsSameClaim, NotesDrained};
 
 use crate::claim::Claim;
 use crate::gates::Gates;
@@ -230,8 +230,7 @@ impl<H: MailboxState> Gates<H> {
     fn drain_list(&self, seat: &mut Seat<Slot<H>, SeatView>, id: ActorId, word: ListWord) -> Chain
         requires same_gates { seat.old.table_id ≡ gates_id self.now }
         requires present { id.0 < actors_of self.now }
-        requires lent { IsOut id.0 word.bits seat.old.me }
-        requires holder { HasClaim id.0 seat.old.me }
+        requires holds_list { HoldsList id.0 word.bits seat.old.me }
         ensures same_gates { seat.new.table_id ≡ seat.old.table_id }
         ensures drained { seat.new.me ≡ (draining id.0 result (is_some_item result) seat.old.me.0, rest seat.old.me.1) }
         ensures numbers { IsNumberedFrom (held_in seat.old.me.0).given result }
@@ -251,8 +250,7 @@ impl<H: MailboxState> Gates<H> {
     fn end_list(&self, seat: &mut Seat<Slot<H>, SeatView>, id: ActorId, word: ListWord) -> Chain
         requires same_gates { seat.old.table_id ≡ gates_id self.now }
         requires present { id.0 < actors_of self.now }
-        requires lent { IsOut id.0 word.bits seat.old.me }
-        requires holder { HasClaim id.0 seat.old.me }
+        requires holds_list { HoldsList id.0 word.bits seat.old.me }
         requires closed { (held_in seat.old.me.0).word ≡ 1 }
         ensures same_gates { seat.new.table_id ≡ seat.old.table_id }
         ensures drained { seat.new.me ≡ (ending id.0 result (held_in seat.old.me.0).gave seat.old.me.0, rest seat.old.me.1) }
@@ -276,15 +274,10 @@ impl<H: MailboxState> Gates<H> {
     pub fn sys_is_drained(&self, claim: &mut Claim<H>) -> bool
         requires same_gates { claim_id claim.old ≡ gates_id self.now }
         requires present { held_actor claim.old < actors_of self.now }
-        ensures same_gates { (claim_id claim.new ≡ claim_id claim.old) × (held_actor claim.new ≡ held_actor claim.old) }
+        ensures same_claim { IsSameClaim claim.old claim.new }
         ensures known { result ≡ true → claim_view claim.new ≡ draining (held_actor claim.old) [] false (claim_view claim.old) }
         ensures looked { result ≡ false → claim_view claim.new ≡ looking (held_actor claim.old) true (claim_view claim.old) }
-        ensures same { (status_of claim.new ≡ status_of claim.old) × (claim.new.home ≡ claim.old.home) }
-        ensures taken { (taken_with claim.new ≡ taken_with claim.old) × (closed_with claim.new ≡ closed_with claim.old) }
-        ensures recorded { recorded_by claim.new ≡ recorded_by claim.old }
-        ensures given { result ≡ true → given_to claim.new ≡ given_after (given_to claim.old) [] }
-        ensures gave { result ≡ true → gave_last claim.new ≡ false }
-        ensures drained { result ≡ true → drained_by claim.new ≡ drained_by claim.old ++ [] }
+        ensures noted { result ≡ true → NotesDrained claim.old claim.new [] false }
         ensures unchanged { result ≡ false → SameTaken claim.old claim.new }
     {
         self.is_drained(&mut claim.seat, claim.actor)
@@ -296,16 +289,11 @@ impl<H: MailboxState> Gates<H> {
     pub fn sys_drain<R: Wait>(&self, rt: &R, claim: &mut Claim<H>) -> Chain
         requires same_gates { claim_id claim.old ≡ gates_id self.now }
         requires present { held_actor claim.old < actors_of self.now }
-        ensures same_gates { (claim_id claim.new ≡ claim_id claim.old) × (held_actor claim.new ≡ held_actor claim.old) }
+        ensures same_claim { IsSameClaim claim.old claim.new }
         ensures known { claim_view claim.new ≡ draining (held_actor claim.old) result (is_some_item result) (claim_view claim.old) }
-        ensures same { (status_of claim.new ≡ status_of claim.old) × (claim.new.home ≡ claim.old.home) }
-        ensures taken { (taken_with claim.new ≡ taken_with claim.old) × (closed_with claim.new ≡ closed_with claim.old) }
-        ensures recorded { recorded_by claim.new ≡ recorded_by claim.old }
         ensures numbers { IsNumberedFrom (given_to claim.old) result }
         ensures named { EachNamesBelow (actors_of self.now) result }
-        ensures given { given_to claim.new ≡ given_after (given_to claim.old) result }
-        ensures gave { gave_last claim.new ≡ is_some_item result }
-        ensures drained { drained_by claim.new ≡ drained_by claim.old ++ result }
+        ensures noted { NotesDrained claim.old claim.new result (is_some_item result) }
     {
         let word = self.lock_list(rt, &mut claim.seat, claim.actor);
         self.drain_list(&mut claim.seat, claim.actor, word)
@@ -317,16 +305,11 @@ impl<H: MailboxState> Gates<H> {
         requires same_gates { claim_id claim.old ≡ gates_id self.now }
         requires present { held_actor claim.old < actors_of self.now }
         requires closed { (status_of claim.old).closed ≡ true }
-        ensures same_gates { (claim_id claim.new ≡ claim_id claim.old) × (held_actor claim.new ≡ held_actor claim.old) }
+        ensures same_claim { IsSameClaim claim.old claim.new }
         ensures known { claim_view claim.new ≡ ending (held_actor claim.old) result (gave_last claim.old) (claim_view claim.old) }
-        ensures same { (status_of claim.new ≡ status_of claim.old) × (claim.new.home ≡ claim.old.home) }
-        ensures taken { (taken_with claim.new ≡ taken_with claim.old) × (closed_with claim.new ≡ closed_with claim.old) }
-        ensures recorded { recorded_by claim.new ≡ recorded_by claim.old }
         ensures numbers { IsNumberedFrom (given_to claim.old) result }
         ensures named { EachNamesBelow (actors_of self.now) result }
-        ensures given { given_to claim.new ≡ given_after (given_to claim.old) result }
-        ensures gave { gave_last claim.new ≡ gave_last claim.old }
-        ensures drained { drained_by claim.new ≡ drained_by claim.old ++ result }
+        ensures noted { NotesDrained claim.old claim.new result (gave_last claim.old) }
     {
         let shown = self.lock_list(rt, &mut claim.seat, claim.actor);
         self.end_list(&mut claim.seat, claim.actor, shown)

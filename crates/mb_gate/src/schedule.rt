@@ -1,16 +1,14 @@
 //! A try to schedule an actor, which gives its claim.
-ghost use Rattle.std.specs.Prelude.{◌≡◌, ◌≢◌, ◌<◌, [], ◌∷◌, None, true};
+ghost use Rattle.std.specs.Prelude.{◌≡◌, ◌≢◌, ◌<◌, [], None, true};
 ghost use Rattle.mb_status.specs.Mailbox.{Mailbox, word_of};
-ghost use Rattle.mb_ghost.specs.Layout.{slot_at};
-ghost use Rattle.mb_gate.specs.View.{claim_alone, without_claim};
+ghost use Rattle.mb_gate.specs.View.{without_claim};
 ghost use Rattle.mb_gate.specs.Rule.{is_some_item};
 ghost use Rattle.mb_gate.specs.Claims.{is_busy};
 ghost use Rattle.mb_gate.specs.TableSteps.{Won, HasRead};
 ghost use Rattle.mb_gate.specs.FreeHome.{FreeIsFold};
-ghost use Rattle.mb_gate.specs.Tries.{IsFree, IsClaimOf, IsExchanged, IsTried, WonClaim};
-ghost use Rattle.mb_gate.specs.Accessors.{gates_id, pass_id, claim_id, actors_of, first_home, pass_view, claim_view};
-ghost use Rattle.mb_gate.specs.Accessors.{held_actor, status_of, recorded_by};
-ghost use Rattle.mb_gate.specs.declared.slot.Slot.TheVariants.{First, Home};
+ghost use Rattle.mb_gate.specs.Tries.{BecomesScheduled, IsClaimOf, IsExchanged, IsSplitOff, IsTried, WonClaim};
+ghost use Rattle.mb_gate.specs.Accessors.{gates_id, pass_id, claim_id, actors_of, first_home, pass_view};
+ghost use Rattle.mb_gate.specs.declared.slot.Slot.TheVariants.{First};
 ghost use Rattle.std.specs.declared.snapshot.Snapshot.{Snapshot};
 
 use crate::claim::Claim;
@@ -71,8 +69,7 @@ impl<H: MailboxState> Gates<H> {
     ) -> ScheduleOutcome<H>
         requires same_gates { pass_id pass.old ≡ gates_id self.now }
         requires present { id.0 < actors_of self.now }
-        requires free { IsFree seen }
-        requires scheduled { status ≡ record seen { scheduled = true } }
+        requires scheduled { BecomesScheduled seen status }
         ensures same_gates { (pass_id pass.new ≡ pass_id pass.old) × IsClaimOf (gates_id self.now) result }
         ensures answer { IsExchanged (H.is_of (first_home self.now)) H.facts id.0 (pass_view pass.old) (pass_view pass.new) seen result }
     {
@@ -97,8 +94,7 @@ impl<H: MailboxState> Gates<H> {
     ) -> u64
         requires same_gates { seat.old.table_id ≡ gates_id self.now }
         requires present { id.0 < actors_of self.now }
-        requires free { IsFree old }
-        requires scheduled { new ≡ record old { scheduled = true } }
+        requires scheduled { BecomesScheduled old new }
         requires no_claim { seat.old.me.0.claim ≡ None }
         requires share { is_some_item seat.old.me.0.share ≡ true }
         ensures same_gates { seat.new.table_id ≡ seat.old.table_id }
@@ -129,9 +125,7 @@ impl<H: MailboxState> Gates<H> {
         requires won { WonClaim H.facts id.0 status seat.old.me }
         ensures same_gates { (seat.new.table_id ≡ seat.old.table_id) × (claim_id result ≡ seat.old.table_id) }
         ensures rest { seat.new.me ≡ (without_claim seat.old.me.0, []) }
-        ensures claim { (claim_view result ≡ claim_alone seat.old.me.0) × (held_actor result ≡ id.0) × (status_of result ≡ status) }
-        ensures home { seat.old.me.1 ≡ (slot_at id.0 0, Home result.home) ∷ [] }
-        ensures recorded { recorded_by result ≡ [] }
+        ensures split_off { IsSplitOff id.0 status seat.old.me result }
     {
         let rest = self.table.shared.split_seat::<SplitClaim>(seat);
         let mut mine = mem::replace(seat, rest);

@@ -17,7 +17,7 @@ pub struct FreshClaim {
 
 impl FreshClaim {
     /// Gives the cell back.
-    pub fn end(self, gates: &Gates<TestHome>, pass: &mut Pass<TestHome>)
+    pub fn handle(self, gates: &Gates<TestHome>, pass: &mut Pass<TestHome>)
         requires same_gates { (claim_id self.claim ≡ gates_id gates.now) × (pass_id pass.old ≡ gates_id gates.now) }
         requires present { held_actor self.claim < actors_of gates.now }
         ensures same_gates { pass_id pass.new ≡ pass_id pass.old }

@@ -71,6 +71,6 @@ fn give_back(single: Single, shift: FreshClaim) -> Single
         mut pass,
         other,
     } = single;
-    shift.end(&gates, &mut pass);
+    shift.handle(&gates, &mut pass);
     Single { gates, pass, other }
 }

@@ -33,19 +33,19 @@ impl Drop for SentClaim {
             mut pass,
             shift,
         } = self;
-        shift.end(&gates, &mut pass);
+        shift.handle(&gates, &mut pass);
     }
 }
 
 impl SentClaim {
     /// Gives the cell back, and answers the actor's status word.
-    fn end(self) -> u64 {
+    fn handle(self) -> u64 {
         let SentClaim {
             gates,
             mut pass,
             shift,
         } = self;
-        shift.end(&gates, &mut pass);
+        shift.handle(&gates, &mut pass);
         word(&gates, &mut pass)
     }
 }
@@ -67,10 +67,10 @@ fn send_claim<R: Abort + Wait>(
 }
 
 /// Takes the next claim out of the queue, gives its cell back, and answers the actor's status word.
-fn end_next<R: Wait>(rt: &R, queue: &ArrayQueue<SentClaim>) -> u64 {
+fn handle_next<R: Wait>(rt: &R, queue: &ArrayQueue<SentClaim>) -> u64 {
     for _ in rt.forever() {
         if let Some(errand) = queue.pop(rt) {
-            return errand.end();
+            return errand.handle();
         }
         thread::yield_now();
     }
@@ -85,8 +85,8 @@ fn claims_go_by_a_queue(rt: HostRuntime) -> Result<(), Fail> {
     assert!(rt; send_claim(&rt, alloc, &queue)?);
     let words = join(
         &rt,
-        || -> u64 { end_next(&rt, &queue) },
-        || -> u64 { end_next(&rt, &queue) },
+        || -> u64 { handle_next(&rt, &queue) },
+        || -> u64 { handle_next(&rt, &queue) },
     );
     assert!(rt; words.0 == 4 && words.1 == 4);
     Ok(())

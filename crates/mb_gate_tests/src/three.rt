@@ -71,7 +71,7 @@ fn hold<R: Abort + Wait>(rt: &R, gates: &Gates<TestHome>, mut pass: Pass<TestHom
         }
         thread::yield_now();
     }
-    shift.end(gates, &mut pass);
+    shift.handle(gates, &mut pass);
     tally
 }
 

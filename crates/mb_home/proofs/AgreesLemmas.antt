@@ -32,7 +32,7 @@ use Rattle.mb_journal.specs.Fates.{begun}
 use Rattle.mb_journal.specs.Tells.{AddressedBody, tells, told}
 use Rattle.mb_home.specs.Contents.{Contents}
 use Rattle.mb_home.specs.Directory.{DirectoryEntry, queues_of, IsBounded}
-use Rattle.mb_home.specs.AgreesWithJournal.{IsOwn, IsFit, CountsSystemMessages, IsReason, AgreesWithJournal, messages_of}
+use Rattle.mb_home.specs.AgreesWithJournal.{IsOwn, IsFit, CountsSystemMessages, IsReason, AgreesWithJournal, messages_in}
 use Rattle.mb_home.specs.Steps.{most_tells, next_envelope, with_pushed}
 use Rattle.mb_home.proofs.CountLemmas.{rest-first}
 use Rattle.mb_home.proofs.GuardianLemmas.{watches-none}
@@ -427,7 +427,7 @@ rest-changed h gives pending rest dropped s counted = record {
 
 -- what was drained is kept
 pub settled-kept : (h : Contents) (gives : Moment → Reply → Type 0) (pending : List Act) (drained : List (ℕ × SysMsg)) → AgreesWithJournal gives pending h →
-    drained ≡ numbered ((next_number h.cell.journal + h.dropped) % 2 ^ 64) (messages_of drained) →
+    drained ≡ numbered ((next_number h.cell.journal + h.dropped) % 2 ^ 64) (messages_in drained) →
     AgreesWithJournal gives pending (record h { rest = drained })
 settled-kept h gives pending drained s goes_on =
     rest-changed h gives pending drained h.dropped s (record { rest = goes_on; aside = s.counted.aside; none = s.counted.none })
@@ -446,7 +446,7 @@ pub settled-dropped : (h : Contents) (gives : Moment → Reply → Type 0) (pend
 settled-dropped h gives pending number m left s ended is =
     let first = rest-first ((next_number h.cell.journal + h.dropped) % 2 ^ 64) h.rest left number m s.counted.rest is in
     rest-changed h gives pending left ((h.dropped + 1) % 2 ^ 64) s (record {
-      rest = first.1 ∙ ap (λ n. numbered n (messages_of left)) (one-dropped (next_number h.cell.journal) h.dropped);
+      rest = first.1 ∙ ap (λ n. numbered n (messages_in left)) (one-dropped (next_number h.cell.journal) h.dropped);
       aside = s.counted.aside;
       none = λ not_ended. absurd (cc (ended, not_ended));
     })

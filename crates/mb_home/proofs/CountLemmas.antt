@@ -17,7 +17,7 @@ use Rattle.mb_journal.specs.Lawful.{AreLawful, IsNumbered}
 use Rattle.mb_journal.specs.Life.{phase, closed}
 use Rattle.mb_journal.specs.Phase.{phase_is}
 use Rattle.mb_journal.specs.Suspension.{count}
-use Rattle.mb_home.specs.AgreesWithJournal.{messages_of}
+use Rattle.mb_home.specs.AgreesWithJournal.{messages_in}
 
 abbrev IsBelow : ℕ → ℕ × SysMsg → Type 0
 IsBelow n x = x.0 < n
@@ -100,11 +100,11 @@ first_number [] = 0
 first_number (x ∷ list) = x.0
 
 -- the first that was drained has this number, and the rest goes on from it
-pub rest-first : (n : ℕ) (rest left : List (ℕ × SysMsg)) (number : ℕ) (m : SysMsg) → rest ≡ numbered n (messages_of rest) → rest
+pub rest-first : (n : ℕ) (rest left : List (ℕ × SysMsg)) (number : ℕ) (m : SysMsg) → rest ≡ numbered n (messages_in rest) → rest
     ≡ (number, m) ∷ left →
-    (number ≡ n) × (left ≡ numbered ((n + 1) % 2 ^ 64) (messages_of left))
+    (number ≡ n) × (left ≡ numbered ((n + 1) % 2 ^ 64) (messages_in left))
 unfolding first_number
 rest-first n rest left number m goes_on is =
-    let whole : (number, m) ∷ left ≡ (n, m) ∷ numbered ((n + 1) % 2 ^ 64) (messages_of left) =
-    sym is ∙ goes_on ∙ ap (λ r. numbered n (messages_of r)) is in
-    (ap (λ (l : List (ℕ × SysMsg)). first_number l) whole, let tails : left ≡ numbered ((n + 1) % 2 ^ 64) (messages_of left) = cc whole in tails)
+    let whole : (number, m) ∷ left ≡ (n, m) ∷ numbered ((n + 1) % 2 ^ 64) (messages_in left) =
+    sym is ∙ goes_on ∙ ap (λ r. numbered n (messages_in r)) is in
+    (ap (λ (l : List (ℕ × SysMsg)). first_number l) whole, let tails : left ≡ numbered ((n + 1) % 2 ^ 64) (messages_in left) = cc whole in tails)

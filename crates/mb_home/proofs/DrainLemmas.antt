@@ -6,9 +6,9 @@ use Rattle.mb_journal.specs.Aside.{next_number}
 use Rattle.mb_gate.specs.Lists.{IsNumberedFrom}
 use Rattle.mb_home.specs.AtHome.{given_of}
 use Rattle.mb_home.specs.Contents.{Contents}
-use Rattle.mb_home.specs.AgreesWithJournal.{messages_of}
+use Rattle.mb_home.specs.AgreesWithJournal.{messages_in}
 
-messages-numbered : (n : ℕ) (messages : List SysMsg) → messages_of (numbered n messages) ≡ messages
+messages-numbered : (n : ℕ) (messages : List SysMsg) → messages_in (numbered n messages) ≡ messages
 messages-numbered n [] = refl
 messages-numbered n (m ∷ messages) = ap (λ l. m ∷ l) (messages-numbered ((n + 1) % 2 ^ 64) messages)
 
@@ -19,9 +19,9 @@ given-next h none =
     ∙ ap (λ n. n % 2 ^ 64) (let sum : next_number h.cell.journal + h.dropped + 0 ≡ next_number h.cell.journal + h.dropped = omega arith in sum)
 
 pub drained-on : (h : Contents) (drained : List (ℕ × SysMsg)) → h.rest ≡ [] → IsNumberedFrom (given_of h) drained →
-    drained ≡ numbered ((next_number h.cell.journal + h.dropped) % 2 ^ 64) (messages_of drained)
+    drained ≡ numbered ((next_number h.cell.journal + h.dropped) % 2 ^ 64) (messages_in drained)
 drained-on h drained none on =
     on.each
     ∙ ap (λ n. numbered n on.messages) (given-next h none)
     ∙ ap (λ l. numbered ((next_number h.cell.journal + h.dropped) % 2 ^ 64) l)
-    (sym (ap (λ l. messages_of l) on.each ∙ messages-numbered (given_of h) on.messages))
+    (sym (ap (λ l. messages_in l) on.each ∙ messages-numbered (given_of h) on.messages))

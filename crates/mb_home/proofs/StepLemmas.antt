@@ -30,7 +30,7 @@ use Rattle.mb_journal.specs.Fates.{begun}
 use Rattle.mb_journal.specs.Tells.{AddressedBody, told}
 use Rattle.mb_home.specs.Contents.{Contents}
 use Rattle.mb_home.specs.Directory.{DirectoryEntry}
-use Rattle.mb_home.specs.AgreesWithJournal.{IsOwn, IsReason, AgreesWithJournal, messages_of, aside_at_end}
+use Rattle.mb_home.specs.AgreesWithJournal.{IsOwn, IsReason, AgreesWithJournal, messages_in, aside_at_end}
 use Rattle.mb_home.specs.Steps.{most_tells, at_first, AppliesNext, IsDue}
 use Rattle.mb_home.proofs.CountLemmas.{aside-below, few-numbers, front-of, next-new, next-again, rest-first}
 use Rattle.mb_home.proofs.AgreesLemmas.{SameQueue, settled-more, settled-ready, with_more}
@@ -63,17 +63,17 @@ module _ (h : Contents) (gives : Moment → Reply → Type 0) (s : AgreesWithJou
   -- what is drained goes on from the message that was applied
   goes_on : (number : ℕ) (m : SysMsg) (outcome : Outcome) (left : List (ℕ × SysMsg)) →
       IsDue (next_front h.cell.who h.cell.journal) h.rest number m left →
-      left ≡ numbered ((next_number (System number m outcome ∷ h.cell.journal) + h.dropped) % 2 ^ 64) (messages_of left)
+      left ≡ numbered ((next_number (System number m outcome ∷ h.cell.journal) + h.dropped) % 2 ^ 64) (messages_in left)
   goes_on number m outcome left due = by_front (next_front h.cell.who h.cell.journal) refl due
     where
       by_front : (o : Option (ℕ × SysMsg)) → next_front h.cell.who h.cell.journal ≡ o → IsDue o h.rest number m left →
-          left ≡ numbered ((next_number (System number m outcome ∷ h.cell.journal) + h.dropped) % 2 ^ 64) (messages_of left)
+          left ≡ numbered ((next_number (System number m outcome ∷ h.cell.journal) + h.dropped) % 2 ^ 64) (messages_in left)
       by_front None none is =
           let first = rest-first _ h.rest left number m s.counted.rest is in
           let new : number ≡ next_number h.cell.journal = first.0 ∙ at_next in
           let next : (next_number h.cell.journal + h.dropped) % 2 ^ 64 + 1 ≡ next_number (System number m outcome ∷ h.cell.journal) + h.dropped =
           omega (arith, at_next, next-new h.cell.journal number m outcome new, new, none_dropped) in
-          first.1 ∙ ap (λ n. numbered (n % 2 ^ 64) (messages_of left)) next
+          first.1 ∙ ap (λ n. numbered (n % 2 ^ 64) (messages_in left)) next
       by_front (Some front) some is =
           let less : number < next_number h.cell.journal =
           front-of (λ (x : ℕ × SysMsg). x.0 < next_number h.cell.journal) h.cell.who h.cell.journal (number, m) (some
@@ -81,8 +81,8 @@ module _ (h : Contents) (gives : Moment → Reply → Type 0) (s : AgreesWithJou
           (aside-below h.cell.who gives h.cell.journal s.lawful.entries) in
           is.1
           ∙ s.counted.rest
-          ∙ ap (λ n. numbered ((n + h.dropped) % 2 ^ 64) (messages_of h.rest)) (sym (next-again h.cell.journal number m outcome less))
-          ∙ ap (λ l. numbered ((next_number (System number m outcome ∷ h.cell.journal) + h.dropped) % 2 ^ 64) (messages_of l)) (sym is.1)
+          ∙ ap (λ n. numbered ((n + h.dropped) % 2 ^ 64) (messages_in h.rest)) (sym (next-again h.cell.journal number m outcome less))
+          ∙ ap (λ l. numbered ((next_number (System number m outcome ∷ h.cell.journal) + h.dropped) % 2 ^ 64) (messages_in l)) (sym is.1)
 
   -- then the message that was due
   pub settled-next : (new : CellView) (number : ℕ) (m : SysMsg) (left : List (ℕ × SysMsg)) (aside_dead : ℕ) → most_tells ≤ h.room →
@@ -156,7 +156,7 @@ settled-begun h gives new take envelope reading s not_ended room took lawful sam
     (s.taken ∙ ap (λ l. begun h.cell.journal ++ l) (s.open_keeps not_ended) ∙ append-nil (begun h.cell.journal))
     ∙ sym (begun-one h.cell.journal e envelope reading took.of_it))
     (record {
-      rest = s.counted.rest ∙ ap (λ n. numbered ((n + h.dropped) % 2 ^ 64) (messages_of h.rest)) (sym
+      rest = s.counted.rest ∙ ap (λ n. numbered ((n + h.dropped) % 2 ^ 64) (messages_in h.rest)) (sym
           (number-same h.cell.journal e envelope reading took.of_it));
       aside = s.counted.aside ∙ open-aside h.cell.who h.cell.journal not_ended ∙ sym (open-aside h.cell.who (e ∷ h.cell.journal) still);
       none = λ _. s.counted.none not_ended;

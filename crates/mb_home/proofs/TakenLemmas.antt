@@ -1,13 +1,13 @@
 -- An envelope came out of the queue, and is handled then.
 use Rattle.std.proofs.Common.{◌≡◌, ℕ, ◌≤◌, [], ◌++◌, append-nil, refl, sym, ap, ◌∙◌, subst}
-use Rattle.std.specs.Prelude.{Contains, IsTrue, Option, Some, None, IfSome, IfNone, option_to_list}
+use Rattle.std.specs.Prelude.{IsTrue, Option, Some, None, IfSome, IfNone, option_to_list}
 use Rattle.mb_msg.specs.declared.envelope.Envelope.{Envelope}
 use Rattle.mb_actor.specs.Behaviour.{Moment, Reply}
 use Rattle.mb_journal.specs.Lawful.{IsLawful}
 use Rattle.mb_journal.specs.Reading.{IsOpen}
 use Rattle.mb_cell.specs.MayHandle.{MayHandle}
 use Rattle.mb_cell.specs.CellView.{CellView, TakesEnvelope}
-use Rattle.mb_queue.specs.Passes.{TakePassView}
+use Rattle.mb_queue.specs.Passes.{IsOfQueue, TakePassView}
 use Rattle.mb_queue.specs.Takes.{IsTake}
 use Rattle.mb_home.specs.Carried.{LeadsOn}
 use Rattle.mb_home.specs.Contents.{Contents}
@@ -20,15 +20,15 @@ use Rattle.mb_home.proofs.TellSteps.{may-handle, settled-taken}
 
 -- by what the take pass says
 pub takes-out : (old : Contents) (take : TakePassView) (r : Option Envelope) → take.taken ≡ old.take.taken ++ option_to_list r → IsSamePass old.take take →
-    IfSome r (λ e. Contains old.take.queue.senders e.by.0) → IfSome r (λ e. e.to.0 ≡ old.take.queue.to) →
+    IfSome r (IsOfQueue old.take.queue) →
     IsTake old.take.discipline old.take r take → IfSome r (λ e. TakesOut old (record old { take = take }) e)
-takes-out old take None taken same sender addressed follows_discipline = tt
-takes-out old take (Some e) taken same sender addressed follows_discipline = record {
+takes-out old take None taken same of_queue follows_discipline = tt
+takes-out old take (Some e) taken same of_queue follows_discipline = record {
   took = taken;
   follows_discipline = follows_discipline;
   pass = same;
-  sender = sender;
-  addressed = addressed;
+  sender = of_queue.0;
+  addressed = of_queue.1;
   same = refl;
 }
 

@@ -14,7 +14,7 @@ use Rattle.mb_journal.specs.Life.{phase, closed}
 use Rattle.mb_journal.specs.Suspension.{count, greatest_net, marks, minuses, pluses}
 use Rattle.mb_journal.specs.Tells.{told}
 use Rattle.mb_journal.specs.declared.sent_envelope.SentEnvelope.{SentEnvelope}
-use Rattle.mb_home.specs.AgreesWithJournal.{AgreesWithJournal, aside_at_end, messages_of}
+use Rattle.mb_home.specs.AgreesWithJournal.{AgreesWithJournal, aside_at_end, messages_in}
 use Rattle.mb_home.specs.AtHome.{mailbox_at, system_entries}
 use Rattle.mb_home.specs.Contents.{Contents}
 use Rattle.mb_home.specs.Directory.{DirectoryEntry}
@@ -75,7 +75,7 @@ module _ (h : Contents) (gives : Moment → Reply → Type 0) (s : AgreesWithJou
         aside_dead = s.counted.aside ∙ ap (aside_at_end h.cell.who) untouched;
         dropped = none-dropped;
         no_front = no_backlog-first h.cell untouched;
-        rest = s.counted.rest ∙ ap (λ n. numbered n (messages_of h.rest)) next-is;
+        rest = s.counted.rest ∙ ap (λ n. numbered n (messages_in h.rest)) next-is;
         drained = ap (λ j. system_entries j ++ h.rest) untouched;
       }
 

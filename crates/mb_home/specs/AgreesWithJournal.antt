@@ -51,8 +51,8 @@ pub record IsPosted (pending : List Act) (h : Contents) : Type 0 where
   pub dead : h.dead ≡ dead_letters postings
 
 -- The messages without their numbers.
-abbrev pub messages_of : List (ℕ × SysMsg) → List SysMsg
-messages_of = map (λ (m : ℕ × SysMsg). m.1)
+abbrev pub messages_in : List (ℕ × SysMsg) → List SysMsg
+messages_in = map (λ (m : ℕ × SysMsg). m.1)
 
 -- How many messages were set aside when the actor ended, with its last entry.
 abbrev pub aside_at_end : Identity → List Entry → ℕ
@@ -62,7 +62,7 @@ aside_at_end who (e ∷ before) = if closed who (e ∷ before) then length (asid
 -- The system messages that came are counted: those that have an entry, and those that were dropped once the actor ended. What is drained and not
 -- applied is numbered on from these. All that were set aside when the actor ended are counted.
 pub record CountsSystemMessages (h : Contents) : Type 0 where
-  pub rest : h.rest ≡ numbered ((next_number h.cell.journal + h.dropped) % 2 ^ 64) (messages_of h.rest)
+  pub rest : h.rest ≡ numbered ((next_number h.cell.journal + h.dropped) % 2 ^ 64) (messages_in h.rest)
   pub aside : h.aside_dead ≡ aside_at_end h.cell.who h.cell.journal
   pub none : closed h.cell.who h.cell.journal ≡ false → h.dropped ≡ 0
 

@@ -1,6 +1,6 @@
 -- What each step of a run does to the actor's home.
 use Rattle.std.specs.Prelude.{◌≡◌, ◌≢◌, ℕ, ◌+◌, ◌%◌, ◌^◌, ◌⊎◌, false, List, [], ◌∷◌, ◌++◌, slice_get, slice_set, Option, Some}
-use Rattle.std.specs.Prelude.{None, IsSome}
+use Rattle.std.specs.Prelude.{All, None, IsSome}
 use Rattle.mb_msg.specs.declared.dead_letter.DeadLetterReason.{DeadLetterReason}
 use Rattle.mb_msg.specs.declared.dead_letter.DeadLetterReason.TheVariants as why
 use Rattle.mb_msg.specs.declared.envelope.Body.{Body}
@@ -20,6 +20,13 @@ use Rattle.mb_home.specs.Directory.{DirectoryEntry}
 -- How many dead letters one message can make: one for each of 16 effects, and one for the notice of an end.
 abbrev pub most_tells : ℕ
 most_tells = 17
+
+-- What a home is made of is unused: nothing came to the cell, which has no act that is left to be carried out; nothing was taken by the pass of its
+-- queue; and nothing was pushed by the passes that its actor sends by.
+pub record AreUnused (cell : CellView) (take : TakePassView) (sends : List SendPassView) : Type 0 where
+  pub untouched : (cell.journal ≡ []) × (cell.acts ≡ [])
+  pub none_taken : take.taken ≡ []
+  pub none_pushed : All (λ (p : SendPassView). p.pushed ≡ []) sends
 
 -- A new home of this cell, with these passes and this directory. Room for its first message is still to be made.
 abbrev pub at_first : CellView → TakePassView → List SendPassView → ℕ → List DirectoryEntry → Contents

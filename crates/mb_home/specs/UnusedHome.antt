@@ -5,7 +5,7 @@ use Rattle.mb_syslist.specs.MessageList.{numbered}
 use Rattle.mb_journal.specs.Aside.{next_front}
 use Rattle.mb_queue.specs.Passes.{SendPassView}
 use Rattle.mb_actor.specs.Behaviour.{Moment, Reply}
-use Rattle.mb_home.specs.AgreesWithJournal.{messages_of}
+use Rattle.mb_home.specs.AgreesWithJournal.{messages_in}
 use Rattle.mb_home.specs.AtHome.{IsHomeOf, mailbox_at, drained_of}
 use Rattle.mb_home.specs.Contents.{Contents}
 use Rattle.mb_home.specs.Directory.{DirectoryEntry}
@@ -29,7 +29,7 @@ pub record IsUnusedHome (entry : DirectoryEntry) (h : Contents) : Type 0 where
   pub aside_dead : h.aside_dead ≡ 0
   pub dropped : h.dropped ≡ 0
   pub no_front : next_front h.cell.who h.cell.journal ≡ None
-  pub rest : h.rest ≡ numbered 0 (messages_of h.rest)
+  pub rest : h.rest ≡ numbered 0 (messages_in h.rest)
   pub drained : drained_of h ≡ h.rest
 
 -- An actor's home whose journal is empty is unused.

@@ -1,9 +1,8 @@
 //! The home of an actor, and how it begins and ends.
-ghost use Rattle.std.specs.Prelude.{◌≡◌, ◌+◌, ◌%◌, ◌^◌, ◌≤◌, [], true, All, IfOk, IsOk, map};
+ghost use Rattle.std.specs.Prelude.{◌≡◌, ◌+◌, ◌%◌, ◌^◌, ◌≤◌, [], true, IfOk, IsOk, map};
 ghost use Rattle.mb_msg.specs.Limits.{most_entries};
-ghost use Rattle.mb_queue.specs.Passes.{SendPassView};
 ghost use Rattle.mb_home.specs.AgreesWithJournal.{IsOwn, AgreesWithJournal};
-ghost use Rattle.mb_home.specs.Steps.{HasNoBacklog, at_first};
+ghost use Rattle.mb_home.specs.Steps.{AreUnused, HasNoBacklog, at_first};
 
 use crate::entry_snapshot::EntrySnapshot;
 use mb_actor::{Actor, Behaviours};
@@ -119,9 +118,7 @@ impl<A: Actor, K: Behaviours> Home<A, K> {
         directory: &Vec<EntrySnapshot<A, K>>,
     ) -> Result<Self, AllocError>
         requires number { id ≡ cell.who.this }
-        requires untouched { (cell.journal ≡ []) × (cell.acts ≡ []) }
-        requires none_taken { take.taken ≡ [] }
-        requires none_pushed { All (λ (p : SendPassView). p.pushed ≡ []) sends.items }
+        requires unused { AreUnused cell take sends.items }
         requires owner { IsOwn (at_first cell take sends.items 0
             (map (λ n. record { who = n.cell.value.who; queue = n.take.value.queue; discipline = n.take.value.discipline }) directory.now.items)) }
         ensures first { IfOk result (λ home. home ≡ at_first cell take sends.items home.room

@@ -2,8 +2,8 @@
 use Rattle.std.proofs.Common.{◌≡◌, ◌⊎◌, inl, inr, ℕ, ◌+◌, ◌<◌, ◌==◌, if◌then◌else◌, Bool, true, false}
 use Rattle.mb_core.specs.Actor.{nothing}
 use Rattle.mb_gate.specs.declared.claim.Claim.{Claim}
-use Rattle.mb_register.specs.declared.owed.Owed.{Owed}
-use Rattle.mb_register.specs.Owed.{is_owed}
+use Rattle.mb_register.specs.declared.actor_set.ActorSet.{ActorSet}
+use Rattle.mb_register.specs.ActorSet.{has_actor}
 use Rattle.std.proofs.Common.{List, [], ◌∷◌, ◌++◌, refl, sym, ap, ◌∙◌, subst, arith, append_assoc, append-nil}
 use Rattle.mb_msg.specs.declared.system.SysMsg.{SysMsg}
 use Rattle.mb_journal.specs.Entry.{Entry}
@@ -34,19 +34,19 @@ further-listed id number message a b put same here told =
 
 -- an envelope was sent or refused, and its receiver was noted if it is due
 pub further-noted : {H : Type 0} (id : ℕ) (a b : Caller H) → Moves id a.view b.view → b.account ≡ a.account → id < 64 →
-    (obligation_to id b.view ≡ nothing) ⊎ (is_owed b.told id ≡ true) → ((other : ℕ) → is_owed a.told other ≡ true → is_owed b.told other ≡ true) →
+    (obligation_to id b.view ≡ nothing) ⊎ (has_actor b.told id ≡ true) → ((other : ℕ) → has_actor a.told other ≡ true → has_actor b.told other ≡ true) →
     GotAndGaveBack [] [] a.view b.view → CallerAdvances a b
 further-noted id a b moves same few here told claims =
     further-tells id a b moves (subst (OwesForRefusals a.account) (sym same) (account-none a.account)) (noted here)
     (λ other still. (still.0, told other still.1)) (loses-handed id a.account b.account a.view b.view false (inl (same, claims)))
     (got-no-claim a.view b.view claims.got)
   where
-    noted : (obligation_to id b.view ≡ nothing) ⊎ (is_owed b.told id ≡ true) → IsDischargedOrOwed id b ⊎ IsTold id b
+    noted : (obligation_to id b.view ≡ nothing) ⊎ (has_actor b.told id ≡ true) → IsDischargedOrOwed id b ⊎ IsTold id b
     noted (inl owes_nothing) = inl (inl owes_nothing)
     noted (inr there) = inr (few, there)
 
 -- the port and the looks that are owed are as before, and so is the account
-pub same-account : {H W : Type 0} (pushed refused : W → List (Claim H)) (old new : W) (owed owed' : Owed) → new ≡ old → owed' ≡ owed →
+pub same-account : {H W : Type 0} (pushed refused : W → List (Claim H)) (old new : W) (owed owed' : ActorSet) → new ≡ old → owed' ≡ owed →
     (let x : QueueAccount H = record { pushed = pushed new; refused = refused new; owed = owed' } in x)
     ≡ (let y : QueueAccount H = record { pushed = pushed old; refused = refused old; owed = owed } in y)
 same-account pushed refused old new owed owed' same still = (λ i. record { pushed = pushed (same i); refused = refused (same i); owed = still i })

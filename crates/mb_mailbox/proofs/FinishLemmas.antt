@@ -39,8 +39,8 @@ use Rattle.mb_register.proofs.Bits.{same_or_other}
 use Rattle.mb_register.proofs.Views.{owes-other}
 use Rattle.mb_mailbox.specs.declared.turn.Turn.{Turn}
 use Rattle.mb_register.specs.Caller.{Caller, CallerAdvances, TakesNothing, IsDischargedOrOwed, IsTold, OwesForRefusals, TakesOver}
-use Rattle.mb_register.specs.declared.owed.Owed.{Owed}
-use Rattle.mb_register.specs.Owed.{is_owed}
+use Rattle.mb_register.specs.declared.actor_set.ActorSet.{ActorSet}
+use Rattle.mb_register.specs.ActorSet.{has_actor}
 use Rattle.mb_mailbox.specs.RunRegistrar.{LeavesTelling}
 use Rattle.mb_mailbox.specs.Loaded.{loaded_words, BeginsAt}
 use Rattle.mb_mailbox.specs.OnlyDrained.{TakesOnlyDrained}
@@ -218,7 +218,7 @@ leaves-caller actor journal v mid a b new obligations bare known looks g same_to
     by_run other kept (inl (inl none)) = inl (inl (kept ∙ none))
     by_run other kept (inl (inr owed)) = inl (inr (account.still other owed))
     by_run other kept (inr (inl same)) = inr (inl (kept ∙ same))
-    by_run other kept (inr (inr still)) = inr (inr (still.0, ap (λ (o : Owed). is_owed o other) same_told ∙ still.1))
+    by_run other kept (inr (inr still)) = inr (inr (still.0, ap (λ (o : ActorSet). has_actor o other) same_told ∙ still.1))
 
     by_actor : (other : ℕ) → (other ≡ actor) ⊎ (other ≢ actor) →
         IsDischargedOrOwed other new ⊎ (obligation_to other new.view ≡ obligation_to other a.view) ⊎ IsTold other new

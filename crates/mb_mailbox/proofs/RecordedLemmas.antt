@@ -12,8 +12,8 @@ use Rattle.mb_gate.specs.View.{View, SentSystem, obligation_to, refusing}
 use Rattle.mb_gate.specs.View.{Observation, Read, Saw, Counted, Looked, Sent, Unsent, Took, Pushed, Drained, Ended}
 use Rattle.mb_home.specs.Contents.{Contents}
 use Rattle.mb_register.specs.Caller.{Caller, CallerAdvances, OwesForRefusals}
-use Rattle.mb_register.specs.declared.owed.Owed.{Owed}
-use Rattle.mb_register.specs.Owed.{is_owed}
+use Rattle.mb_register.specs.declared.actor_set.ActorSet.{ActorSet}
+use Rattle.mb_register.specs.ActorSet.{has_actor}
 use Rattle.mb_register.specs.Views.{Does, IsLook, LooksAmong}
 use Rattle.mb_register.proofs.CallerLemmas.{account-none}
 use Rattle.mb_register.proofs.ClaimCounts.{loses-handed}
@@ -172,7 +172,7 @@ further-refused id message a b same account told = record {
   log = ap (λ (v : View). v.log) same;
   account = subst (OwesForRefusals a.account) (sym account) (account-none a.account);
   obligations = λ other. inr (inl (ap (obligation_to other) same));
-  told = λ other still. inr (still.0, ap (λ (o : Owed). is_owed o other) told ∙ still.1);
+  told = λ other still. inr (still.0, ap (λ (o : ActorSet). has_actor o other) told ∙ still.1);
   share = ap (λ (v : View). v.share) same;
   gives_back = unchanged-none _ _ (ap (λ (v : View). v.releases) same);
   claims = loses-handed id a.account b.account a.view b.view false

@@ -11,3 +11,4 @@ pub mod RunSends
 pub mod Recorded
 pub mod Ran
 pub mod InRun
+pub mod CleaningUp

@@ -1,8 +1,10 @@
 -- What a run of a mailbox comes to.
 use Rattle.std.specs.Prelude.{◌≡◌, ◌≤◌, ◌<◌, ◌⊎◌, ℕ, ◌+◌, ◌==◌, if◌then◌else◌, Bool, true, false, List, [], ◌∷◌, ◌++◌, None}
-use Rattle.std.specs.Prelude.{length, reverse}
+use Rattle.std.specs.Prelude.{length, reverse, Result, MatchResult, IsErrOf}
 use Rattle.std.specs.Global.{Box}
 use Rattle.mb_msg.specs.declared.envelope.Envelope.{Envelope}
+use Rattle.mb_journal.specs.declared.error.ReadyError.{ReadyError}
+use Rattle.mb_journal.specs.declared.error.ReadyError.TheVariants.{JournalFull, NoMemory}
 use Rattle.mb_journal.specs.Aside.{next_front}
 use Rattle.mb_journal.specs.Entry.{Entry}
 use Rattle.mb_journal.specs.Entry.Entry.{Handled, System, Dropped}
@@ -22,7 +24,7 @@ use Rattle.mb_gate.specs.View.{View, Observation, Release, SentSystem, Saw, Took
 use Rattle.mb_gate.specs.Waiting.{counted_off}
 use Rattle.mb_home.specs.Contents.{Contents}
 use Rattle.mb_mailbox.specs.declared.turn.Turn.{Turn}
-use Rattle.mb_register.specs.Caller.{Caller, TakesOver}
+use Rattle.mb_register.specs.Caller.{Caller, IsDischargedOrOwed, TakesOver}
 use Rattle.mb_register.specs.Due.{GotDue}
 use Rattle.mb_register.specs.Registering.{LosesNoClaim}
 use Rattle.mb_register.specs.Views.{IsUnchanged}
@@ -172,3 +174,19 @@ pub record LeavesRun (throughput : ℕ) (claim : Claim (Box Contents)) (old pass
   pub counts : total (taken_of (held_actor claim)) pass.log
       ≡ total (taken_of (held_actor claim)) old.log + turn.envelopes + length cleaned
   pub emptied : EndsEmpty stopped (closed claim.home.value.cell.who journal) → IsEmptied claim.home.value.take (started ++ cleaned)
+
+-- What becomes of the run's own actor: no claim is lost but this actor's own, which goes home, and the caller owes the actor nothing then, or the actor
+-- is in its set.
+pub record GivesActorBack {H : Type 0} (actor : ℕ) (old new : Caller H) : Type 0 where
+  pub claims : LosesNoClaimBut actor old new
+  pub discharged : IsDischargedOrOwed actor new
+
+-- What the answer of a run says. If it answers well, it stopped for a reason with room for all that it took; else there was no room. It answers that the
+-- journal is full only where it is, and that memory was refused only where that can have been.
+pub record AnswersRun (throughput : ℕ) (claim : Claim (Box Contents)) (old new : View) (result : Result Turn ReadyError) : Type 0 where
+  pub ran : (journal : List Entry) × MatchResult result
+      (λ turn. (stopped : Stopped) × HadRoom stopped × LeavesRun throughput claim old new journal turn stopped)
+      (λ _. (turn : Turn) × LeavesRun throughput claim old new journal turn NoRoom
+      × (IsErrOf result JournalFull → claim.home.value.cell.who.limit ≤ length journal))
+  pub out_of_memory : IsErrOf result NoMemory → (journal : List Entry) × (turn : Turn)
+      × LeavesRun throughput claim old new journal turn NoRoom × IsShortOfMemory claim.home.value.cell.who journal

@@ -6,7 +6,7 @@ use Rattle.mb_gate.specs.Rule.{IsPart}
 use Rattle.mb_gate.specs.Untouched.{Origin, origin_of}
 use Rattle.mb_gate.specs.View.{obligation_to}
 use Rattle.mb_register.specs.Caller.{Caller, IsDischargedOrOwed, IsTold, OwesForRefusals}
-use Rattle.mb_register.specs.Owed.{is_owed}
+use Rattle.mb_register.specs.ActorSet.{has_actor}
 use Rattle.mb_register.specs.declared.registrar.Registrar.{Registrar}
 
 module _ {H W : Type 0} where
@@ -15,7 +15,7 @@ module _ {H W : Type 0} where
   abbrev pub IsRunRegistrarOf : (W → Option (Origin H)) → Gates H → Registrar H W → Type 0
   IsRunRegistrarOf origin gates registrar =
       (pass_id registrar.pass ≡ gates_id gates) × (origin registrar.run_queue ≡ Some (origin_of gates)) × (actors_of gates ≤ 64)
-      × ((id : ℕ) → id < 64 → is_owed registrar.told.set id ≡ true → id < actors_of gates)
+      × ((id : ℕ) → id < 64 → has_actor registrar.told.set id ≡ true → id < actors_of gates)
 
 module _ {H : Type 0} where
   -- It still knows all that it knew, and kept its share. To each actor it owes nothing, or the actor is in its set, or it owes what it did before, or it

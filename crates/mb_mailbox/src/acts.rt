@@ -6,16 +6,11 @@ ghost use Rattle.mb_supervision.specs.ActQueue.{act_of};
 ghost use Rattle.mb_supervision.specs.declared.act.Act.TheVariants.{Tell};
 ghost use Rattle.mb_journal.specs.Acts.Act.{CloseSelf};
 ghost use Rattle.mb_journal.specs.Life.{closed};
-ghost use Rattle.mb_gate.specs.Accessors.{pass_view};
 ghost use Rattle.mb_gate.specs.SentSystem.{messages_of};
-ghost use Rattle.mb_gate.specs.Untouched.{origin_of};
-ghost use Rattle.mb_register.specs.Caller.{caller_of, CallerAdvances};
-ghost use Rattle.mb_mailbox.specs.RunRegistrar.{IsRunRegistrarOf};
 ghost use Rattle.mb_mailbox.specs.Emptied.{FindsNoMore, IsCleared};
 ghost use Rattle.mb_mailbox.specs.RunSends.{SendsDue};
 ghost use Rattle.mb_mailbox.specs.RunState.{run_state};
-ghost use Rattle.mb_mailbox.specs.Recorded.{SendsAsRecorded};
-ghost use Rattle.mb_mailbox.specs.Running.{IsRunning, BacklogAgrees, KeepsJournal};
+ghost use Rattle.mb_mailbox.specs.InRun.{ActsAdvance, InActs};
 
 use crate::clean_up::clean_up;
 use crate::registering::{register_if_awaited, register_told};
@@ -40,17 +35,11 @@ pub(crate) fn carry_out<A: Actor, K: Behaviours, W: RunQueue<BoxedHome<A, K>>, R
     registrar: &mut Registrar<BoxedHome<A, K>, W>,
     claim: &mut Claim<BoxedHome<A, K>>,
 ) -> Result<(), ReadyError>
-    requires same_gates { IsRunRegistrarOf W.origin gates.now registrar.old }
-    requires running { IsRunning K.gives (origin_of gates.now) (claim.old.home.value.cell.acts) (pass_view registrar.old.pass).log (run_state claim.old) }
-    requires backlog { BacklogAgrees (run_state claim.old) }
-    ensures same_gates { IsRunRegistrarOf W.origin gates.now registrar.new }
-    ensures running { IsRunning K.gives (origin_of gates.now) [] (pass_view registrar.new.pass).log (run_state claim.new) }
-    ensures backlog { BacklogAgrees (run_state claim.new) }
+    requires in_acts { InActs K.gives W.origin gates.now claim.old.home.value.cell.acts registrar.old claim.old }
+    ensures in_acts { InActs K.gives W.origin gates.now [] registrar.new claim.new }
     ensures carried_out { claim.new.home.value.cell.acts ≡ [] }
-    ensures same { KeepsJournal (run_state claim.old) (run_state claim.new) }
+    ensures advances { ActsAdvance W.pushed W.refused registrar.old registrar.new claim.old claim.new }
     ensures cleared { OnOk result (IsCleared (run_state claim.old) (run_state claim.new)) }
-    ensures caller_advances { CallerAdvances (caller_of W.pushed W.refused registrar.old) (caller_of W.pushed W.refused registrar.new) }
-    ensures sends { SendsAsRecorded registrar.old registrar.new claim.old claim.new }
     ensures refused { OnErr result (IsErrOf result ReadyError.NoMemory) }
     ensures ended { OnErr result (closed claim.new.home.value.cell.who claim.new.home.value.cell.journal ≡ true) }
     ensures due { SendsDue (messages_of claim.old.home.value.cell.acts) [] (run_state claim.old) (run_state claim.new) }
@@ -98,20 +87,13 @@ fn carry<A: Actor, K: Behaviours, W: RunQueue<BoxedHome<A, K>>, R: Wait>(
     claim: &mut Claim<BoxedHome<A, K>>,
     act: Act,
 ) -> Result<(), AllocError>
-    requires same_gates { IsRunRegistrarOf W.origin gates.now registrar.old }
-    requires running { IsRunning K.gives (origin_of gates.now) (act_of act ∷ claim.old.home.value.cell.acts)
-        (pass_view registrar.old.pass).log (run_state claim.old) }
-    requires backlog { BacklogAgrees (run_state claim.old) }
+    requires in_acts { InActs K.gives W.origin gates.now (act_of act ∷ claim.old.home.value.cell.acts) registrar.old claim.old }
     requires no_tell { (to : ActorId) (body : Body) → act ≢ Tell to body }
-    ensures same_gates { IsRunRegistrarOf W.origin gates.now registrar.new }
-    ensures running { IsRunning K.gives (origin_of gates.now) (claim.new.home.value.cell.acts) (pass_view registrar.new.pass).log (run_state claim.new) }
-    ensures backlog { BacklogAgrees (run_state claim.new) }
+    ensures in_acts { InActs K.gives W.origin gates.now claim.new.home.value.cell.acts registrar.new claim.new }
     ensures left { claim.new.home.value.cell.acts ≡ claim.old.home.value.cell.acts }
-    ensures same { KeepsJournal (run_state claim.old) (run_state claim.new) }
+    ensures advances { ActsAdvance W.pushed W.refused registrar.old registrar.new claim.old claim.new }
     ensures cleared { OnOk result (IsCleared (run_state claim.old) (run_state claim.new)) }
     ensures ended { OnErr result (closed claim.new.home.value.cell.who claim.new.home.value.cell.journal ≡ true) }
-    ensures caller_advances { CallerAdvances (caller_of W.pushed W.refused registrar.old) (caller_of W.pushed W.refused registrar.new) }
-    ensures sends { SendsAsRecorded registrar.old registrar.new claim.old claim.new }
     ensures due { SendsDue (messages_of (act_of act ∷ [])) [] (run_state claim.old) (run_state claim.new) }
 {
     match act {
@@ -141,19 +123,12 @@ fn close<A: Actor, K: Behaviours, W: RunQueue<BoxedHome<A, K>>, R: Wait>(
     registrar: &mut Registrar<BoxedHome<A, K>, W>,
     claim: &mut Claim<BoxedHome<A, K>>,
 ) -> Result<(), AllocError>
-    requires same_gates { IsRunRegistrarOf W.origin gates.now registrar.old }
-    requires running { IsRunning K.gives (origin_of gates.now) (CloseSelf ∷ claim.old.home.value.cell.acts)
-        (pass_view registrar.old.pass).log (run_state claim.old) }
-    requires backlog { BacklogAgrees (run_state claim.old) }
-    ensures same_gates { IsRunRegistrarOf W.origin gates.now registrar.new }
-    ensures running { IsRunning K.gives (origin_of gates.now) (claim.new.home.value.cell.acts) (pass_view registrar.new.pass).log (run_state claim.new) }
-    ensures backlog { BacklogAgrees (run_state claim.new) }
+    requires in_acts { InActs K.gives W.origin gates.now (CloseSelf ∷ claim.old.home.value.cell.acts) registrar.old claim.old }
+    ensures in_acts { InActs K.gives W.origin gates.now claim.new.home.value.cell.acts registrar.new claim.new }
     ensures left { claim.new.home.value.cell.acts ≡ claim.old.home.value.cell.acts }
-    ensures same { KeepsJournal (run_state claim.old) (run_state claim.new) }
+    ensures advances { ActsAdvance W.pushed W.refused registrar.old registrar.new claim.old claim.new }
     ensures emptied { OnOk result (FindsNoMore claim.old.home.value.take claim.new.home.value.take) }
     ensures ended { closed claim.new.home.value.cell.who claim.new.home.value.cell.journal ≡ true }
-    ensures caller_advances { CallerAdvances (caller_of W.pushed W.refused registrar.old) (caller_of W.pushed W.refused registrar.new) }
-    ensures sends { SendsAsRecorded registrar.old registrar.new claim.old claim.new }
     ensures due { SendsDue [] [] (run_state claim.old) (run_state claim.new) }
 {
     gates.close_mailbox(claim);

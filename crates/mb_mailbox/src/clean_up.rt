@@ -1,17 +1,16 @@
 //! What becomes of messages that are left when an actor ends (`Mailbox.cleanUp`).
-ghost use Rattle.std.specs.Prelude.{◌≡◌, [], true, List, OnOk};
-ghost use Rattle.mb_gate.specs.Accessors.{pass_view, claim_view, held_actor, status_of, given_to, recorded_by};
+ghost use Rattle.std.specs.Prelude.{◌≡◌, [], List, OnOk};
+ghost use Rattle.mb_gate.specs.Accessors.{claim_view, held_actor, given_to};
 ghost use Rattle.mb_gate.specs.View.{Observation};
 ghost use Rattle.mb_home.specs.AtHome.{given_of};
 ghost use Rattle.mb_gate.specs.Untouched.{origin_of};
-ghost use Rattle.mb_register.specs.Caller.{caller_of, CallerAdvances};
-ghost use Rattle.mb_mailbox.specs.RunRegistrar.{IsRunRegistrarOf};
 ghost use Rattle.mb_mailbox.specs.OnlyDrained.{WasEnded};
 ghost use Rattle.mb_mailbox.specs.Emptied.{FindsNoMore};
 ghost use Rattle.mb_mailbox.specs.RunSends.{SendsAndAnswers, SendsDue, TakesSystemsIn};
 ghost use Rattle.mb_mailbox.specs.RunState.{run_state};
-ghost use Rattle.mb_mailbox.specs.Recorded.{SendsAsRecorded};
-ghost use Rattle.mb_mailbox.specs.Running.{IsRunning, BacklogAgrees, KeepsJournal};
+ghost use Rattle.mb_mailbox.specs.Running.{IsRunning};
+ghost use Rattle.mb_mailbox.specs.CleaningUp.{HasDroppedAll, InCleanUp};
+ghost use Rattle.mb_mailbox.specs.InRun.{ActsAdvance, InActs, KeepsCell};
 
 use crate::sending_system::answer;
 use mb_actor::{Actor, Behaviours};
@@ -30,18 +29,12 @@ pub(crate) fn clean_up<A: Actor, K: Behaviours, W: RunQueue<BoxedHome<A, K>>, R:
     registrar: &mut Registrar<BoxedHome<A, K>, W>,
     claim: &mut Claim<BoxedHome<A, K>>,
 ) -> Result<(), AllocError>
-    requires same_gates { IsRunRegistrarOf W.origin gates.now registrar.old }
-    requires closed { (status_of claim.old).closed ≡ true }
-    requires running { IsRunning K.gives (origin_of gates.now) (claim.old.home.value.cell.acts) (pass_view registrar.old.pass).log (run_state claim.old) }
+    requires in_clean_up { InCleanUp K.gives W.origin gates.now registrar.old claim.old }
     requires count { given_of claim.old.home.value ≡ given_to claim.old }
-    ensures same_gates { IsRunRegistrarOf W.origin gates.now registrar.new }
-    ensures running { IsRunning K.gives (origin_of gates.now) (claim.new.home.value.cell.acts) (pass_view registrar.new.pass).log (run_state claim.new) }
-    ensures backlog { BacklogAgrees (run_state claim.new) }
+    ensures in_acts { InActs K.gives W.origin gates.now claim.new.home.value.cell.acts registrar.new claim.new }
     ensures left { claim.new.home.value.cell ≡ claim.old.home.value.cell }
-    ensures same { KeepsJournal (run_state claim.old) (run_state claim.new) }
+    ensures advances { ActsAdvance W.pushed W.refused registrar.old registrar.new claim.old claim.new }
     ensures emptied { OnOk result (FindsNoMore claim.old.home.value.take claim.new.home.value.take) }
-    ensures caller_advances { CallerAdvances (caller_of W.pushed W.refused registrar.old) (caller_of W.pushed W.refused registrar.new) }
-    ensures sends { SendsAsRecorded registrar.old registrar.new claim.old claim.new }
     ensures due { SendsDue [] [] (run_state claim.old) (run_state claim.new) }
 {
     let listed = gates.sys_close(rt, claim);
@@ -58,19 +51,13 @@ fn drop_systems<A: Actor, K: Behaviours, W: RunQueue<BoxedHome<A, K>>, R: Wait>(
     registrar: &mut Registrar<BoxedHome<A, K>, W>,
     claim: &mut Claim<BoxedHome<A, K>>,
 )
-    requires same_gates { IsRunRegistrarOf W.origin gates.now registrar.old }
-    requires closed { (status_of claim.old).closed ≡ true }
-    requires running { IsRunning K.gives (origin_of gates.now) (claim.old.home.value.cell.acts) (pass_view registrar.old.pass).log (run_state claim.old) }
-    ensures same_gates { IsRunRegistrarOf W.origin gates.now registrar.new }
-    ensures closed { (status_of claim.new).closed ≡ true }
-    ensures running { IsRunning K.gives (origin_of gates.now) (claim.new.home.value.cell.acts) (pass_view registrar.new.pass).log (run_state claim.new) }
+    requires in_clean_up { InCleanUp K.gives W.origin gates.now registrar.old claim.old }
+    ensures in_clean_up { InCleanUp K.gives W.origin gates.now registrar.new claim.new }
     ensures none { claim.new.home.value.rest ≡ [] }
     ensures given { (given_of claim.new.home.value ≡ given_of claim.old.home.value) × (given_to claim.new ≡ given_to claim.old) }
     ensures left { claim.new.home.value.cell ≡ claim.old.home.value.cell }
     ensures log { (claim_view claim.new).log ≡ (claim_view claim.old).log }
-    ensures same { KeepsJournal (run_state claim.old) (run_state claim.new) }
-    ensures caller_advances { CallerAdvances (caller_of W.pushed W.refused registrar.old) (caller_of W.pushed W.refused registrar.new) }
-    ensures sends { SendsAsRecorded registrar.old registrar.new claim.old claim.new }
+    ensures advances { ActsAdvance W.pushed W.refused registrar.old registrar.new claim.old claim.new }
     ensures answers { SendsAndAnswers [] claim.old.home.value.rest (run_state claim.old) (run_state claim.new) }
 {
     let actor = claim.actor();
@@ -86,19 +73,13 @@ fn clean_envelopes<A: Actor, K: Behaviours, R: Wait>(
     gates: &Gates<BoxedHome<A, K>>,
     claim: &mut Claim<BoxedHome<A, K>>,
 ) -> Result<(), AllocError>
-    requires closed { (status_of claim.old).closed ≡ true }
+    requires dropped { HasDroppedAll claim.old }
     requires ended { WasEnded (held_actor claim.old) (claim_view claim.old).log }
     requires running { (seen : List Observation) × IsRunning K.gives (origin_of gates.now) claim.old.home.value.cell.acts seen (run_state claim.old) }
-    requires none { claim.old.home.value.rest ≡ [] }
-    ensures running { (seen : List Observation) → IsRunning K.gives (origin_of gates.now) claim.old.home.value.cell.acts seen (run_state claim.old)
-        → IsRunning K.gives (origin_of gates.now) claim.new.home.value.cell.acts seen (run_state claim.new) }
-    ensures none { claim.new.home.value.rest ≡ [] }
-    ensures closed { (status_of claim.new).closed ≡ true }
+    ensures keeps { KeepsCell K.gives gates.now claim.old.home.value.cell.acts claim.old claim.new }
+    ensures dropped { HasDroppedAll claim.new }
     ensures given { (given_of claim.new.home.value ≡ given_of claim.old.home.value) × (given_to claim.new ≡ given_to claim.old) }
-    ensures left { claim.new.home.value.cell ≡ claim.old.home.value.cell }
-    ensures same { KeepsJournal (run_state claim.old) (run_state claim.new) }
     ensures emptied { OnOk result (FindsNoMore claim.old.home.value.take claim.new.home.value.take) }
-    ensures recorded { recorded_by claim.new ≡ recorded_by claim.old }
     ensures takes { TakesSystemsIn [] [] (run_state claim.old) (run_state claim.new) }
 {
     for _ in rt.forever() {

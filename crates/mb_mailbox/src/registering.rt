@@ -2,7 +2,7 @@
 ghost use Rattle.std.specs.Prelude.{◌≡◌, ℕ, ◌<◌, false};
 ghost use Rattle.mb_gate.specs.Accessors.{pass_view};
 ghost use Rattle.mb_register.specs.Caller.{caller_of, CallerAdvances};
-ghost use Rattle.mb_register.specs.Owed.{is_owed};
+ghost use Rattle.mb_register.specs.ActorSet.{has_actor};
 ghost use Rattle.mb_register.specs.Told.{GoInOrder};
 ghost use Rattle.mb_register.specs.Views.{LooksAmong};
 ghost use Rattle.mb_mailbox.specs.RunRegistrar.{IsRunRegistrarOf};
@@ -24,7 +24,7 @@ pub(crate) fn register_if_awaited<A: Actor, K: Behaviours, W: RunQueue<BoxedHome
     requires same_gates { IsRunRegistrarOf W.origin gates.now registrar.old }
     ensures same_gates { IsRunRegistrarOf W.origin gates.now registrar.new }
     ensures caller_advances { CallerAdvances (caller_of W.pushed W.refused registrar.old) (caller_of W.pushed W.refused registrar.new) }
-    ensures looks { LooksAmong (is_owed registrar.old.told.set) (pass_view registrar.old.pass) (pass_view registrar.new.pass) }
+    ensures looks { LooksAmong (has_actor registrar.old.told.set) (pass_view registrar.old.pass) (pass_view registrar.new.pass) }
 {
     // It follows an act, which is mostly a tell: so whether a worker waits is asked first.
     if gates.idle_workers().is_any() && !registrar.told.is_empty() {
@@ -45,9 +45,9 @@ pub(crate) fn register_told<A: Actor, K: Behaviours, W: RunQueue<BoxedHome<A, K>
     requires same_gates { IsRunRegistrarOf W.origin gates.now registrar.old }
     ensures same_gates { IsRunRegistrarOf W.origin gates.now registrar.new }
     ensures caller_advances { CallerAdvances (caller_of W.pushed W.refused registrar.old) (caller_of W.pushed W.refused registrar.new) }
-    ensures looks { LooksAmong (is_owed registrar.old.told.set) (pass_view registrar.old.pass) (pass_view registrar.new.pass) }
+    ensures looks { LooksAmong (has_actor registrar.old.told.set) (pass_view registrar.old.pass) (pass_view registrar.new.pass) }
     ensures in_order { GoInOrder registrar.old.told.order (W.pushed registrar.old.run_queue) (W.pushed registrar.new.run_queue) }
-    ensures none_left { (id : ℕ) → id < 64 → is_owed registrar.new.told.set id ≡ false }
+    ensures none_left { (id : ℕ) → id < 64 → has_actor registrar.new.told.set id ≡ false }
 {
     registrar.register_told(rt, gates, at_run_end);
 }

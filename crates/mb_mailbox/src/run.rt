@@ -1,18 +1,15 @@
 //! The run of a mailbox, from its claim to its result.
-ghost use Rattle.std.specs.Prelude.{◌≡◌, ◌≤◌, ◌<◌, ℕ, false, length, List, MatchResult, IfOk, IsErrOf, Some};
-ghost use Rattle.mb_journal.specs.Entry.{Entry};
-ghost use Rattle.mb_journal.specs.Run.{Stopped, most_envelopes};
-ghost use Rattle.mb_journal.specs.Run.Stopped.{NoRoom};
+ghost use Rattle.std.specs.Prelude.{◌≡◌, ◌≤◌, ◌<◌, ℕ, false, length, IfOk, Some};
+ghost use Rattle.mb_journal.specs.Run.{most_envelopes};
 ghost use Rattle.mb_gate.specs.Accessors.{actors_of, first_home, pass_view, held_actor};
 ghost use Rattle.mb_gate.specs.Untouched.{origin_of};
-ghost use Rattle.mb_register.specs.Caller.{IsRegistrarOf, caller_of, IsDischargedOrOwed, LeavesCaller};
-ghost use Rattle.mb_register.specs.Owed.{is_owed};
+ghost use Rattle.mb_register.specs.Caller.{IsRegistrarOf, caller_of, LeavesCaller};
+ghost use Rattle.mb_register.specs.ActorSet.{has_actor};
 ghost use Rattle.mb_home.specs.Fresh.{IsFreshClaim};
 ghost use Rattle.mb_mailbox.specs.RunRegistrar.{IsRunRegistrarOf, LeavesTelling};
 ghost use Rattle.mb_mailbox.specs.RunState.{run_state};
 ghost use Rattle.mb_mailbox.specs.InRun.{InRun, Advances, StopsRun};
-ghost use Rattle.mb_mailbox.specs.Ran.{HadRoom, HasStopped, IsShortOfMemory, LeavesRun, LosesNoClaimBut};
-ghost use Rattle.mb_mailbox.specs.declared.turn.Turn.{Turn};
+ghost use Rattle.mb_mailbox.specs.Ran.{AnswersRun, GivesActorBack, HasStopped};
 
 use crate::envelopes::apply_envelopes;
 use crate::registering::register_told;
@@ -46,16 +43,8 @@ pub fn run_mailbox<A: Actor, K: Behaviours, W: RunQueue<BoxedHome<A, K>>, R: Wai
     requires same_count { length (first_home gates.now).value.directory ≡ actors_of gates.now }
     ensures same_gates { IsRegistrarOf W.origin gates.now registrar.new }
     ensures caller_advances { LeavesCaller (caller_of W.pushed W.refused registrar.old) (caller_of W.pushed W.refused registrar.new) }
-    ensures claims { LosesNoClaimBut (held_actor claim) (caller_of W.pushed W.refused registrar.old) (caller_of W.pushed W.refused registrar.new) }
-    ensures discharged { IsDischargedOrOwed (held_actor claim) (caller_of W.pushed W.refused registrar.new) }
-    ensures ran { (journal : List Entry) × MatchResult result
-        (λ turn. (stopped : Stopped) × HadRoom stopped
-        × LeavesRun throughput claim (pass_view registrar.old.pass) (pass_view registrar.new.pass) journal turn stopped)
-        (λ _. (turn : Turn) × LeavesRun throughput claim (pass_view registrar.old.pass) (pass_view registrar.new.pass) journal turn NoRoom
-        × (IsErrOf result ReadyError.JournalFull → claim.home.value.cell.who.limit ≤ length journal)) }
-    ensures out_of_memory { IsErrOf result ReadyError.NoMemory → (journal : List Entry) × (turn : Turn)
-        × LeavesRun throughput claim (pass_view registrar.old.pass) (pass_view registrar.new.pass) journal turn NoRoom
-        × IsShortOfMemory claim.home.value.cell.who journal }
+    ensures back { GivesActorBack (held_actor claim) (caller_of W.pushed W.refused registrar.old) (caller_of W.pushed W.refused registrar.new) }
+    ensures answer { AnswersRun throughput claim (pass_view registrar.old.pass) (pass_view registrar.new.pass) result }
 {
     registrar.told.clear();
     run_and_release(rt, gates, registrar, throughput, claim)
@@ -74,17 +63,9 @@ fn run_and_release<A: Actor, K: Behaviours, W: RunQueue<BoxedHome<A, K>>, R: Wai
     requires same_count { length (first_home gates.now).value.directory ≡ actors_of gates.now }
     ensures same_gates { IsRunRegistrarOf W.origin gates.now registrar.new }
     ensures caller_advances { LeavesTelling (caller_of W.pushed W.refused registrar.old) (caller_of W.pushed W.refused registrar.new) }
-    ensures none_left { (id : ℕ) → id < 64 → is_owed registrar.new.told.set id ≡ false }
-    ensures claims { LosesNoClaimBut (held_actor claim) (caller_of W.pushed W.refused registrar.old) (caller_of W.pushed W.refused registrar.new) }
-    ensures discharged { IsDischargedOrOwed (held_actor claim) (caller_of W.pushed W.refused registrar.new) }
-    ensures ran { (journal : List Entry) × MatchResult result
-        (λ turn. (stopped : Stopped) × HadRoom stopped
-        × LeavesRun throughput claim (pass_view registrar.old.pass) (pass_view registrar.new.pass) journal turn stopped)
-        (λ _. (turn : Turn) × LeavesRun throughput claim (pass_view registrar.old.pass) (pass_view registrar.new.pass) journal turn NoRoom
-        × (IsErrOf result ReadyError.JournalFull → claim.home.value.cell.who.limit ≤ length journal)) }
-    ensures out_of_memory { IsErrOf result ReadyError.NoMemory → (journal : List Entry) × (turn : Turn)
-        × LeavesRun throughput claim (pass_view registrar.old.pass) (pass_view registrar.new.pass) journal turn NoRoom
-        × IsShortOfMemory claim.home.value.cell.who journal }
+    ensures none_left { (id : ℕ) → id < 64 → has_actor registrar.new.told.set id ≡ false }
+    ensures back { GivesActorBack (held_actor claim) (caller_of W.pushed W.refused registrar.old) (caller_of W.pushed W.refused registrar.new) }
+    ensures answer { AnswersRun throughput claim (pass_view registrar.old.pass) (pass_view registrar.new.pass) result }
 {
     let mut claim = claim;
     let actor = claim.actor();
@@ -119,7 +100,7 @@ fn run_claim<A: Actor, K: Behaviours, W: RunQueue<BoxedHome<A, K>>, R: Wait>(
     ensures stops { StopsRun result claim.new }
     ensures within_limit { turn.new.envelopes ≤ most_envelopes throughput }
     ensures ended { IfOk result (λ _. HasStopped claim.old.home.value.take (run_state claim.new) throughput turn.new.envelopes) }
-    ensures none_left { (id : ℕ) → id < 64 → is_owed registrar.new.told.set id ≡ false }
+    ensures none_left { (id : ℕ) → id < 64 → has_actor registrar.new.told.set id ≡ false }
 {
     let outcome = apply_all(rt, gates, registrar, throughput, claim, turn);
     if registrar.told.is_empty() {

@@ -1,9 +1,8 @@
 //! Sending system messages in a run.
 ghost use Rattle.std.specs.Prelude.{◌≡◌, ◌<◌, [], ◌∷◌, IfSome};
 ghost use Rattle.mb_journal.specs.Acts.Act.{Sys};
-ghost use Rattle.mb_gate.specs.Accessors.{actors_of, pass_view};
+ghost use Rattle.mb_gate.specs.Accessors.{actors_of};
 ghost use Rattle.mb_gate.specs.NamedActors.{NamesBelow};
-ghost use Rattle.mb_gate.specs.Untouched.{origin_of};
 ghost use Rattle.mb_register.specs.Caller.{caller_of, CallerAdvances};
 ghost use Rattle.mb_mailbox.specs.RunRegistrar.{IsRunRegistrarOf};
 ghost use Rattle.mb_mailbox.specs.Emptied.{IsCleared};
@@ -11,7 +10,7 @@ ghost use Rattle.mb_mailbox.specs.RunSends.{SendsDue};
 ghost use Rattle.mb_mailbox.specs.RunState.{run_state};
 ghost use Rattle.mb_mailbox.specs.Recorded.{SendsAsRecorded};
 ghost use Rattle.mb_mailbox.specs.Notice.{IsAnswered, IsNotified, asker};
-ghost use Rattle.mb_mailbox.specs.Running.{IsRunning, BacklogAgrees, KeepsJournal};
+ghost use Rattle.mb_mailbox.specs.InRun.{ActsAdvance, InActs};
 
 use mb_actor::{Actor, Behaviours};
 use mb_gate::{Claim, Gates, RunQueue};
@@ -34,18 +33,11 @@ pub(crate) fn send_system<A: Actor, K: Behaviours, W: RunQueue<BoxedHome<A, K>>,
     to: ActorId,
     node: Node,
 )
-    requires same_gates { IsRunRegistrarOf W.origin gates.now registrar.old }
-    requires running { IsRunning K.gives (origin_of gates.now) (Sys to node ∷ claim.old.home.value.cell.acts)
-        (pass_view registrar.old.pass).log (run_state claim.old) }
-    requires backlog { BacklogAgrees (run_state claim.old) }
-    ensures same_gates { IsRunRegistrarOf W.origin gates.now registrar.new }
-    ensures running { IsRunning K.gives (origin_of gates.now) (claim.new.home.value.cell.acts) (pass_view registrar.new.pass).log (run_state claim.new) }
-    ensures backlog { BacklogAgrees (run_state claim.new) }
+    requires in_acts { InActs K.gives W.origin gates.now (Sys to node ∷ claim.old.home.value.cell.acts) registrar.old claim.old }
+    ensures in_acts { InActs K.gives W.origin gates.now claim.new.home.value.cell.acts registrar.new claim.new }
     ensures left { claim.new.home ≡ claim.old.home }
-    ensures same { KeepsJournal (run_state claim.old) (run_state claim.new) }
+    ensures advances { ActsAdvance W.pushed W.refused registrar.old registrar.new claim.old claim.new }
     ensures cleared { IsCleared (run_state claim.old) (run_state claim.new) }
-    ensures caller_advances { CallerAdvances (caller_of W.pushed W.refused registrar.old) (caller_of W.pushed W.refused registrar.new) }
-    ensures sends { SendsAsRecorded registrar.old registrar.new claim.old claim.new }
     ensures due { SendsDue ((to.0, node) ∷ []) [] (run_state claim.old) (run_state claim.new) }
 {
     match gates.sys_enqueue_in_run(rt, &mut registrar.pass, claim, to, node) {

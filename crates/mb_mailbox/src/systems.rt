@@ -1,15 +1,13 @@
 //! Applying system messages, until none is left.
-ghost use Rattle.std.specs.Prelude.{◌≡◌, ◌≢◌, ◌+◌, [], true, false, List, OnOk};
-ghost use Rattle.mb_gate.specs.View.{Observation};
-ghost use Rattle.mb_gate.specs.Accessors.{status_of, recorded_by};
+ghost use Rattle.std.specs.Prelude.{◌≡◌, ◌≢◌, ◌+◌, [], true, false, MatchBool, OnOk};
+ghost use Rattle.mb_gate.specs.Accessors.{status_of};
 ghost use Rattle.mb_home.specs.Steps.{HasNext, HasNoBacklog};
-ghost use Rattle.mb_gate.specs.Untouched.{origin_of};
 ghost use Rattle.mb_mailbox.specs.Emptied.{IsCleared};
 ghost use Rattle.mb_mailbox.specs.RunSends.{SendsDue};
 ghost use Rattle.mb_mailbox.specs.RunState.{run_state};
-ghost use Rattle.mb_mailbox.specs.InRun.{InRun, Advances, StopsRun};
+ghost use Rattle.mb_mailbox.specs.InRun.{InRun, Advances, IsBetweenMessages, KeepsCell, StopsRun};
 ghost use Rattle.mb_mailbox.specs.Ran.{EndsBlock, IsDrained};
-ghost use Rattle.mb_mailbox.specs.Running.{IsRunning, BacklogAgrees, KeepsJournal};
+ghost use Rattle.mb_mailbox.specs.Running.{BacklogAgrees};
 
 use crate::acts::carry_out;
 use crate::turn::Turn;
@@ -51,17 +49,11 @@ pub(crate) fn has_no_system_work<A: Actor, K: Behaviours>(
     gates: &Gates<BoxedHome<A, K>>,
     claim: &mut Claim<BoxedHome<A, K>>,
 ) -> bool
-    requires running { (seen : List Observation) × IsRunning K.gives (origin_of gates.now) [] seen (run_state claim.old) }
-    requires backlog { BacklogAgrees (run_state claim.old) }
-    requires carried_out { claim.old.home.value.cell.acts ≡ [] }
-    ensures running { (seen : List Observation) → IsRunning K.gives (origin_of gates.now) [] seen (run_state claim.old)
-        → IsRunning K.gives (origin_of gates.now) [] seen (run_state claim.new) }
+    requires between { IsBetweenMessages K.gives gates.now claim.old }
+    ensures keeps { KeepsCell K.gives gates.now [] claim.old claim.new }
     ensures backlog { BacklogAgrees (run_state claim.new) }
-    ensures left { claim.new.home.value.cell ≡ claim.old.home.value.cell }
-    ensures same { KeepsJournal (run_state claim.old) (run_state claim.new) }
     ensures cleared { IsCleared (run_state claim.old) (run_state claim.new) }
     ensures drained { result ≡ true → IsDrained (run_state claim.new) }
-    ensures recorded { recorded_by claim.new ≡ recorded_by claim.old }
     ensures due { SendsDue [] [] (run_state claim.old) (run_state claim.new) }
 {
     if claim.status().closed() || claim.home.has_next() {
@@ -134,18 +126,11 @@ fn drain<A: Actor, K: Behaviours, R: Wait>(
 ) -> bool
     requires no_backlog { HasNoBacklog claim.old.home.value }
     requires not_closed { (status_of claim.old).closed ≡ false }
-    requires running { (seen : List Observation) × IsRunning K.gives (origin_of gates.now) [] seen (run_state claim.old) }
-    requires backlog { BacklogAgrees (run_state claim.old) }
-    requires carried_out { claim.old.home.value.cell.acts ≡ [] }
-    ensures running { (seen : List Observation) → IsRunning K.gives (origin_of gates.now) [] seen (run_state claim.old)
-        → IsRunning K.gives (origin_of gates.now) [] seen (run_state claim.new) }
+    requires between { IsBetweenMessages K.gives gates.now claim.old }
+    ensures keeps { KeepsCell K.gives gates.now [] claim.old claim.new }
     ensures backlog { BacklogAgrees (run_state claim.new) }
-    ensures left { claim.new.home.value.cell ≡ claim.old.home.value.cell }
-    ensures same { KeepsJournal (run_state claim.old) (run_state claim.new) }
     ensures cleared { IsCleared (run_state claim.old) (run_state claim.new) }
-    ensures drained { result ≡ false → IsDrained (run_state claim.new) }
-    ensures recorded { recorded_by claim.new ≡ recorded_by claim.old }
-    ensures not_empty { result ≡ true → claim.new.home.value.rest ≢ [] }
+    ensures gave { MatchBool result (claim.new.home.value.rest ≢ []) (IsDrained (run_state claim.new)) }
     ensures due { SendsDue [] [] (run_state claim.old) (run_state claim.new) }
 {
     let drained = gates.sys_drain(rt, claim);

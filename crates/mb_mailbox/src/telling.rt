@@ -1,18 +1,14 @@
 //! Sending the envelopes that an actor tells.
-ghost use Rattle.std.specs.Prelude.{◌≡◌, ◌<◌, [], ◌∷◌, IfNone, MatchOption};
+ghost use Rattle.std.specs.Prelude.{◌≡◌, ◌<◌, [], ◌∷◌, MatchOption};
 ghost use Rattle.mb_journal.specs.Acts.Act.{Tell};
 ghost use Rattle.mb_gate.specs.Accessors.{actors_of, gates_id, pass_view, pass_id};
-ghost use Rattle.mb_gate.specs.Untouched.{origin_of};
 ghost use Rattle.mb_gate.specs.View.{reading};
 ghost use Rattle.mb_home.specs.AgreesWithJournal.{AgreesWithJournal};
-ghost use Rattle.mb_register.specs.Caller.{caller_of, CallerAdvances};
-ghost use Rattle.mb_mailbox.specs.RunRegistrar.{IsRunRegistrarOf};
 ghost use Rattle.mb_register.specs.Views.{GotAndGaveBack};
 ghost use Rattle.mb_mailbox.specs.Emptied.{IsCleared};
 ghost use Rattle.mb_mailbox.specs.RunSends.{SendsDue};
 ghost use Rattle.mb_mailbox.specs.RunState.{run_state};
-ghost use Rattle.mb_mailbox.specs.Recorded.{SendsAsRecorded};
-ghost use Rattle.mb_mailbox.specs.Running.{IsRunning, BacklogAgrees, KeepsJournal};
+ghost use Rattle.mb_mailbox.specs.InRun.{ActsAdvance, InActs};
 ghost use Rattle.mb_mailbox.specs.Sending.{HintTells, IsSentOrDead, TellsClosed};
 
 use mb_actor::{Actor, Behaviours};
@@ -33,18 +29,11 @@ pub(crate) fn tell<A: Actor, K: Behaviours, W: RunQueue<BoxedHome<A, K>>, R: Wai
     to: ActorId,
     body: Body,
 )
-    requires same_gates { IsRunRegistrarOf W.origin gates.now registrar.old }
-    requires running { IsRunning K.gives (origin_of gates.now) (Tell to body ∷ claim.old.home.value.cell.acts)
-        (pass_view registrar.old.pass).log (run_state claim.old) }
-    requires backlog { BacklogAgrees (run_state claim.old) }
-    ensures same_gates { IsRunRegistrarOf W.origin gates.now registrar.new }
-    ensures running { IsRunning K.gives (origin_of gates.now) (claim.new.home.value.cell.acts) (pass_view registrar.new.pass).log (run_state claim.new) }
-    ensures backlog { BacklogAgrees (run_state claim.new) }
+    requires in_acts { InActs K.gives W.origin gates.now (Tell to body ∷ claim.old.home.value.cell.acts) registrar.old claim.old }
+    ensures in_acts { InActs K.gives W.origin gates.now claim.new.home.value.cell.acts registrar.new claim.new }
     ensures left { claim.new.home.value.cell ≡ record claim.old.home.value.cell { is_ready = claim.new.home.value.cell.is_ready } }
-    ensures same { KeepsJournal (run_state claim.old) (run_state claim.new) }
+    ensures advances { ActsAdvance W.pushed W.refused registrar.old registrar.new claim.old claim.new }
     ensures cleared { IsCleared (run_state claim.old) (run_state claim.new) }
-    ensures caller_advances { CallerAdvances (caller_of W.pushed W.refused registrar.old) (caller_of W.pushed W.refused registrar.new) }
-    ensures sends { SendsAsRecorded registrar.old registrar.new claim.old claim.new }
     ensures told { IsSentOrDead to body (pass_view registrar.old.pass) (pass_view registrar.new.pass) claim.old.home.value claim.new.home.value }
     ensures due { SendsDue [] [] (run_state claim.old) (run_state claim.new) }
 {
@@ -82,9 +71,9 @@ fn send<A: Actor, K: Behaviours, R: Wait>(
       dead = home.new.value.dead;
       room = home.new.value.room;
     } }
-    ensures told { MatchOption result (TellsClosed to body (pass_view pass.old) (pass_view pass.new) home.old.value home.new.value)
+    ensures told { MatchOption result
+        (TellsClosed to body (pass_view pass.old) (pass_view pass.new) home.old.value home.new.value × (pass_view pass.new ≡ reading to.0 1 (pass_view pass.old)))
         (λ hint. HintTells hint to body (pass_view pass.old) (pass_view pass.new) home.old.value home.new.value) }
-    ensures closed { IfNone result (pass_view pass.new ≡ reading to.0 1 (pass_view pass.old)) }
     ensures claims { GotAndGaveBack [] [] (pass_view pass.old) (pass_view pass.new) }
 {
     let status = gates.status(pass, to);

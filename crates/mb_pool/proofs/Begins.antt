@@ -6,11 +6,11 @@ use Rattle.std.proofs.lemmas.List.{map-append, map_push, take-map, drop-map, len
 use Rattle.std.proofs.lemmas.List.Elements.{All-nil, All-cons, All-head, All-tail, All-map, All-append, All-replicate, All-weaker}
 use Rattle.mb_msg.specs.declared.pool_kind.PoolKind.{PoolKind}
 use Rattle.mb_msg.specs.declared.pool_kind.PoolKind.TheVariants.{Shared, Stealing}
-use Rattle.mb_pool.specs.declared.end_deques.EndDeques.{EndDeques}
-use Rattle.mb_pool.specs.Begins.{AreEndDeques, AreNew, AreNewOf, borrowed, borrowed_next, bound_of, fresh, lent, new_shared_port, with_shares}
+use Rattle.mb_pool.specs.declared.worker_deques.WorkerDeques.{WorkerDeques}
+use Rattle.mb_pool.specs.Begins.{AreWorkerDeques, AreNew, AreNewOf, borrowed, borrowed_next, bound_of, fresh, lent, new_shared_port, with_shares}
 use Rattle.mb_pool.specs.Made.{AreDeques, AreUnused, IsNewPool, IsDeque, IsOfKind, IsWhole, queues_of}
 use Rattle.mb_gate.specs.Untouched.{Origin}
-use Rattle.mb_pool.specs.Places.{AreEnds, AreFeeds, PoolPort, Parts, QueueInfo, PoolEndpoint, PoolView, shared_port_part, ports_of}
+use Rattle.mb_pool.specs.Places.{AreHandles, AreFeeds, PoolPort, Parts, QueueInfo, PoolEndpoint, PoolView, shared_port_part, ports_of}
 use Rattle.mb_pool.specs.Places.{numbers, part_of, parts_of, pushed_at, taken_at}
 use Rattle.mb_pool.specs.Ledger.{claims_in, opened}
 use Rattle.mb_pool.specs.Endpoints.{AreOpen, IsOpenPort, next_of, of_feed, own_of, endpoint_of}
@@ -97,7 +97,7 @@ module _ {H : Type 0} where
       let queue : own_deque'.queue ≡ own_deque.queue = ap (λ (l : PoolPort H). l.queue) e in
       new_more o shares count owns own_deque' new (subst (IsDeque count) (sym queue) is) (e ∙ ap (fresh o shares shares) (sym queue))
 
-  -- the ports after some ends borrowed of the next ones: rotated once for each end, with the shares that they have then
+  -- the ports after some handles borrowed of the next ones: rotated once for each handle, with the shares that they have then
   abbrev pub rotated : List (PoolPort H) → ℕ → List (PoolPort H)
   rotated owns k = map (with_shares (length owns - k)) (drop k owns) ++ map (with_shares (length owns - k + 1)) (take k owns)
 
@@ -124,7 +124,7 @@ module _ {H : Type 0} where
     abbrev pub after : List (PoolPort H)
     after = map (with_shares left) (drop (suc k) owns) ++ map (with_shares (left + 1)) (take k owns)
 
-    -- the end's own deque comes first, the next ones in order after it
+    -- the handle's own deque comes first, the next ones in order after it
     pub rotated_first : rotated owns k ≡ with_shares left (get_or owns k d) ∷ after
     rotated_first = ap (λ l. map (with_shares left) l ++ map (with_shares (left + 1)) (take k owns)) (drop_suc owns k d lt)
 
@@ -145,7 +145,7 @@ module _ {H : Type 0} where
         ∙ sym (map-append (borrowed {H = H}) (drop (suc k) owns) (take k owns))
         ∙ ap (λ n. map (borrowed {H = H}) (drop n owns ++ take k owns)) (let e : suc k ≡ k + 1 = omega arith in e)
 
-    -- and how they are when the next end borrows
+    -- and how they are when the next handle borrows
     pub rotated_next : map (lent {H = H}) after ++ with_shares left (get_or owns k d) ∷ [] ≡ rotated owns (k + 1)
     rotated_next =
         let x : PoolPort H = get_or owns k d in let a : List (PoolPort H) = drop (suc k) owns in let b : List (PoolPort H) = take k owns in
@@ -204,7 +204,7 @@ singles {A} {B} f pre (x ∷ xs) =
 
 module _ {H : Type 0} where
   module _ (fo fn : ℕ → List (PoolPort H)) where
-    pub zip_all : (P : List (PoolPort H) → List (PoolPort H) → Type 0) → ((k : ℕ) → P (fo k) (fn k)) → (ms : List (Option (EndDeques H))) (ks : List ℕ)
+    pub zip_all : (P : List (PoolPort H) → List (PoolPort H) → Type 0) → ((k : ℕ) → P (fo k) (fn k)) → (ms : List (Option (WorkerDeques H))) (ks : List ℕ)
         → map (own_of {H = H}) ms ≡ map fo ks → map (next_of {H = H}) ms ≡ map fn ks
         → All (λ m. P (own_of m) (next_of m)) ms
     zip_all P h [] ks eo en = All-nil (λ m. P (own_of m) (next_of m))
@@ -216,7 +216,7 @@ module _ {H : Type 0} where
         (zip_all P h ms ks (cons_tail (own_of m) (fo k) (map (own_of {H = H}) ms) (map fo ks) eo)
         (cons_tail (next_of m) (fn k) (map (next_of {H = H}) ms) (map fn ks) en))
 
-    pub zip_parts : (shared_port : PoolPort H) (ms : List (Option (EndDeques H))) (ks : List ℕ) → map (own_of {H = H}) ms ≡ map fo ks
+    pub zip_parts : (shared_port : PoolPort H) (ms : List (Option (WorkerDeques H))) (ks : List ℕ) → map (own_of {H = H}) ms ≡ map fo ks
         → map (next_of {H = H}) ms ≡ map fn ks
         → map (λ m. parts_of (endpoint_of shared_port m)) ms ≡ map (λ (k : ℕ). let p : Parts H = record
         { own_deque = map (part_of {H = H}) (fo k); shared_port = part_of shared_port; next = map (part_of {H = H}) (fn k) } in p) ks
@@ -246,9 +246,9 @@ module _ {H : Type 0} where
       let one = none_at (ports_of w) (All-head P w ws h) in let rest = none_by ws (All-tail P w ws h) in
       (λ i. one.0 i ++ rest.0 i, λ i. one.1 i ++ rest.1 i)
 
-  module _ (pool : PoolView H) (ms : List (Option (EndDeques H))) (members : AreEndDeques pool ms) where
+  module _ (pool : PoolView H) (ms : List (Option (WorkerDeques H))) (members : AreWorkerDeques pool ms) where
     abbrev pub one : QueueInfo → PoolPort H
-    one = fresh pool.gates pool.ends 1
+    one = fresh pool.gates pool.handles 1
 
     abbrev pub own_at : ℕ → List (PoolPort H)
     own_at k = map one (take 1 (drop k pool.deques))
@@ -272,71 +272,71 @@ module _ {H : Type 0} where
         (λ k. All-append IsReady (own_at k) (new_shared_port pool ∷ next_at k) (all_ready (take 1 (drop k pool.deques)))
         (All-cons IsReady (new_shared_port pool) (next_at k) (record { share = omega arith; same = refl }, (refl, refl))
         (all_ready (drop (k + 1) pool.deques ++ take k pool.deques))))
-        ms (numbers 0 pool.ends) members.own_deque members.next
+        ms (numbers 0 pool.handles) members.own_deque members.next
 
     pub members_open : All (λ m. AreOpen (endpoint_of (new_shared_port pool) m)) ms
     members_open = All-weaker (λ m. All IsReady (ports_of (endpoint_of (new_shared_port pool) m))) (λ m. AreOpen (endpoint_of (new_shared_port pool) m))
         (λ m h. All-weaker IsReady (λ (l : PoolPort H). IsOpenPort (Some pool.gates) (part_of l)) (λ l x. x.0)
         (ports_of (endpoint_of (new_shared_port pool) m)) h) ms members_ready
 
-    pub are_ends : (ends : List (PoolEndpoint H)) → ends ≡ map (endpoint_of (new_shared_port pool)) ms → AreEnds pool ends
-    are_ends ends e = ap (map (parts_of {H = H})) e ∙ map_map (parts_of {H = H}) (endpoint_of (new_shared_port pool)) ms
-        ∙ zip_parts own_at next_at (new_shared_port pool) ms (numbers 0 pool.ends) members.own_deque members.next
+    pub are_handles : (handles : List (PoolEndpoint H)) → handles ≡ map (endpoint_of (new_shared_port pool)) ms → AreHandles pool handles
+    are_handles handles e = ap (map (parts_of {H = H})) e ∙ map_map (parts_of {H = H}) (endpoint_of (new_shared_port pool)) ms
+        ∙ zip_parts own_at next_at (new_shared_port pool) ms (numbers 0 pool.handles) members.own_deque members.next
         ∙ (λ i. map (λ (k : ℕ). let p : Parts H = record {
           own_deque = map_map (part_of {H = H}) one (take 1 (drop k pool.deques)) i;
           shared_port = shared_port_part pool;
           next = map_map (part_of {H = H}) one (drop (k + 1) pool.deques ++ take k pool.deques) i;
-        } in p) (numbers 0 pool.ends))
+        } in p) (numbers 0 pool.handles))
 
     pub are_feeds : (feeds : List (PoolEndpoint H)) → feeds ≡ replicate pool.feeds (of_feed (new_shared_port pool)) → AreFeeds pool feeds
     are_feeds feeds e = ap (map (parts_of {H = H})) e ∙ map_replicate (parts_of {H = H}) pool.feeds (of_feed (new_shared_port pool))
 
-    pub all_unused : (ends feeds : List (PoolEndpoint H)) → ends ≡ map (endpoint_of (new_shared_port pool)) ms → feeds ≡ replicate pool.feeds (of_feed (new_shared_port pool))
-        → AreUnused (ends ++ feeds)
-    all_unused ends feeds ee ef =
+    pub all_unused : (handles feeds : List (PoolEndpoint H)) → handles ≡ map (endpoint_of (new_shared_port pool)) ms → feeds ≡ replicate pool.feeds (of_feed (new_shared_port pool))
+        → AreUnused (handles ++ feeds)
+    all_unused handles feeds ee ef =
         let P : PoolEndpoint H → Type 0 = λ w. All IsUnused (ports_of w) in
-        none_by (ends ++ feeds) (All-append P ends feeds
+        none_by (handles ++ feeds) (All-append P handles feeds
         (subst (All P) (sym ee) (All-map P (endpoint_of (new_shared_port pool)) ms
         (All-weaker (λ m. All IsReady (ports_of (endpoint_of (new_shared_port pool) m))) (λ m. P (endpoint_of (new_shared_port pool) m))
         (λ m h. All-weaker IsReady IsUnused (λ l x. x.1) (ports_of (endpoint_of (new_shared_port pool) m)) h) ms members_ready)))
         (subst (All P) (sym ef) (All-replicate P pool.feeds (of_feed (new_shared_port pool))
         (All-cons IsUnused (new_shared_port pool) [] (refl, refl) (All-nil IsUnused)))))
 
-  module _ (pool : PoolView H) (ms : List (Option (EndDeques H))) where
-    nothing_taken : (k : ℕ) (queues : List QueueInfo) → queues ≡ [] → map (fresh pool.gates pool.ends 1) (take 1 (drop k queues)) ≡ []
-    nothing_taken k queues e = ap (λ l. map (fresh pool.gates pool.ends 1) (take 1 l)) (ap (drop k) e ∙ drop_all k [] (omega arith))
+  module _ (pool : PoolView H) (ms : List (Option (WorkerDeques H))) where
+    nothing_taken : (k : ℕ) (queues : List QueueInfo) → queues ≡ [] → map (fresh pool.gates pool.handles 1) (take 1 (drop k queues)) ≡ []
+    nothing_taken k queues e = ap (λ l. map (fresh pool.gates pool.handles 1) (take 1 l)) (ap (drop k) e ∙ drop_all k [] (omega arith))
 
-    nothing_next : (k : ℕ) (queues : List QueueInfo) → queues ≡ [] → map (fresh pool.gates pool.ends 1) (drop (k + 1) queues ++ take k queues) ≡ []
-    nothing_next k queues e = ap (λ l. map (fresh pool.gates pool.ends 1) (drop (k + 1) l ++ take k l)) e
-        ∙ (λ i. map (fresh pool.gates pool.ends 1) (drop_all (k + 1) [] (omega arith) i ++ take_all k [] (omega arith) i))
+    nothing_next : (k : ℕ) (queues : List QueueInfo) → queues ≡ [] → map (fresh pool.gates pool.handles 1) (drop (k + 1) queues ++ take k queues) ≡ []
+    nothing_next k queues e = ap (λ l. map (fresh pool.gates pool.handles 1) (drop (k + 1) l ++ take k l)) e
+        ∙ (λ i. map (fresh pool.gates pool.handles 1) (drop_all (k + 1) [] (omega arith) i ++ take_all k [] (omega arith) i))
 
     -- of a shared pool
-    pub members_none : pool.deques ≡ [] → ms ≡ replicate pool.ends None → AreEndDeques pool ms
+    pub members_none : pool.deques ≡ [] → ms ≡ replicate pool.handles None → AreWorkerDeques pool ms
     members_none e is = record {
-      own_deque = ap (map (own_of {H = H})) is ∙ map_replicate (own_of {H = H}) pool.ends None
-          ∙ sym (const_numbers (λ (k : ℕ). map (fresh pool.gates pool.ends 1) (take 1 (drop k pool.deques))) []
-          (λ k. nothing_taken k pool.deques e) 0 pool.ends);
-      next = ap (map (next_of {H = H})) is ∙ map_replicate (next_of {H = H}) pool.ends None
-          ∙ sym (const_numbers (λ (k : ℕ). map (fresh pool.gates pool.ends 1) (drop (k + 1) pool.deques ++ take k pool.deques)) []
-          (λ k. nothing_next k pool.deques e) 0 pool.ends);
+      own_deque = ap (map (own_of {H = H})) is ∙ map_replicate (own_of {H = H}) pool.handles None
+          ∙ sym (const_numbers (λ (k : ℕ). map (fresh pool.gates pool.handles 1) (take 1 (drop k pool.deques))) []
+          (λ k. nothing_taken k pool.deques e) 0 pool.handles);
+      next = ap (map (next_of {H = H})) is ∙ map_replicate (next_of {H = H}) pool.handles None
+          ∙ sym (const_numbers (λ (k : ℕ). map (fresh pool.gates pool.handles 1) (drop (k + 1) pool.deques ++ take k pool.deques)) []
+          (λ k. nothing_next k pool.deques e) 0 pool.handles);
     }
 
     -- of a stealing one
-    pub members_some : (owns : List (PoolPort H)) → owns ≡ map (fresh pool.gates pool.ends pool.ends) pool.deques → length owns ≡ pool.ends
+    pub members_some : (owns : List (PoolPort H)) → owns ≡ map (fresh pool.gates pool.handles pool.handles) pool.deques → length owns ≡ pool.handles
         → map (own_of {H = H}) ms ≡ map (λ (o : PoolPort H). with_shares 1 o ∷ []) owns
-        → map (next_of {H = H}) ms ≡ map (borrowed_next owns) (numbers 0 (length owns)) → AreEndDeques pool ms
+        → map (next_of {H = H}) ms ≡ map (borrowed_next owns) (numbers 0 (length owns)) → AreWorkerDeques pool ms
     members_some owns e many own_deque next =
-        let whole : QueueInfo → PoolPort H = fresh pool.gates pool.ends pool.ends in
-        let one' : QueueInfo → PoolPort H = fresh pool.gates pool.ends 1 in
+        let whole : QueueInfo → PoolPort H = fresh pool.gates pool.handles pool.handles in
+        let one' : QueueInfo → PoolPort H = fresh pool.gates pool.handles 1 in
         let ds : List QueueInfo = pool.deques in
-        let count : length ds ≡ pool.ends = sym (length-map ds whole) ∙ ap length (sym e) ∙ many in
+        let count : length ds ≡ pool.handles = sym (length-map ds whole) ∙ ap length (sym e) ∙ many in
         record {
           own_deque = own_deque ∙ ap (map (λ (o : PoolPort H). with_shares 1 o ∷ [])) e ∙ map_map (λ (o : PoolPort H). with_shares 1 o ∷ []) whole ds
               ∙ singles one' [] ds ∙ ap (λ n. map (λ (k : ℕ). map one' (take 1 (drop k ds))) (numbers 0 n)) count;
           next = next ∙ (λ i. map (borrowed_next (e i)) (numbers 0 (many i)))
               ∙ (λ i. map (λ (k : ℕ). (ap (map (borrowed {H = H})) ((λ j. drop-map whole (k + 1) ds j ++ take-map whole k ds j)
               ∙ sym (map-append whole (drop (k + 1) ds) (take k ds)))
-              ∙ map_map (borrowed {H = H}) whole (drop (k + 1) ds ++ take k ds)) i) (numbers 0 pool.ends));
+              ∙ map_map (borrowed {H = H}) whole (drop (k + 1) ds ++ take k ds)) i) (numbers 0 pool.handles));
         }
 
 module _ {H : Type 0} where
@@ -353,7 +353,7 @@ module _ {H : Type 0} where
   module _ (o : Origin H) (kind : PoolKind) (workers feeds : ℕ) (owns : List (PoolPort H)) (shared_port : QueueInfo) (new : AreNewOf kind o workers owns)
       (some : 0 < workers) where
     abbrev pub made : PoolView H
-    made = record { gates = o; shared_port = shared_port; deques = queues_of owns; ends = workers; feeds = feeds }
+    made = record { gates = o; shared_port = shared_port; deques = queues_of owns; handles = workers; feeds = feeds }
 
     pub made_whole : IsWhole made
     made_whole = by_kind kind new
@@ -370,29 +370,29 @@ module _ {H : Type 0} where
         by_kind Shared e b = (b, ap queues_of e)
         by_kind Stealing n b = (b, length-map owns (λ (l : PoolPort H). l.queue) ∙ n.same_count, n.deques)
 
-    pub made_members : (ms : List (Option (EndDeques H))) → (owns ≡ [] → ms ≡ replicate workers None)
+    pub made_members : (ms : List (Option (WorkerDeques H))) → (owns ≡ [] → ms ≡ replicate workers None)
         → (0 < length owns → map (own_of {H = H}) ms ≡ map (λ (l : PoolPort H). with_shares 1 l ∷ []) owns)
-        → (0 < length owns → map (next_of {H = H}) ms ≡ map (borrowed_next owns) (numbers 0 (length owns))) → AreEndDeques made ms
+        → (0 < length owns → map (next_of {H = H}) ms ≡ map (borrowed_next owns) (numbers 0 (length owns))) → AreWorkerDeques made ms
     made_members ms none own_deque next = by_kind kind new
       where
-        by_kind : (k : PoolKind) → AreNewOf k o workers owns → AreEndDeques made ms
+        by_kind : (k : PoolKind) → AreNewOf k o workers owns → AreWorkerDeques made ms
         by_kind Shared e = members_none made ms (ap queues_of e) (none e)
         by_kind Stealing n = let many = n.same_count in let there : 0 < length owns = omega (arith, many, some) in
             members_some made ms owns n.unused n.same_count (own_deque there) (next there)
 
-    pub count_members : (ms : List (Option (EndDeques H))) → AreEndDeques made ms → length ms ≡ workers
+    pub count_members : (ms : List (Option (WorkerDeques H))) → AreWorkerDeques made ms → length ms ≡ workers
     count_members ms m = sym (length-map ms (own_of {H = H})) ∙ ap length m.own_deque ∙ length-map (numbers 0 workers) (own_at made ms m)
         ∙ length_numbers 0 workers
 
-    pub begun : (ms : List (Option (EndDeques H))) (of_workers of_feeds : List (PoolEndpoint H)) → shared_port.capacity ≡ bound_of kind → AreEndDeques made ms
+    pub begun : (ms : List (Option (WorkerDeques H))) (of_workers of_feeds : List (PoolEndpoint H)) → shared_port.capacity ≡ bound_of kind → AreWorkerDeques made ms
         → of_workers ≡ map (endpoint_of (new_shared_port made)) ms
         → of_feeds ≡ replicate feeds (of_feed (new_shared_port made)) → IsNewPool o kind workers feeds made of_workers of_feeds
     begun ms of_workers of_feeds bound m ew ef = record {
       gates = refl;
-      ends_are = refl;
+      handles_are = refl;
       feeds_are = refl;
       kind_is = made_kind bound;
-      are_ends = are_ends made ms m of_workers ew;
+      are_handles = are_handles made ms m of_workers ew;
       are_feeds = are_feeds made ms m of_feeds ef;
       unused = all_unused made ms m of_workers of_feeds ew ef;
     }

@@ -8,7 +8,7 @@ use Rattle.std.proofs.lemmas.List.Sorted.{IsPermutation-refl, IsPermutation-sym,
 use Rattle.std.proofs.lemmas.List.Sorted.{IsPermutation-map}
 use Rattle.std.proofs.lemmas.List.Sums.{sum_by-cons, sum_by-append}
 use Rattle.mb_gate.specs.declared.claim.Claim.{Claim}
-use Rattle.mb_pool.specs.Ends.{Empties, TakesIn, joined}
+use Rattle.mb_pool.specs.Handles.{Empties, TakesIn, joined}
 use Rattle.mb_pool.specs.Ledger.{IndexedClaim, claims_in, indexed_claim, indexed}
 use Rattle.mb_gate.specs.Untouched.{Origin}
 use Rattle.mb_pool.specs.Account.{ClaimAccount}

@@ -3,8 +3,8 @@ use Rattle.std.proofs.Common.{◌≡◌, ℕ, ◌+◌, ◌<◌, List, [], ◌∷
 use Rattle.std.specs.Prelude.{All, Option}
 use Rattle.std.proofs.lemmas.List.Elements.{All-nil, All-cons, All-head, All-tail}
 use Rattle.mb_gate.specs.declared.claim.Claim.{Claim}
-use Rattle.mb_pool.specs.Ends.{AreAlike, AreMatched, Empties, Gathers, IsAllOf, IsAmong, MayJoin, TakesIn, Where, shared_ports_of, joined, joined_first}
-use Rattle.mb_pool.specs.Ends.{owns_of, where_is}
+use Rattle.mb_pool.specs.Handles.{AreAlike, AreMatched, Empties, Gathers, IsAllOf, IsAmong, MayJoin, TakesIn, Where, shared_ports_of, joined, joined_first}
+use Rattle.mb_pool.specs.Handles.{owns_of, where_is}
 use Rattle.mb_gate.specs.Untouched.{Origin}
 use Rattle.mb_pool.specs.Places.{PoolPort, PoolEndpoint, gates_of, owner_of, part_of}
 use Rattle.mb_pool.specs.Endpoints.{AreOpen, HasShare, IsOpenPort, of_feed}
@@ -13,7 +13,7 @@ use Rattle.mb_pool.proofs.Gathering.{Gathering, gathering_more, gathers_one, sti
 use Rattle.mb_pool.proofs.Ports.{all_right, all_unmap, shared_port_open, own_open, stealing}
 
 module _ {H : Type 0} where
-  -- an end whose ports of the other deques were taken is still open
+  -- a handle whose ports of the other deques were taken is still open
   pub alone_open : (own_deque shared_port : PoolPort H) (next none : List (PoolPort H)) → none ≡ [] → AreOpen (stealing own_deque shared_port next) → AreOpen (stealing own_deque shared_port none)
   alone_open own_deque shared_port next none e h =
       let P : PoolPort H → Type 0 = λ l. IsOpenPort shared_port.ledger.gates (part_of l) in
@@ -33,14 +33,14 @@ module _ {H : Type 0} where
       let first : IsOpenPort shared_port.ledger.gates (part_of (joined own_deque thief)) = record { share = more; same = mine.same } in
       subst (λ o. AreOpen (stealing o shared_port next)) (sym e) (All-cons P (joined own_deque thief) (shared_port ∷ next) first (All-tail P own_deque (shared_port ∷ next) h))
 
-  -- the next port is of a deque of one of the ends
+  -- the next port is of a deque of one of the handles
   pub among_now : (old now : List (PoolEndpoint H)) (all done rest : List (PoolPort H)) (t : PoolPort H) → done ++ t ∷ rest ≡ all
       → All (λ (l : PoolPort H). IsAmong old (part_of l)) all → Gathers old done now → IsAmong now (part_of t)
   among_now old now all done rest t e h g =
       let P : PoolPort H → Type 0 = λ l. IsAmong old (part_of l) in
       still_among old now (part_of t) g.frames (All-head P t rest (all_right P done (t ∷ rest) (subst (All P) (sym e) h)))
 
-  -- so that end may join it
+  -- so that handle may join it
   pub may_own : (now : List (PoolEndpoint H)) (t : PoolPort H) (n : ℕ) (d : PoolEndpoint H) → n ≡ owner_of t.queue → IsAmong now (part_of t)
       → MayJoin (get_or now n d).own_deque (part_of t)
   may_own now t n d e among = subst (λ (k : ℕ). MayJoin (get_or now k d).own_deque (part_of t)) (sym e) (among.1 d)
@@ -54,7 +54,7 @@ module _ {H : Type 0} where
       subst (λ (k : ℕ). Gathers old (done ++ t ∷ []) (set now k (with' k))) (sym e) (gathers_one old now done t d g among) in
       subst (λ (w : PoolEndpoint H). Gathers old (done ++ t ∷ []) (set now n w)) (sym is) here
 
-  -- the ports of the next end were taken, which are of deques of these ends
+  -- the ports of the next handle were taken, which are of deques of these handles
   module _ (old now : List (PoolEndpoint H)) (k : ℕ) (d after : PoolEndpoint H) (given : List (PoolPort H)) (lt : k < length now) (g : Gathering old k now)
       (next_workers : given ≡ (get_or now k d).next)
       (rest : after ≡ record (get_or now k d) { next = [] }) where
@@ -67,13 +67,13 @@ module _ {H : Type 0} where
     gathered_more new j =
         gathering_more old now k d lt g new (subst (λ (y : List (PoolPort H) × PoolEndpoint H). Gathers (set now k y.1) y.0 new) (λ i. (next_workers i, rest i)) j)
 
-  -- the next end or feed has a port of the same queue
-  pub alike_next : (base : PoolPort H) (all done rest : List (PoolEndpoint H)) (end : PoolEndpoint H) → done ++ end ∷ rest ≡ all
-      → All (λ (l : PoolPort H). where_is l ≡ where_is base) (shared_ports_of all) → where_is end.shared_port ≡ where_is base
-  alike_next base all done rest end e h =
+  -- the next handle or feed has a port of the same queue
+  pub alike_next : (base : PoolPort H) (all done rest : List (PoolEndpoint H)) (handle : PoolEndpoint H) → done ++ handle ∷ rest ≡ all
+      → All (λ (l : PoolPort H). where_is l ≡ where_is base) (shared_ports_of all) → where_is handle.shared_port ≡ where_is base
+  alike_next base all done rest handle e h =
       let P : PoolPort H → Type 0 = λ l. where_is l ≡ where_is base in
       let Q : PoolEndpoint H → Type 0 = λ w. P w.shared_port in
-      All-head Q end rest (all_right Q done (end ∷ rest) (subst (All Q) (sym e) (all_unmap P (λ (w : PoolEndpoint H). w.shared_port) all h)))
+      All-head Q handle rest (all_right Q done (handle ∷ rest) (subst (All Q) (sym e) (all_unmap P (λ (w : PoolEndpoint H). w.shared_port) all h)))
 
   pub same_place : (base shared_port other : PoolPort H) → where_is shared_port ≡ where_is base → where_is other ≡ where_is base → other.queue ≡ shared_port.queue
   same_place base shared_port other d o = ap (λ (w : Where H). w.queue) (o ∙ sym d)
@@ -81,32 +81,32 @@ module _ {H : Type 0} where
   pub both_share : (shared_port other : PoolPort H) → HasShare shared_port → HasShare other → HasShare (joined shared_port other)
   both_share shared_port other d o = let here : 0 < shared_port.ledger.shares = d in omega (arith, here)
 
-  -- the first end's port is the one that joins those of the others
+  -- the first handle's port is the one that joins those of the others
   pub alike_rest : (all rest : List (PoolEndpoint H)) (first : PoolEndpoint H) (base : PoolPort H) → all ≡ first ∷ rest → base ≡ first.shared_port → AreAlike (shared_ports_of all)
       → All (λ (l : PoolPort H). where_is l ≡ where_is base) (shared_ports_of rest)
   alike_rest all rest first base e b h =
       let mine : AreAlike (shared_ports_of (first ∷ rest)) = subst (λ (ws : List (PoolEndpoint H)). AreAlike (shared_ports_of ws)) e h in
       subst (λ (x : PoolPort H). All (λ (l : PoolPort H). where_is l ≡ where_is x) (shared_ports_of rest)) (sym b) mine
 
-  pub shared_port_share : (w end : PoolEndpoint H) → w ≡ end → AreOpen w → HasShare end.shared_port
-  shared_port_share w end e h = (shared_port_open end (subst (λ (v : PoolEndpoint H). AreOpen v) e h)).share
+  pub shared_port_share : (w handle : PoolEndpoint H) → w ≡ handle → AreOpen w → HasShare handle.shared_port
+  shared_port_share w handle e h = (shared_port_open handle (subst (λ (v : PoolEndpoint H). AreOpen v) e h)).share
 
   module _ (IsFit : Option (Origin H) → Claim H → Type 0) where
-    -- an end with a deque of its own
-    pub emptied_own : (own_deque shared_port : PoolPort H) (next : List (PoolPort H)) (end : PoolEndpoint H) (old new : List (Claim H)) → stealing own_deque shared_port next ≡ end
+    -- a handle with a deque of its own
+    pub emptied_own : (own_deque shared_port : PoolPort H) (next : List (PoolPort H)) (handle : PoolEndpoint H) (old new : List (Claim H)) → stealing own_deque shared_port next ≡ handle
         → AreOpen (stealing own_deque shared_port next)
-        → Empties IsFit own_deque.ledger.gates (own_deque ∷ []) old new → Empties IsFit (gates_of end) end.own_deque old new
-    emptied_own own_deque shared_port next end old new is h e =
+        → Empties IsFit own_deque.ledger.gates (own_deque ∷ []) old new → Empties IsFit (gates_of handle) handle.own_deque old new
+    emptied_own own_deque shared_port next handle old new is h e =
         let same : own_deque.ledger.gates ≡ shared_port.ledger.gates = (own_open own_deque shared_port next h).same in
         let mine : Empties IsFit shared_port.ledger.gates (own_deque ∷ []) old new =
         empties_gates IsFit own_deque.ledger.gates shared_port.ledger.gates (own_deque ∷ []) old new same e in
         subst (λ (w : PoolEndpoint H). Empties IsFit (gates_of w) w.own_deque old new) is mine
 
-    -- an end without one
-    pub emptied_nothing : (shared_port : PoolPort H) (end : PoolEndpoint H) (old : List (Claim H)) → of_feed shared_port ≡ end → Empties IsFit (gates_of end) end.own_deque old old
-    emptied_nothing shared_port end old is = subst (λ (w : PoolEndpoint H). Empties IsFit (gates_of w) w.own_deque old old) is (empties_none IsFit shared_port.ledger.gates old)
+    -- a handle without one
+    pub emptied_nothing : (shared_port : PoolPort H) (handle : PoolEndpoint H) (old : List (Claim H)) → of_feed shared_port ≡ handle → Empties IsFit (gates_of handle) handle.own_deque old old
+    emptied_nothing shared_port handle old is = subst (λ (w : PoolEndpoint H). Empties IsFit (gates_of w) w.own_deque old old) is (empties_none IsFit shared_port.ledger.gates old)
 
-    -- the first end and all others
+    -- the first handle and all others
     module _ (all rest : List (PoolEndpoint H)) (first : PoolEndpoint H) (base last : PoolPort H) (is : all ≡ first ∷ rest) (same : base ≡ first.shared_port)
         (took : TakesIn base (shared_ports_of rest) last) where
       pub all_shared_ports : IsAllOf (shared_ports_of all) last

@@ -9,8 +9,8 @@ use Rattle.std.proofs.lemmas.List.Sorted.{IsPermutation-refl, IsPermutation-sym,
 use Rattle.std.proofs.lemmas.List.Sorted.{IsPermutation-append_comm}
 use Rattle.std.proofs.lemmas.List.Sums.{sum_by-cons, sum_by-append}
 use Rattle.mb_gate.specs.declared.claim.Claim.{Claim}
-use Rattle.mb_pool.specs.Ends.{AreGathered, Frame, Gathers, IsAmong, MayJoin, Where, frame_of, joined, joined_first, nexts_of, owns_of, shares_in}
-use Rattle.mb_pool.specs.Ends.{where_is}
+use Rattle.mb_pool.specs.Handles.{AreGathered, Frame, Gathers, IsAmong, MayJoin, Where, frame_of, joined, joined_first, nexts_of, owns_of, shares_in}
+use Rattle.mb_pool.specs.Handles.{where_is}
 use Rattle.mb_pool.specs.Ledger.{IndexedClaim, claims_in}
 use Rattle.mb_pool.specs.Places.{PoolPort, Part, QueueInfo, PoolEndpoint, ports_of, owner_of, part_of, pushed_by, taken_by}
 use Rattle.mb_pool.proofs.Lists.{same_elements, from_left, behind, before}
@@ -54,7 +54,7 @@ sum_flat {H} (w ∷ ws) =
     omega (arith, a, b, r)
 
 module _ {H : Type 0} where
-  -- an end may join what another may, if both have the same deque
+  -- a handle may join what another may, if both have the same deque
   may_join : (xs ys : List (PoolPort H)) (t : Part H) → map (where_is {H = H}) ys ≡ map (where_is {H = H}) xs → MayJoin xs t → MayJoin ys t
   may_join [] ys t e h = absurd h
   may_join (x ∷ xs) [] t e h = absurd (subst IsNone e tt)
@@ -156,7 +156,7 @@ module _ {H : Type 0} where
   abbrev pub given_of : List (List (PoolPort H)) → List (PoolPort H)
   given_of = flat_map (λ (l : List (PoolPort H)). l)
 
-  -- after the ports of the first ends were taken
+  -- after the ports of the first handles were taken
   pub record Gathering (old : List (PoolEndpoint H)) (k : ℕ) (now : List (PoolEndpoint H)) : Type 0 where
     pub frames : map (frame_of {H = H}) now ≡ map (frame_of {H = H}) old
     pub next_workers : map next_in now ≡ upto nothing k (map next_in old)
@@ -181,8 +181,8 @@ module _ {H : Type 0} where
   flat_nothing [] = refl
   flat_nothing (l ∷ ls) = flat_nothing ls
 
-  count_ends : (old now : List (PoolEndpoint H)) → map (frame_of {H = H}) now ≡ map (frame_of {H = H}) old → length now ≡ length old
-  count_ends old now e = sym (length-map now (frame_of {H = H})) ∙ ap length e ∙ length-map old (frame_of {H = H})
+  count_handles : (old now : List (PoolEndpoint H)) → map (frame_of {H = H}) now ≡ map (frame_of {H = H}) old → length now ≡ length old
+  count_handles old now e = sym (length-map now (frame_of {H = H})) ∙ ap length e ∙ length-map old (frame_of {H = H})
 
   pub gathering_all : (old now : List (PoolEndpoint H)) (k : ℕ) → length old ≤ k → Gathering old k now → AreGathered old now
   gathering_all old now k le g =
@@ -200,7 +200,7 @@ module _ {H : Type 0} where
   all_at P (w ∷ ws) zero d lt h = all_left P w.next (nexts_of ws) h
   all_at P (w ∷ ws) (suc k) d lt h = all_at P ws k d (omega (arith, lt)) (all_right P w.next (nexts_of ws) h)
 
-  -- the ports of the next end in order are taken
+  -- the ports of the next handle in order are taken
   module _ (old now : List (PoolEndpoint H)) (k : ℕ) (d : PoolEndpoint H) (lt : k < length now) (g : Gathering old k now) where
     abbrev pub giver : PoolEndpoint H
     giver = get_or now k d
@@ -211,10 +211,10 @@ module _ {H : Type 0} where
     mid_frames : map (frame_of {H = H}) mid ≡ map (frame_of {H = H}) now
     mid_frames = same_set (frame_of {H = H}) now k d (record giver { next = [] }) refl
 
-    -- all of them are still ports of the matching ends
+    -- all of them are still ports of the matching handles
     pub still_matched : All (λ (l : PoolPort H). IsAmong old (part_of l)) (nexts_of old) → All (λ (l : PoolPort H). IsAmong mid (part_of l)) giver.next
     still_matched h =
-        let count = count_ends old now g.frames in let lt' : k < length old = omega (arith, count, lt) in
+        let count = count_handles old now g.frames in let lt' : k < length old = omega (arith, count, lt) in
         let e : giver.next ≡ (get_or old k d).next = sym (get_or-map next_in now k d d.next lt) ∙ ap (λ l. get_or l k d.next) g.next_workers
         ∙ upto_at nothing (map next_in old) k d.next ∙ get_or-map next_in old k d d.next lt' in
         let Among : PoolPort H → Type 0 = λ l. IsAmong old (part_of l) in let Still : PoolPort H → Type 0 = λ l. IsAmong mid (part_of l) in
@@ -223,7 +223,7 @@ module _ {H : Type 0} where
 
     pub gathering_more : (new : List (PoolEndpoint H)) → Gathers mid giver.next new → Gathering old (k + 1) new
     gathering_more new j =
-        let count = count_ends old now g.frames in
+        let count = count_handles old now g.frames in
         let there : k < length (map next_in old) = let l = length-map old next_in in omega (arith, count, l, lt) in
         let w : PoolEndpoint H = giver in let w0 : PoolEndpoint H = record giver { next = [] } in
         let suc_is : suc k ≡ k + 1 = omega arith in

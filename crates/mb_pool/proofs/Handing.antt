@@ -1,9 +1,9 @@
--- Ports are handed to the ends and feeds of a new pool, one after the other.
+-- Ports are handed to the handles and feeds of a new pool, one after the other.
 use Rattle.std.proofs.Common.{◌≡◌, ℕ, ◌+◌, ◌-◌, ◌<◌, List, [], ◌∷◌, ◌++◌, length, replicate, sym, ap, ◌∙◌, subst, map, arith}
 use Rattle.std.specs.Prelude.{All, IfOk, Option, Result, Some, Ok, Err}
 use Rattle.std.proofs.lemmas.List.{map_push, replicate_more}
 use Rattle.std.proofs.lemmas.List.Elements.{All-head, All-tail}
-use Rattle.mb_pool.specs.declared.end_deques.EndDeques.{EndDeques}
+use Rattle.mb_pool.specs.declared.worker_deques.WorkerDeques.{WorkerDeques}
 use Rattle.mb_pool.specs.Begins.{borrowed, fresh, with_shares}
 use Rattle.mb_pool.specs.Ledger.{opened}
 use Rattle.mb_gate.specs.Untouched.{Origin}
@@ -51,11 +51,11 @@ module _ {A B : Type 0} (f : A → B) where
     fed_one done new w feed h e n = n ∙ (λ i. h i ++ e i ∷ []) ∙ replicate_more k w
 
 module _ {H : Type 0} (shared_port port : PoolPort H) (same : port ≡ shared_port) where
-  -- the next end is open with this port
-  pub open_with : (ms rest : List (Option (EndDeques H))) (m : Option (EndDeques H)) → ms ≡ m ∷ rest → All (λ x. AreOpen (endpoint_of shared_port x)) ms
+  -- the next handle is open with this port
+  pub open_with : (ms rest : List (Option (WorkerDeques H))) (m : Option (WorkerDeques H)) → ms ≡ m ∷ rest → All (λ x. AreOpen (endpoint_of shared_port x)) ms
       → AreOpen (endpoint_of port m) × All (λ x. AreOpen (endpoint_of shared_port x)) rest
   open_with ms rest m e h =
-      let P : Option (EndDeques H) → Type 0 = λ x. AreOpen (endpoint_of shared_port x) in
+      let P : Option (WorkerDeques H) → Type 0 = λ x. AreOpen (endpoint_of shared_port x) in
       let both : All P (m ∷ rest) = subst (All P) e h in
       (subst (λ (l : PoolPort H). AreOpen (endpoint_of l m)) (sym same) (All-head P m rest both), All-tail P m rest both)
 
@@ -67,7 +67,7 @@ pub ok_so : {A E : Type 0} (P Q : A → Type 0) (r : Result A E) → ((a : A) �
 ok_so P Q (Ok a) f h = f a h
 ok_so P Q (Err e) f h = h
 
--- an end of a new stealing pool has its own deque with one share
+-- a handle of a new stealing pool has its own deque with one share
 pub own_one : {H : Type 0} (owns now : List (PoolPort H)) → now ≡ map (with_shares 1) owns
     → map (λ (o : PoolPort H). o ∷ []) now ≡ map (λ (o : PoolPort H). with_shares 1 o ∷ []) owns
 own_one {H} owns now e = ap (map (λ (o : PoolPort H). o ∷ [])) e ∙ map_map (λ (o : PoolPort H). o ∷ []) (with_shares {H = H} 1) owns

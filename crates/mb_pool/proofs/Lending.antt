@@ -1,4 +1,4 @@
--- How the ends of a new pool get their ports of the next ones' deques, step by step.
+-- How the handles of a new pool get their ports of the next ones' deques, step by step.
 use Rattle.std.proofs.Common.{◌≡◌, ℕ, suc, ◌+◌, ◌-◌, ◌<◌, ◌≤◌, List, [], ◌∷◌, ◌++◌, length, get_or, set, take, drop, sym, ap, ◌∙◌, subst}
 use Rattle.std.proofs.Common.{map, arith}
 use Rattle.std.specs.Prelude.{All}
@@ -46,7 +46,7 @@ one_of (x ∷ xs) k lt = x
 pub one_there : {X : Type 0} (front back : List X) → length front ≡ 1 → 1 ≤ length (front ++ back)
 one_there front back e = let l = length-append front back in omega (arith, l, e)
 
--- the next end in order: its own deque comes first, and the others have a share to lend
+-- the next handle in order: its own deque comes first, and the others have a share to lend
 module _ {H : Type 0} (owns now : List (PoolPort H)) (k : ℕ) (so : now ≡ rotated owns k) (lt : k < length owns) where
   d : PoolPort H
   d = one_of owns k lt
@@ -64,9 +64,9 @@ module _ {H : Type 0} (owns now : List (PoolPort H)) (k : ℕ) (so : now ≡ rot
   borrowed_of_next = ap (λ (l : List (PoolPort H)). map (borrowed {H = H}) (drop 1 l)) first_is ∙ borrowed_so owns k d lt
 
   -- then the next one follows
-  pub turned : (front back end : List (PoolPort H)) → front ≡ take 1 now → back ≡ map (lent {H = H}) (drop 1 now)
-      → end ≡ drop 1 (front ++ back) ++ take 1 (front ++ back) → end ≡ rotated owns (k + 1)
-  turned front back end f b e =
+  pub turned : (front back handle : List (PoolPort H)) → front ≡ take 1 now → back ≡ map (lent {H = H}) (drop 1 now)
+      → handle ≡ drop 1 (front ++ back) ++ take 1 (front ++ back) → handle ≡ rotated owns (k + 1)
+  turned front back handle f b e =
       let x : PoolPort H = with_shares (length owns - k) (get_or owns k d) in
       let front' : front ≡ x ∷ [] = f ∙ ap (take 1) first_is in
       let back' : back ≡ map (lent {H = H}) (after owns k d lt) = b ∙ ap (λ (l : List (PoolPort H)). map (lent {H = H}) (drop 1 l)) first_is in

@@ -73,14 +73,14 @@ module _ {H : Type 0} where
     -- and the first one is the last
     pub shared_port_last : k ≡ count → 0 < count → f last ≡ with_shares (count - (k - 1)) first
         → first.ledger ≡ opened first.ledger.gates first.ledger.members count → map f new ≡ replicate count (borrowed first)
-    shared_port_last end low here whole =
-        let one : count - (k - 1) ≡ 1 = omega (arith, end, low) in
-        let next : k - 1 + 1 ≡ count = omega (arith, end, low) in
+    shared_port_last handle low here whole =
+        let one : count - (k - 1) ≡ 1 = omega (arith, handle, low) in
+        let next : k - 1 + 1 ≡ count = omega (arith, handle, low) in
         let shared_port : f last ≡ borrowed first = here ∙ ap (λ n. with_shares n first) one ∙ last_one first count whole in
         ap (map f) more ∙ map_push f doors last ∙ (λ i. before i ++ shared_port i ∷ []) ∙ replicate_more (k - 1) (borrowed first)
         ∙ ap (λ n. replicate n (borrowed first)) next
 
-  -- each of the next ends' deques lends a share
+  -- each of the next handles' deques lends a share
   pub lend_one : (owns : List (PoolPort H)) (k : ℕ) (d : PoolPort H) → k < length owns
       → set (upto (lent {H = H}) k owns) k (lent (get_or owns k d)) ≡ upto (lent {H = H}) (suc k) owns
   lend_one owns k d lt = upto_set (lent {H = H}) owns k d lt
@@ -90,7 +90,7 @@ module _ {H : Type 0} where
   borrow_one owns k d lt = sym (map_push (borrowed {H = H}) (take k owns) (get_or owns k d))
       ∙ ap (map (borrowed {H = H})) (sym (take_suc owns k d lt))
 
-  -- one more end has its ports of the next ones' deques
+  -- one more handle has its ports of the next ones' deques
   pub lists_more : {V : Type 0} (items : V → List (PoolPort H)) (owns : List (PoolPort H)) (lists new : List V) (v : V) (k : ℕ)
       → map items lists ≡ map (borrowed_next owns) (numbers 0 k) → items v ≡ borrowed_next owns k
       → new ≡ lists ++ v ∷ [] → map items new ≡ map (borrowed_next owns) (numbers 0 (k + 1))

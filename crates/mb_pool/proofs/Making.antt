@@ -2,8 +2,8 @@
 use Rattle.std.proofs.Common.{◌≡◌, ℕ, ◌+◌, ◌<◌, List, [], ◌∷◌, length, map, replicate, sym, refl, ap, ◌∙◌, subst, arith}
 use Rattle.std.specs.Prelude.{All, Option, Some, None}
 use Rattle.mb_msg.specs.declared.pool_kind.PoolKind.{PoolKind}
-use Rattle.mb_pool.specs.declared.end_deques.EndDeques.{EndDeques}
-use Rattle.mb_pool.specs.Begins.{AreEndDeques, AreNewOf, borrowed, borrowed_next, bound_of, new_shared_port, with_shares}
+use Rattle.mb_pool.specs.declared.worker_deques.WorkerDeques.{WorkerDeques}
+use Rattle.mb_pool.specs.Begins.{AreWorkerDeques, AreNewOf, borrowed, borrowed_next, bound_of, new_shared_port, with_shares}
 use Rattle.mb_pool.specs.Ledger.{opened}
 use Rattle.mb_pool.specs.Made.{IsNewPool}
 use Rattle.mb_gate.specs.Untouched.{Origin}
@@ -23,16 +23,16 @@ module _ {H : Type 0} (origin : Origin H) (kind : PoolKind) (workers feeds ports
   pub all_shares : shared_port.ledger ≡ opened shared_port.ledger.gates shared_port.ledger.members ports
   all_shares = subst (λ (l : PoolPort H). l.ledger ≡ opened l.ledger.gates l.ledger.members ports) (sym is) refl
 
-  module _ (ms : List (Option (EndDeques H))) (none : owns ≡ [] → ms ≡ replicate workers None)
+  module _ (ms : List (Option (WorkerDeques H))) (none : owns ≡ [] → ms ≡ replicate workers None)
       (own_deque : 0 < length owns → map (own_of {H = H}) ms ≡ map (λ (l : PoolPort H). with_shares 1 l ∷ []) owns)
       (next : 0 < length owns → map (next_of {H = H}) ms ≡ map (borrowed_next owns) (numbers 0 (length owns))) where
-    pub are_members : AreEndDeques pool ms
+    pub are_members : AreWorkerDeques pool ms
     are_members = made_members origin kind workers feeds owns shared_port.queue new some ms none own_deque next
 
     pub are_open : All (λ m. AreOpen (endpoint_of (new_shared_port pool) m)) ms
     are_open = members_open pool ms are_members
 
-    -- there is a port for each end and each feed
+    -- there is a port for each handle and each feed
     pub ports_there : (ls : List (PoolPort H)) → ls ≡ replicate ports (borrowed shared_port) → ls ≡ replicate (length ms + feeds) (new_shared_port pool)
     ports_there ls e =
         let count : length ms ≡ workers = count_members origin kind workers feeds owns shared_port.queue new some ms are_members in

@@ -18,8 +18,8 @@ module _ {C : Type 0} where
   indexed_push n [] c = ap (λ k. indexed_claim k c ∷ []) (omega arith)
   indexed_push n (x ∷ cs) c = ap (λ l. indexed_claim n x ∷ l) (indexed_push (n + 1) cs c ∙ ap (λ k. indexed_from (n + 1) cs ++ indexed_claim k c ∷ []) (omega arith))
 
-  pub indexed_end : (cs : List C) (c : C) → indexed (cs ++ c ∷ []) ≡ indexed cs ++ indexed_claim (length cs) c ∷ []
-  indexed_end cs c = indexed_push 0 cs c ∙ ap (λ k. indexed cs ++ indexed_claim k c ∷ []) (omega arith)
+  pub indexed_handle : (cs : List C) (c : C) → indexed (cs ++ c ∷ []) ≡ indexed cs ++ indexed_claim (length cs) c ∷ []
+  indexed_handle cs c = indexed_push 0 cs c ∙ ap (λ k. indexed cs ++ indexed_claim k c ∷ []) (omega arith)
 
   indexed_none : (n : ℕ) (cs : List C) → indexed_from n cs ≡ [] → cs ≡ []
   indexed_none n [] e = refl
@@ -102,7 +102,7 @@ module _ {G C : Type 0} (IsFit : Option G → C → Type 0) (items : List C) (vi
           gone = k.gone;
           fit = subst (All (IsFit k.gates)) (sym more) (All-push (IsFit k.gates) (k.gone ++ items) c k.fit (subst (λ g. IsFit g c) same.0 fit));
           came = subst (λ l. IsPermutation (all_pushed (set views port w)) (indexed l)) (sym more)
-              (subst (IsPermutation (all_pushed (set views port w))) (sym (indexed_end (k.gone ++ items) c))
+              (subst (IsPermutation (all_pushed (set views port w))) (sym (indexed_handle (k.gone ++ items) c))
               (IsPermutation-trans (all_pushed (set views port w)) ((v.pushed ++ t ∷ []) ++ all_pushed rest) (indexed (k.gone ++ items) ++ t ∷ [])
               (pulls of_pushed views port v w at)
               (IsPermutation-trans ((v.pushed ++ t ∷ []) ++ all_pushed rest) ((v.pushed ++ all_pushed rest) ++ t ∷ [])
@@ -205,7 +205,7 @@ module _ {G C : Type 0} (IsFit : Option G → C → Type 0) (c : C) (items : Lis
           came = subst (λ l. IsPermutation (all_pushed (set views port w)) (indexed l)) more
               (IsPermutation-trans (all_pushed (set views port w)) (v.pushed ++ all_pushed left) (indexed (k.gone ++ (c ∷ items)))
               (pulls of_pushed views port v w at) (came_by IsFit (c ∷ items) views port v k at));
-          went = subst (IsPermutation (all_taken (set views port w))) (sym (indexed_end k.gone c))
+          went = subst (IsPermutation (all_taken (set views port w))) (sym (indexed_handle k.gone c))
               (IsPermutation-trans (all_taken (set views port w)) ((v.taken ++ t ∷ []) ++ all_taken left) (indexed k.gone ++ t ∷ [])
               (pulls of_taken views port v w at)
               (IsPermutation-trans ((v.taken ++ t ∷ []) ++ all_taken left) ((v.taken ++ all_taken left) ++ t ∷ []) (indexed k.gone ++ t ∷ [])

@@ -13,7 +13,7 @@ use Rattle.mb_pool.specs.OneWorker.{AreUnused, HasLeft, IsAlone, IsEarliest, IsI
 use Rattle.mb_pool.specs.Places.{PoolEndpoint, PoolPort, ports_of}
 use Rattle.mb_pool.specs.Rule.{QueueMoment, PutsLast, TakesFirst}
 use Rattle.mb_pool.specs.WorkerPorts.{PutsClaim, RefusesClaim, TakesClaim, WorkerPortView, behind, kept, pooled}
-use Rattle.mb_pool.proofs.Moves.{indexed_end}
+use Rattle.mb_pool.proofs.Moves.{indexed_handle}
 use Rattle.mb_pool.proofs.Ports.{all_right}
 
 -- ---- claims with their indices
@@ -96,7 +96,7 @@ module _ {H : Type 0} (IsFit : Option (Origin H) → Claim H → Type 0) (ledger
       record {
         gone = has.gone;
         pushed = ap (λ (a : ClaimAccount H). a.pushed) p.2 ∙ ap (λ l. ledger.pushed ++ indexed_claim (length l) c ∷ []) all
-            ∙ ap (λ l. l ++ indexed_claim (length (has.gone ++ left)) c ∷ []) has.pushed ∙ sym (indexed_end (has.gone ++ left) c)
+            ∙ ap (λ l. l ++ indexed_claim (length (has.gone ++ left)) c ∷ []) has.pushed ∙ sym (indexed_handle (has.gone ++ left) c)
             ∙ ap (indexed {C = Claim H}) (append_assoc has.gone left (c ∷ []));
         taken = ap (λ (a : ClaimAccount H). a.taken) p.2 ∙ has.taken;
       }
@@ -112,11 +112,11 @@ module _ {H : Type 0} (IsFit : Option (Origin H) → Claim H → Type 0) (ledger
           pushed = ap (λ (a : ClaimAccount H). a.pushed) t.2 ∙ has.pushed
               ∙ ap (indexed {C = Claim H}) (ap (λ l. has.gone ++ l) e.held ∙ sym (append_assoc has.gone (c ∷ []) t.0));
           taken = ap (λ (a : ClaimAccount H). a.taken) t.2 ∙ ap (λ l. ledger.taken ++ indexed_claim (length l) c ∷ []) (sym e.gone)
-              ∙ ap (λ l. l ++ indexed_claim (length has.gone) c ∷ []) has.taken ∙ sym (indexed_end has.gone c);
+              ∙ ap (λ l. l ++ indexed_claim (length has.gone) c ∷ []) has.taken ∙ sym (indexed_handle has.gone c);
         },
       )
 
--- ---- the queues in which an end looks
+-- ---- the queues in which a handle looks
 
 module _ {H : Type 0} where
   abbrev AloneAt : PoolPort H → Type 0
@@ -207,10 +207,10 @@ module _ {H : Type 0} where
 
   -- ---- a worker's port
 
-  to-holds : (port : WorkerPortView H) (o : IsInOrder port) → Holds (ports_of port.end) o.left
+  to-holds : (port : WorkerPortView H) (o : IsInOrder port) → Holds (ports_of port.handle) o.left
   to-holds port o = record { own = o.own; others = o.others; are = o.ports; has_left = o.has_left; none_left = o.none_left }
 
-  from-holds : (port : WorkerPortView H) (left : List (Claim H)) → Holds (ports_of port.end) left → port.pushed ≡ port.taken ++ (port.next ++ left) →
+  from-holds : (port : WorkerPortView H) (left : List (Claim H)) → Holds (ports_of port.handle) left → port.pushed ≡ port.taken ++ (port.next ++ left) →
       IsInOrder port
   from-holds port left h all =
       record { own = h.own; others = h.others; ports = h.are; left = left; has_left = h.has_left; none_left = h.none_left; pushed = all }
@@ -232,32 +232,32 @@ module _ {H : Type 0} where
   moved-next : (p t n l rest : List (Claim H)) (c : Claim H) → p ≡ t ++ (n ++ l) → n ≡ [] → l ≡ c ∷ rest → p ≡ t ++ ((c ∷ []) ++ rest)
   moved-next p t n l rest c is none left = is ∙ (λ i. t ++ (none i ++ left i))
 
-  module _ (IsFit : Option (Origin H) → Claim H → Type 0) (old new : WorkerPortView H) (claim : Claim H) (alone : IsAlone old.end) (o : IsInOrder old) where
+  module _ (IsFit : Option (Origin H) → Claim H → Type 0) (old new : WorkerPortView H) (claim : Claim H) (alone : IsAlone old.handle) (o : IsInOrder old) where
     pub order-put : (at_run_end : Bool) → new.pushed ≡ old.pushed ++ claim ∷ [] → new.taken ≡ old.taken → PutsClaim IsFit at_run_end old claim new →
         IsInOrder new
-    order-put at_run_end pushed taken (kept at none found next end) =
-        let left = holds-none IsFit (ports_of old.end) o.left alone (to-holds old o) found in
-        let h = subst (λ (l : List (Claim H)). Holds (ports_of old.end) l) left (to-holds old o) in
-        from-holds new [] (subst (λ (e : PoolEndpoint H). Holds (ports_of e) []) (sym end) h)
+    order-put at_run_end pushed taken (kept at none found next handle) =
+        let left = holds-none IsFit (ports_of old.handle) o.left alone (to-holds old o) found in
+        let h = subst (λ (l : List (Claim H)). Holds (ports_of old.handle) l) left (to-holds old o) in
+        from-holds new [] (subst (λ (e : PoolEndpoint H). Holds (ports_of e) []) (sym handle) h)
         (pushed ∙ put-kept old.pushed old.taken old.next o.left claim o.pushed none left ∙ (λ i. sym taken i ++ (sym next i ++ [])))
     order-put at_run_end pushed taken (behind first mid at none took put next) =
-        let t = takes-own IsFit (ports_of old.end) (ports_of mid) o.left first alone (to-holds old o) took in
-        from-holds new (t.rest ++ claim ∷ []) (holds-last IsFit (ports_of mid) (ports_of new.end) t.rest claim t.alone t.holds put)
+        let t = takes-own IsFit (ports_of old.handle) (ports_of mid) o.left first alone (to-holds old o) took in
+        from-holds new (t.rest ++ claim ∷ []) (holds-last IsFit (ports_of mid) (ports_of new.handle) t.rest claim t.alone t.holds put)
         (pushed
         ∙ put-last old.pushed old.taken (first ∷ []) t.rest claim
         (moved-next old.pushed old.taken old.next o.left t.rest first o.pushed none t.first)
         ∙ (λ i. sym taken i ++ (sym next i ++ (t.rest ++ claim ∷ []))))
     order-put at_run_end pushed taken (pooled why put next) =
-        from-holds new (o.left ++ claim ∷ []) (holds-last IsFit (ports_of old.end) (ports_of new.end) o.left claim alone (to-holds old o) put)
+        from-holds new (o.left ++ claim ∷ []) (holds-last IsFit (ports_of old.handle) (ports_of new.handle) o.left claim alone (to-holds old o) put)
         (pushed ∙ put-last old.pushed old.taken old.next o.left claim o.pushed ∙ (λ i. sym taken i ++ (sym next i ++ (o.left ++ claim ∷ []))))
 
     pub order-refused : (at_run_end : Bool) → new.pushed ≡ old.pushed → new.taken ≡ old.taken → RefusesClaim IsFit at_run_end old claim new → IsInOrder new
     order-refused at_run_end pushed taken (behind first at none took why next) =
-        let t = takes-own IsFit (ports_of old.end) (ports_of new.end) o.left first alone (to-holds old o) took in
+        let t = takes-own IsFit (ports_of old.handle) (ports_of new.handle) o.left first alone (to-holds old o) took in
         from-holds new t.rest t.holds
         (pushed ∙ moved-next old.pushed old.taken old.next o.left t.rest first o.pushed none t.first ∙ (λ i. sym taken i ++ (sym next i ++ t.rest)))
-    order-refused at_run_end pushed taken (pooled why end next) =
-        from-holds new o.left (subst (λ (e : PoolEndpoint H). Holds (ports_of e) o.left) (sym end) (to-holds old o))
+    order-refused at_run_end pushed taken (pooled why handle next) =
+        from-holds new o.left (subst (λ (e : PoolEndpoint H). Holds (ports_of e) o.left) (sym handle) (to-holds old o))
         (pushed ∙ o.pushed ∙ (λ i. sym taken i ++ (sym next i ++ o.left)))
 
     -- what a push did with the claim, whatever it answers
@@ -270,13 +270,13 @@ module _ {H : Type 0} where
 
     pub order-taken : TakesClaim IsFit old claim new → IsInOrder new × IsEarliest old claim
     order-taken (kept next is) = (
-      from-holds new o.left (subst (λ (v : WorkerPortView H). Holds (ports_of v.end) o.left) (sym is) (to-holds old o))
+      from-holds new o.left (subst (λ (v : WorkerPortView H). Holds (ports_of v.handle) o.left) (sym is) (to-holds old o))
           (subst (λ (v : WorkerPortView H). v.pushed ≡ v.taken ++ (v.next ++ o.left)) (sym is)
           (took-next old.pushed old.taken old.next o.left claim o.pushed next)),
       (o.left, o.pushed ∙ ap (λ x. old.taken ++ (x ++ o.left)) next),
     )
     order-taken (pooled none took is) =
-        let t = takes-one IsFit (ports_of old.end) (ports_of new.end) o.left claim took.before took.pool_port took.rest took.after alone (to-holds old o)
+        let t = takes-one IsFit (ports_of old.handle) (ports_of new.handle) o.left claim took.before took.pool_port took.rest took.after alone (to-holds old o)
         took.found took.first took.then' in (
           from-holds new t.rest t.holds
               (subst (λ (v : WorkerPortView H). v.pushed ≡ v.taken ++ (v.next ++ t.rest)) (sym is)
@@ -306,9 +306,9 @@ module _ {H : Type 0} where
   unused-holds (o ∷ own) shared next unused = unused-first (o ∷ own ++ shared ∷ next) o (own ++ shared ∷ next) refl unused
 
   -- nothing was pushed or taken yet
-  pub order-new : (end : PoolEndpoint H) (port : WorkerPortView H) → port ≡ record { end = end; next = []; pushed = []; refused = []; taken = [] } →
-      AreUnused (ports_of end) → IsInOrder port
-  order-new end port is unused =
+  pub order-new : (handle : PoolEndpoint H) (port : WorkerPortView H) → port ≡ record { handle = handle; next = []; pushed = []; refused = []; taken = [] } →
+      AreUnused (ports_of handle) → IsInOrder port
+  order-new handle port is unused =
       subst IsInOrder (sym is)
-      (from-holds (record { end = end; next = []; pushed = []; refused = []; taken = [] }) []
-      (unused-holds end.own_deque end.shared_port end.next unused) refl)
+      (from-holds (record { handle = handle; next = []; pushed = []; refused = []; taken = [] }) []
+      (unused-holds handle.own_deque handle.shared_port handle.next unused) refl)

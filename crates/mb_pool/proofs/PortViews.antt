@@ -5,7 +5,8 @@ use Rattle.crossbeam_deque.specs.Handles as deque
 use Rattle.crossbeam_deque.specs.declared.handles.Worker.{Worker}
 use Rattle.crossbeam_deque.specs.Injected.{InjectorPass, injector_view}
 use Rattle.crossbeam_queue.specs.Passes as queue
-use Rattle.mb_pool.specs.declared.slots.Slots.{Slots}
+use Rattle.crossbeam_queue.specs.declared.array_queue.Doing.{Doing}
+use Rattle.crossbeam_queue.specs.declared.array_queue.Slotted.{Slotted}
 use Rattle.mb_pool.specs.Account.{ClaimAccount}
 use Rattle.mb_pool.specs.Places.{deque_at, slots_at, feed_queue_at}
 use Rattle.mb_pool.specs.Deques.{own_deque_view, thief_view}
@@ -29,9 +30,9 @@ pub same_thief : {T A H : Type 0} (n : ℕ) (p p' : deque.Pass T (ClaimAccount H
     → thief_view n p' ≡ thief_view n p
 same_thief n p p' d v i = record { queue = record { place = deque_at n (d i); capacity = None }; ledger = v i }
 
-pub same_slots : {T H : Type 0} (q : Slots H) (p p' : queue.Pass T (ClaimAccount H)) → p'.table_id ≡ p.table_id → queue.view p' ≡ queue.view p
-    → slots_view q p' ≡ slots_view q p
-same_slots q p p' d v i = record { queue = record { place = slots_at (d i); capacity = Some (queue.ruled_capacity q.queue) }; ledger = v i }
+pub same_slots : {T H Q A : Type 0} (q : Slotted (Option T) (Doing T (ClaimAccount H)) Q A) (p p' : queue.Pass T (ClaimAccount H))
+    → p'.table_id ≡ p.table_id → queue.view p' ≡ queue.view p → slots_view q p' ≡ slots_view q p
+same_slots q p p' d v i = record { queue = record { place = slots_at (d i); capacity = Some (queue.ruled_capacity q) }; ledger = v i }
 
 pub same_feed_queue : {T A H : Type 0} (p p' : InjectorPass T (ClaimAccount H) A) → p'.web ≡ p.web → injector_view p' ≡ injector_view p
     → feed_queue_view p' ≡ feed_queue_view p

@@ -1,4 +1,4 @@
--- From what a port's call says to what an end's or a feed's call says.
+-- From what a port's call says to what a handle's or a feed's call says.
 use Rattle.std.proofs.Common.{◌≡◌, ◌<◌, ℕ, zero, suc, arith, length, take, drop, get_or, set, List, [], ◌∷◌, ◌++◌, sym, refl, ap, ◌∙◌, subst, map}
 use Rattle.std.proofs.Common.{MatchOption, MatchResult}
 use Rattle.std.specs.Prelude.{All, IfSome, Option, Some, None, Result, Ok, Err}
@@ -60,7 +60,7 @@ module _ {H : Type 0} where
   pub feed_parts : (shared_port door' : PoolPort H) → part_of door' ≡ part_of shared_port → parts_of (of_feed door') ≡ parts_of (of_feed shared_port)
   feed_parts shared_port door' e = ap (λ (p : Part H). let ps : Parts H = record { own_deque = []; shared_port = p; next = [] } in ps) e
 
-  -- an end of a stealing pool, by its ports
+  -- a handle of a stealing pool, by its ports
   abbrev pub stealing : PoolPort H → PoolPort H → List (PoolPort H) → PoolEndpoint H
   stealing own_deque shared_port next = record { own_deque = own_deque ∷ []; shared_port = shared_port; next = next }
 
@@ -162,7 +162,7 @@ module _ {H : Type 0} where
     take_fits w new None N opened h = tt
     take_fits w new (Some c) N opened t = takes_fit (gates_of w) (ports_of w) (ports_of new) c opened t
 
-    -- an end of a stealing pool looks in its own deque, in the injector, and in the next ends' deques
+    -- a handle of a stealing pool looks in its own deque, in the injector, and in the next handles' deques
     module _ (own_deque own_deque' shared_port door' : PoolPort H) (next next' : List (PoolPort H)) where
       pub push_by_own : (c : Claim H) → own_deque'.queue ≡ own_deque.queue → PutsLast IsFit own_deque.ledger c own_deque'.ledger
           → Pushes IsFit (stealing own_deque shared_port next) c (stealing own_deque' shared_port next)
@@ -202,7 +202,7 @@ module _ {H : Type 0} where
           took_next_same None h = (λ i. record { own_deque = part_of (still i) ∷ []; shared_port = part_of (still' i); next = map (part_of {H = H}) (h.0 i) })
           took_next_same (Some c) t = (λ i. record { own_deque = part_of (still i) ∷ []; shared_port = part_of (still' i); next = takes_parts next next' c t i })
 
-    -- a claim of the queue to which an end pushes is one of those that it takes
+    -- a claim of the queue to which a handle pushes is one of those that it takes
     pub own_takes : (old new : List (PoolPort H)) (c : Claim H) → TakesOwn IsFit old c new → TakesOne IsFit old c new
     own_takes old new c t = record {
       before = [];
@@ -279,7 +279,7 @@ module _ {H : Type 0} where
       tried_take_same None h = ap (part_of {H = H}) h
       tried_take_same (Some c) t = took_part shared_port door' c same t
 
-    -- by its own deque alone, of an end of a stealing pool
+    -- by its own deque alone, of a handle of a stealing pool
     module _ (own_deque own_deque' shared_port : PoolPort H) (next : List (PoolPort H)) (same : own_deque'.queue ≡ own_deque.queue) where
       pub tried_by_own : (c : Claim H) (r : Result (Unit {0}) (Claim H))
           → MatchResult r (λ _. PutsLast IsFit own_deque.ledger c own_deque'.ledger) (λ back. (back ≡ c) × (own_deque' ≡ own_deque))

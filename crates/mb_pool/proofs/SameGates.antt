@@ -1,4 +1,4 @@
--- What no call of an end or a feed changes says whose gates' claims it handles.
+-- What no call of a handle or a feed changes says whose gates' claims it handles.
 use Rattle.std.proofs.Common.{◌≡◌, ap}
 use Rattle.mb_pool.specs.Places.{Parts, PoolEndpoint, gates_of, parts_of}
 

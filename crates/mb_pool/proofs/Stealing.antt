@@ -1,4 +1,4 @@
--- The next ends' deques are looked in, one after the other.
+-- The next handles' deques are looked in, one after the other.
 use Rattle.std.proofs.Common.{◌≡◌, ℕ, suc, ◌+◌, ◌<◌, ◌≤◌, List, [], ◌∷◌, ◌++◌, length, get_or, set, take, sym, ap, ◌∙◌, subst, arith, MatchOption}
 use Rattle.std.proofs.Common.{None, Some}
 use Rattle.std.specs.Prelude.{All, Option}
@@ -41,7 +41,7 @@ module _ {H : Type 0} (IsFit : Option (Origin H) → Claim H → Type 0) (old no
   pub none_there : (k : ℕ) → length old ≤ k → All (WasEmpty IsFit) (take k old) → (now ≡ old) × All (WasEmpty IsFit) old
   none_there k le empty = (same, subst (All (WasEmpty IsFit)) (take_all k old le) empty)
 
--- what the search of the lent list says of the end's own
+-- what the search of the lent list says of the handle's own
 module _ {H : Type 0} (IsFit : Option (Origin H) → Claim H → Type 0) (given ws : List (PoolPort H)) where
   abbrev pub IsFound : List (PoolPort H) → List (PoolPort H) → Option (Claim H) → Type 0
   IsFound old new r = MatchOption r ((new ≡ old) × All (WasEmpty IsFit) old) (λ c. TakesOne IsFit old c new)

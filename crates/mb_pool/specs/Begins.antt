@@ -2,16 +2,16 @@
 use Rattle.std.specs.Prelude.{◌≡◌, ℕ, ◌+◌, List, [], ◌++◌, length, map, take, drop, Option, Some, None}
 use Rattle.mb_msg.specs.declared.pool_kind.PoolKind.{PoolKind}
 use Rattle.mb_msg.specs.declared.pool_kind.PoolKind.TheVariants.{Shared, Stealing}
-use Rattle.mb_pool.specs.declared.end_deques.EndDeques.{EndDeques}
+use Rattle.mb_pool.specs.declared.worker_deques.WorkerDeques.{WorkerDeques}
 use Rattle.mb_pool.specs.Ledger.{borrowing, lending, opened}
 use Rattle.mb_pool.specs.Made.{AreDeques, queues_of}
 use Rattle.mb_gate.specs.Untouched.{Origin}
 use Rattle.mb_pool.specs.Places.{PoolPort, QueueInfo, PoolView, numbers}
 use Rattle.mb_pool.specs.Endpoints.{next_of, own_of}
 
--- the pool for the claims of these gates with these queues and this many ends and feeds
+-- the pool for the claims of these gates with these queues and this many handles and feeds
 abbrev pub whole_of : {H : Type 0} → Origin H → PoolPort H → List (PoolPort H) → ℕ → ℕ → PoolView H
-whole_of origin shared_port owns ends feeds = record { gates = origin; shared_port = shared_port.queue; deques = queues_of owns; ends = ends; feeds = feeds }
+whole_of origin shared_port owns handles feeds = record { gates = origin; shared_port = shared_port.queue; deques = queues_of owns; handles = handles; feeds = feeds }
 
 -- how many claims the queue that all share holds at most
 abbrev pub bound_of : PoolKind → Option ℕ
@@ -22,9 +22,9 @@ bound_of Stealing = None
 abbrev pub fresh : {H : Type 0} → Origin H → ℕ → ℕ → QueueInfo → PoolPort H
 fresh origin members shares queue = record { queue = queue; ledger = opened (Some origin) members shares }
 
--- the port that each end and each feed of a new pool has of the queue that all share
+-- the port that each handle and each feed of a new pool has of the queue that all share
 abbrev pub new_shared_port : {H : Type 0} → PoolView H → PoolPort H
-new_shared_port pool = fresh pool.gates (pool.ends + pool.feeds) 1 pool.shared_port
+new_shared_port pool = fresh pool.gates (pool.handles + pool.feeds) 1 pool.shared_port
 
 -- the port with this many shares
 abbrev pub with_shares : {H : Type 0} → ℕ → PoolPort H → PoolPort H
@@ -38,7 +38,7 @@ lent l = record l { ledger = lending 1 l.ledger }
 abbrev pub borrowed : {H : Type 0} → PoolPort H → PoolPort H
 borrowed l = record l { ledger = borrowing 1 l.ledger }
 
--- ports of the own deques of this many ends, each with this many shares
+-- ports of the own deques of this many handles, each with this many shares
 pub record AreNew {H : Type 0} (origin : Origin H) (shares count : ℕ) (owns : List (PoolPort H)) : Type 0 where
   pub same_count : length owns ≡ count
   pub unused : owns ≡ map (fresh origin shares shares) (queues_of owns)
@@ -49,13 +49,13 @@ abbrev pub AreNewOf : {H : Type 0} → PoolKind → Origin H → ℕ → List (P
 AreNewOf Shared origin count owns = owns ≡ []
 AreNewOf Stealing origin count owns = AreNew origin count count owns
 
--- for each of these ports, in order, what its end borrowed of the next ones in order
+-- for each of these ports, in order, what its handle borrowed of the next ones in order
 abbrev pub borrowed_next : {H : Type 0} → List (PoolPort H) → ℕ → List (PoolPort H)
-borrowed_next {H} owns end = map (borrowed {H = H}) (drop (end + 1) owns ++ take end owns)
+borrowed_next {H} owns handle = map (borrowed {H = H}) (drop (handle + 1) owns ++ take handle owns)
 
--- What the ends of a new pool have beside their ports of the queue that all share: in a stealing pool, a port of the own
--- deque and one of each of the next ends' deques, each with one share.
-pub record AreEndDeques {H : Type 0} (pool : PoolView H) (members : List (Option (EndDeques H))) : Type 0 where
-  pub own_deque : map (own_of {H = H}) members ≡ map (λ (end : ℕ). map (fresh pool.gates pool.ends 1) (take 1 (drop end pool.deques))) (numbers 0 pool.ends)
+-- What the handles of a new pool have beside their ports of the queue that all share: in a stealing pool, a port of the own
+-- deque and one of each of the next handles' deques, each with one share.
+pub record AreWorkerDeques {H : Type 0} (pool : PoolView H) (members : List (Option (WorkerDeques H))) : Type 0 where
+  pub own_deque : map (own_of {H = H}) members ≡ map (λ (handle : ℕ). map (fresh pool.gates pool.handles 1) (take 1 (drop handle pool.deques))) (numbers 0 pool.handles)
   pub next : map (next_of {H = H}) members
-      ≡ map (λ (end : ℕ). map (fresh pool.gates pool.ends 1) (drop (end + 1) pool.deques ++ take end pool.deques)) (numbers 0 pool.ends)
+      ≡ map (λ (handle : ℕ). map (fresh pool.gates pool.handles 1) (drop (handle + 1) pool.deques ++ take handle pool.deques)) (numbers 0 pool.handles)

@@ -1,6 +1,6 @@
--- An end and a feed, as contracts see them (this project's own profile).
+-- A handle and a feed, as contracts see them (this project's own profile).
 use Rattle.std.specs.Prelude.{◌≡◌, ◌<◌, List, [], ◌∷◌, All, Option, Some, None}
-use Rattle.mb_pool.specs.declared.end_deques.EndDeques.{EndDeques}
+use Rattle.mb_pool.specs.declared.worker_deques.WorkerDeques.{WorkerDeques}
 use Rattle.mb_gate.specs.Untouched.{Origin}
 use Rattle.mb_pool.specs.Places.{PoolPort, Part, PoolEndpoint, gates_of, ports_of, part_of}
 
@@ -13,18 +13,18 @@ pub record IsOpenPort {H : Type 0} (gates : Option (Origin H)) (port : Part H) :
   pub share : 0 < port.shares
   pub same : port.gates ≡ gates
 
--- the port of its own deque that an end of a stealing pool has
-abbrev pub own_of : {H : Type 0} → Option (EndDeques H) → List (PoolPort H)
+-- the port of its own deque that a handle of a stealing pool has
+abbrev pub own_of : {H : Type 0} → Option (WorkerDeques H) → List (PoolPort H)
 own_of None = []
 own_of (Some m) = m.own_deque ∷ []
 
--- the ports of the other deques that an end of a stealing pool has
-abbrev pub next_of : {H : Type 0} → Option (EndDeques H) → List (PoolPort H)
+-- the ports of the other deques that a handle of a stealing pool has
+abbrev pub next_of : {H : Type 0} → Option (WorkerDeques H) → List (PoolPort H)
 next_of None = []
 next_of (Some m) = m.thieves.items
 
--- an end, as contracts see it: by its port of the queue that all share and those of deques
-abbrev pub endpoint_of : {H : Type 0} → PoolPort H → Option (EndDeques H) → PoolEndpoint H
+-- a handle, as contracts see it: by its port of the queue that all share and those of deques
+abbrev pub endpoint_of : {H : Type 0} → PoolPort H → Option (WorkerDeques H) → PoolEndpoint H
 endpoint_of shared_port member = record { own_deque = own_of member; shared_port = shared_port; next = next_of member }
 
 -- a feed, as contracts see it: by its one port, of the queue that all share

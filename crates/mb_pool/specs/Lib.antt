@@ -2,7 +2,8 @@ pub mod Account
 pub mod Begins
 pub mod Deques
 pub mod Endpoints
-pub mod Ends
+pub mod FeedPorts
+pub mod Handles
 pub mod Items
 pub mod Ledger
 pub mod Made

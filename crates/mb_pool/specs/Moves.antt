@@ -1,4 +1,4 @@
--- What the calls of an end or a feed guarantee (the run queue of the executor of
+-- What the calls of a handle or a feed guarantee (the run queue of the executor of
 -- `akka.dispatch.ExecutorServiceConfigurator`; that a full one gives the claim back is this project's own profile: in Akka
 -- it throws).
 use Rattle.std.specs.Prelude.{◌≡◌, ℕ, List, [], ◌∷◌, ◌++◌, length, All, Option, Some, None}
@@ -60,7 +60,7 @@ module _ {H : Type 0} (IsFit : Option (Origin H) → Claim H → Type 0) where
     pub first : TakesFirst IsFit pool_port.ledger c after
     pub then' : new ≡ record pool_port { ledger = after } ∷ rest
 
-  -- the claim was pushed into the queue that the end or the feed pushes to
+  -- the claim was pushed into the queue that the handle or the feed pushes to
   abbrev pub Pushes : PoolEndpoint H → Claim H → PoolEndpoint H → Type 0
   Pushes old c new = PutsFirst (ports_of old) c (ports_of new)
 

@@ -7,9 +7,9 @@ use Rattle.mb_pool.specs.Places.{PoolEndpoint, PoolPort, ports_of}
 use Rattle.mb_pool.specs.WorkerPorts.{WorkerPortView}
 
 module _ {H : Type 0} where
-  -- No other end and no feed has a port of the queues in which this end looks: it is that of the only worker, and there are no senders outside.
+  -- No other handle and no feed has a port of the queues in which this handle looks: it is that of the only worker, and there are no senders outside.
   abbrev pub IsAlone : PoolEndpoint H → Type 0
-  IsAlone end = All (λ (port : PoolPort H). port.ledger.shares ≡ port.ledger.members) (ports_of end)
+  IsAlone handle = All (λ (port : PoolPort H). port.ledger.shares ≡ port.ledger.members) (ports_of handle)
 
   -- Nothing was pushed or taken through these ports.
   abbrev pub AreUnused : List (PoolPort H) → Type 0
@@ -21,12 +21,12 @@ module _ {H : Type 0} where
     pub pushed : ledger.pushed ≡ indexed (gone ++ left)
     pub taken : ledger.taken ≡ indexed gone
 
-  -- All that was pushed is, in this order, what the worker took, what is kept for it, and what is left in the queue to which the end pushes. Nothing is
+  -- All that was pushed is, in this order, what the worker took, what is kept for it, and what is left in the queue to which the handle pushes. Nothing is
   -- left in another.
   pub record IsInOrder (port : WorkerPortView H) : Type 0 where
     pub own : PoolPort H
     pub others : List (PoolPort H)
-    pub ports : ports_of port.end ≡ own ∷ others
+    pub ports : ports_of port.handle ≡ own ∷ others
     pub left : List (Claim H)
     pub has_left : HasLeft own.ledger left
     pub none_left : All (λ (other : PoolPort H). HasLeft other.ledger []) others

@@ -7,33 +7,33 @@ use Rattle.mb_pool.specs.Moves.{FindsOwnEmpty, Pushes, Takes, TakesOwn}
 use Rattle.mb_pool.specs.Places.{PoolEndpoint, ports_of}
 use Rattle.mb_pool.specs.PoolPorts.{IsRefusedByPool}
 
--- Its end of the pool; the claim that it keeps for its worker, or none; the claims that it was given and did not give back; those that the pool
+-- Its handle of the pool; the claim that it keeps for its worker, or none; the claims that it was given and did not give back; those that the pool
 -- refused; and those that its worker took. The lists are in order.
 pub record WorkerPortView (H : Type 0) : Type 0 where
-  pub end : PoolEndpoint H
+  pub handle : PoolEndpoint H
   pub next : List (Claim H)
   pub pushed : List (Claim H)
   pub refused : List (Claim H)
   pub taken : List (Claim H)
 
 module _ {H : Type 0} (IsFit : Option (Origin H) → Claim H → Type 0) where
-  -- What becomes of a claim. It goes behind all claims of the queue to which the end pushes. Only at the end of a run, where no claim is kept, a look
+  -- What becomes of a claim. It goes behind all claims of the queue to which the handle pushes. Only at the end of a run, where no claim is kept, a look
   -- into that queue says which claim the worker takes next: if it is empty, this one, which is kept; else the first one there.
   pub data PutsClaim (at_run_end : Bool) (old : WorkerPortView H) (claim : Claim H) (new : WorkerPortView H) : Type 0 where
-    kept : at_run_end ≡ true → old.next ≡ [] → FindsOwnEmpty IsFit (ports_of old.end) → new.next ≡ claim ∷ [] → new.end ≡ old.end
+    kept : at_run_end ≡ true → old.next ≡ [] → FindsOwnEmpty IsFit (ports_of old.handle) → new.next ≡ claim ∷ [] → new.handle ≡ old.handle
         → PutsClaim at_run_end old claim new
-    behind : (first : Claim H) (mid : PoolEndpoint H) → at_run_end ≡ true → old.next ≡ [] → TakesOwn IsFit (ports_of old.end) first (ports_of mid)
-        → Pushes IsFit mid claim new.end → new.next ≡ first ∷ [] → PutsClaim at_run_end old claim new
-    pooled : (at_run_end ≡ false) ⊎ (old.next ≢ []) → Pushes IsFit old.end claim new.end → new.next ≡ old.next → PutsClaim at_run_end old claim new
+    behind : (first : Claim H) (mid : PoolEndpoint H) → at_run_end ≡ true → old.next ≡ [] → TakesOwn IsFit (ports_of old.handle) first (ports_of mid)
+        → Pushes IsFit mid claim new.handle → new.next ≡ first ∷ [] → PutsClaim at_run_end old claim new
+    pooled : (at_run_end ≡ false) ⊎ (old.next ≢ []) → Pushes IsFit old.handle claim new.handle → new.next ≡ old.next → PutsClaim at_run_end old claim new
 
   -- The queue refused the claim. Before that, at the end of a run, its first claim may have become the one that the worker takes next.
   pub data RefusesClaim (at_run_end : Bool) (old : WorkerPortView H) (claim : Claim H) (new : WorkerPortView H) : Type 0 where
-    behind : (first : Claim H) → at_run_end ≡ true → old.next ≡ [] → TakesOwn IsFit (ports_of old.end) first (ports_of new.end)
-        → IsRefusedByPool IsFit new.end claim → new.next ≡ first ∷ [] → RefusesClaim at_run_end old claim new
-    pooled : IsRefusedByPool IsFit old.end claim → new.end ≡ old.end → new.next ≡ old.next → RefusesClaim at_run_end old claim new
+    behind : (first : Claim H) → at_run_end ≡ true → old.next ≡ [] → TakesOwn IsFit (ports_of old.handle) first (ports_of new.handle)
+        → IsRefusedByPool IsFit new.handle claim → new.next ≡ first ∷ [] → RefusesClaim at_run_end old claim new
+    pooled : IsRefusedByPool IsFit old.handle claim → new.handle ≡ old.handle → new.next ≡ old.next → RefusesClaim at_run_end old claim new
 
   -- The claim was kept and no longer is; or none was kept, and it was taken out of the pool.
   pub data TakesClaim (old : WorkerPortView H) (claim : Claim H) (new : WorkerPortView H) : Type 0 where
     kept : old.next ≡ claim ∷ [] → new ≡ record old { next = []; taken = old.taken ++ claim ∷ [] } → TakesClaim old claim new
-    pooled : old.next ≡ [] → Takes IsFit old.end claim new.end → new ≡ record old { end = new.end; taken = old.taken ++ claim ∷ [] }
+    pooled : old.next ≡ [] → Takes IsFit old.handle claim new.handle → new ≡ record old { handle = new.handle; taken = old.taken ++ claim ∷ [] }
         → TakesClaim old claim new

@@ -1,20 +1,20 @@
-//! The ends of a pool, in the order of their numbers.
+//! The handles of a pool, in the order of their numbers.
 ghost use Rattle.std.specs.Prelude.{IsPermutation};
 ghost use Rattle.mb_pool.specs.Made.{IsWhole};
-ghost use Rattle.mb_pool.specs.Places.{AreAllEnds, AreEnds};
+ghost use Rattle.mb_pool.specs.Places.{AreAllHandles, AreHandles};
 
-use crate::end::PoolEnd;
+use crate::handle::PoolHandle;
 use crate::pool::Pool;
 use mb_gate::MailboxState;
 
-/// Puts all ends of a pool in the order of their numbers. It takes no memory.
-pub(crate) fn put_in_order<H: MailboxState>(pool: &Pool<H>, ends: &mut [PoolEnd<H>])
+/// Puts all handles of a pool in the order of their numbers. It takes no memory.
+pub(crate) fn put_in_order<H: MailboxState>(pool: &Pool<H>, handles: &mut [PoolHandle<H>])
     requires whole { IsWhole pool.now }
-    requires all { AreAllEnds pool.now ends.old }
-    ensures in_order { AreEnds pool.now ends.new }
-    ensures same { IsPermutation ends.old ends.new }
+    requires all { AreAllHandles pool.now handles.old }
+    ensures in_order { AreHandles pool.now handles.new }
+    ensures same { IsPermutation handles.old handles.new }
 {
     // Only the contract uses it.
     let _ = pool;
-    ends.sort_unstable_by_key(|end| end.number());
+    handles.sort_unstable_by_key(|handle| handle.number());
 }

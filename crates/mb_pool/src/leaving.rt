@@ -1,15 +1,15 @@
 //! Ending a pool: which claims are left.
 ghost use Rattle.std.specs.Prelude.{◌≡◌, ◌<◌, [], ◌∷◌, ◌++◌, length, All, IfOk, MatchResult, Some};
-ghost use Rattle.mb_pool.specs.Ends.{AreAlike, shared_ports_of, Empties, IsAllOf, owns_of, TakesIn};
+ghost use Rattle.mb_pool.specs.Handles.{AreAlike, shared_ports_of, Empties, IsAllOf, owns_of, TakesIn};
 ghost use Rattle.mb_pool.specs.Made.{IsLeft, IsWhole};
 ghost use Rattle.mb_pool.specs.Parts.{port_view};
-ghost use Rattle.mb_pool.specs.Places.{AreAllEnds, AreEnds, AreFeeds, gates_of};
+ghost use Rattle.mb_pool.specs.Places.{AreAllHandles, AreHandles, AreFeeds, gates_of};
 ghost use Rattle.mb_gate.specs.Untouched.{IsUntouched};
 ghost use Rattle.mb_pool.specs.Endpoints.{HasShare};
 
-use crate::end::PoolEnd;
 use crate::feed::Feed;
 use crate::gather::gather;
+use crate::handle::PoolHandle;
 use crate::in_order::put_in_order;
 use crate::own_deque::OwnDeque;
 use crate::pool::Pool;
@@ -23,82 +23,86 @@ use std::sync::Wait;
 pub struct RemainingError<H: MailboxState> {
     /// The pool.
     pub pool: Pool<H>,
-    /// Its ends, in the order in which they were given.
-    pub ends: Vec<PoolEnd<H>>,
+    /// Its handles, in the order in which they were given.
+    pub handles: Vec<PoolHandle<H>>,
     /// Its feeds, in the order in which they were given.
     pub feeds: Vec<Feed<H>>,
 }
 
-/// Ends a pool. All its ends and all its feeds have to be given, in any order. The answer is the claims that were pushed
+/// Ends a pool. All its handles and all its feeds have to be given, in any order. The answer is the claims that were pushed
 /// and not taken, each once and as it was pushed. This takes memory for as many claims as there are actors; where that
 /// is refused, all comes back as it was (this project's own profile).
 pub fn remaining<H: MailboxState, R: Wait>(
     rt: &R,
     alloc: Global,
     pool: Pool<H>,
-    ends: Vec<PoolEnd<H>>,
+    handles: Vec<PoolHandle<H>>,
     feeds: Vec<Feed<H>>,
 ) -> Result<Vec<Claim<H>>, RemainingError<H>>
-    requires ends { AreAllEnds pool ends.items }
+    requires handles { AreAllHandles pool handles.items }
     requires feeds { AreFeeds pool feeds.items }
-    ensures left { MatchResult result (λ claims. IsLeft (ends.items ++ feeds.items) claims.items)
-        (λ back. (back.pool ≡ pool) × (back.ends.items ≡ ends.items) × (back.feeds.items ≡ feeds.items)) }
+    ensures left { MatchResult result (λ claims. IsLeft (handles.items ++ feeds.items) claims.items)
+        (λ back. (back.pool ≡ pool) × (back.handles.items ≡ handles.items) × (back.feeds.items ≡ feeds.items)) }
     ensures untouched { IfOk result (λ claims. All (IsUntouched H.is_of H.facts (Some pool.gates)) claims.items) }
 {
     let left = match Vec::with_capacity(alloc, pool.actors) {
         Ok(left) => left,
-        Err(_) => return Err(RemainingError { pool, ends, feeds }),
+        Err(_) => return Err(RemainingError {
+            pool,
+            handles,
+            feeds,
+        }),
     };
-    let mut ends = ends;
-    put_in_order(&pool, ends.as_mut_slice());
-    Ok(empty_all(rt, alloc, pool, ends, feeds, left))
+    let mut handles = handles;
+    put_in_order(&pool, handles.as_mut_slice());
+    Ok(empty_all(rt, alloc, pool, handles, feeds, left))
 }
 
-/// Takes all claims out of a pool's queues. Its ends are in the order of their numbers.
+/// Takes all claims out of a pool's queues. Its handles are in the order of their numbers.
 fn empty_all<H: MailboxState, R: Wait>(
     rt: &R,
     alloc: Global,
     pool: Pool<H>,
-    ends: Vec<PoolEnd<H>>,
+    handles: Vec<PoolHandle<H>>,
     feeds: Vec<Feed<H>>,
     mut left: Vec<Claim<H>>,
 ) -> Vec<Claim<H>>
-    requires ends { AreEnds pool ends.items }
+    requires handles { AreHandles pool handles.items }
     requires feeds { AreFeeds pool feeds.items }
     requires whole { IsWhole pool }
     requires none { left.items ≡ [] }
-    ensures left { IsLeft (ends.items ++ feeds.items) result.items }
+    ensures left { IsLeft (handles.items ++ feeds.items) result.items }
     ensures untouched { All (IsUntouched H.is_of H.facts (Some pool.gates)) result.items }
 {
     // Only the contract uses it.
     let _ = pool;
-    let mut ends = ends;
-    gather(alloc, ends.as_mut_slice());
-    let shared_port = empty_ends(rt, ends, &mut left);
+    let mut handles = handles;
+    gather(alloc, handles.as_mut_slice());
+    let shared_port = empty_handles(rt, handles, &mut left);
     let shared_port = join_feeds(shared_port, feeds);
     empty_shared_port(rt, shared_port, &mut left);
     left
 }
 
-/// Takes all claims out of the ends' deques, and joins their ports of the queue that all share.
-fn empty_ends<H: MailboxState, R: Wait>(
+/// Takes all claims out of the handles' deques, and joins their ports of the queue that all share.
+fn empty_handles<H: MailboxState, R: Wait>(
     rt: &R,
-    ends: Vec<PoolEnd<H>>,
+    handles: Vec<PoolHandle<H>>,
     left: &mut Vec<Claim<H>>,
 ) -> SharedPort<H>
-    requires not_empty { 0 < length ends.items }
-    requires same_pool { AreAlike (shared_ports_of ends.items) }
-    ensures shared_port { IsAllOf (shared_ports_of ends.items) (port_view result) }
+    requires not_empty { 0 < length handles.items }
+    requires same_pool { AreAlike (shared_ports_of handles.items) }
+    ensures shared_port { IsAllOf (shared_ports_of handles.items) (port_view result) }
     ensures emptied { Empties (IsUntouched H.is_of H.facts) (port_view result).ledger.gates
-        (owns_of ends.items) left.old.items left.new.items }
+        (owns_of handles.items) left.old.items left.new.items }
 {
-    let mut ends = ends.into_iter();
-    let Some(first) = ends.next() else {
+    let mut handles = handles.into_iter();
+    let Some(first) = handles.next() else {
         unreachable!()
     };
-    let mut shared_port = empty_end(rt, first, left);
-    for end in ends {
-        let other = empty_end(rt, end, left);
+    let mut shared_port = empty_handle(rt, first, left);
+    for handle in handles {
+        let other = empty_handle(rt, handle, left);
         shared_port.join(other);
     }
     shared_port
@@ -116,18 +120,18 @@ fn join_feeds<H: MailboxState>(shared_port: SharedPort<H>, feeds: Vec<Feed<H>>) 
     shared_port
 }
 
-/// Takes all claims out of the end's own deque, if it has one; its port of the queue that all share is left.
-fn empty_end<H: MailboxState, R: Wait>(
+/// Takes all claims out of the handle's own deque, if it has one; its port of the queue that all share is left.
+fn empty_handle<H: MailboxState, R: Wait>(
     rt: &R,
-    end: PoolEnd<H>,
+    handle: PoolHandle<H>,
     left: &mut Vec<Claim<H>>,
 ) -> SharedPort<H>
-    ensures shared_port { port_view result ≡ end.shared_port }
-    ensures share { HasShare end.shared_port }
+    ensures shared_port { port_view result ≡ handle.shared_port }
+    ensures share { HasShare handle.shared_port }
     ensures emptied { Empties (IsUntouched H.is_of H.facts)
-        (gates_of end) end.own_deque left.old.items left.new.items }
+        (gates_of handle) handle.own_deque left.old.items left.new.items }
 {
-    let (shared_port, member) = end.into_parts();
+    let (shared_port, member) = handle.into_parts();
     if let Some(member) = member {
         empty_own(rt, member.into_own(), left);
         return shared_port;

@@ -1,4 +1,4 @@
-//! A worker's own deque.
+//! A worker's own deque, as its owner uses it. It calls the deque of the kit.
 ghost use Rattle.std.specs.Prelude.{◌≡◌, ◌<◌, [], None, Some, IfOk, MatchOption, MatchResult};
 ghost use Rattle.mb_pool.specs.Ledger.{borrowing, joining, lending, opened, unused};
 ghost use Rattle.mb_gate.specs.Untouched.{origin_of, IsUntouched};
@@ -6,19 +6,25 @@ ghost use Rattle.mb_pool.specs.Made.{IsDeque};
 ghost use Rattle.mb_pool.specs.Places.{owner_of};
 ghost use Rattle.mb_pool.specs.Rule.{QueueMoment, PutsLast, TakesFirst};
 
-use crate::deque::Deque;
 use crate::padding::Padding;
-use crate::rule::Scoped;
+use crate::port_ledger::PortLedger;
+use crate::rule::{Joins, Lends, Opens, PoolRule, Pushed, Scoped, Taken};
 use crate::thief::Thief;
-use mb_gate::{Claim, Gates, MailboxState};
+use crossbeam_deque::Worker;
+use mb_gate::{Claim, Gates, MailboxState, PooledClaim};
 use std::alloc::{AllocError, Global};
 use std::marker::{Brand, Model};
 
-/// The deque to which an end pushes, first in, first out. The other ends steal from it.
+/// The capacity with which a deque begins. It grows.
+const FIRST_SLOTS: usize = 64;
+
+/// The deque to which a handle pushes, first in, first out: one of `crossbeam_deque` under the pool's rule. The other handles steal
+/// from it.
 pub struct OwnDeque<H: MailboxState> {
     number: usize,
-    deque: Deque<H>,
-    // Padding: an allocator that hands out memory in order puts it between this deque and the next end's.
+    // The owner's handle of the deque.
+    worker: Worker<PooledClaim<H>, Global, PortLedger<H>, PoolRule>,
+    // Padding: an allocator that hands out memory in order puts it between this deque and the next handle's.
     apart: Box<Padding>,
 }
 
@@ -28,7 +34,7 @@ impl<H: MailboxState> Drop for OwnDeque<H> {
     fn drop(self) {
         let OwnDeque {
             number: _,
-            deque: _,
+            worker: _,
             apart: _,
         } = self;
     }
@@ -43,27 +49,27 @@ impl<H: MailboxState> Model for OwnDeque<H> {
     ghost use Rattle.crossbeam_deque.specs.Handles.{worker_flavor};
     ghost use Rattle.mb_pool.specs.Deques.{own_deque_view};
 
-    ghost view = { λ o. own_deque_view o.number o.deque.worker };
+    ghost view = { λ o. own_deque_view o.number o.worker };
 
-    ghost invariant = { λ o. worker_flavor o.deque.worker ≡ 0 };
+    ghost invariant = { λ o. worker_flavor o.worker ≡ 0 };
 }
 
 impl<H: MailboxState> OwnDeque<H> {
-    /// An empty deque of the end with this number. Whose gates' claims go in is not fixed yet. The only error: memory
+    /// An empty deque of the handle with this number. Whose gates' claims go in is not fixed yet. The only error: memory
     /// was refused.
     pub fn new(alloc: Global, number: usize) -> Result<OwnDeque<H>, AllocError>
         ensures { IfOk result (λ own_deque. IsDeque number own_deque.queue × (own_deque.ledger ≡ unused)) }
     {
-        let deque = Deque::new(alloc)?;
+        let worker = Worker::fifo_as(alloc, FIRST_SLOTS)?;
         let apart = Box::new(alloc, Padding::new())?;
         Ok(OwnDeque {
             number,
-            deque,
+            worker,
             apart,
         })
     }
 
-    /// The number of the end whose deque it is.
+    /// The number of the handle whose deque it is.
     pub fn number(&self) -> usize
         ensures { result ≡ owner_of self.now.queue }
     {
@@ -81,7 +87,10 @@ impl<H: MailboxState> OwnDeque<H> {
             (λ back. (back ≡ claim) × (self.new ≡ self.old)) }
         ensures unbounded { self.old.queue.capacity ≡ None }
     {
-        self.deque.push(claim)
+        match self.worker.push_as::<Pushed>(PooledClaim::new(claim)) {
+            Ok(()) => return Ok(()),
+            Err(pooled) => return Err(pooled.open()),
+        }
     }
 
     /// Takes the first claim. `None` only if the deque was empty at a moment of the call.
@@ -93,7 +102,10 @@ impl<H: MailboxState> OwnDeque<H> {
             ((self.new ≡ self.old) × QueueMoment (IsUntouched H.is_of H.facts) self.old.ledger [])
             (λ c. TakesFirst (IsUntouched H.is_of H.facts) self.old.ledger c self.new.ledger) }
     {
-        self.deque.take()
+        match self.worker.pop_as::<Taken>() {
+            Some(pooled) => return Some(pooled.open()),
+            None => return None,
+        }
     }
 
     /// Fixes that only claims of these gates go in, and how many ports there are.
@@ -113,10 +125,11 @@ impl<H: MailboxState> OwnDeque<H> {
         // Only the contract uses them: `S` stands for them in it.
         let _ = gates;
         let _ = members;
-        self.deque.open::<S>();
+        // The step settles what the owner knows. The second pass that it splits off has no share and is dropped.
+        let _ = self.worker.another::<Opens<S>>();
     }
 
-    /// A port for another end, with one of its shares. The only error: memory was refused. Nothing has changed then.
+    /// A port for another handle, with one of its shares. The only error: memory was refused. Nothing has changed then.
     pub fn lend(&mut self) -> Result<Thief<H>, AllocError>
         requires { 1 < self.old.ledger.shares }
         ensures { MatchResult result
@@ -124,8 +137,8 @@ impl<H: MailboxState> OwnDeque<H> {
             × (thief ≡ record self.old { ledger = borrowing 1 self.old.ledger }))
             (λ _. self.new ≡ self.old) }
     {
-        let stealer = self.deque.worker.stealer()?;
-        let pass = self.deque.lend();
+        let stealer = self.worker.stealer()?;
+        let pass = self.worker.another::<Lends>();
         Ok(Thief {
             number: self.number,
             stealer,
@@ -133,7 +146,7 @@ impl<H: MailboxState> OwnDeque<H> {
         })
     }
 
-    /// Joins another end's port, with its share and its account.
+    /// Joins another handle's port, with its share and its account.
     pub fn join(&mut self, other: Thief<H>)
         requires place { other.queue ≡ self.old.queue }
         requires shares { (0 < self.old.ledger.shares) × (0 < other.ledger.shares) }
@@ -144,6 +157,6 @@ impl<H: MailboxState> OwnDeque<H> {
             stealer: _,
             pass,
         } = other;
-        self.deque.join(pass);
+        self.worker.absorb::<Joins>(pass);
     }
 }

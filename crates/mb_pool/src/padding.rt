@@ -1,4 +1,4 @@
-//! Padding between what one end writes and what another reads.
+//! Padding between what one handle writes and what another reads.
 
 /// Memory that nobody reads or writes. What is before it and what is behind it are never in the same cache line, nor in
 /// two lines that a processor fetches as a pair. So a thread that writes the one does not slow down a thread that reads

@@ -1,4 +1,4 @@
-//! Making a pool with its ends and feeds.
+//! Making a pool with its handles and feeds.
 ghost use Rattle.std.specs.Prelude.{◌≡◌, ◌+◌, ◌<◌, All, IfOk, length, map, replicate};
 ghost use Rattle.mb_pool.specs.Begins.{new_shared_port, whole_of};
 ghost use Rattle.mb_pool.specs.Made.{IsNewPool, IsWhole};
@@ -6,14 +6,14 @@ ghost use Rattle.mb_gate.specs.Untouched.{origin_of};
 ghost use Rattle.mb_pool.specs.Parts.{port_view};
 ghost use Rattle.mb_pool.specs.Endpoints.{AreOpen, of_feed, endpoint_of};
 
-use crate::end::PoolEnd;
-use crate::end_deques::EndDeques;
 use crate::feed::Feed;
-use crate::new_end_deques::{deques_of, end_deques_of};
+use crate::handle::PoolHandle;
+use crate::new_worker_deques::{deques_of, worker_deques_of};
 use crate::own_deque::OwnDeque;
 use crate::padding::Padding;
 use crate::shared_port::SharedPort;
 use crate::shared_ports::{first_shared_port, shared_ports_of};
+use crate::worker_deques::WorkerDeques;
 use mb_gate::{Gates, MailboxState};
 use mb_msg::PoolKind;
 use std::alloc::{AllocError, Global};
@@ -21,19 +21,19 @@ use std::marker::Model;
 use std::snapshot::Snapshot;
 
 /// A pool of claims: the run queue of an executor (`akka.dispatch.ExecutorServiceConfigurator`). Contracts see whose
-/// gates' claims it holds, its queues, and how many ends and feeds it has.
+/// gates' claims it holds, its queues, and how many handles and feeds it has.
 pub struct Pool<H: MailboxState> {
     /// How many actors there are, and so how many claims at most.
     pub(crate) actors: usize,
-    /// How many ends it has.
-    pub(crate) ends: usize,
+    /// How many handles it has.
+    pub(crate) handles: usize,
     /// How many feeds it has.
     pub(crate) feeds: usize,
     /// The gates whose claims they are, for proofs alone.
     pub(crate) gates: Snapshot<Gates<H>>,
     /// A port of the queue that all share, for proofs alone.
     pub(crate) shared_port: Snapshot<SharedPort<H>>,
-    /// The ends' own deques, for proofs alone.
+    /// The handles' own deques, for proofs alone.
     pub(crate) deques: Snapshot<Vec<OwnDeque<H>>>,
 }
 
@@ -42,7 +42,7 @@ impl<H: MailboxState> Drop for Pool<H> {
     fn drop(self) {
         let Pool {
             actors: _,
-            ends: _,
+            handles: _,
             feeds: _,
             gates: _,
             shared_port: _,
@@ -64,7 +64,7 @@ impl<H: MailboxState> Model for Pool<H> {
       gates = origin_of p.gates.value;
       shared_port = (port_view p.shared_port.value).queue;
       deques = queues_of p.deques.value.items;
-      ends = p.ends;
+      handles = p.handles;
       feeds = p.feeds;
     } };
 
@@ -72,14 +72,14 @@ impl<H: MailboxState> Model for Pool<H> {
       gates = origin_of p.gates.value;
       shared_port = (port_view p.shared_port.value).queue;
       deques = queues_of p.deques.value.items;
-      ends = p.ends;
+      handles = p.handles;
       feeds = p.feeds;
     }) };
 }
 
 impl<H: MailboxState> Pool<H> {
-    /// A pool of this kind for the claims of these gates, with `workers` ends, in the order of their numbers, and
-    /// `feeds` feeds. Each end and each feed may go to a thread of its own (in Akka an `ExecutorServiceConfigurator`
+    /// A pool of this kind for the claims of these gates, with `workers` handles, in the order of their numbers, and
+    /// `feeds` feeds. Each handle and each feed may go to a thread of its own (in Akka an `ExecutorServiceConfigurator`
     /// makes the executor). The only error: memory was refused.
     pub fn new(
         alloc: Global,
@@ -87,7 +87,7 @@ impl<H: MailboxState> Pool<H> {
         kind: PoolKind,
         workers: usize,
         feeds: usize,
-    ) -> Result<(Pool<H>, Vec<PoolEnd<H>>, Vec<Feed<H>>), AllocError>
+    ) -> Result<(Pool<H>, Vec<PoolHandle<H>>, Vec<Feed<H>>), AllocError>
         requires { 0 < workers }
         ensures { IfOk result (λ r. IsNewPool (origin_of gates.now) kind workers feeds r.0 r.1.items r.2.items) }
     {
@@ -99,27 +99,27 @@ impl<H: MailboxState> Pool<H> {
         shared_port.open(gates, ports);
         let pool = pool_of(gates, &shared_port, &deques, workers, feeds);
         let mut doors = shared_ports_of(alloc, shared_port, ports)?;
-        let members = end_deques_of(alloc, deques, workers)?;
-        let ends = ends_of(alloc, &pool, &mut doors, members)?;
+        let members = worker_deques_of(alloc, deques, workers)?;
+        let handles = handles_of(alloc, &pool, &mut doors, members)?;
         let feeds = feeds_of(alloc, &pool, &mut doors, feeds)?;
-        Ok((pool, ends, feeds))
+        Ok((pool, handles, feeds))
     }
 }
 
-/// The pool with these queues and this many ends and feeds.
+/// The pool with these queues and this many handles and feeds.
 fn pool_of<H: MailboxState>(
     gates: &Gates<H>,
     shared_port: &SharedPort<H>,
     deques: &Vec<OwnDeque<H>>,
-    ends: usize,
+    handles: usize,
     feeds: usize,
 ) -> Pool<H>
-    requires { IsWhole (whole_of (origin_of gates.now) (port_view shared_port.now) deques.now.items ends feeds) }
-    ensures { result ≡ whole_of (origin_of gates.now) (port_view shared_port.now) deques.now.items ends feeds }
+    requires { IsWhole (whole_of (origin_of gates.now) (port_view shared_port.now) deques.now.items handles feeds) }
+    ensures { result ≡ whole_of (origin_of gates.now) (port_view shared_port.now) deques.now.items handles feeds }
 {
     Pool {
         actors: gates.actors(),
-        ends,
+        handles,
         feeds,
         gates: Snapshot::of(gates),
         shared_port: Snapshot::of(shared_port),
@@ -127,33 +127,33 @@ fn pool_of<H: MailboxState>(
     }
 }
 
-/// The ends of a new pool, each with one of these ports.
-fn ends_of<H: MailboxState>(
+/// The handles of a new pool, each with one of these ports.
+fn handles_of<H: MailboxState>(
     alloc: Global,
     pool: &Pool<H>,
     doors: &mut Vec<SharedPort<H>>,
-    members: Vec<Option<EndDeques<H>>>,
-) -> Result<Vec<PoolEnd<H>>, AllocError>
+    members: Vec<Option<WorkerDeques<H>>>,
+) -> Result<Vec<PoolHandle<H>>, AllocError>
     requires ports { map port_view doors.old.items ≡ replicate (length members.items + pool.now.feeds) (new_shared_port pool.now) }
     requires open { All (λ m. AreOpen (endpoint_of (new_shared_port pool.now) m)) members.items }
     ensures ports { IfOk result (λ _. map port_view doors.new.items ≡ replicate pool.now.feeds (new_shared_port pool.now)) }
-    ensures ends { IfOk result (λ ends. ends.items ≡ map (endpoint_of (new_shared_port pool.now)) members.items) }
+    ensures handles { IfOk result (λ handles. handles.items ≡ map (endpoint_of (new_shared_port pool.now)) members.items) }
 {
     // Only the contract uses it: how many feeds the pool has, and its ports.
     let _ = pool;
-    let mut ends = Vec::with_capacity(alloc, members.len())?;
+    let mut handles = Vec::with_capacity(alloc, members.len())?;
     for member in members {
         let Some(shared_port) = doors.pop() else {
             unreachable!()
         };
-        ends.push(PoolEnd {
+        handles.push(PoolHandle {
             before: Padding::new(),
             shared_port,
             member,
             behind: Padding::new(),
         })?;
     }
-    Ok(ends)
+    Ok(handles)
 }
 
 /// The feeds of a new pool, each with one of these ports.

@@ -1,12 +1,10 @@
-//! Making the ports of the queue that all ends and feeds share.
+//! Making the ports of the queue that all handles and feeds share.
 ghost use Rattle.std.specs.Prelude.{◌≡◌, ◌<◌, IfOk, map, replicate};
 ghost use Rattle.mb_pool.specs.Begins.{borrowed, bound_of};
 ghost use Rattle.mb_pool.specs.Ledger.{opened, unused};
 ghost use Rattle.mb_pool.specs.Parts.{port_view};
 
-use crate::feed_queue_port::FeedQueuePort;
-use crate::shared_port::SharedPort;
-use crate::slots_port::SlotsPort;
+use crate::shared_port::{FeedQueuePort, SharedPort, SlotsPort};
 use mb_gate::MailboxState;
 use mb_msg::PoolKind;
 use std::alloc::{AllocError, Global};

@@ -1,4 +1,4 @@
-//! A port of another end's deque, which steals from it.
+//! A port of another handle's deque, which steals from it.
 ghost use Rattle.std.specs.Prelude.{◌≡◌, ◌<◌, [], MatchOption};
 ghost use Rattle.crossbeam_deque.specs.Handles.{view, IsPassOf, stealer_deque, stealer_flavor};
 ghost use Rattle.mb_pool.specs.Places.{owner_of};
@@ -13,10 +13,10 @@ use std::alloc::Global;
 use std::marker::Model;
 use std::sync::Wait;
 
-/// Steals from another end's deque.
+/// Steals from another handle's deque.
 #[derive(Drop)]
 pub struct Thief<H: MailboxState> {
-    /// The number of the end whose deque it is.
+    /// The number of the handle whose deque it is.
     pub(crate) number: usize,
     /// The handle by which it steals.
     pub(crate) stealer: Stealer<PooledClaim<H>, Global, PortLedger<H>, PoolRule>,
@@ -39,7 +39,7 @@ impl<H: MailboxState> Model for Thief<H> {
 }
 
 impl<H: MailboxState> Thief<H> {
-    /// The number of the end whose deque it is.
+    /// The number of the handle whose deque it is.
     pub fn number(&self) -> usize
         ensures { result ≡ owner_of self.now.queue }
     {

@@ -1,12 +1,11 @@
 //! A run, from the plan and its actors to the report.
-ghost use Rattle.std.specs.Prelude.{◌≡◌, ◌+◌, [], All, IfErr, IfOk, IfSome, is_some, length};
+ghost use Rattle.std.specs.Prelude.{◌≡◌, [], All, IfErr, IfOk, IfSome, is_some, length};
 ghost use Rattle.mb_dispatch.specs.Runs.{turns_in};
-ghost use Rattle.heddleorange.specs.Kept.{KeepsAsPlanned};
 ghost use Rattle.heddleorange.specs.NoReport.{IsErrorOfRun, IsRight};
 ghost use Rattle.heddleorange.specs.Orders.{lists_of};
-ghost use Rattle.heddleorange.specs.RunHeadline.{RunHeadline};
+ghost use Rattle.heddleorange.specs.ReportsRun.{ReportsRun};
 ghost use Rattle.heddleorange.specs.Turns.{CoverJournals};
-ghost use Rattle.heddleorange.specs.WholeRun.{IsReportOfRun, after_at, gives_at};
+ghost use Rattle.heddleorange.specs.WholeRun.{gives_at};
 
 use crate::orders::lists_of;
 use heddleorange::{Error, FailedRun, QuietRun, Report, Turns, run_in_order, run_on_threads};
@@ -40,11 +39,7 @@ pub fn run<A: Actor + Send, R: Threads + Wait + Sync>(
 ) -> Result<FinishedRun, FailedRun<A>>
     requires unused { All (λ actor. A.content actor ≡ A.after actor []) actors.items }
     requires right { IsRight plan (length actors.items) (lists_of plan.senders sends.now) }
-    ensures ran { IfOk result (λ run. IsReportOfRun (after_at actors.items A.after) (gives_at actors.items A.gives) plan
-        (lists_of plan.senders sends.now) run.report) }
-    ensures headline { IfOk result (λ run. RunHeadline plan (lists_of plan.senders sends.now) run.report) }
-    ensures lines { IfOk result (λ run. length run.report.actors.items ≡ length actors.items + 1) }
-    ensures kept { IfOk result (λ run. KeepsAsPlanned plan run.report) }
+    ensures report { IfOk result (λ run. ReportsRun A.after A.gives plan actors.items (lists_of plan.senders sends.now) run.report) }
     ensures turns { IfOk result (λ run. is_some run.turns ≡ is_quiet) }
     ensures covers { IfOk result (λ run. IfSome run.turns (λ turns. CoverJournals run.report (turns_in turns))) }
     ensures fault { IfErr result (IsErrorOfRun (gives_at actors.items A.gives) plan (length actors.items) (lists_of plan.senders sends.now)) }

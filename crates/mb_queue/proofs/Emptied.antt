@@ -17,7 +17,7 @@ use Rattle.mb_queue.specs.declared.take_order.TakeOrder.TheVariants.{FirstInFirs
 use Rattle.mb_queue.specs.Fates.{NothingLeft}
 use Rattle.mb_queue.specs.Representation.{IsTaking, envelopes_of, gone_of, taking_of, waiting_of}
 use Rattle.mb_queue.specs.Parts.{controls, others}
-use Rattle.mb_queue.specs.Batches.{Begins}
+use Rattle.mb_queue.specs.Batches.{AccountsBegin}
 use Rattle.mb_queue.specs.Steps.{IsStep, RankTakes}
 use Rattle.mb_queue.specs.Takes.{AllBegin, AllOut, IsSameBag}
 use Rattle.mb_queue.proofs.Bags.{count-filter, filter-swap}
@@ -97,7 +97,7 @@ module _ (main : FifoPort) (taken : List Envelope) (accounts : List Account) (ch
       let d = ap (λ l. count_by any (gone ++ l)) h ∙ ap (count_by any) (append-nil gone) in
       let k = ap (λ l. count_by any (taken ++ envelopes_of l)) none ∙ ap (count_by any) (append-nil taken) in
       omega (arith, a, b, c, d, k))
-      (λ h. let next = subst Begins took h sender pushed is in
+      (λ h. let next = subst AccountsBegin took h sender pushed is in
       no_more_came sender pushed taken bag (gone ++ m.fresh) held next.0 e by came next.1)
       m.begins
 

@@ -8,7 +8,7 @@ use Rattle.mb_queue.specs.declared.ledger.Account.{Account}
 use Rattle.mb_queue.specs.declared.ledger.Ledger.{Ledger}
 use Rattle.mb_queue.specs.declared.ledger.Ledger.TheVariants.{Sender, Taker, Spent}
 use Rattle.mb_queue.specs.declared.ledger.Scope.{Scope}
-use Rattle.mb_queue.specs.Batches.{giving, given_by, taking_all, Begins, FoundBatch, IsBatchOf, IsBatched}
+use Rattle.mb_queue.specs.Batches.{giving, given_by, taking_all, AccountsBegin, FoundBatch, IsBatchOf, IsBatched}
 use Rattle.mb_queue.specs.Ledger.{borrowing, joining, lending, lent, sent_by, taking, IsSender, IsTaker, IsUnused, MayLend}
 use Rattle.mb_queue.specs.Port.{FifoPort}
 use Rattle.mb_queue.specs.Representation.{gone_of, scope_in}
@@ -129,7 +129,7 @@ module _ (capacity : Option ℕ) where
   -- a port is joined
 
   pub joined_kept : (v own : Ledger) (batch given : List Envelope) → IsBatchOf capacity batch given v → IsSender own
-      → (capacity ≡ None → Begins (joining v own)) → IsBatchOf capacity batch given (joining v own)
+      → (capacity ≡ None → AccountsBegin (joining v own)) → IsBatchOf capacity batch given (joining v own)
   joined_kept (Sender scope by pushed) own batch given kept is begins = absurd kept
   joined_kept (Taker scope taken accounts) (Sender scope' by pushed) batch given kept is begins =
       (kept.0, kept.1, λ some. ((kept.2 some).0, begins (kept.2 some).0))

@@ -12,14 +12,14 @@ use Rattle.slab.specs.Slab.{Slab, Updates, get, slab_len}
 use Rattle.mb_msg.specs.declared.envelope.Envelope.{Envelope}
 use Rattle.mb_queue.specs.declared.rank_key.RankKey.{RankKey}
 use Rattle.mb_queue.specs.declared.waiting.Arrival.{Arrival}
-use Rattle.mb_queue.specs.WaitingHeap.{IsKept, LiesIn, same_slot, rank_heap_cmp}
+use Rattle.mb_queue.specs.WaitingHeap.{IsWaitingHeap, LiesIn, same_slot, rank_heap_cmp}
 use Rattle.mb_queue.proofs.Slots.{comes, comes_apart, goes, goes_apart, stays_apart}
 
 abbrev Keys : Type 0
 Keys = BinaryHeap (Reverse RankKey) Global
 
 pub nothing : (keys : Keys) (envelopes : Slab Envelope) → heap_items keys ≡ [] → IsHeap rank_heap_cmp (heap_items keys)
-    → 1024 ≤ heap_capacity keys → envelopes.slots ≡ [] → 1024 ≤ envelopes.capacity → IsKept keys envelopes
+    → 1024 ≤ heap_capacity keys → envelopes.slots ≡ [] → 1024 ≤ envelopes.capacity → IsWaitingHeap keys envelopes
 nothing keys envelopes none ordered room vacant slots =
     let empty : length (heap_items keys) ≡ 0 = ap length none in
     record {
@@ -32,11 +32,11 @@ nothing keys envelopes none ordered room vacant slots =
       apart = IsDistinct-from_apart same_slot (heap_items keys) (λ i j d before few. absurd (omega (arith, few, empty)));
     }
 
-module _ (keys keys' : Keys) (envelopes envelopes' : Slab Envelope) (x : Reverse RankKey) (kept : IsKept keys envelopes) where
+module _ (keys keys' : Keys) (envelopes envelopes' : Slab Envelope) (x : Reverse RankKey) (kept : IsWaitingHeap keys envelopes) where
   pub one_more : length (heap_items keys) < 1024 → (envelope : Envelope) → x.0.envelope.value ≡ envelope
       → get envelopes x.0.slot ≡ None → Updates envelopes envelopes' x.0.slot (Some envelope) → slab_len envelopes' ≡ slab_len envelopes + 1
       → envelopes'.capacity ≡ envelopes.capacity → IsPermutation (x ∷ heap_items keys) (heap_items keys')
-      → IsHeap rank_heap_cmp (heap_items keys') → heap_capacity keys ≤ heap_capacity keys' → IsKept keys' envelopes'
+      → IsHeap rank_heap_cmp (heap_items keys') → heap_capacity keys ≤ heap_capacity keys' → IsWaitingHeap keys' envelopes'
   one_more few envelope is vacant updates counted slots same ordered room =
       let long = length_permutation (x ∷ heap_items keys) (heap_items keys') same in
       let put = subst (λ e. Updates envelopes envelopes' x.0.slot (Some e)) (sym is) updates in
@@ -52,7 +52,7 @@ module _ (keys keys' : Keys) (envelopes envelopes' : Slab Envelope) (x : Reverse
 
   pub one_less : IsPermutation (heap_items keys) (x ∷ heap_items keys') → IsHeap rank_heap_cmp (heap_items keys')
       → heap_capacity keys' ≡ heap_capacity keys → Updates envelopes envelopes' x.0.slot None → slab_len envelopes' + 1 ≡ slab_len envelopes
-      → envelopes'.capacity ≡ envelopes.capacity → IsKept keys' envelopes'
+      → envelopes'.capacity ≡ envelopes.capacity → IsWaitingHeap keys' envelopes'
   one_less same ordered room updates counted slots =
       let long = length_permutation (heap_items keys) (x ∷ heap_items keys') same in
       let distinct = goes_apart x (heap_items keys') (heap_items keys) same kept.apart in
@@ -68,7 +68,7 @@ module _ (keys keys' : Keys) (envelopes envelopes' : Slab Envelope) (x : Reverse
       }
 
 -- the envelope that is found in the slot of the first is its own
-pub found : (keys keys' : Keys) (envelopes : Slab Envelope) (x : Reverse RankKey) → IsKept keys envelopes
+pub found : (keys keys' : Keys) (envelopes : Slab Envelope) (x : Reverse RankKey) → IsWaitingHeap keys envelopes
     → IsPermutation (heap_items keys) (x ∷ heap_items keys') → (envelope : Envelope) → get envelopes x.0.slot ≡ Some envelope
     → x.0.envelope.value ≡ envelope
 found keys keys' envelopes x kept same envelope got =

@@ -13,7 +13,7 @@ use Rattle.mb_queue.specs.Port.{FifoPort}
 use Rattle.mb_queue.specs.Rule.{Belongs}
 use Rattle.mb_queue.specs.declared.take_order.TakeOrder.{TakeOrder}
 use Rattle.mb_queue.specs.declared.take_order.TakeOrder.TheVariants.{FirstInFirstOut, ControlFirst, ByRank}
-use Rattle.mb_queue.specs.Representation.{IsSending, IsTaking, Took, control_of, envelopes_of, gone_of, queue_of, parted, sending, scope_in, taking_of}
+use Rattle.mb_queue.specs.Representation.{IsSending, IsTaking, Took, control_of, envelopes_of, gone_of, queue_of, parted, sending_of, scope_in, taking_of}
 use Rattle.mb_queue.specs.Lent.{MayLendControl, order_lent, port_lent}
 use Rattle.mb_queue.specs.Made.{unused}
 use Rattle.mb_queue.specs.Parts.{accounts_of, controls, others}
@@ -139,7 +139,7 @@ take_is s main (ByRank choice) taken accounts kept =
     }
 
 pub send_is : (s : ℕ) (main : FifoPort) (order : TakeOrder) (taken : List Envelope) (accounts : List Account) → IsTaking main order taken accounts
-    → sending s (own_lent s main) (port_lent s order) [] ≡ unused (queue_of main (control_of order)) s
+    → sending_of s (own_lent s main) (port_lent s order) [] ≡ unused (queue_of main (control_of order)) s
 send_is s main FirstInFirstOut taken accounts kept =
     ap (λ l. unused (record (queue_of main None) { senders = l.senders; to = l.to }) s)
     (own_scope s (scope_in main.ledger) Whole taken accounts main kept)

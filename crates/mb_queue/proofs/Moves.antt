@@ -13,20 +13,20 @@ use Rattle.mb_queue.specs.declared.ledger.Ledger.{Ledger}
 use Rattle.mb_queue.specs.declared.ledger.Scope.{Scope}
 use Rattle.mb_queue.specs.declared.ledger.Ledger.TheVariants.{Sender, Taker, Spent}
 use Rattle.mb_queue.specs.Ledger.{sent_by, lent, home, IsOfPart, IsSender, IsTaker, MayLend, MayPush, unsettled, pushing, taking, lending}
-use Rattle.mb_queue.specs.Batches.{pushing_all, taking_all, Begins, FoundAll}
+use Rattle.mb_queue.specs.Batches.{pushing_all, taking_all, AccountsBegin, FoundAll}
 use Rattle.mb_queue.specs.Ledger.{borrowing, joining}
-use Rattle.mb_queue.specs.Rule.{Belongs, Fits, FifoHolds, FoundFull, FoundEmpty, FoundNext}
+use Rattle.mb_queue.specs.Rule.{Belongs, LedgerAgrees, FifoHolds, FoundFull, FoundEmpty, FoundNext}
 use Rattle.mb_queue.proofs.Lists.{Each, each_set, each_more, at_end, handed, handed-same, handed-other, sent_by-mine, sent_by-other, account-cases}
 use Rattle.mb_queue.proofs.Lists.{none_known, none_within, All-behind}
 use Rattle.crossbeam_queue.proofs.Lists.{set_again}
 
 module _ (scope : Scope) (holder : ℕ → ℕ) (taker : ℕ) (taken all : List Envelope) where
   abbrev Now : ℕ → Ledger → Type 0
-  Now = Fits scope holder taker taken all
+  Now = LedgerAgrees scope holder taker taken all
 
   -- a push by the holder of its sender's account changes nothing for the other ports
   push_else : (e : Envelope) (port j : ℕ) (u : Ledger) → port ≡ holder e.by.0 → j ≢ port → Now j u
-      → Fits scope holder taker taken (all ++ e ∷ []) j u
+      → LedgerAgrees scope holder taker taken (all ++ e ∷ []) j u
   push_else e port j (Sender ours by pushed) at ne f =
       (f.0, f.1, f.2, f.3 ∙ sym (sent_by-other by all e (λ same. ne (f.2 ∙ ap holder same ∙ sym at))))
   push_else e port j (Taker ours gone accounts) at ne f =
@@ -34,13 +34,13 @@ module _ (scope : Scope) (holder : ℕ → ℕ) (taker : ℕ) (taken all : List 
   push_else e port j Spent at ne f = tt
 
   -- a take changes nothing for them
-  take_else : (more : List Envelope) (port j : ℕ) (u : Ledger) → port ≡ taker → j ≢ port → Now j u → Fits scope holder taker more all j u
+  take_else : (more : List Envelope) (port j : ℕ) (u : Ledger) → port ≡ taker → j ≢ port → Now j u → LedgerAgrees scope holder taker more all j u
   take_else more port j (Sender ours by pushed) at ne f = f
   take_else more port j (Taker ours gone accounts) at ne f = absurd (ne (f.1 ∙ sym at))
   take_else more port j Spent at ne f = tt
 
   -- nor does an account that goes to another port than these
-  hand_else : (s from to j : ℕ) (u : Ledger) → from ≡ holder s → j ≢ from → Now j u → Fits scope (handed holder s to) taker taken all j u
+  hand_else : (s from to j : ℕ) (u : Ledger) → from ≡ holder s → j ≢ from → Now j u → LedgerAgrees scope (handed holder s to) taker taken all j u
   hand_else s from to j (Sender ours by pushed) at ne f =
       (f.0, f.1, f.2 ∙ handed-other holder s to by (λ same. ne (f.2 ∙ ap holder same ∙ sym at)), f.3)
   hand_else s from to j (Taker ours gone accounts) at ne f =
@@ -49,8 +49,8 @@ module _ (scope : Scope) (holder : ℕ → ℕ) (taker : ℕ) (taken all : List 
 
 module _ (scope before : Scope) (holder : ℕ → ℕ) (taker : ℕ) (taken all : List Envelope) where
   -- before the scope is fixed no other port knows anything
-  open_else : (port j : ℕ) (u : Ledger) → before.senders ≡ [] → port ≡ taker → j ≢ port → Fits before holder taker taken all j u
-      → Fits scope holder taker taken all j u
+  open_else : (port j : ℕ) (u : Ledger) → before.senders ≡ [] → port ≡ taker → j ≢ port → LedgerAgrees before holder taker taken all j u
+      → LedgerAgrees scope holder taker taken all j u
   open_else port j (Sender ours by pushed) none at ne f = absurd (none_within before.senders by none f.1)
   open_else port j (Taker ours gone accounts) none at ne f = absurd (ne (f.1 ∙ sym at))
   open_else port j Spent none at ne f = tt
@@ -67,7 +67,7 @@ begins = record {
   taken = [];
   known = λ k x h. absurd (omega arith);
   fits = λ port u e. ⊎_elim (λ h. absurd (some-ne-none u (sym h)))
-      (λ h. subst (λ (y : ℕ × Ledger). Fits unsettled (λ _. 0) 0 [] [] y.0 y.1) (λ i. (sym h.0 i, h.1 i))
+      (λ h. subst (λ (y : ℕ × Ledger). LedgerAgrees unsettled (λ _. 0) 0 [] [] y.0 y.1) (λ i. (sym h.0 i, h.1 i))
       (refl, refl, refl, λ s l is. (refl, let q : Some [] ≡ Some l = is in cc))) (at_end [] (Taker unsettled [] []) u port e);
 }
 
@@ -77,7 +77,7 @@ pushes n port (Sender ours by pushed) x may = λ items views room h at.
     let all : List Envelope = h.taken ++ items in
     let more : (h.taken ++ (items ++ x ∷ [])) ≡ all ++ x ∷ [] = sym (append_assoc h.taken items (x ∷ [])) in
     let at_x : port ≡ h.holder x.by.0 = mine.2 ∙ ap h.holder may.0 in
-    let F : List Envelope → ℕ → Ledger → Type 0 = λ l. Fits h.scope h.holder h.taker h.taken l in (
+    let F : List Envelope → ℕ → Ledger → Type 0 = λ l. LedgerAgrees h.scope h.holder h.taker h.taken l in (
       Sender ours by (pushed ++ x ∷ []),
       record {
         scope = h.scope;
@@ -105,7 +105,7 @@ takes port (Taker ours gone accounts) is = λ x items views h at.
     let mine = h.fits port (Taker ours gone accounts) at in
     let more : h.taken ++ (x ∷ items) ≡ (h.taken ++ x ∷ []) ++ items = sym (append_assoc h.taken (x ∷ []) items) in
     let taken : List Envelope = h.taken ++ x ∷ [] in
-    let F : List Envelope → ℕ → Ledger → Type 0 = λ l. Fits h.scope h.holder h.taker taken l in
+    let F : List Envelope → ℕ → Ledger → Type 0 = λ l. LedgerAgrees h.scope h.holder h.taker taken l in
     let all : List Envelope = h.taken ++ (x ∷ items) in (
       Taker ours (gone ++ x ∷ []) accounts,
       record {
@@ -139,7 +139,7 @@ opens scope port v is items views h at' =
     let at : get_elem? views port ≡ some (Taker unsettled [] []) = subst (λ (y : Ledger). get_elem? views port ≡ some y) is at' in
     let mine = h.fits port (Taker unsettled [] []) at in let none : h.scope.senders ≡ [] = ap (λ (l : Scope). l.senders) (sym mine.0) in
     let all : List Envelope = h.taken ++ items in let left : Ledger = Taker scope [] [] in
-    let F : ℕ → Ledger → Type 0 = Fits scope h.holder h.taker h.taken all in record {
+    let F : ℕ → Ledger → Type 0 = LedgerAgrees scope h.holder h.taker h.taken all in record {
       scope = scope;
       holder = h.holder;
       taker = h.taker;
@@ -156,7 +156,7 @@ lends s port (Taker ours gone accounts) may = λ items views h at.
     let mine = h.fits port (Taker ours gone accounts) at in let had = mine.3 s [] may.1 in
     let all : List Envelope = h.taken ++ items in let left : Ledger = Taker ours gone (accounts ++ lent s ∷ []) in
     let to : ℕ = length (set views port left) in
-    let F : ℕ → Ledger → Type 0 = Fits h.scope (handed h.holder s to) h.taker h.taken all in record {
+    let F : ℕ → Ledger → Type 0 = LedgerAgrees h.scope (handed h.holder s to) h.taker h.taken all in record {
       scope = h.scope;
       holder = handed h.holder s to;
       taker = h.taker;
@@ -184,7 +184,7 @@ joins port (Taker ours gone accounts) other (Sender ours' by pushed) is by_s = �
     ⊎_elim (λ x. absurd (two x.0)) (λ x. x.1) (at_set views port other both (Sender ours' by pushed) at') in
     let theirs = h.fits other (Sender ours' by pushed) was in
     let all : List Envelope = h.taken ++ items in
-    let F : ℕ → Ledger → Type 0 = Fits h.scope (handed h.holder by port) h.taker h.taken all in
+    let F : ℕ → Ledger → Type 0 = LedgerAgrees h.scope (handed h.holder by port) h.taker h.taken all in
     let G : ℕ → Ledger → Type 0 = λ j u. j ≢ other → F j u in
     let now : Each G (set views port both) = each_set G views port both
     (λ apart. (
@@ -254,7 +254,7 @@ takes_all port (Taker ours gone accounts) is items views h at =
     let mine = h.fits port (Taker ours gone accounts) at in
     let all : List Envelope = h.taken ++ items in
     let none_left : all ≡ all ++ [] = sym (append-nil all) in
-    let F : List Envelope → ℕ → Ledger → Type 0 = λ l. Fits h.scope h.holder h.taker all l in (
+    let F : List Envelope → ℕ → Ledger → Type 0 = λ l. LedgerAgrees h.scope h.holder h.taker all l in (
       record {
         scope = h.scope;
         holder = h.holder;
@@ -273,7 +273,7 @@ takes_all port (Taker ours gone accounts) is items views h at =
     )
 takes_all port Spent is items views h at = absurd is
 
-pub begun : (port : ℕ) (v : Ledger) → IsTaker v → Learns FifoHolds port v (λ _. Begins v)
+pub begun : (port : ℕ) (v : Ledger) → IsTaker v → Learns FifoHolds port v (λ _. AccountsBegin v)
 begun port (Sender ours by pushed) is = absurd is
 begun port (Taker ours gone accounts) is = λ items views h at s pushed its. let mine = h.fits port (Taker ours gone accounts) at in (
   sent_by s items,

@@ -1,15 +1,14 @@
 -- What a take tells, whether it gave an envelope or none.
 use Rattle.std.proofs.Common.{◌≡◌, List, [], ◌∷◌, ◌++◌, refl, sym, subst, Option, Some, None, MatchOption}
 use Rattle.std.proofs.lemmas.List.{append-nil}
-use Rattle.std.specs.List.{Contains}
 use Rattle.std.specs.Prelude.{IfNone, IfSome, option_to_list}
 use Rattle.mb_msg.specs.declared.envelope.Envelope.{Envelope}
 use Rattle.mb_queue.specs.declared.ledger.Account.{Account}
 use Rattle.mb_queue.specs.declared.take_order.TakeOrder.{TakeOrder}
-use Rattle.mb_queue.specs.Fates.{AllJoined, InOrder, NothingLeft}
-use Rattle.mb_queue.specs.Passes.{first_in_first_out}
+use Rattle.mb_queue.specs.Fates.{AllJoined, HasGivenAll, InOrder, NothingLeft}
+use Rattle.mb_queue.specs.Passes.{IsOfQueue, first_in_first_out}
 use Rattle.mb_queue.specs.Port.{FifoPort}
-use Rattle.mb_queue.specs.Representation.{IsTakePass, IsTaking, discipline_in, scope_in, taking_of}
+use Rattle.mb_queue.specs.Representation.{IsTakePass, IsTaking, control_of, discipline_in, queue_of, taking_of}
 use Rattle.mb_queue.specs.Steps.{IsStep}
 use Rattle.mb_queue.specs.Takes.{EachOnce, IsTake}
 use Rattle.mb_queue.proofs.Emptied.{emptied, none_held}
@@ -34,13 +33,9 @@ module _ (main : FifoPort) (order : TakeOrder) (taken : List Envelope) (accounts
       subst (λ l. IsTakePass main' order' l accounts) (sym more) (pass-some main order taken accounts e main' order' kept step)
 
   module _ (kept : IsTaking main order taken accounts) where
-    pub sender-next : (r : Option Envelope) → IsStep main order r main' order' → IfSome r (λ e. Contains (scope_in main.ledger).senders e.by.0)
-    sender-next None step = tt
-    sender-next (Some e) step = (given_known main order taken accounts e main' order' kept step).0
-
-    pub addressed-next : (r : Option Envelope) → IsStep main order r main' order' → IfSome r (λ e. e.to.0 ≡ (scope_in main.ledger).to)
-    addressed-next None step = tt
-    addressed-next (Some e) step = (given_known main order taken accounts e main' order' kept step).1
+    pub of_queue-next : (r : Option Envelope) → IsStep main order r main' order' → IfSome r (IsOfQueue (queue_of main (control_of order)))
+    of_queue-next None step = tt
+    of_queue-next (Some e) step = given_known main order taken accounts e main' order' kept step
 
     pub take-next : (r : Option Envelope) → IsStep main order r main' order' → IsNoted r
         → IsTake (discipline_in order) (taking_of main order taken accounts) r (taking_of main' order' taken' accounts)
@@ -51,12 +46,12 @@ module _ (main : FifoPort) (order : TakeOrder) (taken : List Envelope) (accounts
         subst (λ l. IsTake (discipline_in order) (taking_of main order taken accounts) (Some e) (taking_of main' order' l accounts)) (sym more)
         (take_some main order taken accounts e main' order' kept step)
 
-    pub once-next : (r : Option Envelope) → IsStep main order r main' order' → IsNoted r → IfNone r (EachOnce (taking_of main' order' taken' accounts))
+    once-next : (r : Option Envelope) → IsStep main order r main' order' → IsNoted r → IfNone r (EachOnce (taking_of main' order' taken' accounts))
     once-next None step same =
         subst (λ l. EachOnce (taking_of main' order' l accounts)) (sym same) (each_once main order taken accounts main' order' kept step)
     once-next (Some e) step more = tt
 
-    pub order-next : (r : Option Envelope) → IsStep main order r main' order' → IsNoted r
+    order-next : (r : Option Envelope) → IsStep main order r main' order' → IsNoted r
         → IfNone r (discipline_in order ≡ first_in_first_out → InOrder (taking_of main' order' taken' accounts))
     order-next None step same = λ is.
         subst (λ l. InOrder (taking_of main' order' l accounts)) (sym same)
@@ -64,7 +59,7 @@ module _ (main : FifoPort) (order : TakeOrder) (taken : List Envelope) (accounts
         (take_none main order taken accounts main' order' kept step)).1
     order-next (Some e) step more = tt
 
-    pub emptied-next : (r : Option Envelope) → IsStep main order r main' order' → IsNoted r
+    emptied-next : (r : Option Envelope) → IsStep main order r main' order' → IsNoted r
         → IfNone r (AllJoined (taking_of main' order' taken' accounts) → NothingLeft (taking_of main' order' taken' accounts))
     emptied-next None step same = λ joined. (
       joined,
@@ -72,6 +67,15 @@ module _ (main : FifoPort) (order : TakeOrder) (taken : List Envelope) (accounts
       none_held main order main' order' step,
     )
     emptied-next (Some e) step more = tt
+
+    pub given_all-next : (r : Option Envelope) → IsStep main order r main' order' → IsNoted r
+        → IfNone r (HasGivenAll (discipline_in order) (taking_of main' order' taken' accounts))
+    given_all-next None step same = record {
+      each_once = once-next None step same;
+      in_order = order-next None step same;
+      emptied = emptied-next None step same;
+    }
+    given_all-next (Some e) step more = tt
 
     pub ended-next : (r : Option Envelope) → IsStep main order r main' order' → NothingLeft (taking_of main order taken accounts) → r ≡ None
     ended-next None step nothing = refl

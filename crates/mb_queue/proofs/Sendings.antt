@@ -12,8 +12,8 @@ use Rattle.mb_queue.specs.Ledger.{MayPush, is_control, pushing}
 use Rattle.mb_queue.specs.Parts.{controls, others}
 use Rattle.mb_queue.specs.Port.{FifoPort}
 use Rattle.mb_queue.specs.Passes.{SendPassView}
-use Rattle.mb_queue.specs.Pushes.{IsForControl, IsForMain, IsPushed, IsReason}
-use Rattle.mb_queue.specs.Representation.{IsSending, parted, scope_in, sending}
+use Rattle.mb_queue.specs.Pushes.{IsForControl, IsForMain, IsPushed, IsReasonToRefuse}
+use Rattle.mb_queue.specs.Representation.{IsSending, parted, scope_in, sending_of}
 use Rattle.mb_queue.specs.Rule.{IsFifoRefusal}
 use Rattle.mb_queue.specs.declared.refused.Refusal.{Refusal}
 use Rattle.mb_queue.specs.declared.refused.Refusal.TheVariants as why
@@ -66,11 +66,11 @@ module _ (by : ℕ) (main : FifoPort) (pushed : List Envelope) (e : Envelope) wh
           was.3,
         )
 
-    pub main-is : sending by now control (pushed ++ e ∷ []) ≡ record (sending by main control pushed) { pushed = pushed ++ e ∷ [] }
+    pub main-is : sending_of by now control (pushed ++ e ∷ []) ≡ record (sending_of by main control pushed) { pushed = pushed ++ e ∷ [] }
     main-is =
-        ap (λ (p : FifoPort). sending by p control (pushed ++ e ∷ [])) after
-        ∙ ap (λ (s : Scope). record (sending by main control pushed) {
-          queue = record (sending by main control pushed).queue { senders = s.senders; to = s.to };
+        ap (λ (p : FifoPort). sending_of by p control (pushed ++ e ∷ [])) after
+        ∙ ap (λ (s : Scope). record (sending_of by main control pushed) {
+          queue = record (sending_of by main control pushed).queue { senders = s.senders; to = s.to };
           pushed = pushed ++ e ∷ [];
         }) (scope-pushing e main.ledger)
 
@@ -107,17 +107,17 @@ module _ {T : Type 0} (by : ℕ) (main : FifoPort) (pushed : List Envelope) (e :
       control-after (Err x) kept is did =
           subst (λ (p : FifoPort × List Envelope). IsSending by main (Some p.0) p.1) (λ i. (sym did.0 i, sym did.1 i)) kept
 
-      pub control-seen : (r : Result T Refusal) → sending by main (Some control) pushed ≡ v → IsPushed e r control now pushed after →
-          IsSeen e r v (sending by main (Some now) after)
+      pub control-seen : (r : Result T Refusal) → sending_of by main (Some control) pushed ≡ v → IsPushed e r control now pushed after →
+          IsSeen e r v (sending_of by main (Some now) after)
       control-seen (Ok x) view did =
-          (λ i. sending by main (Some (did.0 i)) (did.1 i)) ∙ ap (λ (u : SendPassView). record u { pushed = u.pushed ++ e ∷ [] }) view
-      control-seen (Err x) view did = (λ i. sending by main (Some (did.0 i)) (did.1 i)) ∙ view
+          (λ i. sending_of by main (Some (did.0 i)) (did.1 i)) ∙ ap (λ (u : SendPassView). record u { pushed = u.pushed ++ e ∷ [] }) view
+      control-seen (Err x) view did = (λ i. sending_of by main (Some (did.0 i)) (did.1 i)) ∙ view
 
-      pub control-refused : (r : Result T Refusal) → IsSending by main (Some control) pushed → sending by main (Some control) pushed ≡ v →
-          IfErr r (IsFifoRefusal control.fifo.capacity control.ledger) → IfErr r (IsReason v)
+      pub control-refused : (r : Result T Refusal) → IsSending by main (Some control) pushed → sending_of by main (Some control) pushed ≡ v →
+          IfErr r (IsFifoRefusal control.fifo.capacity control.ledger) → IfErr r (IsReasonToRefuse v)
       control-refused (Ok x) kept view found = found
       control-refused (Err why.Full) kept view found = let never : None ≡ Some found.0 = sym kept.3 ∙ found.1 in absurd (cc)
-      control-refused (Err why.NoMemory) kept view found = subst (λ (u : SendPassView). IsReason u why.NoMemory) view kept.2
+      control-refused (Err why.NoMemory) kept view found = subst (λ (u : SendPassView). IsReasonToRefuse u why.NoMemory) view kept.2
 
     module _ (control : Option FifoPort) where
       pub main-after : (r : Result T Refusal) → IsSending by main control pushed → IsForMain control e → IsPushed e r main now pushed after →
@@ -126,14 +126,14 @@ module _ {T : Type 0} (by : ℕ) (main : FifoPort) (pushed : List Envelope) (e :
       main-after (Err x) kept is did =
           subst (λ (p : FifoPort × List Envelope). IsSending by p.0 control p.1) (λ i. (sym did.0 i, sym did.1 i)) kept
 
-      pub main-seen : (r : Result T Refusal) → sending by main control pushed ≡ v → IsPushed e r main now pushed after →
-          IsSeen e r v (sending by now control after)
+      pub main-seen : (r : Result T Refusal) → sending_of by main control pushed ≡ v → IsPushed e r main now pushed after →
+          IsSeen e r v (sending_of by now control after)
       main-seen (Ok x) view did =
-          ap (sending by now control) did.1
+          ap (sending_of by now control) did.1
           ∙ (main-is by main pushed e control now did.0 ∙ ap (λ (u : SendPassView). record u { pushed = u.pushed ++ e ∷ [] }) view)
-      main-seen (Err x) view did = (λ i. sending by (did.0 i) control (did.1 i)) ∙ view
+      main-seen (Err x) view did = (λ i. sending_of by (did.0 i) control (did.1 i)) ∙ view
 
-      pub main-refused : (r : Result T Refusal) → IsSending by main control pushed → sending by main control pushed ≡ v →
-          IfErr r (IsFifoRefusal main.fifo.capacity main.ledger) → IfErr r (IsReason v)
+      pub main-refused : (r : Result T Refusal) → IsSending by main control pushed → sending_of by main control pushed ≡ v →
+          IfErr r (IsFifoRefusal main.fifo.capacity main.ledger) → IfErr r (IsReasonToRefuse v)
       main-refused (Ok x) kept view found = found
-      main-refused (Err x) kept view found = subst (λ (u : SendPassView). IsReason u x) view (refused by main control pushed x kept found)
+      main-refused (Err x) kept view found = subst (λ (u : SendPassView). IsReasonToRefuse u x) view (refused by main control pushed x kept found)

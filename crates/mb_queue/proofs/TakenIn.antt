@@ -16,7 +16,7 @@ use Rattle.mb_queue.specs.Rank.{rank_of}
 use Rattle.mb_queue.specs.declared.priority_state.PriorityState.{PriorityState}
 use Rattle.mb_queue.specs.Representation.{scope_in}
 use Rattle.mb_queue.specs.Takes.{arrivals_from}
-use Rattle.mb_queue.specs.Batches.{taking_all, Begins}
+use Rattle.mb_queue.specs.Batches.{taking_all, AccountsBegin}
 use Rattle.mb_queue.specs.Steps.{OneMore, TakesMore}
 
 taking_all-none : (l : Ledger) → taking_all l [] ≡ l
@@ -39,7 +39,7 @@ arrivals_from-more rows other number (x ∷ es) e = let n : (number + 1) + lengt
     (arrivals_from-more rows other (number + 1) es e
     ∙ ap (λ k. arrivals_from rows other (number + 1) es ++ record { rank = rank_of rows other e.body; number = k; envelope = e } ∷ []) n)
 
-begins_next : (l : Ledger) (e : Envelope) → fifo.FoundNext l e → Begins (taking l e)
+begins_next : (l : Ledger) (e : Envelope) → fifo.FoundNext l e → AccountsBegin (taking l e)
 begins_next (Sender scope by pushed) e found = found
 begins_next (Taker scope taken accounts) e found = found.1
 begins_next Spent e found = found
@@ -86,7 +86,7 @@ one_more old port mid port' new port'' m o =
       other = o.other ∙ m.other;
       next = omega (arith, o.next, m.next, length-append es (e ∷ []));
       came = o.came.0 ∙ (λ i. record { fifo = lan i; ledger = (ap (λ l. taking l e) led ∙ taking_all-more port.ledger es e) i });
-      begins = inr (subst (λ (p : FifoPort). Begins p.ledger) (sym o.came.0) (begins_next port'.ledger e o.came.1));
+      begins = inr (subst (λ (p : FifoPort). AccountsBegin p.ledger) (sym o.came.0) (begins_next port'.ledger e o.came.1));
       known = All-push (fifo.Belongs (scope_in port.ledger)) es e m.known
           (subst (λ l. fifo.Belongs l e) (ap scope_in led ∙ scope_all port.ledger es) (found_known port'.ledger e o.came.1));
       held = subst (λ l. IsPermutation (old.waiting ++ l) new.waiting) (sym (arrivals_from-more old.ranks old.other old.next es e))

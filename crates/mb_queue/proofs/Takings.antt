@@ -17,7 +17,7 @@ use Rattle.mb_queue.specs.declared.take_order.TakeOrder.{TakeOrder}
 use Rattle.mb_queue.specs.declared.take_order.TakeOrder.TheVariants.{FirstInFirstOut, ControlFirst, ByRank}
 use Rattle.mb_queue.specs.Representation.{IsTaking, Took, envelopes_of, gone_of, parted, scope_in, taking_of, discipline_in}
 use Rattle.mb_queue.specs.Parts.{accounts_of, controls, others, whole}
-use Rattle.mb_queue.specs.Batches.{Begins, taking_all}
+use Rattle.mb_queue.specs.Batches.{AccountsBegin, taking_all}
 use Rattle.mb_queue.specs.Steps.{IsStep, RankTakes, TakesOf}
 use Rattle.mb_queue.specs.Takes.{AllBegin, AllOut, EachOnce, IsSameBag, IsTake, TakesByRank, arrivals_from}
 use Rattle.mb_queue.proofs.Bags.{all_chosen, all_held, bag_given, bag_none, once_by_rank, once_of_parts, once_of_whole}
@@ -167,7 +167,7 @@ module _ (main : FifoPort) (taken : List Envelope) (accounts : List Account) whe
           arrivals = came_in result choice' main' step;
           room = step.taken_in.room;
           enough = ⊎_elim (λ h. inl h) (λ h. inr (found_empty ours Whole (gone_of main'.ledger) accounts main' at_out h)) step.taken_in.enough;
-          next = ⊎_elim (λ h. inl h) (λ h. inr (subst Begins at_out h)) m.begins;
+          next = ⊎_elim (λ h. inl h) (λ h. inr (subst AccountsBegin at_out h)) m.begins;
           choice = step.choice;
         }
 

@@ -31,10 +31,10 @@ FoundBatch (Taker scope taken accounts) es = All (Belongs scope) es × FifoAllBe
 FoundBatch Spent es = ⊥
 
 -- each account that came back begins with what was taken from the fifo
-abbrev pub Begins : Ledger → Type 0
-Begins (Sender scope by pushed) = ⊥
-Begins (Taker scope taken accounts) = FifoAllBegin accounts taken
-Begins Spent = ⊥
+abbrev pub AccountsBegin : Ledger → Type 0
+AccountsBegin (Sender scope by pushed) = ⊥
+AccountsBegin (Taker scope taken accounts) = FifoAllBegin accounts taken
+AccountsBegin Spent = ⊥
 
 -- what the port's owner knows: of what was taken from the fifo, only this was given
 abbrev pub giving : Ledger → List Envelope → Ledger

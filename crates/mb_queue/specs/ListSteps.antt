@@ -3,7 +3,7 @@ use Rattle.std.specs.Prelude.{◌≡◌, ◌≢◌, ℕ, List, [], ◌∷◌, le
 use Rattle.atomic_table.specs.Table.{Me, Step, rest}
 use Rattle.mb_msg.specs.declared.envelope.Envelope.{Envelope}
 use Rattle.mb_queue.specs.declared.known.Known.{Known}
-use Rattle.mb_queue.specs.Batches.{pushing_all, taking_all, FoundAll, Begins}
+use Rattle.mb_queue.specs.Batches.{pushing_all, taking_all, FoundAll, AccountsBegin}
 use Rattle.mb_queue.specs.Rule.{FoundEmpty}
 use Rattle.mb_queue.specs.ListRule.{Envelopes, unlocked, having_locked}
 
@@ -39,4 +39,4 @@ Looks st me n me' = (me' ≡ me) × (n ≡ 0 → FoundEmpty me.0.ledger)
 
 -- nothing changed, and each account that came back begins with what was taken
 abbrev pub Learns : Step Envelopes → Me Envelopes Known → ℕ → Me Envelopes Known → Type 0
-Learns st me n me' = (me' ≡ me) × Begins me.0.ledger
+Learns st me n me' = (me' ≡ me) × AccountsBegin me.0.ledger

@@ -23,9 +23,9 @@ IsRefusal pass (Full e) = (most : ℕ) × (pass.queue.main.capacity ≡ Some mos
 IsRefusal pass (NoMemory e) = pass.queue.main.capacity ≡ None
 
 -- the same, by the reason alone
-abbrev pub IsReason : SendPassView → Refusal → Type 0
-IsReason pass why.Full = (most : ℕ) × (pass.queue.main.capacity ≡ Some most) × WasFull most pass
-IsReason pass why.NoMemory = pass.queue.main.capacity ≡ None
+abbrev pub IsReasonToRefuse : SendPassView → Refusal → Type 0
+IsReasonToRefuse pass why.Full = (most : ℕ) × (pass.queue.main.capacity ≡ Some most) × WasFull most pass
+IsReasonToRefuse pass why.NoMemory = pass.queue.main.capacity ≡ None
 
 -- the envelope goes to the fifo of all but control messages, or the queue has one fifo
 abbrev pub IsForMain : Option FifoPort → Envelope → Type 0

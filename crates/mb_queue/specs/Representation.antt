@@ -36,8 +36,8 @@ queue_of main control = record {
 }
 
 -- a send pass as contracts see it
-abbrev pub sending : ℕ → FifoPort → Option FifoPort → List Envelope → SendPassView
-sending by main control pushed = record { queue = queue_of main control; by = by; pushed = pushed }
+abbrev pub sending_of : ℕ → FifoPort → Option FifoPort → List Envelope → SendPassView
+sending_of by main control pushed = record { queue = queue_of main control; by = by; pushed = pushed }
 
 -- the same scope with another part
 abbrev pub parted : Scope → QueuePart → Scope

@@ -19,13 +19,13 @@ Belongs scope e = Contains scope.senders e.by.0 × (e.to.0 ≡ scope.to) × IsOf
 
 -- What a port knows is true. Exactly one port, its holder, has the account of a sender. The account is what was taken of
 -- that sender and then what is in the fifo of it. `all` is what was taken and then what is in the fifo.
-abbrev pub Fits : Scope → (ℕ → ℕ) → ℕ → List Envelope → List Envelope → ℕ → Ledger → Type 0
-Fits scope holder taker taken all port (Sender ours by pushed) =
+abbrev pub LedgerAgrees : Scope → (ℕ → ℕ) → ℕ → List Envelope → List Envelope → ℕ → Ledger → Type 0
+LedgerAgrees scope holder taker taken all port (Sender ours by pushed) =
     (ours ≡ scope) × Contains scope.senders by × (port ≡ holder by) × (pushed ≡ sent_by by all)
-Fits scope holder taker taken all port (Taker ours gone accounts) =
+LedgerAgrees scope holder taker taken all port (Taker ours gone accounts) =
     (ours ≡ scope) × (port ≡ taker) × (gone ≡ taken)
     × ((sender : ℕ) (pushed : List Envelope) → account accounts sender ≡ Some pushed → (port ≡ holder sender) × (pushed ≡ sent_by sender all))
-Fits scope holder taker taken all port Spent = Unit {0}
+LedgerAgrees scope holder taker taken all port Spent = Unit {0}
 
 -- the rule, of what the fifo holds, the oldest first, and of what each port knows
 pub record FifoHolds (items : List Envelope) (ledgers : List Ledger) : Type 0 where
@@ -34,7 +34,7 @@ pub record FifoHolds (items : List Envelope) (ledgers : List Ledger) : Type 0 wh
   pub taker : ℕ
   pub taken : List Envelope
   pub known : All (Belongs scope) (taken ++ items)
-  pub fits : (port : ℕ) (ledger : Ledger) → get_elem? ledgers port ≡ some ledger → Fits scope holder taker taken (taken ++ items) port ledger
+  pub fits : (port : ℕ) (ledger : Ledger) → get_elem? ledgers port ≡ some ledger → LedgerAgrees scope holder taker taken (taken ++ items) port ledger
 
 -- At one moment the fifo was full: it held `capacity` envelopes. With what was taken before, these are all of the fifo's
 -- scope, and have all that this sender pushed, in its order. (Of a fifo with one sender this says how much that has
@@ -82,6 +82,6 @@ given_back (Full e) = e
 given_back (NoMemory e) = e
 
 -- why it comes back
-abbrev pub reason_of : PushError → Refusal
-reason_of (Full e) = why.Full
-reason_of (NoMemory e) = why.NoMemory
+abbrev pub refusal_of : PushError → Refusal
+refusal_of (Full e) = why.Full
+refusal_of (NoMemory e) = why.NoMemory

@@ -1,7 +1,7 @@
 -- What a take does with the ports of the fifos.
 use Rattle.std.specs.Prelude.{◌≡◌, ◌+◌, ◌≤◌, ◌⊎◌, List, [], ◌∷◌, ◌++◌, length, Option, Some, None, IsPermutation, All}
 use Rattle.mb_msg.specs.declared.envelope.Envelope.{Envelope}
-use Rattle.mb_queue.specs.Batches.{taking_all, Begins}
+use Rattle.mb_queue.specs.Batches.{taking_all, AccountsBegin}
 use Rattle.mb_queue.specs.Ledger.{taking, IsTaker}
 use Rattle.mb_queue.specs.Port.{FifoPort}
 use Rattle.mb_queue.specs.Rule as fifo
@@ -43,7 +43,7 @@ pub record TakesMore (old : PriorityState) (port : FifoPort) (new : PriorityStat
   pub other : new.other ≡ old.other
   pub next : new.next ≡ old.next + length fresh
   pub came : port' ≡ record port { ledger = taking_all port.ledger fresh }
-  pub begins : (fresh ≡ []) ⊎ Begins port'.ledger
+  pub begins : (fresh ≡ []) ⊎ AccountsBegin port'.ledger
   pub known : All (fifo.Belongs (scope_in port.ledger)) fresh
   pub held : IsPermutation (old.waiting ++ arrivals_from old.ranks old.other old.next fresh) new.waiting
 

@@ -31,7 +31,7 @@ abbrev pub same_slot : Reverse RankKey → Reverse RankKey → Bool
 same_slot x y = x.0.slot == y.0.slot
 
 -- it is a heap, each envelope is in a slot of its own, and there is room for all that may be held
-pub record IsKept (keys : BinaryHeap (Reverse RankKey) Global) (envelopes : Slab Envelope) : Type 0 where
+pub record IsWaitingHeap (keys : BinaryHeap (Reverse RankKey) Global) (envelopes : Slab Envelope) : Type 0 where
   pub ordered : IsHeap rank_heap_cmp (heap_items keys)
   pub room : 1024 ≤ heap_capacity keys
   pub slots : 1024 ≤ envelopes.capacity

@@ -1,7 +1,7 @@
 //! A port of a fifo: it pushes for one sender, or it takes.
 ghost use Rattle.std.specs.Prelude.{◌≡◌, ◌<◌, [], ◌∷◌, length, Some, None, IfOk, MatchOption, MatchResult, IfErr};
 ghost use Rattle.mb_queue.specs.declared.ledger.Ledger.TheVariants.{Taker};
-ghost use Rattle.mb_queue.specs.Batches.{taking_all, Begins, FoundBatch};
+ghost use Rattle.mb_queue.specs.Batches.{taking_all, AccountsBegin, FoundBatch};
 ghost use Rattle.mb_queue.specs.Ledger.{IsSender, IsTaker, IsUnused, MayLend, MayPush, pushing, scope_of, lending, borrowing, joining};
 ghost use Rattle.mb_queue.specs.Rule.{FoundEmpty, IsFifoRefusal};
 
@@ -182,7 +182,7 @@ impl Port {
         requires taker { IsTaker self.old.ledger }
         requires sender { IsSender other.ledger }
         ensures joined { self.new ≡ record self.old { ledger = joining self.old.ledger other.ledger } }
-        ensures begins { self.old.fifo.capacity ≡ None → Begins self.new.ledger }
+        ensures begins { self.old.fifo.capacity ≡ None → AccountsBegin self.new.ledger }
     {
         let Port { end } = other;
         match (&mut self.end, end) {

@@ -1,6 +1,6 @@
 //! Why a push was refused.
 ghost use Rattle.std.specs.Prelude.{◌≡◌};
-ghost use Rattle.mb_queue.specs.Rule.{given_back, reason_of};
+ghost use Rattle.mb_queue.specs.Rule.{given_back, refusal_of};
 
 use mb_msg::Envelope;
 
@@ -24,7 +24,7 @@ impl Refusal {
     /// This reason with the envelope.
     #[inline(always)]
     pub fn of(self, envelope: Envelope) -> PushError
-        ensures { (given_back result ≡ envelope) × (reason_of result ≡ self) }
+        ensures { (given_back result ≡ envelope) × (refusal_of result ≡ self) }
     {
         match self {
             Refusal::Full => PushError::Full(envelope),

@@ -2,7 +2,7 @@
 ghost use Rattle.std.specs.Prelude.{◌≡◌, [], ◌∷◌, ◌++◌, IfErr, MatchBool, MatchResult};
 ghost use Rattle.mb_queue.specs.Ledger.{MayPush, is_control_body};
 ghost use Rattle.mb_queue.specs.Rule.{IsFifoRefusal, given_back};
-ghost use Rattle.mb_queue.specs.Pushes.{IsForControl, IsForMain, IsPushed, IsReason, IsRefusal};
+ghost use Rattle.mb_queue.specs.Pushes.{IsForControl, IsForMain, IsPushed, IsReasonToRefuse, IsRefusal};
 
 use crate::port::Port;
 use crate::refused::{PushError, Refusal};
@@ -29,9 +29,9 @@ impl Model for SendPass {
 
     ghost Value = { SendPassView };
 
-    ghost use Rattle.mb_queue.specs.Representation.{sending, IsSending};
+    ghost use Rattle.mb_queue.specs.Representation.{sending_of, IsSending};
 
-    ghost view = { λ p. sending p.by.0 p.main p.control p.pushed };
+    ghost view = { λ p. sending_of p.by.0 p.main p.control p.pushed };
 
     ghost invariant = { λ p. IsSending p.by.0 p.main p.control p.pushed };
 }
@@ -64,7 +64,7 @@ impl SendPass {
         requires addressed { envelope.now.to.0 ≡ self.old.queue.to }
         ensures pushed { MatchResult result (λ _. self.new ≡ record self.old { pushed = self.old.pushed ++ envelope.now ∷ [] })
             (λ _. self.new ≡ self.old) }
-        ensures refused { IfErr result (IsReason self.old) }
+        ensures refused { IfErr result (IsReasonToRefuse self.old) }
     {
         if is_for_control(&self.control, *envelope) {
             let Some(control) = &mut self.control else {

@@ -1,9 +1,9 @@
 //! The pass by which the mailbox takes from its queue.
-ghost use Rattle.std.specs.Prelude.{◌≡◌, ◌≢◌, ℕ, None, Some, [], ◌∷◌, ◌++◌, All, Contains, IfNone, IfSome, MatchOption, option_to_list};
+ghost use Rattle.std.specs.Prelude.{◌≡◌, ◌≢◌, ℕ, None, Some, [], ◌∷◌, ◌++◌, All, IfNone, IfSome, MatchOption, option_to_list};
 ghost use Rattle.mb_queue.specs.Ledger.{home};
-ghost use Rattle.mb_queue.specs.Fates.{AllJoined, InOrder, NothingLeft, pushed_by};
-ghost use Rattle.mb_queue.specs.Passes.{first_in_first_out, IsOfQueue};
-ghost use Rattle.mb_queue.specs.Takes.{EachOnce, IsTake};
+ghost use Rattle.mb_queue.specs.Fates.{HasGivenAll, NothingLeft, pushed_by};
+ghost use Rattle.mb_queue.specs.Passes.{IsOfQueue};
+ghost use Rattle.mb_queue.specs.Takes.{IsTake};
 
 use crate::ledger::Account;
 use crate::send_pass::SendPass;
@@ -51,13 +51,10 @@ impl TakePass {
     pub fn take<R: Wait>(&mut self, rt: &R) -> Option<Envelope>
         ensures taken { self.new.taken ≡ self.old.taken ++ option_to_list result }
         ensures same { (self.new.queue ≡ self.old.queue) × (self.new.discipline ≡ self.old.discipline) × (self.new.accounts ≡ self.old.accounts) }
-        ensures sender { IfSome result (λ e. Contains self.old.queue.senders e.by.0) }
-        ensures addressed { IfSome result (λ e. e.to.0 ≡ self.old.queue.to) }
+        ensures of_queue { IfSome result (IsOfQueue self.old.queue) }
         ensures known { All (IsOfQueue self.new.queue) self.new.taken }
         ensures follows_discipline { IsTake self.old.discipline self.old result self.new }
-        ensures each_once { IfNone result (EachOnce self.new) }
-        ensures in_order { IfNone result (self.old.discipline ≡ first_in_first_out → InOrder self.new) }
-        ensures emptied { IfNone result (AllJoined self.new → NothingLeft self.new) }
+        ensures given_all { IfNone result (HasGivenAll self.old.discipline self.new) }
         ensures ended { NothingLeft self.old → result ≡ None }
     {
         let next = take_next(rt, &mut self.main, &mut self.order);

@@ -1,7 +1,7 @@
 //! A fifo without a bound: a list below a lock. A push appends to the list. The taker takes all that is in it at once, so that most takes
 //! need no step that threads share. (This project's own profile: the unbounded mailbox of Akka has a `ConcurrentLinkedQueue`.)
 ghost use Rattle.std.specs.Prelude.{◌≡◌, [], IfOk, IsTrue, MatchBool, MatchResult};
-ghost use Rattle.mb_queue.specs.Batches.{taking_all, Begins, FoundAll};
+ghost use Rattle.mb_queue.specs.Batches.{taking_all, AccountsBegin, FoundAll};
 ghost use Rattle.mb_queue.specs.Ledger.{lending, borrowing, joining, pushing, IsSender, IsTaker, IsUnused, MayLend, MayPush};
 ghost use Rattle.mb_queue.specs.ListSteps.{HasLocked};
 ghost use Rattle.mb_queue.specs.Rule.{FoundEmpty};
@@ -77,7 +77,7 @@ impl UnboundedFifo {
         requires sender { IsSender (knows other) }
         ensures list { IsPassOfList self.now.table.shared.table_id pass.new }
         ensures joined { knows pass.new ≡ joining (knows pass.old) (knows other) }
-        ensures begins { Begins (knows pass.new) }
+        ensures begins { AccountsBegin (knows pass.new) }
     {
         self.table.shared.join_seat::<JoinAccount>(pass, other);
         self.table.shared.load::<Learn>(pass, 0);

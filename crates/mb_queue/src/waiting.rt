@@ -48,11 +48,11 @@ impl Model for Waiting {
 
     ghost Value = { List Arrival };
 
-    ghost use Rattle.mb_queue.specs.WaitingHeap.{arrivals, IsKept};
+    ghost use Rattle.mb_queue.specs.WaitingHeap.{arrivals, IsWaitingHeap};
 
     ghost view = { λ w. arrivals w.keys };
 
-    ghost invariant = { λ w. IsKept w.keys w.envelopes };
+    ghost invariant = { λ w. IsWaitingHeap w.keys w.envelopes };
 }
 
 impl Waiting {

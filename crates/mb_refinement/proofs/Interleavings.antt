@@ -14,12 +14,14 @@ use Rattle.mb_gate.specs.View.{View, obligation_to}
 use Rattle.mb_gate.specs.Rule.{Word, Status, Waiting, word_offset, SlotName, slot_offset, Ghost, claim_for, list_for, ListPlace}
 use Rattle.mb_gate.specs.Shown.{holder_of, work_of}
 use Rattle.mb_refinement.specs.Refines.{Rule, shows, IsNoEvent}
+use Rattle.mb_refinement.specs.Parts.{parted, ArePartsOf, IsParted}
 use Rattle.mb_refinement.specs.PartyEvents.{AreShownAs}
 use Rattle.mb_refinement.specs.Interleavings.{
   Move,
   Made,
   Still,
   Split,
+  Part,
   Join,
   Leads,
   Path,
@@ -138,6 +140,19 @@ module _ {H : Type 0} (is_of : ℕ → H → Type 0) (facts : H → HomeFacts) w
         each = λ k x at. ⊎_elim (λ c. inl (now (λ y. copied y party) c k x at)) (λ m. inr (now (λ y. moved y party) m k x at)) move.0;
       }
 
+  makes_part : (n party : ℕ) (s s' : State (Slot H) View) (r : Rule is_of facts n s) (r' : Rule is_of facts n s') (rests rests' : Rests) → IsMove is_of
+      facts n s r rests (Part party) s' r' rests' → IsParted party (machine is_of facts n s r rests) (machine is_of facts n s' r' rests')
+  makes_part n party s s' r r' rests rests' move = record {
+    same_actors = tabulated_length n (λ a. shows is_of facts n s' r' a (rests' a)) ∙ sym (tabulated_length n (λ a. shows is_of facts n s r a (rests a)));
+    each = λ k x at. let t = tabulated_at n (λ a. shows is_of facts n s r a (rests a)) k x at in let p = move.0 k t.0 in (
+      p.0,
+      p.1,
+      subst (λ z. ArePartsOf z party p.0 p.1) t.1 (p.2 (rests k)),
+      tabulated_get n (λ a. shows is_of facts n s' r' a (rests' a)) k t.0
+          ∙ ap Some (ap (shows is_of facts n s' r' k) (move.1 k) ∙ (p.3.same (rests k) ∙ ap (λ y. parted y party p.0 p.1) t.1)),
+    );
+  }
+
   makes_join : (n into from : ℕ) (s s' : State (Slot H) View) (r : Rule is_of facts n s) (r' : Rule is_of facts n s') (rests rests' : Rests) → IsMove is_of
       facts n s r rests (Join into from) s' r' rests' → IsJoined into from (machine is_of facts n s r rests) (machine is_of facts n s' r' rests')
   makes_join n into from s s' r r' rests rests' move = record {
@@ -154,6 +169,7 @@ module _ {H : Type 0} (is_of : ℕ → H → Type 0) (facts : H → HomeFacts) w
   leads_by n s s' r r' rests rests' (Made event) m = makes_event n s s' r r' rests rests' event m
   leads_by n s s' r r' rests rests' Still m = same_machine n s s' r r' rests rests' m.0 m.1
   leads_by n s s' r r' rests rests' (Split party) m = makes_split n party s s' r r' rests rests' m
+  leads_by n s s' r r' rests rests' (Part party) m = makes_part n party s s' r r' rests rests' m
   leads_by n s s' r r' rests rests' (Join into from) m = makes_join n into from s s' r r' rests rests' m
 
   pub path_of : (n : ℕ) (s s' : State (Slot H) View) (r : Rule is_of facts n s) (r' : Rule is_of facts n s') (rests rests' : Rests) (moves : List Move)
@@ -171,6 +187,7 @@ run_of old [] new p k = p
 run_of old (Made event ∷ moves) new p k = (p.0, p.1, run_of p.0 moves new p.2 k)
 run_of old (Still ∷ moves) new p k = subst (λ z. Run z (events_of moves) new) p.1 (run_of p.0 moves new p.2 k)
 run_of old (Split party ∷ moves) new p k = absurd k
+run_of old (Part party ∷ moves) new p k = absurd k
 run_of old (Join into from ∷ moves) new p k = absurd k
 
 pub interleavings_are_runs : {H : Type 0} (is_of : ℕ → H → Type 0) (facts : H → HomeFacts) → InterleavingsAreRuns is_of facts

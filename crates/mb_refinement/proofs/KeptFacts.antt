@@ -17,18 +17,21 @@ use Rattle.mb_gate.specs.View.{View, alone}
 use Rattle.mb_gate.specs.Starts.{rows_of, slots_of}
 use Rattle.mb_gate.specs.Shown.{ShowsMachine}
 use Rattle.mb_refinement.specs.Refines.{Rule, shows}
-use Rattle.mb_refinement.specs.Interleavings.{Move, Made, Still, Split, Join, Leads, Path, Rests, machine, IsMove}
+use Rattle.mb_refinement.specs.Interleavings.{Move, Made, Still, Split, Part, Join, Leads, Path, Rests, machine, IsMove}
 use Rattle.mb_refinement.specs.KeptFacts.{HoldsFromTheBeginning, StaysEndedOver, EventsAreTheHolders}
+use Rattle.mb_refinement.specs.Parts.{PartsKeep}
+use Rattle.mb_refinement.proofs.Parts.{parts_keep_held, parts_keep_possible, parts_keep_settled}
 use Rattle.mb_refinement.proofs.Interleavings.{path_of, shows_one}
 use Rattle.mb_refinement.proofs.Beginnings.{new_gates_begin}
 
 -- a fact that each move keeps holds after all of them
-module _ (P Q : MachineActor → Type 0) (steps : StepsKeep P) (splits : SplitsKeep P) (joins : JoinsKeep P) (steps_too : StepsKeepWith P Q) (splits_too : SplitsKeep
-    Q) (joins_too : JoinsKeep Q) where
+module _ (P Q : MachineActor → Type 0) (steps : StepsKeep P) (splits : SplitsKeep P) (parts : PartsKeep P) (joins : JoinsKeep P) (steps_too : StepsKeepWith P Q)
+    (splits_too : SplitsKeep Q) (parts_too : PartsKeep Q) (joins_too : JoinsKeep Q) where
   move_keeps : (old : List MachineActor) (move : Move) (new : List MachineActor) → Leads old move new → All P old → All Q old → All P new × All Q new
   move_keeps old (Made event) new m p q = (steps old event new m p, steps_too old event new m p q)
   move_keeps old Still new m p q = (subst (All P) (sym m) p, subst (All Q) (sym m) q)
   move_keeps old (Split party) new m p q = (splits party old new m p, splits_too party old new m q)
+  move_keeps old (Part party) new m p q = (parts party old new m p, parts_too party old new m q)
   move_keeps old (Join into from) new m p q = (joins into from old new m p, joins_too into from old new m q)
 
   pub path_keeps : (old : List MachineActor) (moves : List Move) (new : List MachineActor) → Path old moves new → All P old → All Q old → All P new × All Q new
@@ -59,10 +62,10 @@ module _ {H : Type 0} (is_of : ℕ → H → Type 0) (facts : H → HomeFacts) w
       is_of facts (length hs) s' r' rests')) begin.0 (path_of is_of facts (length hs) (opening (rows_of facts hs) (slots_of hs) alone) s' r r' (λ a. []) rests'
       moves w) in
       let new = machine is_of facts (length hs) s' r' rests' in
-      let both = path_keeps IsHeldRightly IsSettled steps splits joins steps_settled splits_settled joins_settled (start words 1) moves new path (begins_with
+      let both = path_keeps IsHeldRightly IsSettled steps splits parts_keep_held joins steps_settled splits_settled parts_keep_settled joins_settled (start words 1) moves new path (begins_with
       IsHeldRightly held words can) (begins_with IsSettled settled words can) in
-      let mailboxes = path_keeps HasPossibleMailbox HasPossibleMailbox steps_possible splits_possible joins_possible (λ old event next t p q. steps_possible old
-      event next t q) splits_possible joins_possible (start words 1) moves new path (begins_with HasPossibleMailbox possible words can) (begins_with
+      let mailboxes = path_keeps HasPossibleMailbox HasPossibleMailbox steps_possible splits_possible parts_keep_possible joins_possible (λ old event next t p q. steps_possible old
+      event next t q) splits_possible parts_keep_possible joins_possible (start words 1) moves new path (begins_with HasPossibleMailbox possible words can) (begins_with
       HasPossibleMailbox possible words can) in (both.0, mailboxes.0, both.1)
 
   -- one move leaves what is ended ended
@@ -81,6 +84,10 @@ module _ {H : Type 0} (is_of : ℕ → H → Type 0) (facts : H → HomeFacts) w
       let kept = ap (shows is_of facts n s' r' actor) (m.1 actor) in ⊎_elim
       (λ c. subst (StaysEnded x) (sym (kept ∙ (c actor inside).same (rests actor))) (record { closed = λ d. d; gone = λ g. g }))
       (λ c. subst (StaysEnded x) (sym (kept ∙ (c actor inside).same (rests actor))) (record { closed = λ d. d; gone = λ g. g })) m.0
+  ends_on law n s s' r r' rests rests' (Part party) m actor inside =
+      let x = shows is_of facts n s r actor (rests actor) in
+      let kept = ap (shows is_of facts n s' r' actor) (m.1 actor) in
+      subst (StaysEnded x) (sym (kept ∙ (m.0 actor inside).3.same (rests actor))) (record { closed = λ d. d; gone = λ g. g })
   ends_on law n s s' r r' rests rests' (Join into from) m actor inside =
       let x = shows is_of facts n s r actor (rests actor) in
       let kept = ap (shows is_of facts n s' r' actor) (m.3 actor) in

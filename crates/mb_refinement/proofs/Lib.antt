@@ -4,7 +4,12 @@ pub mod StatusEvents
 pub mod WaitingEvents
 pub mod ListEvents
 pub mod PartyEvents
+pub mod Parts
 pub mod Interleavings
 pub mod Beginnings
 pub mod KeptFacts
+pub mod Gates
+pub mod KeptRule
+pub mod TableKeeps
 pub mod TableMoves
+pub mod Reached

@@ -45,14 +45,14 @@ use Rattle.mb_refinement.proofs.Tables.{word_now, word_stays, event_at, silent_a
 use Rattle.mb_refinement.proofs.StatusEvents.{first_of, won_word, lost_word}
 
 -- an exchange of a word for itself leaves it
-kept_word : (found old new : ℕ) → new ≡ old → either (found == old) new found ≡ found
+pub kept_word : (found old new : ℕ) → new ≡ old → either (found == old) new found ≡ found
 kept_word found old new same = dite (ℕ_discrete found old) (λ hit. won_word found old new hit ∙ (same ∙ sym hit)) (λ miss. lost_word found old new miss)
 
 no_item : (ms : List SysMsg) → is_some_item ms ≡ false → ms ≡ []
 no_item [] e = refl
 no_item (m ∷ ms) e = absurd (cc)
 
-neither : (a b : Bool) → (a || b) ≡ false → (a ≡ false) × (b ≡ false)
+pub neither : (a b : Bool) → (a || b) ≡ false → (a ≡ false) × (b ≡ false)
 neither false false e = (refl, refl)
 neither true b e = absurd (cc)
 neither false true e = absurd (cc)
@@ -60,7 +60,7 @@ neither false true e = absurd (cc)
 true_not_false : (b : Bool) → b ≡ true → b ≡ false → ⊥
 true_not_false b t f = cc
 
-listing_same : {H : Type 0} (a b : MessageList) → (let x : Slot H = Listing a in x ≡ Listing b) → a ≡ b
+pub listing_same : {H : Type 0} (a b : MessageList) → (let x : Slot H = Listing a in x ≡ Listing b) → a ≡ b
 listing_same a b e = cc
 
 head_same : {A : Type 0} (a b : A) (xs ys : List A) → a ∷ xs ≡ b ∷ ys → a ≡ b
@@ -101,7 +101,7 @@ module _ {H : Type 0} (is_of : ℕ → H → Type 0) (facts : H → HomeFacts) w
   Place = Spot Word SlotName (Slot H) Ghost
 
   -- what the gate's word shows
-  shown_by : (x : Place) (l : Option (ℕ × Lent)) → ListPlace is_of facts x l → shows_work (x.row Gate) ≡ (is_some_item x.ghost.listed.messages || x.ghost.gave)
+  pub shown_by : (x : Place) (l : Option (ℕ × Lent)) → ListPlace is_of facts x l → shows_work (x.row Gate) ≡ (is_some_item x.ghost.listed.messages || x.ghost.gave)
   shown_by x None k = ap shows_work k.word ∙ marked false x.ghost.listed x.ghost.gave
   shown_by x (Some h) k = ap shows_work k.word ∙ marked true x.ghost.listed x.ghost.gave
 

@@ -1,6 +1,6 @@
 -- A split and a join of seats are the machine's.
-use Rattle.std.proofs.Common.{◌≡◌, ℕ, ◌<◌, ◌==◌, ⊎_elim, Bool, true, false, ◌||◌, if◌then◌else◌, List, [], ◌∷◌, ◌++◌, map, set, sym, refl, ap, ◌∙◌, subst, Option, option_map, Some, None, eq-eqb, ne_eqb}
-use Rattle.std.proofs.lemmas.List.{map-set}
+use Rattle.std.proofs.Common.{◌≡◌, ℕ, ◌<◌, ◌==◌, ⊎_elim, Bool, true, false, ◌||◌, if◌then◌else◌, List, [], ◌∷◌, ◌++◌, map, set, sym, refl, ap, ◌∙◌, subst, Option, option_map, Some, None, eq-eqb, ne_eqb, arith}
+use Rattle.std.proofs.lemmas.List.{map-set, length-map}
 use mathlib.Core.Logic.{dite}
 use native.Mathlib.Decide.{ℕ_discrete}
 use mathlib.Core.Option.{some}
@@ -21,7 +21,11 @@ use Rattle.mb_gate.specs.View.{View, Held, obligation_of, obligation_to, either_
 use Rattle.mb_gate.specs.Rule.{Word, Status, Gate, Waiting, word_offset, SlotName, ListSlot, slot_offset, Ghost, held_of, lent_of, claim_for, list_for, ListPlace, Fact}
 use Rattle.mb_gate.specs.Shown.{holder_of, work_of, shown}
 use Rattle.mb_refinement.specs.Refines.{Rule, shows}
-use Rattle.mb_refinement.specs.PartyEvents.{IsCut, IsMerge, IsShownAs, SplitsAreSplits, JoinsAreJoins}
+use Rattle.mb_gate.specs.TwoClaims.{moved_out, moved_in}
+use Rattle.mb_gate.specs.Together.{together, came_back}
+use Rattle.mb_refinement.specs.Parts.{parted}
+use Rattle.mb_refinement.proofs.Tables.{seat_there}
+use Rattle.mb_refinement.specs.PartyEvents.{MovesAreSplits, TogetherIsJoin, AgainIsPart, IsCut, IsMerge, IsShownAs, SplitsAreSplits, JoinsAreJoins}
 use Rattle.mb_refinement.proofs.Places.{locked_once, listed_stays, gave_stays, obligation_at, owed_back}
 
 map-snoc : {A B : Type 0} (f : A → B) (xs : List A) (y : A) → map f (xs ++ y ∷ []) ≡ map f xs ++ f y ∷ []
@@ -87,16 +91,16 @@ module _ {H : Type 0} (is_of : ℕ → H → Type 0) (facts : H → HomeFacts) w
       owed = o i;
     }
 
-  -- a view is cut in two, of which the second has neither claim nor list, and owes what the one did
+  -- a view is cut in two, of which the second has neither claim nor list
   cut_as : (n : ℕ) (s s' : State (Slot H) View) (r : Rule is_of facts n s) (r' : Rule is_of facts n s') (id : ℕ) (v left right : View) (actor : ℕ) → actor < n
-      → (obligation : WakeObligation) → claim_for actor left ≡ claim_for actor v → claim_for actor right ≡ None → list_for actor left ≡ list_for actor v → list_for
-      actor right ≡ None → obligation_to actor left ≡ obligation → obligation_to actor right ≡ obligation_to actor v → IsCut id v left right s s' → (makes :
+      → (obligation theirs : WakeObligation) → claim_for actor left ≡ claim_for actor v → claim_for actor right ≡ None → list_for actor left ≡ list_for actor v → list_for
+      actor right ≡ None → obligation_to actor left ≡ obligation → obligation_to actor right ≡ theirs → IsCut id v left right s s' → (makes :
       MachineActor → MachineActor)
       → ((rest : List SysMsg) (y : MachineActor) → y ≡ record (shows is_of facts n s r actor rest) {
-        owed = set (map (obligation_to actor) s.views) id obligation ++ obligation_to actor v ∷ [];
+        owed = set (map (obligation_to actor) s.views) id obligation ++ theirs ∷ [];
       } → y ≡ makes (shows is_of facts n s r actor rest))
       → IsShownAs is_of facts n s r s' r' makes actor
-  cut_as n s s' r r' id v left right actor inside obligation claim none list no_list owes owes_too made makes so =
+  cut_as n s s' r r' id v left right actor inside obligation theirs claim none list no_list owes owes_too made makes so =
       subst (λ (z : State (Slot H) View). (q : Rule is_of facts n z) → IsShownAs is_of facts n s r z q makes actor) (sym made.after)
       (λ q.
       let vs' = set s.views id left ++ right ∷ [] in
@@ -106,11 +110,11 @@ module _ {H : Type 0} (is_of : ℕ → H → Type 0) (facts : H → HomeFacts) w
       let f' = q.each actor inside in
       let claims = splits_locked (claim_for actor) x.ghost.holder s.views id v left right made.present claim none f.claims in
       let lists = splits_locked (list_for actor) x.ghost.lent_to s.views id v left right made.present list no_list f.lists in
-      let owed : map (obligation_to actor) vs' ≡ set (map (obligation_to actor) s.views) id obligation ++ obligation_to actor v ∷ [] =
+      let owed : map (obligation_to actor) vs' ≡ set (map (obligation_to actor) s.views) id obligation ++ theirs ∷ [] =
       map-snoc (obligation_to actor) (set s.views id left) right ∙ (λ i. (map-set (obligation_to actor) s.views id left ∙ ap (set (map (obligation_to actor)
       s.views) id) owes) i ++ owes_too i ∷ []) in record {
         same = λ rest. so rest (shown actor x' vs' rest) (reshown n actor x x' s.views vs' f f' refl refl claims lists (set (map (obligation_to actor) s.views) id
-            obligation ++ obligation_to actor v ∷ []) owed rest);
+            obligation ++ theirs ∷ []) owed rest);
         marked = λ rest m quiet. m (sym (same_mark n actor x x' s.views vs' f f' refl refl claims lists) ∙ quiet);
       }) r'
 
@@ -134,11 +138,11 @@ module _ {H : Type 0} (is_of : ℕ → H → Type 0) (facts : H → HomeFacts) w
 
   pub splits_are_splits : SplitsAreSplits is_of facts
   splits_are_splits n s s' r r' id v no_list = (
-    (λ bare made actor inside. cut_as n s s' r r' id v (halving v) (copied v) actor inside (obligation_to actor v) refl (ap (held_of actor) bare) refl (ap (lent_of
+    (λ bare made actor inside. cut_as n s s' r r' id v (halving v) (copied v) actor inside (obligation_to actor v) (obligation_to actor v) refl (ap (held_of actor) bare) refl (ap (lent_of
         actor) no_list) refl refl made (λ x. parties.copied x id) (copies_as n s r id v actor made.present)),
-    (λ bare made actor inside. cut_as n s s' r r' id v (split_off v) (halving v) actor inside nothing (sym (ap (held_of actor) bare)) (ap (held_of actor) bare)
+    (λ bare made actor inside. cut_as n s s' r r' id v (split_off v) (halving v) actor inside nothing (obligation_to actor v) (sym (ap (held_of actor) bare)) (ap (held_of actor) bare)
         (sym (ap (lent_of actor) no_list)) (ap (lent_of actor) no_list) refl refl made (λ x. parties.moved x id) (moves_as n s r id v actor made.present)),
-    (λ made actor inside. cut_as n s s' r r' id v (claim_alone v) (without_claim v) actor inside nothing refl refl (sym (ap (lent_of actor) no_list)) (ap (lent_of
+    (λ made actor inside. cut_as n s s' r r' id v (claim_alone v) (without_claim v) actor inside nothing (obligation_to actor v) refl refl (sym (ap (lent_of actor) no_list)) (ap (lent_of
         actor) no_list) refl refl made (λ x. parties.moved x id) (moves_as n s r id v actor made.present)),
   )
 
@@ -184,3 +188,32 @@ module _ {H : Type 0} (is_of : ℕ → H → Type 0) (facts : H → HomeFacts) w
   joins_are_joins n s s' r r' id other v w bare no_list made actor inside = ⊎_elim
       (λ m. merge_as n s s' r r' id other v w (taking_over v w) actor inside bare no_list refl refl (added_owes actor w.obligations v.obligations) m)
       (λ m. merge_as n s s' r r' id other v w (taking_in v w) actor inside bare no_list refl refl (added_owes actor w.obligations v.obligations) m) made
+
+  -- ---- a look together
+
+  pub moves_are_splits : MovesAreSplits is_of facts
+  moves_are_splits n s s' r r' id v bare no_list made actor inside = cut_as n s s' r r' id v (moved_out v) (moved_in v) actor inside nothing (obligation_to actor v)
+      (sym (ap (held_of actor) bare)) (ap (held_of actor) bare) (sym (ap (lent_of actor) no_list)) (ap (lent_of actor) no_list) refl refl made
+      (λ x. parties.moved x id) (moves_as n s r id v actor made.present)
+
+  pub together_is_join : TogetherIsJoin is_of facts
+  together_is_join n s s' r r' id other v w bare no_list made actor inside = ⊎_elim
+      (λ m. merge_as n s s' r r' id other v w (together v w) actor inside bare no_list refl refl (added_owes actor w.obligations v.obligations) m)
+      (λ m. merge_as n s s' r r' id other v w (came_back v w) actor inside bare no_list
+      (ap (held_of actor) bare ∙ sym (ap (claim_for actor) m.0)) (ap (lent_of actor) no_list ∙ sym (ap (list_for actor) m.0))
+      (ap (λ d. parties.both d (obligation_to actor w)) (sym (ap (obligation_to actor) m.0))) m.1) made
+
+  pub again_is_part : AgainIsPart is_of facts
+  again_is_part n s s' r r' id v w bare no_list made actor inside =
+      let x : Place = spot_of word_offset slot_offset s r.ghosts actor in
+      let mine = obligation_to actor v in
+      let theirs = obligation_to actor w in (
+        mine,
+        theirs,
+        (λ rest. record {
+          present = (let l = length-map s.views (obligation_to actor) in let p = seat_there s.views id (together v w) made.present in omega arith);
+          whole = sym (obligation_at actor x s.views id (together v w) made.present rest ∙ added_owes actor w.obligations v.obligations);
+        }),
+        cut_as n s s' r r' id (together v w) v w actor inside mine theirs refl (ap (held_of actor) bare) refl (ap (lent_of actor) no_list) refl refl made
+            (λ x. parted x id mine theirs) (λ rest y e. e),
+      )

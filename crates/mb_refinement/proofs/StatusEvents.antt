@@ -3,8 +3,8 @@ use Rattle.std.proofs.Common.{◌≡◌, ◌≢◌, ℕ, ◌+◌, ◌/◌, ◌%�
 use mathlib.Core.Option.{some, none, some-ne-none, some-injective}
 use lib.ListN.{get_elem?}
 use prog.Atomic.{either}
-use Rattle.atomic_table.specs.Table.{State, keeps, takes, gives, put_back, stepped}
-use Rattle.atomic_table.proofs.Lists.{set_else}
+use Rattle.atomic_table.specs.Table.{Me, State, keeps, takes, gives, put_back, stepped}
+use Rattle.atomic_table.proofs.Lists.{set_else, set_here}
 use Rattle.mb_status.specs.Mailbox.{mailbox_of, is_valid, most_suspensions, suspend, resume, idle}
 use Rattle.mb_msg.specs.declared.system.SysMsg.{SysMsg}
 use Rattle.mb_core.specs.declared.wake_obligation.WakeObligation.{WakeObligation}
@@ -37,10 +37,11 @@ use Rattle.mb_gate.specs.Rule.{
 use Rattle.mb_gate.specs.Shown.{holder_of, work_of, shown}
 use Rattle.mb_gate.proofs.Views.{held_here, owes_here, reading_elsewhere, taking_elsewhere, writing_elsewhere, idling_elsewhere, Elsewhere}
 use Rattle.mb_gate.proofs.StatusSteps.{is_held}
-use Rattle.mb_refinement.specs.Refines.{Rule, IsEvent}
-use Rattle.mb_refinement.specs.StatusEvents.{LoadIsRead, WonExchangeIsSchedule, LostExchangeIsRead, LoadByTheHolderIsNone, StoreIsByTheHolder, StoreIsIdle, FlagIsIdle}
+use Rattle.mb_refinement.specs.Refines.{Rule, IsEvent, IsNoEvent}
+use Rattle.mb_refinement.specs.StatusEvents.{LookForClaimIsNone, LoadOfFlagIsNone, LoadIsRead, WonExchangeIsSchedule, WonExchangeKnowsDrain, LostExchangeIsRead, LoadByTheHolderIsNone, StoreIsByTheHolder, StoreIsIdle, FlagIsIdle}
 use Rattle.mb_refinement.proofs.Places.{Aside, holder_taken, holder_changes, holder_left, list_stays, mark_stays, work_stays, shown_now, obligation_at, owed_back}
-use Rattle.mb_refinement.proofs.Tables.{word_now, word_stays, event_at, load_event, load_silent}
+use Rattle.mb_refinement.proofs.Gates.{gave_shown}
+use Rattle.mb_refinement.proofs.Tables.{seat_there, word_now, word_stays, event_at, load_event, load_silent}
 
 pub aside_of : {H : Type 0} (actor : ℕ) (v w u : View) → w ≡ u → Elsewhere H actor v u → Aside actor v w
 aside_of actor v w u is e = record {
@@ -51,6 +52,9 @@ aside_of actor v w u is e = record {
 
 pub first_of : {A B : Type 0} (p q : A × B) → p ≡ q → p.0 ≡ q.0
 first_of p q e = ap (λ z. z.0) e
+
+some_same : {A : Type 0} (a b : A) → Some a ≡ Some b → a ≡ b
+some_same a b e = cc
 
 -- the word that an exchange leaves
 pub won_word : (found old new : ℕ) → found ≡ old → either (found == old) new found ≡ new
@@ -183,12 +187,28 @@ module _ {H : Type 0} (is_of : ℕ → H → Type 0) (facts : H → HomeFacts) w
       (λ is. inr (event Close (λ x y held was e. (held, e ∙ ap (λ m. record x { mailbox = m }) is))))
       other)) (made.told.1 c has)
 
+  -- a load after which the seat knows what it knew changes nothing of what the table shows
+  unmoved : (n : ℕ) (s s' : State (Slot H) View) (r : Rule is_of facts n s) (r' : Rule is_of facts n s') (actor id : ℕ) (name : Word) (v w : View) (carried : List (ℕ ×
+      Slot H)) → actor < n → get_elem? s.views id ≡ some v → w ≡ v → s' ≡ stepped s (word_at actor (word_offset name)) (get_or s.words (word_at actor (word_offset
+      name)) 0) id carried w keeps → IsNoEvent is_of facts n s r s' r'
+  unmoved n s s' r r' actor id name v w carried inside at is after = load_silent is_of facts n s r actor inside name id v w carried at
+      (λ a. record { claim = ap (claim_for a) is; list = ap (list_for a) is; obligation = ap (obligation_to a) is }) s' after r'
+
   -- a load by the holder changes nothing of what the table shows
   pub load_by_the_holder_is_none : LoadByTheHolderIsNone is_of facts
   load_by_the_holder_is_none n s s' r r' actor id me st c inside word has of made =
       let is : made.view ≡ reading_held actor (get_or s.words (word_at actor 16) 0) me.0 = first_of _ _ (made.told actor c word has of).0 in
       load_silent is_of facts n s r actor inside Status id me.0 made.view me.1 made.present
       (λ a. record { claim = ap (claim_for a) is; list = ap (list_for a) is; obligation = ap (obligation_to a) is }) s' made.after r'
+
+  -- a load that asks whether a claim is out
+  pub look_for_claim_is_none : LookForClaimIsNone is_of facts
+  look_for_claim_is_none n s s' r r' actor id me st inside word made = unmoved n s s' r r' actor id Status me.0 made.view me.1 inside made.present (first_of _ _
+      (made.told actor word).0) made.after
+
+  pub load_of_flag_is_none : LoadOfFlagIsNone is_of facts
+  load_of_flag_is_none n s s' r r' actor id me st inside word made = unmoved n s s' r r' actor id Flag me.0 made.view me.1 inside made.present (first_of _ _
+      (made.told actor word).0) made.after
 
   -- the holder gives the actor back
   idles_as : (n : ℕ) (s s' : State (Slot H) View) (r : Rule is_of facts n s) (r' : Rule is_of facts n s') (actor id : ℕ) (v w : View) (c : Held) (home : H)
@@ -260,6 +280,22 @@ module _ {H : Type 0} (is_of : H → ℕ → H → Type 0) (first : H) (facts : 
   lost_is_read n s s' r r' actor id me st note rest inside word said miss made =
       reads_as (is_of first) facts n s s' r r' actor id me.0 made.view me.1 rest inside made.present (first_of _ _ ((made.told actor note word said).1 miss).0)
       (made.after ∙ ap (λ k. stepped s (word_at actor 16) k id me.1 made.view keeps) (lost_word (get_or s.words (word_at actor 16) 0) st.first st.second miss))
+
+  pub won_knows_drain : WonExchangeKnowsDrain is_of first facts
+  won_knows_drain n s s' r r' actor id me st note home inside word said hit made c has =
+      let w = made.view in
+      let new = either (get_or s.words (word_at actor 16) 0 == st.first) st.second (get_or s.words (word_at actor 16) 0) in
+      let act = takes (slot_at actor 0) (Home home) in
+      let won = (made.told actor note word said).0 hit in
+      let of : c.actor ≡ actor = ap (λ (h : Held). h.actor) (some_same c _ (sym has ∙ ap (λ (m : Me (Slot _) View). m.0.claim) won.now)) in
+      subst (λ (z : State (Slot _) View). Rule (is_of first) facts n z → c.gave ≡ (get_or s.words (word_at actor 17) 0 / 4 % 2 == 1)) (sym made.after)
+      (λ q.
+      let x' : Place (is_of first) facts = spot_of word_offset slot_offset (stepped s (word_at actor 16) new id me.1 w act) q.ghosts actor in
+      let f' = q.each actor inside in
+      let at : get_elem? (set s.views id w) id ≡ some w = set_here s.views id w (seat_there s.views id me.0 made.present) in
+      let h = is_held (is_of first) facts n actor id x' (set s.views id w) w c f' at has of in
+      h.1.gave ∙ (gave_shown (is_of first) facts x' f'.list_place
+      ∙ ap (λ k. k / 4 % 2 == 1) (word_stays (is_of first) facts n s r actor inside Status Gate new (λ e. omega arith)))) r'
 
   pub won_is_schedule : WonExchangeIsSchedule is_of first facts
   won_is_schedule n s s' r r' actor id me st note home rest inside word said bit bare hit made =

@@ -12,13 +12,16 @@ use Rattle.mb_gate.specs.declared.slot.Slot.{Slot}
 use Rattle.mb_gate.specs.View.{View, alone}
 use Rattle.mb_gate.specs.Starts.{rows_of, slots_of, IsFresh}
 use Rattle.mb_refinement.specs.Refines.{Rule, shows, IsEvent, IsShownTheSame, IsNoEvent}
-use Rattle.mb_refinement.specs.PartyEvents.{AreShownAs}
+use Rattle.mb_refinement.specs.Parts.{IsParted}
+use Rattle.mb_refinement.specs.PartyEvents.{AreShownAs, IsShownParted}
 
--- a move of the machine: an event, none, a party that is split off this one, or a party that takes over another
+-- a move of the machine: an event, none, a party that is split off this one, a party that takes a part of what this one owes, or a party that takes
+-- over another
 pub data Move : Type 0 where
   Made : Event → Move
   Still : Move
   Split : ℕ → Move
+  Part : ℕ → Move
   Join : ℕ → ℕ → Move
 
 -- from old the move leads to new
@@ -26,6 +29,7 @@ abbrev pub Leads : List MachineActor → Move → List MachineActor → Type 0
 Leads old (Made event) new = Transition old event new
 Leads old Still new = new ≡ old
 Leads old (Split party) new = IsSplit party old new
+Leads old (Part party) new = IsParted party old new
 Leads old (Join into from) new = IsJoined into from old new
 
 -- from old the moves lead to new
@@ -39,14 +43,16 @@ events_of [] = []
 events_of (Made event ∷ moves) = event ∷ events_of moves
 events_of (Still ∷ moves) = events_of moves
 events_of (Split party ∷ moves) = events_of moves
+events_of (Part party ∷ moves) = events_of moves
 events_of (Join into from ∷ moves) = events_of moves
 
--- no party is split off or taken over
+-- no party is split off, parted or taken over
 abbrev pub KeepsParties : List Move → Type 0
 KeepsParties [] = Unit {0}
 KeepsParties (Made event ∷ moves) = KeepsParties moves
 KeepsParties (Still ∷ moves) = KeepsParties moves
 KeepsParties (Split party ∷ moves) = ⊥
+KeepsParties (Part party ∷ moves) = ⊥
 KeepsParties (Join into from ∷ moves) = ⊥
 
 -- what a function gives for each number below this one
@@ -73,6 +79,7 @@ module _ {H : Type 0} (is_of : ℕ → H → Type 0) (facts : H → HomeFacts) w
   IsMove n s r rests Still s' r' rests' = IsNoEvent is_of facts n s r s' r' × ((a : ℕ) → rests' a ≡ rests a)
   IsMove n s r rests (Split party) s' r' rests' =
       (AreShownAs is_of facts n s r s' r' (λ x. copied x party) ⊎ AreShownAs is_of facts n s r s' r' (λ x. moved x party)) × ((a : ℕ) → rests' a ≡ rests a)
+  IsMove n s r rests (Part party) s' r' rests' = ((actor : ℕ) → actor < n → IsShownParted is_of facts n s r s' r' party actor) × ((a : ℕ) → rests' a ≡ rests a)
   IsMove n s r rests (Join into from) s' r' rests' =
       (into ≢ from) × (into < length s.views) × AreShownAs is_of facts n s r s' r' (λ x. absorbed x into from) × ((a : ℕ) → rests' a ≡ rests a)
 

@@ -3,6 +3,8 @@ pub mod StatusEvents
 pub mod WaitingEvents
 pub mod ListEvents
 pub mod PartyEvents
+pub mod Parts
 pub mod Interleavings
 pub mod KeptFacts
 pub mod TableMoves
+pub mod Reached

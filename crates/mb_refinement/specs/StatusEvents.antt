@@ -1,5 +1,5 @@
 -- Which event of the machine each step on an actor's status word is (`akka.dispatch.Mailbox`; parties are this project's own profile).
-use Rattle.std.specs.Prelude.{◌≡◌, ◌≢◌, ◌⊎◌, ℕ, ◌+◌, ◌<◌, ◌==◌, false, List, [], ◌∷◌, ◌++◌, Some, None, slice_index}
+use Rattle.std.specs.Prelude.{◌≡◌, ◌≢◌, ◌⊎◌, ℕ, ◌+◌, ◌/◌, ◌%◌, ◌<◌, ◌==◌, false, List, [], ◌∷◌, ◌++◌, Some, None, slice_index}
 use mathlib.Core.Option.{some}
 use prog.Atomic.{either}
 use Rattle.std.specs.declared.snapshot.Snapshot.{Snapshot}
@@ -12,6 +12,7 @@ use Rattle.mb_gate.specs.declared.slot.Slot.{Slot}
 use Rattle.mb_gate.specs.declared.slot.Slot.TheVariants.{Home, First}
 use Rattle.mb_gate.specs.View.{View, Held}
 use Rattle.mb_gate.specs.TableSteps.{Reads, ReadsHeld, Writes, Schedules, Idles}
+use Rattle.mb_gate.specs.Together.{ReadsOwnClaim, ReadsFlag}
 use Rattle.mb_refinement.specs.Refines.{IsStep, Rule, IsEvent, IsNoEvent}
 
 -- A load of a status word is the machine's reading.
@@ -32,6 +33,20 @@ WonExchangeIsSchedule {H} is_of first facts =
     → IsStep (word_at actor 16) id me (λ k. either (k == st.first) st.second k) (takes (slot_at actor 0) (Home home)) (Schedules is_of facts st me) s s'
     → IsEvent (is_of first) facts n s r s' r' actor id Schedule rest rest
 
+-- the claim, if any, knows whether the last drain gave something, which this word of the list's gate shows
+abbrev pub KnowsLastDrain : ℕ → View → Type 0
+KnowsLastDrain gate v = (c : Held) → v.claim ≡ Some c → c.gave ≡ (gate / 4 % 2 == 1)
+
+-- Its claim knows then whether the last drain gave something.
+abbrev pub WonExchangeKnowsDrain : {H : Type 0} → (H → ℕ → H → Type 0) → H → (H → HomeFacts) → Type 0
+WonExchangeKnowsDrain {H} is_of first facts =
+    (n : ℕ) (s s' : State (Slot H) View) (r : Rule (is_of first) facts n s) (r' : Rule (is_of first) facts n s') (actor id : ℕ) (me : Me (Slot H) View)
+    (st : Step (Slot H)) (note : Snapshot (Snapshot H)) (home : H)
+    → actor < n → st.word ≡ word_at actor 16 → st.said ≡ some (First note) → slice_index s.words (word_at actor 16) ≡ st.first
+    → (made : IsStep (word_at actor 16) id me (λ k. either (k == st.first) st.second k) (takes (slot_at actor 0) (Home home))
+    (Schedules is_of facts st me) s s')
+    → KnowsLastDrain (slice_index s.words (word_at actor 17)) made.view
+
 -- The same exchange, which finds another word, is a reading.
 abbrev pub LostExchangeIsRead : {H : Type 0} → (H → ℕ → H → Type 0) → H → (H → HomeFacts) → Type 0
 LostExchangeIsRead {H} is_of first facts =
@@ -47,6 +62,22 @@ LoadByTheHolderIsNone {H} is_of facts =
     (n : ℕ) (s s' : State (Slot H) View) (r : Rule is_of facts n s) (r' : Rule is_of facts n s') (actor id : ℕ) (me : Me (Slot H) View) (st : Step (Slot
     H)) (c : Held) → actor < n → st.word ≡ word_at actor 16 → me.0.claim ≡ Some c → c.actor ≡ actor
     → IsStep (word_at actor 16) id me (λ k. k) keeps (ReadsHeld st me) s s'
+    → IsNoEvent is_of facts n s r s' r'
+
+-- A load of a status word by a seat that asks whether a claim is out is no event.
+abbrev pub LookForClaimIsNone : {H : Type 0} → (ℕ → H → Type 0) → (H → HomeFacts) → Type 0
+LookForClaimIsNone {H} is_of facts =
+    (n : ℕ) (s s' : State (Slot H) View) (r : Rule is_of facts n s) (r' : Rule is_of facts n s') (actor id : ℕ) (me : Me (Slot H) View) (st : Step (Slot
+    H)) → actor < n → st.word ≡ word_at actor 16
+    → IsStep (word_at actor 16) id me (λ k. k) keeps (ReadsOwnClaim st me) s s'
+    → IsNoEvent is_of facts n s r s' r'
+
+-- Nor is a load of the flag of a closed actor.
+abbrev pub LoadOfFlagIsNone : {H : Type 0} → (ℕ → H → Type 0) → (H → HomeFacts) → Type 0
+LoadOfFlagIsNone {H} is_of facts =
+    (n : ℕ) (s s' : State (Slot H) View) (r : Rule is_of facts n s) (r' : Rule is_of facts n s') (actor id : ℕ) (me : Me (Slot H) View) (st : Step (Slot
+    H)) → actor < n → st.word ≡ word_at actor 7
+    → IsStep (word_at actor 7) id me (λ k. k) keeps (ReadsFlag st me) s s'
     → IsNoEvent is_of facts n s r s' r'
 
 -- A store of a status word by a seat that has the claim suspends the mailbox once more, undoes one suspension, or closes it.

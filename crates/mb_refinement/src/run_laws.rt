@@ -15,7 +15,8 @@ pub fn new_gates_show_a_beginning<H: MailboxState>()
     ensures { (first : H) → NewGatesBegin (H.is_of first) H.facts }
 {}
 
-/// A law: any list of steps of the table, of every kind and by any seats, is an interleaving of the machine's moves.
+/// A law: any list of steps of the table, of every kind and by any seats, leads from a table that meets the gates' rule to one that
+/// meets it, and is an interleaving of the machine's moves. It asks nothing of any table after the first.
 pub fn any_steps_are_moves<H: MailboxState>()
     ensures { (first : H) → TableStepsAreMoves H.is_of first H.facts }
 {}

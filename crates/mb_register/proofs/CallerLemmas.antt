@@ -8,7 +8,7 @@ use Rattle.mb_gate.specs.Accessors.{held_actor}
 use Rattle.mb_gate.specs.Rule.{IsAmong}
 use Rattle.mb_gate.specs.View.{obligation_to}
 use Rattle.mb_gate.proofs.Numbers.{among_first, among_left, among_right}
-use Rattle.mb_register.specs.Owed.{is_owed}
+use Rattle.mb_register.specs.ActorSet.{has_actor}
 use Rattle.mb_register.specs.Registering.{QueueAccount, WasRefused, IsRegistered}
 use Rattle.mb_register.proofs.Bits.{same_or_other}
 use Rattle.mb_register.specs.Caller.{Caller, OwesForRefusals, TakesNothing, IsDischargedOrOwed, IsTold, CallerAdvances}
@@ -19,7 +19,7 @@ use Rattle.mb_register.proofs.Unchanged.{unchanged-none, unchanged-then}
 
 -- it was owed a look before, or its claim was refused
 abbrev OwedOr : {H : Type 0} → QueueAccount H → List (Claim H) → ℕ → Type 0
-OwedOr {H} a more id = (is_owed a.owed id ≡ true) ⊎ ((claim : Claim H) × IsAmong claim more × (held_actor claim ≡ id))
+OwedOr {H} a more id = (has_actor a.owed id ≡ true) ⊎ ((claim : Claim H) × IsAmong claim more × (held_actor claim ≡ id))
 
 module _ {H : Type 0} where
   pub account-none : (a : QueueAccount H) → OwesForRefusals a a
@@ -46,7 +46,7 @@ module _ {H : Type 0} where
   from-refused id a b r = record {
     more = r.claim ∷ [];
     refused = r.refused;
-    still = λ other owed. r.owed other ∙ still_so (other == id) (is_owed a.owed other) owed;
+    still = λ other owed. r.owed other ∙ still_so (other == id) (has_actor a.owed other) owed;
     only = λ other owed. why other (same_or_other other id) (sym (r.owed other) ∙ owed);
   }
     where
@@ -54,18 +54,18 @@ module _ {H : Type 0} where
       still_so true y owed = refl
       still_so false y owed = owed
 
-      why : (other : ℕ) → (other ≡ id) ⊎ (other ≢ id) → (other == id || is_owed a.owed other) ≡ true → OwedOr a (r.claim ∷ []) other
+      why : (other : ℕ) → (other ≡ id) ⊎ (other ≢ id) → (other == id || has_actor a.owed other) ≡ true → OwedOr a (r.claim ∷ []) other
       why other (inl same) owed = inr (r.claim, among_first r.claim [], r.of ∙ sym same)
       why other (inr apart) owed =
           let miss : (other == id) ≡ false = grind (arith, nat_tests) in
-          inl (sym (ap (λ b. b || is_owed a.owed other) miss) ∙ owed)
+          inl (sym (ap (λ b. b || has_actor a.owed other) miss) ∙ owed)
 
   pub account-registered : (id : ℕ) (a b : QueueAccount H) (registered : Bool) → IsRegistered id a b registered → OwesForRefusals a b
   account-registered id a b true w = record {
     more = [];
     refused = w.refused ∙ sym (append-nil a.refused);
-    still = λ other owed. ap (λ o. is_owed o other) w.owed ∙ owed;
-    only = λ other owed. inl (sym (ap (λ o. is_owed o other) w.owed) ∙ owed);
+    still = λ other owed. ap (λ o. has_actor o other) w.owed ∙ owed;
+    only = λ other owed. inl (sym (ap (λ o. has_actor o other) w.owed) ∙ owed);
   }
   account-registered id a b false (inl same) = subst (OwesForRefusals a) (sym same) (account-none a)
   account-registered id a b false (inr refused) = from-refused id a b refused

@@ -9,7 +9,7 @@ use Rattle.mb_gate.specs.Accessors.{held_actor}
 use Rattle.mb_gate.specs.ClaimCounts.{times, claims_got, claims_returned}
 use Rattle.mb_gate.specs.View.{View, reading, winning, counting, looking, idling, taking_in}
 use Rattle.mb_gate.specs.declared.claim.Claim.{Claim}
-use Rattle.mb_register.specs.declared.owed.Owed.{Owed}
+use Rattle.mb_register.specs.declared.actor_set.ActorSet.{ActorSet}
 use Rattle.mb_register.specs.Views.{GotAndGaveBack}
 use Rattle.mb_register.specs.Registering.{QueueAccount, HandsClaimOn, LosesNoClaim, claims_of_actor}
 
@@ -122,7 +122,7 @@ module _ {H : Type 0} where
   }
 
   -- the set of owed looks says nothing of it
-  pub loses-aside : (pushed refused : List (Claim H)) (owed other : Owed) (new : QueueAccount H) (u v : View) →
+  pub loses-aside : (pushed refused : List (Claim H)) (owed other : ActorSet) (new : QueueAccount H) (u v : View) →
       LosesNoClaim (record { pushed = pushed; refused = refused; owed = owed }) new u v →
       LosesNoClaim (record { pushed = pushed; refused = refused; owed = other }) new u v
   loses-aside pushed refused owed other new u v x = record {

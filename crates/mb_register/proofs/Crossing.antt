@@ -3,7 +3,7 @@ use denote.RattleType.{RattleType}
 use denote.Param.Send.{IsSend, sendable}
 use denote.Param.SendFields.{declared_send}
 use Rattle.mb_gate.proofs.Crossing as gate
-use Rattle.mb_register.proofs.owed.Owed.TheSendSync as owed
+use Rattle.mb_register.proofs.actor_set.ActorSet.TheSendSync as owed
 use Rattle.mb_register.specs.contracts.registrar.Registrar as registrar
 
 module _ (H W : RattleType) (home : IsSend H) (run_queue : IsSend W) where

@@ -5,8 +5,8 @@ use Rattle.std.proofs.lemmas.Bool.Decides.{nat_tests}
 use Rattle.mb_core.specs.declared.wake_obligation.WakeObligation.{WakeObligation}
 use Rattle.mb_gate.specs.View.{View, idling, obligation_to}
 use Rattle.mb_journal.specs.Entry.{Entry}
-use Rattle.mb_register.specs.declared.owed.Owed.{Owed}
-use Rattle.mb_register.specs.Owed.{is_owed}
+use Rattle.mb_register.specs.declared.actor_set.ActorSet.{ActorSet}
+use Rattle.mb_register.specs.ActorSet.{has_actor}
 use Rattle.mb_register.specs.Registering.{OwesALook, JoinAsOwed}
 use Rattle.mb_register.proofs.Bits.{same_or_other}
 use Rattle.mb_register.proofs.Views.{owes-same}
@@ -20,25 +20,25 @@ owes-back id journal before w after =
     (ap (λ (o : WakeObligation). o.system) now, ap (λ (o : WakeObligation). o.message) now)
 
 -- the set is as it was
-pub joins-none : (old new : Owed) (v : View) → new ≡ old → JoinAsOwed old new v
-joins-none old new v same id has = inl (sym (ap (λ o. is_owed o id) same) ∙ has)
+pub joins-none : (old new : ActorSet) (v : View) → new ≡ old → JoinAsOwed old new v
+joins-none old new v same id has = inl (sym (ap (λ o. has_actor o id) same) ∙ has)
 
 -- one that is owed a look joined it
-pub joins-one : (id : ℕ) (old new : Owed) (v : View) → ((other : ℕ) → is_owed new other ≡ (other == id || is_owed old other)) → OwesALook id v →
+pub joins-one : (id : ℕ) (old new : ActorSet) (v : View) → ((other : ℕ) → has_actor new other ≡ (other == id || has_actor old other)) → OwesALook id v →
     JoinAsOwed old new v
 joins-one id old new v is owes other has = by_place (same_or_other other id)
   where
-    by_place : (other ≡ id) ⊎ (other ≢ id) → (is_owed old other ≡ true) ⊎ OwesALook other v
+    by_place : (other ≡ id) ⊎ (other ≢ id) → (has_actor old other ≡ true) ⊎ OwesALook other v
     by_place (inl same) = inr (subst (λ n. OwesALook n v) (sym same) owes)
     by_place (inr apart) =
         let no : (other == id) ≡ false = grind (arith, nat_tests) in
-        inl (sym (is other ∙ ap (λ b. b || is_owed old other) no) ∙ has)
+        inl (sym (is other ∙ ap (λ b. b || has_actor old other) no) ∙ has)
 
 -- one that was not in the set, and is now, joined it
-pub joined-owed : (old new : Owed) (v : View) (id : ℕ) → JoinAsOwed old new v → is_owed old id ≡ false → is_owed new id ≡ true → OwesALook id v
+pub joined-owed : (old new : ActorSet) (v : View) (id : ℕ) → JoinAsOwed old new v → has_actor old id ≡ false → has_actor new id ≡ true → OwesALook id v
 joined-owed old new v id joins none has = by_case (joins id has)
   where
-    by_case : (is_owed old id ≡ true) ⊎ OwesALook id v → OwesALook id v
+    by_case : (has_actor old id ≡ true) ⊎ OwesALook id v → OwesALook id v
     by_case (inl was) = absurd (cc (was, none))
     by_case (inr owes) = owes
 

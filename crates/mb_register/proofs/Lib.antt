@@ -1,6 +1,7 @@
 pub mod Unchanged
 pub mod Views
 pub mod ClaimCounts
+pub mod Reading
 pub mod Dues
 pub mod DueLemmas
 pub mod AtHome

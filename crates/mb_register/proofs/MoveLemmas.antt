@@ -5,8 +5,8 @@ use Rattle.mb_ghost.specs.Seen.{Each}
 use Rattle.mb_ghost.proofs.SeenLemmas.{each_append, each_weaker}
 use Rattle.mb_gate.specs.View.{View, Observation, SentSystem, obligation_to}
 use Rattle.mb_gate.specs.View.{Read, Saw, Counted, Looked, Sent, Unsent, Took, Pushed, Drained, Ended}
-use Rattle.mb_register.specs.declared.owed.Owed.{Owed}
-use Rattle.mb_register.specs.Owed.{is_owed}
+use Rattle.mb_register.specs.declared.actor_set.ActorSet.{ActorSet}
+use Rattle.mb_register.specs.ActorSet.{has_actor}
 use Rattle.mb_register.specs.Views.{Does, GivesBackUnchanged, IsLook, LooksAmong}
 use Rattle.mb_register.proofs.Bits.{same_or_other}
 use Rattle.mb_register.specs.Caller.{Caller, OwesForRefusals, TakesNothing, IsDischargedOrOwed, IsTold, CallerAdvances}
@@ -106,7 +106,7 @@ further-tells id a b m account here told claims got_due = record {
 pub further-moves : {H : Type 0} (id : ℕ) (a b : Caller H) → Moves id a.view b.view → OwesForRefusals a.account b.account → IsDischargedOrOwed id b →
     b.told ≡ a.told → LosesNoClaim a.account b.account a.view b.view → GotDue a.view b.view → CallerAdvances a b
 further-moves id a b m account discharged same claims got_due =
-    further-tells id a b m account (inl discharged) (λ other still. (still.0, ap (λ (o : Owed). is_owed o other) same ∙ still.1)) claims got_due
+    further-tells id a b m account (inl discharged) (λ other still. (still.0, ap (λ (o : ActorSet). has_actor o other) same ∙ still.1)) claims got_due
 
 -- who looks at some actors takes nothing and sends nothing
 pub among-takes-none : (among : ℕ → Bool) (looks : List Observation) → Each (λ (s : Observation). (id : ℕ) × (among id ≡ true) × IsLook id s) looks →
@@ -115,17 +115,17 @@ among-takes-none among looks =
     each_weaker (λ (s : Observation). (id : ℕ) × (among id ≡ true) × IsLook id s) TakesNothing looks (λ s is. look-takes-none is.0 s is.2)
 
 -- the actors that it told something were registered
-pub further-told : {H : Type 0} (a b : Caller H) → LooksAmong (is_owed a.told) a.view b.view →
+pub further-told : {H : Type 0} (a b : Caller H) → LooksAmong (has_actor a.told) a.view b.view →
     ((id : ℕ) → 64 ≤ id → obligation_to id b.view ≡ obligation_to id a.view) →
-    ((id : ℕ) → id < 64 → is_owed a.told id ≡ true → IsDischargedOrOwed id b) → OwesForRefusals a.account b.account →
+    ((id : ℕ) → id < 64 → has_actor a.told id ≡ true → IsDischargedOrOwed id b) → OwesForRefusals a.account b.account →
     LosesNoClaim a.account b.account a.view b.view → GotDue a.view b.view → CallerAdvances a b
 further-told a b looks beyond discharged account claims got_due = record {
   more = looks.looks;
-  took_none = among-takes-none (is_owed a.told) looks.looks looks.only;
-  sends_open = among-sends-none (is_owed a.told) looks.looks looks.only;
+  took_none = among-takes-none (has_actor a.told) looks.looks looks.only;
+  sends_open = among-sends-none (has_actor a.told) looks.looks looks.only;
   log = looks.log;
   account = account;
-  obligations = λ id. by_set id (is_owed a.told id) refl (cases_lt id 64);
+  obligations = λ id. by_set id (has_actor a.told id) refl (cases_lt id 64);
   told = λ id still. inl (discharged id still.0 still.1);
   share = looks.share;
   gives_back = looks.gives_back;
@@ -133,7 +133,7 @@ further-told a b looks beyond discharged account claims got_due = record {
   got_due = got_due;
 }
   where
-    by_set : (id : ℕ) (among : Bool) → is_owed a.told id ≡ among → (id < 64) ⊎ (64 ≤ id) →
+    by_set : (id : ℕ) (among : Bool) → has_actor a.told id ≡ among → (id < 64) ⊎ (64 ≤ id) →
         IsDischargedOrOwed id b ⊎ (obligation_to id b.view ≡ obligation_to id a.view) ⊎ IsTold id b
     by_set id true is (inl few) = inl (discharged id few is)
     by_set id true is (inr many) = inr (inl (beyond id many))

@@ -8,8 +8,8 @@ use Rattle.mb_ghost.proofs.SeenLemmas.{each_append, each_weaker}
 use Rattle.mb_gate.specs.Accessors.{held_actor}
 use Rattle.mb_gate.specs.View.{View, Observation, obligation_to}
 use Rattle.mb_gate.specs.declared.claim.Claim.{Claim}
-use Rattle.mb_register.specs.declared.owed.Owed.{Owed}
-use Rattle.mb_register.specs.Owed.{is_owed}
+use Rattle.mb_register.specs.declared.actor_set.ActorSet.{ActorSet}
+use Rattle.mb_register.specs.ActorSet.{has_actor}
 use Rattle.mb_register.specs.Views.{LooksAfter, LooksAmong, IsLook}
 use Rattle.mb_register.specs.Registering.{QueueAccount, IsRegistered, StopsAt}
 use Rattle.mb_register.proofs.Bits.{same_or_other}
@@ -29,37 +29,37 @@ on-failure Told P Q (Ok x) failed q = absurd failed
 on-failure Told P Q (Err e) failed q = q
 
 -- who was taken out is owed no look
-pub taken-out : (id : ℕ) (before now : Owed) → is_owed now id ≡ (not (id == id) && is_owed before id) → is_owed now id ≡ false
+pub taken-out : (id : ℕ) (before now : ActorSet) → has_actor now id ≡ (not (id == id) && has_actor before id) → has_actor now id ≡ false
 taken-out id before now is =
-    let itself : (id == id) ≡ true = grind (arith, nat_tests) in is ∙ ap (λ b. not b && is_owed before id) itself
+    let itself : (id == id) ≡ true = grind (arith, nat_tests) in is ∙ ap (λ b. not b && has_actor before id) itself
 
 -- for the others it is as before
-pub others-out : (id other : ℕ) (before now : Owed) → other ≢ id → is_owed now other ≡ (not (other == id) && is_owed before other)
-    → is_owed now other ≡ is_owed before other
+pub others-out : (id other : ℕ) (before now : ActorSet) → other ≢ id → has_actor now other ≡ (not (other == id) && has_actor before other)
+    → has_actor now other ≡ has_actor before other
 others-out id other before now ne is =
-    let apart : (other == id) ≡ false = grind (arith, nat_tests) in is ∙ ap (λ b. not b && is_owed before other) apart
+    let apart : (other == id) ≡ false = grind (arith, nat_tests) in is ∙ ap (λ b. not b && has_actor before other) apart
 
 -- the set of owed looks shows whether the run queue refused a claim
 module _ {H : Type 0} (id : ℕ) (old new : QueueAccount H) where
-  pub refused-one : (result : Bool) → IsRegistered id old new result → is_owed old.owed id ≡ false → is_owed new.owed id ≡ true
+  pub refused-one : (result : Bool) → IsRegistered id old new result → has_actor old.owed id ≡ false → has_actor new.owed id ≡ true
       → (claim : Claim H) × (held_actor claim ≡ id) × (new.refused ≡ old.refused ++ claim ∷ [])
-  refused-one true went out still = never-both (is_owed new.owed id) still (ap (λ o. is_owed o id) went.owed ∙ out)
-  refused-one false (inl same) out still = never-both (is_owed new.owed id) still (ap (λ (a : QueueAccount H). is_owed a.owed id) same ∙ out)
+  refused-one true went out still = never-both (has_actor new.owed id) still (ap (λ o. has_actor o id) went.owed ∙ out)
+  refused-one false (inl same) out still = never-both (has_actor new.owed id) still (ap (λ (a : QueueAccount H). has_actor a.owed id) same ∙ out)
   refused-one false (inr was) out still = (was.claim, was.of, was.refused)
 
-  pub refused-none : (result : Bool) → IsRegistered id old new result → is_owed new.owed id ≡ false → new.refused ≡ old.refused
+  pub refused-none : (result : Bool) → IsRegistered id old new result → has_actor new.owed id ≡ false → new.refused ≡ old.refused
   refused-none true went out = went.refused
   refused-none false (inl same) out = ap (λ (a : QueueAccount H). a.refused) same
   refused-none false (inr was) out =
       let itself : (id == id) ≡ true = grind (arith, nat_tests) in
-      never-both (is_owed new.owed id) (was.owed id ∙ ap (λ b. b || is_owed old.owed id) itself) out
+      never-both (has_actor new.owed id) (was.owed id ∙ ap (λ b. b || has_actor old.owed id) itself) out
 
   -- no look is owed to another actor, or no longer owed, for it
-  pub others-kept : (result : Bool) → IsRegistered id old new result → (other : ℕ) → other ≢ id → is_owed new.owed other ≡ is_owed old.owed other
-  others-kept true went other ne = ap (λ o. is_owed o other) went.owed
-  others-kept false (inl same) other ne = ap (λ (a : QueueAccount H). is_owed a.owed other) same
+  pub others-kept : (result : Bool) → IsRegistered id old new result → (other : ℕ) → other ≢ id → has_actor new.owed other ≡ has_actor old.owed other
+  others-kept true went other ne = ap (λ o. has_actor o other) went.owed
+  others-kept false (inl same) other ne = ap (λ (a : QueueAccount H). has_actor a.owed other) same
   others-kept false (inr was) other ne =
-      let apart : (other == id) ≡ false = grind (arith, nat_tests) in was.owed other ∙ ap (λ b. b || is_owed old.owed other) apart
+      let apart : (other == id) ≡ false = grind (arith, nat_tests) in was.owed other ∙ ap (λ b. b || has_actor old.owed other) apart
 
 module _ (among : ℕ → Bool) where
   pub among-none : (v : View) → LooksAmong among v v
@@ -96,75 +96,80 @@ module _ (among : ℕ → Bool) where
       by_case (inr not_in) = subst (LooksAmong among u) (sym (out not_in)) a
 
 -- all below this number are discharged, and the others are owed what they were
-pub record IsPaidBelow (n : ℕ) (before now : Owed) (old new : View) : Type 0 where
-  pub looks : LooksAmong (is_owed before) old new
-  pub done : (id : ℕ) → id < n → is_owed now id ≡ false
-  pub discharged : (id : ℕ) → id < n → is_owed before id ≡ true → obligation_to id new ≡ nothing
-  pub later : (id : ℕ) → n ≤ id → id < 64 → is_owed now id ≡ is_owed before id
+pub record IsPaidBelow (n : ℕ) (before now : ActorSet) (old new : View) : Type 0 where
+  pub looks : LooksAmong (has_actor before) old new
+  pub done : (id : ℕ) → id < n → has_actor now id ≡ false
+  pub discharged : (id : ℕ) → id < n → has_actor before id ≡ true → obligation_to id new ≡ nothing
+  pub later : (id : ℕ) → n ≤ id → id < 64 → has_actor now id ≡ has_actor before id
 
-pub discharged-none : (owed : Owed) (v : View) → IsPaidBelow 0 owed owed v v
+pub discharged-none : (owed : ActorSet) (v : View) → IsPaidBelow 0 owed owed v v
 discharged-none owed v = record {
-  looks = among-none (is_owed owed) v;
+  looks = among-none (has_actor owed) v;
   done = λ id below. absurd (omega (arith, below));
   discharged = λ id below. absurd (omega (arith, below));
   later = λ id from few. refl;
 }
 
 -- whoever was owed a look is owed nothing, or a look still
-pub kept-below : (n : ℕ) (before now : Owed) (u v : View) → IsPaidBelow n before now u v → (id : ℕ) → id < 64 → is_owed before id ≡ true
-    → (obligation_to id v ≡ nothing) ⊎ (is_owed now id ≡ true)
+pub kept-below : (n : ℕ) (before now : ActorSet) (u v : View) → IsPaidBelow n before now u v → (id : ℕ) → id < 64 → has_actor before id ≡ true
+    → (obligation_to id v ≡ nothing) ⊎ (has_actor now id ≡ true)
 kept-below n before now u v p id small owed = by_order (cases_lt id n)
   where
-    by_order : (id < n) ⊎ (n ≤ id) → (obligation_to id v ≡ nothing) ⊎ (is_owed now id ≡ true)
+    by_order : (id < n) ⊎ (n ≤ id) → (obligation_to id v ≡ nothing) ⊎ (has_actor now id ≡ true)
     by_order (inl below) = inl (p.discharged id below owed)
     by_order (inr from) = inr (p.later id from small ∙ owed)
 
-module _ (n : ℕ) (before mid now : Owed) (u v w : View) (few : n < 64) (p : IsPaidBelow n before mid u v)
-    (none : is_owed mid n ≡ false → (now ≡ mid) × (w ≡ v)) (looks : LooksAfter n v w)
-    (others : (other : ℕ) → other < 64 → other ≢ n → is_owed now other ≡ is_owed mid other) where
-  at : is_owed mid n ≡ is_owed before n
+-- whoever was owed no look is owed none
+pub out-below : (n : ℕ) (before now : ActorSet) (u v : View) → IsPaidBelow n before now u v → (id : ℕ) → id < 64 → has_actor before id ≡ false
+    → has_actor now id ≡ false
+out-below n before now u v p id small out = by_order (cases_lt id n)
+  where
+    by_order : (id < n) ⊎ (n ≤ id) → has_actor now id ≡ false
+    by_order (inl below) = p.done id below
+    by_order (inr from) = p.later id from small ∙ out
+
+module _ (n : ℕ) (before mid now : ActorSet) (u v w : View) (few : n < 64) (p : IsPaidBelow n before mid u v)
+    (none : has_actor mid n ≡ false → (now ≡ mid) × (w ≡ v)) (looks : LooksAfter n v w)
+    (others : (other : ℕ) → other < 64 → other ≢ n → has_actor now other ≡ has_actor mid other) where
+  at : has_actor mid n ≡ has_actor before n
   at = p.later n (omega arith) few
 
-  pub looked-on : LooksAmong (is_owed before) u w
-  looked-on = among-on (is_owed before) n u v w p.looks (λ out. (none (at ∙ out)).1) looks
+  pub looked-on : LooksAmong (has_actor before) u w
+  looked-on = among-on (has_actor before) n u v w p.looks (λ out. (none (at ∙ out)).1) looks
 
-  pub no-more : (id : ℕ) → id < 64 → is_owed before id ≡ false → is_owed now id ≡ false
+  pub no-more : (id : ℕ) → id < 64 → has_actor before id ≡ false → has_actor now id ≡ false
   no-more id small out = by_place (same_or_other id n)
     where
-      was_out : is_owed mid id ≡ false
-      was_out = by_order (cases_lt id n)
-        where
-          by_order : (id < n) ⊎ (n ≤ id) → is_owed mid id ≡ false
-          by_order (inl below) = p.done id below
-          by_order (inr from) = p.later id from small ∙ out
+      was_out : has_actor mid id ≡ false
+      was_out = out-below n before mid u v p id small out
 
-      by_place : (id ≡ n) ⊎ (id ≢ n) → is_owed now id ≡ false
+      by_place : (id ≡ n) ⊎ (id ≢ n) → has_actor now id ≡ false
       by_place (inl same) =
-          let miss : is_owed mid n ≡ false = ap (is_owed mid) (sym same) ∙ was_out in
-          ap (λ o. is_owed o id) (none miss).0 ∙ was_out
+          let miss : has_actor mid n ≡ false = ap (has_actor mid) (sym same) ∙ was_out in
+          ap (λ o. has_actor o id) (none miss).0 ∙ was_out
       by_place (inr other) = others id small other ∙ was_out
 
-  pub kept-on : (is_owed mid n ≡ true → (obligation_to n w ≡ nothing) ⊎ (is_owed now n ≡ true)) → (id : ℕ) → id < 64 → is_owed before id ≡ true
-      → (obligation_to id w ≡ nothing) ⊎ (is_owed now id ≡ true)
+  pub kept-on : (has_actor mid n ≡ true → (obligation_to n w ≡ nothing) ⊎ (has_actor now n ≡ true)) → (id : ℕ) → id < 64 → has_actor before id ≡ true
+      → (obligation_to id w ≡ nothing) ⊎ (has_actor now id ≡ true)
   kept-on discharges id small owed = by_place (same_or_other id n)
     where
-      by_order : id ≢ n → (id < n) ⊎ (n ≤ id) → (obligation_to id w ≡ nothing) ⊎ (is_owed now id ≡ true)
+      by_order : id ≢ n → (id < n) ⊎ (n ≤ id) → (obligation_to id w ≡ nothing) ⊎ (has_actor now id ≡ true)
       by_order other (inl below) = inl (looks.others id other ∙ p.discharged id below owed)
       by_order other (inr from) = inr (others id small other ∙ p.later id from small ∙ owed)
 
-      by_place : (id ≡ n) ⊎ (id ≢ n) → (obligation_to id w ≡ nothing) ⊎ (is_owed now id ≡ true)
+      by_place : (id ≡ n) ⊎ (id ≢ n) → (obligation_to id w ≡ nothing) ⊎ (has_actor now id ≡ true)
       by_place (inl same) =
-          subst (λ i. (obligation_to i w ≡ nothing) ⊎ (is_owed now i ≡ true)) (sym same) (discharges (at ∙ ap (is_owed before) (sym same) ∙ owed))
+          subst (λ i. (obligation_to i w ≡ nothing) ⊎ (has_actor now i ≡ true)) (sym same) (discharges (at ∙ ap (has_actor before) (sym same) ∙ owed))
       by_place (inr other) = by_order other (cases_lt id n)
 
-  pub stops : {H : Type 0} (pushed_before pushed_now refused_before refused_now : List (Claim H)) → (is_owed mid n ≡ true) × (is_owed now n ≡ true)
+  pub stops : {H : Type 0} (pushed_before pushed_now refused_before refused_now : List (Claim H)) → (has_actor mid n ≡ true) × (has_actor now n ≡ true)
       → (claim : Claim H) × (held_actor claim ≡ n) × (refused_now ≡ refused_before ++ claim ∷ [])
       → StopsAt (record { pushed = pushed_before; refused = refused_before; owed = before })
       (record { pushed = pushed_now; refused = refused_now; owed = now })
   stops pushed_before pushed_now refused_before refused_now still one = record {
     claim = one.0;
-    owed = ap (is_owed before) of ∙ was;
-    still = ap (is_owed now) of ∙ still.1;
+    owed = ap (has_actor before) of ∙ was;
+    still = ap (has_actor now) of ∙ still.1;
     refused = one.2;
     before = λ id below. others id (omega (arith, below, of, few)) (λ same. omega (arith, below, of, same)) ∙ p.done id (omega (arith, below, of));
     after = λ id from small. as_before id (omega (arith, from, of)) small (same_or_other id n);
@@ -173,14 +178,14 @@ module _ (n : ℕ) (before mid now : Owed) (u v w : View) (few : n < 64) (p : Is
       of : held_actor one.0 ≡ n
       of = one.1
 
-      was : is_owed before n ≡ true
+      was : has_actor before n ≡ true
       was = sym at ∙ still.0
 
-      as_before : (id : ℕ) → n ≤ id → id < 64 → (id ≡ n) ⊎ (id ≢ n) → is_owed now id ≡ is_owed before id
-      as_before id from small (inl same) = ap (is_owed now) same ∙ still.1 ∙ sym (ap (is_owed before) same ∙ was)
+      as_before : (id : ℕ) → n ≤ id → id < 64 → (id ≡ n) ⊎ (id ≢ n) → has_actor now id ≡ has_actor before id
+      as_before id from small (inl same) = ap (has_actor now) same ∙ still.1 ∙ sym (ap (has_actor before) same ∙ was)
       as_before id from small (inr other) = others id small other ∙ p.later id from small
 
-  pub discharged-next : is_owed now n ≡ false → (is_owed mid n ≡ true → (obligation_to n w ≡ nothing) ⊎ (is_owed now n ≡ true)) →
+  pub discharged-next : has_actor now n ≡ false → (has_actor mid n ≡ true → (obligation_to n w ≡ nothing) ⊎ (has_actor now n ≡ true)) →
       IsPaidBelow (n + 1) before now u w
   discharged-next gone discharges = record {
     looks = looked-on;
@@ -189,14 +194,14 @@ module _ (n : ℕ) (before mid now : Owed) (u v w : View) (few : n < 64) (p : Is
     later = λ id from small. others id small (λ same. omega (arith, same, from)) ∙ p.later id (omega (arith, from)) small;
   }
     where
-      done_at : (id : ℕ) → id < n + 1 → (id ≡ n) ⊎ (id ≢ n) → is_owed now id ≡ false
-      done_at id below (inl same) = ap (is_owed now) same ∙ gone
+      done_at : (id : ℕ) → id < n + 1 → (id ≡ n) ⊎ (id ≢ n) → has_actor now id ≡ false
+      done_at id below (inl same) = ap (has_actor now) same ∙ gone
       done_at id below (inr other) = others id (omega (arith, below, few)) other ∙ p.done id (omega (arith, below, other))
 
-      settled : (obligation_to n w ≡ nothing) ⊎ (is_owed now n ≡ true) → obligation_to n w ≡ nothing
+      settled : (obligation_to n w ≡ nothing) ⊎ (has_actor now n ≡ true) → obligation_to n w ≡ nothing
       settled (inl nothing_more) = nothing_more
-      settled (inr still) = never-both (is_owed now n) still gone
+      settled (inr still) = never-both (has_actor now n) still gone
 
-      discharged_at : (id : ℕ) → id < n + 1 → is_owed before id ≡ true → (id ≡ n) ⊎ (id ≢ n) → obligation_to id w ≡ nothing
-      discharged_at id below owed (inl same) = ap (λ i. obligation_to i w) same ∙ settled (discharges (at ∙ ap (is_owed before) (sym same) ∙ owed))
+      discharged_at : (id : ℕ) → id < n + 1 → has_actor before id ≡ true → (id ≡ n) ⊎ (id ≢ n) → obligation_to id w ≡ nothing
+      discharged_at id below owed (inl same) = ap (λ i. obligation_to i w) same ∙ settled (discharges (at ∙ ap (has_actor before) (sym same) ∙ owed))
       discharged_at id below owed (inr other) = looks.others id other ∙ p.discharged id (omega (arith, below, other)) owed

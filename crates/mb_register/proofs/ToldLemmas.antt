@@ -9,9 +9,9 @@ use Rattle.mb_core.specs.Actor.{nothing}
 use Rattle.mb_gate.specs.View.{View, obligation_to}
 use Rattle.mb_gate.specs.Accessors.{held_actor}
 use Rattle.mb_gate.specs.declared.claim.Claim.{Claim}
-use Rattle.mb_register.specs.declared.owed.Owed.{Owed}
+use Rattle.mb_register.specs.declared.actor_set.ActorSet.{ActorSet}
 use Rattle.mb_register.specs.Caller.{OwesForRefusals}
-use Rattle.mb_register.specs.Owed.{is_owed}
+use Rattle.mb_register.specs.ActorSet.{has_actor}
 use Rattle.mb_register.specs.Registering.{QueueAccount, IsRegistered}
 use Rattle.mb_register.specs.Told.{ToldView, AreDistinct, AreInOrderOf, GoInOrder, IsSetOf, is_among}
 use Rattle.mb_register.specs.Told.AreInOrderOf.{none, goes, stays}
@@ -157,18 +157,18 @@ at-most (suc n) order distinct all =
     let one = l.count in
     omega (arith, fewer, one)
 
-pub set-none : (set : Owed) → ((id : ℕ) → is_owed set id ≡ false) → IsSetOf set []
+pub set-none : (set : ActorSet) → ((id : ℕ) → has_actor set id ≡ false) → IsSetOf set []
 set-none set empty = record { same = empty; distinct = tt; within_limit = All-nil (λ (a : ActorId). a.0 < 64) }
 
 -- an actor that is not there has a place
-pub has-place : (set : Owed) (order : List ActorId) (actor : ActorId) → actor.0 < 64 → IsSetOf set order → is_owed set actor.0 ≡ false → length order < 64
+pub has-place : (set : ActorSet) (order : List ActorId) (actor : ActorId) → actor.0 < 64 → IsSetOf set order → has_actor set actor.0 ≡ false → length order < 64
 has-place set order actor few is out =
     let all = at-most 64 (actor ∷ order) (sym (is.same actor.0) ∙ out, is.distinct)
     (All-cons (λ (a : ActorId). a.0 < 64) actor order few is.within_limit) in
     omega (arith, all)
 
-pub set-last : (before now : Owed) (order : List ActorId) (actor : ActorId) → actor.0 < 64 → IsSetOf before order → is_owed before actor.0 ≡ false →
-    ((other : ℕ) → is_owed now other ≡ (other == actor.0 || is_owed before other)) → IsSetOf now (order ++ actor ∷ [])
+pub set-last : (before now : ActorSet) (order : List ActorId) (actor : ActorId) → actor.0 < 64 → IsSetOf before order → has_actor before actor.0 ≡ false →
+    ((other : ℕ) → has_actor now other ≡ (other == actor.0 || has_actor before other)) → IsSetOf now (order ++ actor ∷ [])
 set-last before now order actor few is out more = record {
   same = λ id. more id ∙ ap (λ b. id == actor.0 || b) (is.same id) ∙ sym (among-last order actor id);
   distinct = distinct-last order actor is.distinct (sym (is.same actor.0) ∙ out);
@@ -181,25 +181,25 @@ module _ {H : Type 0} where
 
   -- nothing is owed to the actor, or a look since its claim was refused
   abbrev IsSettled : ℕ → QueueAccount H → View → Type 0
-  IsSettled id account view = (obligation_to id view ≡ nothing) ⊎ (is_owed account.owed id ≡ true)
+  IsSettled id account view = (obligation_to id view ≡ nothing) ⊎ (has_actor account.owed id ≡ true)
 
   -- these were registered
   pub record AreRegistered (done : List ActorId) (told : ToldView) (a b : QueueAccount H) (old new : View) : Type 0 where
-    pub looks : LooksAmong (is_owed told.set) old new
+    pub looks : LooksAmong (has_actor told.set) old new
     pub beyond : (id : ℕ) → 64 ≤ id → obligation_to id new ≡ obligation_to id old
     pub settled : All (λ (actor : ActorId). IsSettled actor.0 b new) done
     pub account : OwesForRefusals a b
 
   pub registered-none : (told : ToldView) (a : QueueAccount H) (v : View) → AreRegistered [] told a a v v
   registered-none told a v = record {
-    looks = among-none (is_owed told.set) v;
+    looks = among-none (has_actor told.set) v;
     beyond = λ id above. refl;
     settled = All-nil (λ (actor : ActorId). IsSettled actor.0 a v);
     account = account-none a;
   }
 
   module _ (actor : ActorId) (done : List ActorId) (told : ToldView) (a b c : QueueAccount H) (u v w : View) (few : actor.0 < 64)
-      (there : is_owed told.set actor.0 ≡ true) (p : AreRegistered done told a b u v) (looks : LooksAfter actor.0 v w) (account : OwesForRefusals b c)
+      (there : has_actor told.set actor.0 ≡ true) (p : AreRegistered done told a b u v) (looks : LooksAfter actor.0 v w) (account : OwesForRefusals b c)
       (here : IsSettled actor.0 c w) where
     settled-still : (id : ActorId) → (id.0 ≡ actor.0) ⊎ (id.0 ≢ actor.0) → IsSettled id.0 b v → IsSettled id.0 c w
     settled-still id (inl same) was = subst (λ i. IsSettled i c w) (sym same) here
@@ -208,7 +208,7 @@ module _ {H : Type 0} where
 
     pub registered-next : AreRegistered (done ++ actor ∷ []) told a c u w
     registered-next = record {
-      looks = among-then (is_owed told.set) actor.0 u v w there p.looks looks;
+      looks = among-then (has_actor told.set) actor.0 u v w there p.looks looks;
       beyond = λ other above. looks.others other (λ same. omega (arith, same, above, few)) ∙ p.beyond other above;
       settled = All-append (λ (id : ActorId). IsSettled id.0 c w) done (actor ∷ [])
           (All-weaker (λ (id : ActorId). IsSettled id.0 b v) (λ (id : ActorId). IsSettled id.0 c w)
@@ -253,41 +253,41 @@ module _ {H : Type 0} where
   order-next actor done a b c false was (inr refused) = (was.0, refused.pushed ∙ was.1, one-stays actor was.0 done was.2)
 
 -- one more was told something
-module _ (id : ℕ) (before now : Owed) (more : (other : ℕ) → is_owed now other ≡ (other == id || is_owed before other)) where
-  pub told-here : is_owed now id ≡ true
-  told-here = let itself : (id == id) ≡ true = grind (arith, nat_tests) in more id ∙ ap (λ b. b || is_owed before id) itself
+module _ (id : ℕ) (before now : ActorSet) (more : (other : ℕ) → has_actor now other ≡ (other == id || has_actor before other)) where
+  pub told-here : has_actor now id ≡ true
+  told-here = let itself : (id == id) ≡ true = grind (arith, nat_tests) in more id ∙ ap (λ b. b || has_actor before id) itself
 
-  pub told-still : (other : ℕ) → is_owed before other ≡ true → is_owed now other ≡ true
-  told-still other still = more other ∙ either (other == id) (is_owed before other) still
+  pub told-still : (other : ℕ) → has_actor before other ≡ true → has_actor now other ≡ true
+  told-still other still = more other ∙ either (other == id) (has_actor before other) still
     where
       either : (x y : Bool) → y ≡ true → (x || y) ≡ true
       either true y is = refl
       either false y is = is
 
-  pub told-only : (other : ℕ) → is_owed now other ≡ true → (other ≡ id) ⊎ (is_owed before other ≡ true)
+  pub told-only : (other : ℕ) → has_actor now other ≡ true → (other ≡ id) ⊎ (has_actor before other ≡ true)
   told-only other there = by_place (same_or_other other id)
     where
-      by_place : (other ≡ id) ⊎ (other ≢ id) → (other ≡ id) ⊎ (is_owed before other ≡ true)
+      by_place : (other ≡ id) ⊎ (other ≢ id) → (other ≡ id) ⊎ (has_actor before other ≡ true)
       by_place (inl same) = inl same
       by_place (inr ne) =
           let miss : (other == id) ≡ false = grind (arith, nat_tests) in
-          inr (ap (λ b. b || is_owed before other) (sym miss) ∙ sym (more other) ∙ there)
+          inr (ap (λ b. b || has_actor before other) (sym miss) ∙ sym (more other) ∙ there)
 
-  pub told-within : (n : ℕ) → id < n → ((other : ℕ) → other < 64 → is_owed before other ≡ true → other < n) →
-      (other : ℕ) → other < 64 → is_owed now other ≡ true → other < n
+  pub told-within : (n : ℕ) → id < n → ((other : ℕ) → other < 64 → has_actor before other ≡ true → other < n) →
+      (other : ℕ) → other < 64 → has_actor now other ≡ true → other < n
   told-within n here before_within other few told = by_place (same_or_other other id)
     where
       by_place : (other ≡ id) ⊎ (other ≢ id) → other < n
       by_place (inl same) = omega (arith, same, here)
       by_place (inr ne) =
           let miss : (other == id) ≡ false = grind (arith, nat_tests) in
-          before_within other few (ap (λ b. b || is_owed before other) (sym miss) ∙ sym (more other) ∙ told)
+          before_within other few (ap (λ b. b || has_actor before other) (sym miss) ∙ sym (more other) ∙ told)
 
 -- whoever is noted is an actor, where the one that may have been added is
-pub only-within : (id : ℕ) (before now : Owed) → ((other : ℕ) → is_owed now other ≡ true → (other ≡ id) ⊎ (is_owed before other ≡ true)) → (n : ℕ) →
-    id < n → ((other : ℕ) → other < 64 → is_owed before other ≡ true → other < n) → (other : ℕ) → other < 64 → is_owed now other ≡ true → other < n
+pub only-within : (id : ℕ) (before now : ActorSet) → ((other : ℕ) → has_actor now other ≡ true → (other ≡ id) ⊎ (has_actor before other ≡ true)) → (n : ℕ) →
+    id < n → ((other : ℕ) → other < 64 → has_actor before other ≡ true → other < n) → (other : ℕ) → other < 64 → has_actor now other ≡ true → other < n
 only-within id before now only n here before_within other few told = by_place (only other told)
   where
-    by_place : (other ≡ id) ⊎ (is_owed before other ≡ true) → other < n
+    by_place : (other ≡ id) ⊎ (has_actor before other ≡ true) → other < n
     by_place (inl same) = omega (arith, same, here)
     by_place (inr still) = before_within other few still

@@ -7,12 +7,13 @@ use Rattle.mb_gate.specs.declared.gates.Gates.{Gates}
 use Rattle.mb_gate.specs.Accessors.{held_actor, gates_id, pass_id, actors_of, pass_view}
 use Rattle.mb_gate.specs.Rule.{IsAmong, IsPart}
 use Rattle.mb_gate.specs.View.{View, Observation, Read, Saw, Counted, Looked, Sent, Unsent, Took, Pushed, Drained, Ended, obligation_to}
-use Rattle.mb_register.specs.declared.owed.Owed.{Owed}
+use Rattle.mb_register.specs.declared.actor_set.ActorSet.{ActorSet}
 use Rattle.mb_register.specs.declared.registrar.Registrar.{Registrar}
 use Rattle.mb_gate.specs.Untouched.{Origin, origin_of}
 use Rattle.mb_register.specs.Due.{GotDue}
-use Rattle.mb_register.specs.Owed.{is_owed}
+use Rattle.mb_register.specs.ActorSet.{has_actor}
 use Rattle.mb_register.specs.Registering.{QueueAccount, LosesNoClaim}
+use Rattle.mb_register.specs.Registers.{account_of}
 use Rattle.mb_register.specs.Sending.{SendsOpen}
 use Rattle.mb_register.specs.Views.{GivesBackUnchanged}
 
@@ -20,7 +21,7 @@ use Rattle.mb_register.specs.Views.{GivesBackUnchanged}
 pub record Caller (H : Type 0) : Type 0 where
   pub view : View
   pub account : QueueAccount H
-  pub told : Owed
+  pub told : ActorSet
 
 -- No envelope was taken.
 abbrev pub TakesNothing : Observation → Type 0
@@ -51,7 +52,7 @@ module _ {H W : Type 0} where
   abbrev pub caller_of : (W → List (Claim H)) → (W → List (Claim H)) → Registrar H W → Caller H
   caller_of pushed refused registrar = record {
     view = pass_view registrar.pass;
-    account = record { pushed = pushed registrar.run_queue; refused = refused registrar.run_queue; owed = registrar.owed };
+    account = account_of pushed refused registrar;
     told = registrar.told.set;
   }
 
@@ -60,17 +61,17 @@ module _ {H : Type 0} where
   pub record OwesForRefusals (old new : QueueAccount H) : Type 0 where
     pub more : List (Claim H)
     pub refused : new.refused ≡ old.refused ++ more
-    pub still : (id : ℕ) → is_owed old.owed id ≡ true → is_owed new.owed id ≡ true
-    pub only : (id : ℕ) → is_owed new.owed id ≡ true →
-        (is_owed old.owed id ≡ true) ⊎ ((claim : Claim H) × IsAmong claim more × (held_actor claim ≡ id))
+    pub still : (id : ℕ) → has_actor old.owed id ≡ true → has_actor new.owed id ≡ true
+    pub only : (id : ℕ) → has_actor new.owed id ≡ true →
+        (has_actor old.owed id ≡ true) ⊎ ((claim : Claim H) × IsAmong claim more × (held_actor claim ≡ id))
 
   -- It owes this actor nothing, or the actor is in its set of owed looks.
   abbrev pub IsDischargedOrOwed : ℕ → Caller H → Type 0
-  IsDischargedOrOwed id caller = (obligation_to id caller.view ≡ nothing) ⊎ (is_owed caller.account.owed id ≡ true)
+  IsDischargedOrOwed id caller = (obligation_to id caller.view ≡ nothing) ⊎ (has_actor caller.account.owed id ≡ true)
 
   -- A run told this actor something, and has not registered it yet.
   abbrev pub IsTold : ℕ → Caller H → Type 0
-  IsTold id caller = (id < 64) × (is_owed caller.told id ≡ true)
+  IsTold id caller = (id < 64) × (has_actor caller.told id ≡ true)
 
   -- It saw more, took no envelope, sent only to actors that it read as open, kept its share, and gave each cell back as it was taken. To each actor it
   -- owes nothing, or the actor is in its set, or it owes what it did before, or it is to register the actor still. Each claim that it got is of an

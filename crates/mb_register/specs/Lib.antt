@@ -1,8 +1,9 @@
+pub mod ActorSet
+pub mod Caller
+pub mod Due
 pub mod Hint
-pub mod Owed
+pub mod Registering
+pub mod Registers
+pub mod Sending
 pub mod Told
 pub mod Views
-pub mod Due
-pub mod Registering
-pub mod Sending
-pub mod Caller

@@ -5,23 +5,23 @@ use Rattle.mb_gate.specs.declared.claim.Claim.{Claim}
 use Rattle.mb_gate.specs.Accessors.{held_actor}
 use Rattle.mb_gate.specs.View.{View, obligation_to}
 use Rattle.mb_gate.specs.ClaimCounts.{claims_got, claims_returned}
-use Rattle.mb_register.specs.declared.owed.Owed.{Owed}
-use Rattle.mb_register.specs.Owed.{is_owed}
+use Rattle.mb_register.specs.declared.actor_set.ActorSet.{ActorSet}
+use Rattle.mb_register.specs.ActorSet.{has_actor}
 use Rattle.mb_register.specs.Views.{GotAndGaveBack}
 
 -- The claims that a caller put into the run queue, those that the queue refused, and the actors to which the caller owes a look for that.
 pub record QueueAccount (H : Type 0) : Type 0 where
   pub pushed : List (Claim H)
   pub refused : List (Claim H)
-  pub owed : Owed
+  pub owed : ActorSet
 
 -- The view owes this actor a look at its list, and one at its envelopes.
 abbrev pub OwesALook : ℕ → View → Type 0
 OwesALook id view = ((obligation_to id view).system ≡ true) × ((obligation_to id view).message ≡ true)
 
 -- Each actor that joined the set is owed a look by the view.
-abbrev pub JoinAsOwed : Owed → Owed → View → Type 0
-JoinAsOwed old new view = (id : ℕ) → is_owed new id ≡ true → (is_owed old id ≡ true) ⊎ OwesALook id view
+abbrev pub JoinAsOwed : ActorSet → ActorSet → View → Type 0
+JoinAsOwed old new view = (id : ℕ) → has_actor new id ≡ true → (has_actor old id ≡ true) ⊎ OwesALook id view
 
 module _ {H : Type 0} (id : ℕ) (old new : QueueAccount H) where
   -- The claim of this actor went into the run queue.
@@ -38,7 +38,7 @@ module _ {H : Type 0} (id : ℕ) (old new : QueueAccount H) where
     pub of : held_actor claim ≡ id
     pub pushed : new.pushed ≡ old.pushed
     pub refused : new.refused ≡ old.refused ++ claim ∷ []
-    pub owed : (other : ℕ) → is_owed new.owed other ≡ (other == id || is_owed old.owed other)
+    pub owed : (other : ℕ) → has_actor new.owed other ≡ (other == id || has_actor old.owed other)
 
   -- Nothing changed: no claim was given to the run queue.
   abbrev pub AsBefore : Type 0
@@ -59,11 +59,11 @@ module _ {H : Type 0} (id : ℕ) (old new : QueueAccount H) where
 -- that. A look is owed to this actor still, and no more to those before it; to those after it, looks are owed as before.
 pub record StopsAt {H : Type 0} (old new : QueueAccount H) : Type 0 where
   pub claim : Claim H
-  pub owed : is_owed old.owed (held_actor claim) ≡ true
-  pub still : is_owed new.owed (held_actor claim) ≡ true
+  pub owed : has_actor old.owed (held_actor claim) ≡ true
+  pub still : has_actor new.owed (held_actor claim) ≡ true
   pub refused : new.refused ≡ old.refused ++ claim ∷ []
-  pub before : (id : ℕ) → id < held_actor claim → is_owed new.owed id ≡ false
-  pub after : (id : ℕ) → held_actor claim ≤ id → id < 64 → is_owed new.owed id ≡ is_owed old.owed id
+  pub before : (id : ℕ) → id < held_actor claim → has_actor new.owed id ≡ false
+  pub after : (id : ℕ) → held_actor claim ≤ id → id < 64 → has_actor new.owed id ≡ has_actor old.owed id
 
 -- How many of these claims are of this actor.
 abbrev pub claims_of_actor : {H : Type 0} → ℕ → List (Claim H) → ℕ

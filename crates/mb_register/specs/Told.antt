@@ -6,14 +6,14 @@ use Rattle.mb_gate.specs.declared.claim.Claim.{Claim}
 use Rattle.mb_core.specs.Actor.{nothing}
 use Rattle.mb_gate.specs.Accessors.{held_actor}
 use Rattle.mb_gate.specs.View.{View, obligation_to}
-use Rattle.mb_register.specs.declared.owed.Owed.{Owed}
+use Rattle.mb_register.specs.declared.actor_set.ActorSet.{ActorSet}
 use Rattle.mb_register.specs.Due.{SawDue}
-use Rattle.mb_register.specs.Owed.{is_owed}
+use Rattle.mb_register.specs.ActorSet.{has_actor}
 use Rattle.mb_register.specs.declared.hint.Hint.TheVariants.{Message}
 
 -- The actors, in the order in which the run sent to each of them first, and as a set.
 pub record ToldView : Type 0 where
-  pub set : Owed
+  pub set : ActorSet
   pub order : List ActorId
 
 -- The actor of this number is among these.
@@ -27,18 +27,18 @@ AreDistinct [] = Unit {0}
 AreDistinct (actor ∷ actors) = (is_among actors actor.0 ≡ false) × AreDistinct actors
 
 -- The set has exactly these actors, each of which stands there once.
-pub record IsSetOf (set : Owed) (order : List ActorId) : Type 0 where
-  pub same : (id : ℕ) → is_owed set id ≡ is_among order id
+pub record IsSetOf (set : ActorSet) (order : List ActorId) : Type 0 where
+  pub same : (id : ℕ) → has_actor set id ≡ is_among order id
   pub distinct : AreDistinct order
   pub within_limit : All (λ (actor : ActorId). actor.0 < 64) order
 
 -- The actors after this one was sent something: it is the last, unless it was there.
 abbrev pub with_told : ActorId → ToldView → List ActorId
-with_told id told = if is_owed told.set id.0 then told.order else told.order ++ id ∷ []
+with_told id told = if has_actor told.set id.0 then told.order else told.order ++ id ∷ []
 
 -- The actor is noted, as the last, only if it was seen to be due with an envelope that waits for it, and if it was not noted before.
 pub data NotesIfDue (id : ActorId) (before after : View) (old new : ToldView) : Type 0 where
-  noted_before : is_owed old.set id.0 ≡ true → new ≡ old → NotesIfDue id before after old new
+  noted_before : has_actor old.set id.0 ≡ true → new ≡ old → NotesIfDue id before after old new
   not_due : obligation_to id.0 after ≡ nothing → new ≡ old → NotesIfDue id before after old new
   due : SawDue id.0 Message before after → new.order ≡ old.order ++ id ∷ [] → NotesIfDue id before after old new
 

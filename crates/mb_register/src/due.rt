@@ -5,6 +5,7 @@ ghost use Rattle.mb_gate.specs.View.{obligation_to};
 ghost use Rattle.mb_gate.specs.Accessors.{gates_id, pass_id, actors_of, pass_view, held_actor};
 ghost use Rattle.mb_register.specs.Hint.{has_message_hint, has_system_message_hint};
 ghost use Rattle.mb_register.specs.Due.{SawListed, SawWaiting, SawDue};
+ghost use Rattle.mb_register.specs.Registers.{OnlyReads};
 ghost use Rattle.mb_register.specs.Views.{GotAndGaveBack, LooksAfter};
 ghost use Rattle.mb_gate.specs.Untouched.{origin_of, IsUntouched};
 
@@ -23,9 +24,7 @@ fn has_system<H: MailboxState>(
 ) -> bool
     requires same_gates { pass_id pass.old ≡ gates_id gates.now }
     requires present { id.0 < actors_of gates.now }
-    ensures same_gates { pass_id pass.new ≡ pass_id pass.old }
-    ensures looks { LooksAfter id.0 (pass_view pass.old) (pass_view pass.new) }
-    ensures claims { GotAndGaveBack [] [] (pass_view pass.old) (pass_view pass.new) }
+    ensures only_reads { OnlyReads id.0 pass.old pass.new }
     ensures same_obligation { result ≡ true → obligation_to id.0 (pass_view pass.new) ≡ obligation_to id.0 (pass_view pass.old) }
     ensures none { result ≡ false → obligation_to id.0 (pass_view pass.new) ≡ record (obligation_to id.0 (pass_view pass.old)) { system = false } }
     ensures seen { result ≡ true → (has_system_message_hint hint ≡ true) ⊎ SawListed id.0 (pass_view pass.old) (pass_view pass.new) }
@@ -46,9 +45,7 @@ fn has_messages<H: MailboxState>(
 ) -> bool
     requires same_gates { pass_id pass.old ≡ gates_id gates.now }
     requires present { id.0 < actors_of gates.now }
-    ensures same_gates { pass_id pass.new ≡ pass_id pass.old }
-    ensures looks { LooksAfter id.0 (pass_view pass.old) (pass_view pass.new) }
-    ensures claims { GotAndGaveBack [] [] (pass_view pass.old) (pass_view pass.new) }
+    ensures only_reads { OnlyReads id.0 pass.old pass.new }
     ensures same_obligation { result ≡ true → obligation_to id.0 (pass_view pass.new) ≡ obligation_to id.0 (pass_view pass.old) }
     ensures none { result ≡ false → obligation_to id.0 (pass_view pass.new) ≡ record (obligation_to id.0 (pass_view pass.old)) { message = false } }
     ensures seen { result ≡ true → (has_message_hint hint ≡ true) ⊎ SawWaiting id.0 (pass_view pass.old) (pass_view pass.new) }
@@ -65,7 +62,7 @@ fn has_messages<H: MailboxState>(
 /// the actor nothing. If it is yes, the pass read a status with which, together with the hint or what it read, the actor is
 /// due.
 #[inline(always)]
-pub(crate) fn is_due<H: MailboxState>(
+pub(crate) fn can_be_scheduled<H: MailboxState>(
     gates: &Gates<H>,
     pass: &mut Pass<H>,
     id: ActorId,
@@ -73,9 +70,7 @@ pub(crate) fn is_due<H: MailboxState>(
 ) -> bool
     requires same_gates { pass_id pass.old ≡ gates_id gates.now }
     requires present { id.0 < actors_of gates.now }
-    ensures same_gates { pass_id pass.new ≡ pass_id pass.old }
-    ensures looks { LooksAfter id.0 (pass_view pass.old) (pass_view pass.new) }
-    ensures claims { GotAndGaveBack [] [] (pass_view pass.old) (pass_view pass.new) }
+    ensures only_reads { OnlyReads id.0 pass.old pass.new }
     ensures discharged { result ≡ false → obligation_to id.0 (pass_view pass.new) ≡ nothing }
     ensures due { result ≡ true → SawDue id.0 hint (pass_view pass.old) (pass_view pass.new) }
 {
@@ -114,7 +109,7 @@ pub(crate) fn take_due_again<H: MailboxState, R: Wait>(
         × IsUntouched H.is_of H.facts (Some (origin_of gates.now)) claim) }
 {
     for _ in rt.forever() {
-        if !is_due(gates, pass, id, hint) {
+        if !can_be_scheduled(gates, pass, id, hint) {
             return None;
         }
         match gates.try_schedule(pass, id) {

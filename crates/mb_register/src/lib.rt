@@ -6,9 +6,9 @@
 //! in that call.
 #![tactic(auto)]
 
+mod actor_set;
 mod due;
 mod hint;
-mod owed;
 mod registering_told;
 mod registrar;
 mod retrying;
@@ -16,8 +16,8 @@ mod still_refused;
 mod told;
 mod untouched;
 
+pub use actor_set::ActorSet;
 pub use hint::Hint;
-pub use owed::Owed;
 pub use registrar::Registrar;
 pub use still_refused::StillRefused;
 pub use told::Told;

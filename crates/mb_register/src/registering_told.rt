@@ -1,18 +1,16 @@
 //! Registering the actors that a run told something.
-ghost use Rattle.std.specs.Prelude.{◌≡◌, ℕ, ◌<◌, ◌≤◌, ◌⊎◌, [], true, false, Some};
+ghost use Rattle.std.specs.Prelude.{◌≡◌, ℕ, ◌<◌, ◌≤◌, ◌⊎◌, true, false, Some};
 ghost use Rattle.mb_core.specs.Actor.{nothing};
 ghost use Rattle.mb_gate.specs.Accessors.{gates_id, pass_id, actors_of, pass_view};
 ghost use Rattle.mb_gate.specs.Untouched.{origin_of};
 ghost use Rattle.mb_gate.specs.View.{obligation_to};
 ghost use Rattle.mb_register.specs.Caller.{OwesForRefusals};
-ghost use Rattle.mb_register.specs.Due.{GotOnlyDue};
-ghost use Rattle.mb_register.specs.Owed.{is_owed};
-ghost use Rattle.mb_register.specs.Registering.{LosesNoClaim};
+ghost use Rattle.mb_register.specs.ActorSet.{has_actor};
+ghost use Rattle.mb_register.specs.Registers.{OnlyReads, RegistersDue, account_of};
 ghost use Rattle.mb_register.specs.Told.{GoInOrder, NotesIfDue};
-ghost use Rattle.mb_register.specs.Views.{GotAndGaveBack, LooksAfter, LooksAmong};
-ghost use Rattle.mb_register.specs.declared.hint.Hint.TheVariants as hint;
+ghost use Rattle.mb_register.specs.Views.{LooksAmong};
 
-use crate::due::is_due;
+use crate::due::can_be_scheduled;
 use crate::hint::Hint;
 use crate::registrar::Registrar;
 use mb_gate::{Gates, MailboxState, RunQueue};
@@ -27,19 +25,17 @@ impl<H: MailboxState, W: RunQueue<H>> Registrar<H, W> {
     pub fn note_told(&mut self, gates: &Gates<H>, id: ActorId)
         requires same_gates { pass_id self.old.pass ≡ gates_id gates.now }
         requires present { (id.0 < actors_of gates.now) × (id.0 < 64) }
-        ensures same_gates { pass_id self.new.pass ≡ pass_id self.old.pass }
-        ensures looks { LooksAfter id.0 (pass_view self.old.pass) (pass_view self.new.pass) }
-        ensures claims { GotAndGaveBack [] [] (pass_view self.old.pass) (pass_view self.new.pass) }
-        ensures noted { (obligation_to id.0 (pass_view self.new.pass) ≡ nothing) ⊎ (is_owed self.new.told.set id.0 ≡ true) }
-        ensures kept { (other : ℕ) → is_owed self.old.told.set other ≡ true → is_owed self.new.told.set other ≡ true }
-        ensures only { (other : ℕ) → is_owed self.new.told.set other ≡ true → (other ≡ id.0) ⊎ (is_owed self.old.told.set other ≡ true) }
+        ensures only_reads { OnlyReads id.0 self.old.pass self.new.pass }
+        ensures noted { (obligation_to id.0 (pass_view self.new.pass) ≡ nothing) ⊎ (has_actor self.new.told.set id.0 ≡ true) }
+        ensures kept { (other : ℕ) → has_actor self.old.told.set other ≡ true → has_actor self.new.told.set other ≡ true }
+        ensures only { (other : ℕ) → has_actor self.new.told.set other ≡ true → (other ≡ id.0) ⊎ (has_actor self.old.told.set other ≡ true) }
         ensures order { NotesIfDue id (pass_view self.old.pass) (pass_view self.new.pass) self.old.told self.new.told }
         ensures rest { (self.new.run_queue ≡ self.old.run_queue) × (self.new.owed ≡ self.old.owed) }
     {
         if self.told.contains(id) {
             return;
         }
-        if !is_due(gates, &mut self.pass, id, Hint::Message) {
+        if !can_be_scheduled(gates, &mut self.pass, id, Hint::Message) {
             return;
         }
         self.told.insert(id);
@@ -51,21 +47,13 @@ impl<H: MailboxState, W: RunQueue<H>> Registrar<H, W> {
     /// claim for its worker. A look is owed to an actor whose claim the run queue refuses.
     pub fn register_told<R: Wait>(&mut self, rt: &R, gates: &Gates<H>, at_run_end: bool)
         requires same_gates { (pass_id self.old.pass ≡ gates_id gates.now) × (W.origin self.old.run_queue ≡ Some (origin_of gates.now)) }
-        requires present { (id : ℕ) → id < 64 → is_owed self.old.told.set id ≡ true → id < actors_of gates.now }
-        ensures same_gates { (pass_id self.new.pass ≡ pass_id self.old.pass) × (W.origin self.new.run_queue ≡ W.origin self.old.run_queue) }
-        ensures looks { LooksAmong (is_owed self.old.told.set) (pass_view self.old.pass) (pass_view self.new.pass) }
-        ensures discharged { (id : ℕ) → id < 64 → is_owed self.old.told.set id ≡ true
-            → (obligation_to id (pass_view self.new.pass) ≡ nothing) ⊎ (is_owed self.new.owed id ≡ true) }
+        requires present { (id : ℕ) → id < 64 → has_actor self.old.told.set id ≡ true → id < actors_of gates.now }
+        ensures registers { RegistersDue W.origin W.pushed W.refused (LooksAmong (has_actor self.old.told.set)) self.old self.new }
+        ensures discharged { (id : ℕ) → id < 64 → has_actor self.old.told.set id ≡ true
+            → (obligation_to id (pass_view self.new.pass) ≡ nothing) ⊎ (has_actor self.new.owed id ≡ true) }
         ensures beyond { (id : ℕ) → 64 ≤ id → obligation_to id (pass_view self.new.pass) ≡ obligation_to id (pass_view self.old.pass) }
-        ensures none_left { (id : ℕ) → id < 64 → is_owed self.new.told.set id ≡ false }
-        ensures owed { OwesForRefusals
-            (record { pushed = W.pushed self.old.run_queue; refused = W.refused self.old.run_queue; owed = self.old.owed })
-            (record { pushed = W.pushed self.new.run_queue; refused = W.refused self.new.run_queue; owed = self.new.owed }) }
-        ensures handed { LosesNoClaim
-            (record { pushed = W.pushed self.old.run_queue; refused = W.refused self.old.run_queue; owed = self.old.owed })
-            (record { pushed = W.pushed self.new.run_queue; refused = W.refused self.new.run_queue; owed = self.new.owed })
-            (pass_view self.old.pass) (pass_view self.new.pass) }
-        ensures due { GotOnlyDue hint.None (pass_view self.old.pass) (pass_view self.new.pass) }
+        ensures none_left { (id : ℕ) → id < 64 → has_actor self.new.told.set id ≡ false }
+        ensures owed { OwesForRefusals (account_of W.pushed W.refused self.old) (account_of W.pushed W.refused self.new) }
         ensures in_order { GoInOrder self.old.told.order (W.pushed self.old.run_queue) (W.pushed self.new.run_queue) }
     {
         for index in 0..self.told.as_slice().len() {

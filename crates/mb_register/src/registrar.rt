@@ -4,14 +4,14 @@ ghost use Rattle.mb_core.specs.Actor.{nothing};
 ghost use Rattle.mb_gate.specs.View.{obligation_to};
 ghost use Rattle.mb_gate.specs.Accessors.{gates_id, pass_id, actors_of, pass_view};
 ghost use Rattle.mb_gate.specs.Untouched.{origin_of};
-ghost use Rattle.mb_register.specs.Owed.{is_owed};
+ghost use Rattle.mb_register.specs.ActorSet.{has_actor};
 ghost use Rattle.mb_register.specs.Due.{GotOnlyDue};
-ghost use Rattle.mb_register.specs.Views.{LooksAfter};
 ghost use Rattle.mb_register.specs.Registering.{HandsClaimOn, IsRegistered, JoinAsOwed};
+ghost use Rattle.mb_register.specs.Registers.{RegistersOne, account_of};
 
-use crate::due::{is_due, take_due_again};
+use crate::actor_set::ActorSet;
+use crate::due::{can_be_scheduled, take_due_again};
 use crate::hint::Hint;
-use crate::owed::Owed;
 use crate::told::Told;
 use crate::untouched::give_home;
 use mb_gate::{Gates, MailboxState, Pass, RefusedClaim, RunQueue, ScheduleOutcome};
@@ -26,7 +26,7 @@ pub struct Registrar<H, W> {
     /// Its port of the run queue.
     pub run_queue: W,
     /// The actors to which it owes a look.
-    pub owed: Owed,
+    pub owed: ActorSet,
     /// The actors that a run told something, or sent a system message, and has not registered yet. Between two runs there are none.
     pub told: Told,
 }
@@ -50,21 +50,15 @@ impl<H: MailboxState, W: RunQueue<H>> Registrar<H, W> {
     ) -> bool
         requires same_gates { (pass_id self.old.pass ≡ gates_id gates.now) × (W.origin self.old.run_queue ≡ Some (origin_of gates.now)) }
         requires present { (id.0 < actors_of gates.now) × (id.0 < 64) }
-        ensures same_gates { (pass_id self.new.pass ≡ pass_id self.old.pass) × (W.origin self.new.run_queue ≡ W.origin self.old.run_queue) }
-        ensures looks { LooksAfter id.0 (pass_view self.old.pass) (pass_view self.new.pass) }
-        ensures discharged { (obligation_to id.0 (pass_view self.new.pass) ≡ nothing) ⊎ (is_owed self.new.owed id.0 ≡ true) }
+        ensures registers { RegistersOne W.origin id.0 self.old self.new }
+        ensures discharged { (obligation_to id.0 (pass_view self.new.pass) ≡ nothing) ⊎ (has_actor self.new.owed id.0 ≡ true) }
         ensures owes { JoinAsOwed self.old.owed self.new.owed (pass_view self.new.pass) }
-        ensures registered { IsRegistered id.0
-            (record { pushed = W.pushed self.old.run_queue; refused = W.refused self.old.run_queue; owed = self.old.owed })
-            (record { pushed = W.pushed self.new.run_queue; refused = W.refused self.new.run_queue; owed = self.new.owed }) result }
-        ensures handed { HandsClaimOn id.0
-            (record { pushed = W.pushed self.old.run_queue; refused = W.refused self.old.run_queue; owed = self.old.owed })
-            (record { pushed = W.pushed self.new.run_queue; refused = W.refused self.new.run_queue; owed = self.new.owed })
+        ensures registered { IsRegistered id.0 (account_of W.pushed W.refused self.old) (account_of W.pushed W.refused self.new) result }
+        ensures handed { HandsClaimOn id.0 (account_of W.pushed W.refused self.old) (account_of W.pushed W.refused self.new)
             (pass_view self.old.pass) (pass_view self.new.pass) result }
         ensures due { GotOnlyDue hint (pass_view self.old.pass) (pass_view self.new.pass) }
-        ensures told { self.new.told ≡ self.old.told }
     {
-        if !is_due(gates, &mut self.pass, id, hint) {
+        if !can_be_scheduled(gates, &mut self.pass, id, hint) {
             return false;
         }
         self.register_due(rt, gates, id, hint, at_run_end)
@@ -82,18 +76,12 @@ impl<H: MailboxState, W: RunQueue<H>> Registrar<H, W> {
     ) -> bool
         requires same_gates { (pass_id self.old.pass ≡ gates_id gates.now) × (W.origin self.old.run_queue ≡ Some (origin_of gates.now)) }
         requires present { (id.0 < actors_of gates.now) × (id.0 < 64) }
-        ensures same_gates { (pass_id self.new.pass ≡ pass_id self.old.pass) × (W.origin self.new.run_queue ≡ W.origin self.old.run_queue) }
-        ensures looks { LooksAfter id.0 (pass_view self.old.pass) (pass_view self.new.pass) }
-        ensures discharged { (obligation_to id.0 (pass_view self.new.pass) ≡ nothing) ⊎ (is_owed self.new.owed id.0 ≡ true) }
+        ensures registers { RegistersOne W.origin id.0 self.old self.new }
+        ensures discharged { (obligation_to id.0 (pass_view self.new.pass) ≡ nothing) ⊎ (has_actor self.new.owed id.0 ≡ true) }
         ensures owes { JoinAsOwed self.old.owed self.new.owed (pass_view self.new.pass) }
-        ensures registered { IsRegistered id.0
-            (record { pushed = W.pushed self.old.run_queue; refused = W.refused self.old.run_queue; owed = self.old.owed })
-            (record { pushed = W.pushed self.new.run_queue; refused = W.refused self.new.run_queue; owed = self.new.owed }) result }
-        ensures handed { HandsClaimOn id.0
-            (record { pushed = W.pushed self.old.run_queue; refused = W.refused self.old.run_queue; owed = self.old.owed })
-            (record { pushed = W.pushed self.new.run_queue; refused = W.refused self.new.run_queue; owed = self.new.owed })
+        ensures registered { IsRegistered id.0 (account_of W.pushed W.refused self.old) (account_of W.pushed W.refused self.new) result }
+        ensures handed { HandsClaimOn id.0 (account_of W.pushed W.refused self.old) (account_of W.pushed W.refused self.new)
             (pass_view self.old.pass) (pass_view self.new.pass) result }
-        ensures told { self.new.told ≡ self.old.told }
     {
         // Each answer is given in its own arm, and the claim is handed on right where it was got: so it stays in registers.
         match gates.try_schedule(&mut self.pass, id) {
@@ -126,18 +114,12 @@ impl<H: MailboxState, W: RunQueue<H>> Registrar<H, W> {
     ) -> bool
         requires same_gates { (pass_id self.old.pass ≡ gates_id gates.now) × (W.origin self.old.run_queue ≡ Some (origin_of gates.now)) }
         requires present { (id.0 < actors_of gates.now) × (id.0 < 64) }
-        ensures same_gates { (pass_id self.new.pass ≡ pass_id self.old.pass) × (W.origin self.new.run_queue ≡ W.origin self.old.run_queue) }
-        ensures looks { LooksAfter id.0 (pass_view self.old.pass) (pass_view self.new.pass) }
-        ensures discharged { (obligation_to id.0 (pass_view self.new.pass) ≡ nothing) ⊎ (is_owed self.new.owed id.0 ≡ true) }
+        ensures registers { RegistersOne W.origin id.0 self.old self.new }
+        ensures discharged { (obligation_to id.0 (pass_view self.new.pass) ≡ nothing) ⊎ (has_actor self.new.owed id.0 ≡ true) }
         ensures owes { JoinAsOwed self.old.owed self.new.owed (pass_view self.new.pass) }
-        ensures registered { IsRegistered id.0
-            (record { pushed = W.pushed self.old.run_queue; refused = W.refused self.old.run_queue; owed = self.old.owed })
-            (record { pushed = W.pushed self.new.run_queue; refused = W.refused self.new.run_queue; owed = self.new.owed }) result }
-        ensures handed { HandsClaimOn id.0
-            (record { pushed = W.pushed self.old.run_queue; refused = W.refused self.old.run_queue; owed = self.old.owed })
-            (record { pushed = W.pushed self.new.run_queue; refused = W.refused self.new.run_queue; owed = self.new.owed })
+        ensures registered { IsRegistered id.0 (account_of W.pushed W.refused self.old) (account_of W.pushed W.refused self.new) result }
+        ensures handed { HandsClaimOn id.0 (account_of W.pushed W.refused self.old) (account_of W.pushed W.refused self.new)
             (pass_view self.old.pass) (pass_view self.new.pass) result }
-        ensures told { self.new.told ≡ self.old.told }
     {
         let Some(claim) = take_due_again(rt, gates, &mut self.pass, id, hint) else {
             return false;

@@ -1,15 +1,14 @@
 //! Registering those actors again whose claims the run queue refused.
-ghost use Rattle.std.specs.Prelude.{◌≡◌, ◌≢◌, ◌⊎◌, ◌<◌, ◌≤◌, ◌++◌, [], ◌∷◌, ℕ, true, false, MatchResult, OnOk, OnErr, Some};
+ghost use Rattle.std.specs.Prelude.{◌≡◌, ◌⊎◌, ◌<◌, ◌≤◌, ◌++◌, [], ◌∷◌, ℕ, true, false, MatchResult, OnOk, OnErr, Some};
 ghost use Rattle.mb_core.specs.Actor.{nothing};
 ghost use Rattle.mb_gate.specs.View.{obligation_to};
 ghost use Rattle.mb_gate.specs.Accessors.{gates_id, held_actor, pass_id, actors_of, pass_view};
 ghost use Rattle.mb_gate.specs.Untouched.{origin_of};
 ghost use Rattle.mb_gate.specs.declared.claim.Claim.{Claim};
-ghost use Rattle.mb_register.specs.declared.hint.Hint.TheVariants as Hint;
-ghost use Rattle.mb_register.specs.Due.{GotOnlyDue};
-ghost use Rattle.mb_register.specs.Owed.{is_owed};
+ghost use Rattle.mb_register.specs.ActorSet.{has_actor};
 ghost use Rattle.mb_register.specs.Views.{LooksAfter, LooksAmong};
-ghost use Rattle.mb_register.specs.Registering.{LosesNoClaim, OwesALook, StopsAt};
+ghost use Rattle.mb_register.specs.Registering.{OwesALook, StopsAt};
+ghost use Rattle.mb_register.specs.Registers.{IsStillOwed, OwesNoMore, RegistersDue, RetriesOnly, account_of};
 
 use crate::hint::Hint;
 use crate::registrar::Registrar;
@@ -27,24 +26,15 @@ impl<H: MailboxState, W: RunQueue<H>> Registrar<H, W> {
     pub fn retry_refused<R: Wait>(&mut self, rt: &R, gates: &Gates<H>) -> Result<(), StillRefused>
         requires same_gates { (pass_id self.old.pass ≡ gates_id gates.now) × (W.origin self.old.run_queue ≡ Some (origin_of gates.now)) }
         requires within_limit { actors_of gates.now ≤ 64 }
-        ensures same_gates { (pass_id self.new.pass ≡ pass_id self.old.pass) × (W.origin self.new.run_queue ≡ W.origin self.old.run_queue) }
-        ensures looks { LooksAmong (is_owed self.old.owed) (pass_view self.old.pass) (pass_view self.new.pass) }
-        ensures discharged { OnOk result ((id : ℕ) → id < actors_of gates.now → is_owed self.old.owed id ≡ true
+        ensures registers { RegistersDue W.origin W.pushed W.refused (LooksAmong (has_actor self.old.owed)) self.old self.new }
+        ensures discharged { OnOk result ((id : ℕ) → id < actors_of gates.now → has_actor self.old.owed id ≡ true
             → obligation_to id (pass_view self.new.pass) ≡ nothing) }
-        ensures done { OnOk result ((id : ℕ) → id < actors_of gates.now → is_owed self.new.owed id ≡ false) }
-        ensures no_more { (id : ℕ) → id < 64 → is_owed self.old.owed id ≡ false → is_owed self.new.owed id ≡ false }
-        ensures kept { (id : ℕ) → id < 64 → is_owed self.old.owed id ≡ true
-            → (obligation_to id (pass_view self.new.pass) ≡ nothing) ⊎ (is_owed self.new.owed id ≡ true) }
-        ensures refused { MatchResult result (λ _. W.refused self.new.run_queue ≡ W.refused self.old.run_queue) (λ _. StopsAt
-            (record { pushed = W.pushed self.old.run_queue; refused = W.refused self.old.run_queue; owed = self.old.owed })
-            (record { pushed = W.pushed self.new.run_queue; refused = W.refused self.new.run_queue; owed = self.new.owed })) }
+        ensures done { OnOk result ((id : ℕ) → id < actors_of gates.now → has_actor self.new.owed id ≡ false) }
+        ensures owed { OwesNoMore self.old self.new }
+        ensures refused { MatchResult result (λ _. W.refused self.new.run_queue ≡ W.refused self.old.run_queue)
+            (λ _. StopsAt (account_of W.pushed W.refused self.old) (account_of W.pushed W.refused self.new)) }
         ensures owes { OnErr result ((claim : Claim H) × (W.refused self.new.run_queue ≡ W.refused self.old.run_queue ++ claim ∷ [])
             × OwesALook (held_actor claim) (pass_view self.new.pass)) }
-        ensures handed { LosesNoClaim
-            (record { pushed = W.pushed self.old.run_queue; refused = W.refused self.old.run_queue; owed = self.old.owed })
-            (record { pushed = W.pushed self.new.run_queue; refused = W.refused self.new.run_queue; owed = self.new.owed })
-            (pass_view self.old.pass) (pass_view self.new.pass) }
-        ensures due { GotOnlyDue Hint.None (pass_view self.old.pass) (pass_view self.new.pass) }
     {
         for number in 0..ACTORS {
             if number as usize >= gates.actors() {
@@ -65,22 +55,14 @@ impl<H: MailboxState, W: RunQueue<H>> Registrar<H, W> {
     ) -> Result<(), StillRefused>
         requires same_gates { (pass_id self.old.pass ≡ gates_id gates.now) × (W.origin self.old.run_queue ≡ Some (origin_of gates.now)) }
         requires present { (id.0 < actors_of gates.now) × (id.0 < 64) }
-        ensures same_gates { (pass_id self.new.pass ≡ pass_id self.old.pass) × (W.origin self.new.run_queue ≡ W.origin self.old.run_queue) }
-        ensures looks { LooksAfter id.0 (pass_view self.old.pass) (pass_view self.new.pass) }
-        ensures discharged { is_owed self.old.owed id.0 ≡ true →
-            (obligation_to id.0 (pass_view self.new.pass) ≡ nothing) ⊎ (is_owed self.new.owed id.0 ≡ true) }
-        ensures done { OnOk result (is_owed self.new.owed id.0 ≡ false) }
-        ensures left { OnErr result ((is_owed self.old.owed id.0 ≡ true) × (is_owed self.new.owed id.0 ≡ true)) }
-        ensures owes { OnErr result (OwesALook id.0 (pass_view self.new.pass)) }
+        ensures registers { RegistersDue W.origin W.pushed W.refused (LooksAfter id.0) self.old self.new }
+        ensures discharged { has_actor self.old.owed id.0 ≡ true →
+            (obligation_to id.0 (pass_view self.new.pass) ≡ nothing) ⊎ (has_actor self.new.owed id.0 ≡ true) }
+        ensures done { OnOk result (has_actor self.new.owed id.0 ≡ false) }
+        ensures still { OnErr result (IsStillOwed id.0 self.old self.new) }
         ensures refused { MatchResult result (λ _. W.refused self.new.run_queue ≡ W.refused self.old.run_queue) (λ _. (claim : Claim H)
             × (held_actor claim ≡ id.0) × (W.refused self.new.run_queue ≡ W.refused self.old.run_queue ++ claim ∷ [])) }
-        ensures none { is_owed self.old.owed id.0 ≡ false → self.new ≡ self.old }
-        ensures others { (other : ℕ) → other < 64 → other ≢ id.0 → is_owed self.new.owed other ≡ is_owed self.old.owed other }
-        ensures handed { LosesNoClaim
-            (record { pushed = W.pushed self.old.run_queue; refused = W.refused self.old.run_queue; owed = self.old.owed })
-            (record { pushed = W.pushed self.new.run_queue; refused = W.refused self.new.run_queue; owed = self.new.owed })
-            (pass_view self.old.pass) (pass_view self.new.pass) }
-        ensures due { GotOnlyDue Hint.None (pass_view self.old.pass) (pass_view self.new.pass) }
+        ensures alone { RetriesOnly id.0 self.old self.new }
     {
         if !self.owed.contains(id) {
             return Ok(());

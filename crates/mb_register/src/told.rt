@@ -1,9 +1,9 @@
 //! Whom a run sent something and has not registered yet.
 ghost use Rattle.std.specs.Prelude.{◌≡◌, ◌<◌, ◌==◌, ◌||◌, [], ℕ, length, IsFalse, IsTrue, slice_index_or};
-ghost use Rattle.mb_register.specs.Owed.{is_owed, IsNobody};
+ghost use Rattle.mb_register.specs.ActorSet.{has_actor, IsNobody};
 ghost use Rattle.mb_register.specs.Told.{IsSetOf, with_told};
 
-use crate::owed::Owed;
+use crate::actor_set::ActorSet;
 use mb_msg::ActorId;
 use std::marker::Model;
 
@@ -15,7 +15,7 @@ const MOST_TOLD: usize = 64;
 #[derive(Drop)]
 pub struct Told {
     /// The same as a set, so that one look tells whether an actor is there.
-    set: Owed,
+    set: ActorSet,
     places: [ActorId; MOST_TOLD],
     count: usize,
 }
@@ -40,7 +40,7 @@ impl Told {
         ensures nobody { IsNobody result.set }
     {
         Told {
-            set: Owed::none(),
+            set: ActorSet::none(),
             places: [ActorId(0); MOST_TOLD],
             count: 0,
         }
@@ -52,7 +52,7 @@ impl Told {
         ensures order { self.new.order ≡ [] }
         ensures nobody { IsNobody self.new.set }
     {
-        self.set = Owed::none();
+        self.set = ActorSet::none();
         self.count = 0;
     }
 
@@ -78,7 +78,7 @@ impl Told {
     #[inline(always)]
     pub fn contains(&self, id: ActorId) -> bool
         requires { id.0 < 64 }
-        ensures { result ≡ is_owed self.now.set id.0 }
+        ensures { result ≡ has_actor self.now.set id.0 }
     {
         self.set.contains(id)
     }
@@ -87,7 +87,7 @@ impl Told {
     #[inline(always)]
     pub fn insert(&mut self, id: ActorId)
         requires { id.0 < 64 }
-        ensures set { (other : ℕ) → is_owed self.new.set other ≡ (other == id.0 || is_owed self.old.set other) }
+        ensures set { (other : ℕ) → has_actor self.new.set other ≡ (other == id.0 || has_actor self.old.set other) }
         ensures order { self.new.order ≡ with_told id self.old }
     {
         if self.set.contains(id) {

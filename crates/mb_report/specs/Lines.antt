@@ -56,8 +56,8 @@ unfoldable pub counts_text : ℕ → ℕ → ℕ → List ℕ
 counts_text handled left dead = codes " handled " ++ decimal handled ++ codes " left " ++ decimal left ++ codes " dead " ++ decimal dead
 
 -- the phase and the state of an actor, as it is printed
-unfoldable pub standing_text : List ℕ → Phase → Option ℤ → List ℕ
-standing_text name phase state = name ++ codes " " ++ phase_text phase ++ codes " state " ++ state_text state
+unfoldable pub phase_and_state_text : List ℕ → Phase → Option ℤ → List ℕ
+phase_and_state_text name phase state = name ++ codes " " ++ phase_text phase ++ codes " state " ++ state_text state
 
 -- how many suspensions there are, and how many restarts there were
 unfoldable pub suspended_text : ℕ → List ℕ
@@ -69,7 +69,7 @@ restarts_text restarts = codes " restarts " ++ decimal restarts ++ codes "\n"
 
 -- the line of one actor
 abbrev pub line_text : LineData → List ℕ
-line_text line = standing_text line.name line.phase line.state ++ suspended_text line.suspended
+line_text line = phase_and_state_text line.name line.phase line.state ++ suspended_text line.suspended
     ++ counts_text line.handled line.left line.dead ++ restarts_text line.restarts
 
 -- the line of totals: handled, left and dead are sums over the actors, and sent is the sum of the three

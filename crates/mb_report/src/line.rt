@@ -1,7 +1,7 @@
 //! The line of one actor.
 ghost use Rattle.std.specs.Prelude.{◌≡◌, Some};
 ghost use Rattle.std.specs.Fmt.{WritesOnOk};
-ghost use Rattle.mb_report.specs.Lines.{phase_text, standing_text, suspended_text, counts_text, restarts_text, line_text};
+ghost use Rattle.mb_report.specs.Lines.{phase_text, phase_and_state_text, suspended_text, counts_text, restarts_text, line_text};
 ghost use Rattle.mb_report.specs.Kept.{kept};
 
 use mb_actor::Phase;
@@ -31,21 +31,21 @@ impl fmt::Display for Line {
     ghost output = { λ line. Some (line_text (kept line)) };
 
     fn fmt<W: fmt::Write>(&self, f: &mut fmt::Formatter<W>) -> fmt::Result {
-        write_standing(f, self.name.as_str(), self.phase, self.state)?;
+        write_phase_and_state(f, self.name.as_str(), self.phase, self.state)?;
         write_suspended(f, self.suspended)?;
         write_counts(f, self.handled as u128, self.left as u128, self.dead)?;
         write_restarts(f, self.restarts)
     }
 }
 
-#[tactic(auto, unfolding(crate::specs::Lines::standing_text))]
-fn write_standing<W: fmt::Write>(
+#[tactic(auto, unfolding(crate::specs::Lines::phase_and_state_text))]
+fn write_phase_and_state<W: fmt::Write>(
     f: &mut fmt::Formatter<W>,
     name: &str,
     phase: Phase,
     state: Option<i64>,
 ) -> fmt::Result
-    ensures { WritesOnOk W.write_str_gives f.old result (standing_text name.now phase state) f.new }
+    ensures { WritesOnOk W.write_str_gives f.old result (phase_and_state_text name.now phase state) f.new }
 {
     write!(f, "{name} {} state ", word(phase))?;
     match state {

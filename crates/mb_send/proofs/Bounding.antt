@@ -14,7 +14,7 @@ use Rattle.mb_queue.specs.declared.refused.Refusal.TheVariants.{Full, NoMemory}
 use Rattle.mb_journal.specs.declared.sent_envelope.SentEnvelope.{SentEnvelope}
 use Rattle.mb_journal.specs.Accepted.{dead_letters}
 use Rattle.mb_queue.specs.Passes.{Queue, SendPassView}
-use Rattle.mb_queue.specs.Pushes.{IsReason}
+use Rattle.mb_queue.specs.Pushes.{IsReasonToRefuse}
 use Rattle.mb_send.specs.Answers.{reason}
 use Rattle.mb_send.specs.Posted.{posting}
 use Rattle.mb_send.specs.Bounded.{may_be_refused, are_of_bounded, queue_to}
@@ -38,7 +38,7 @@ bounded-dead queues ps e w may all =
 
 -- a queue refuses as full only where it has a bound
 pub may-find-full : (queues : List Queue) (k : ℕ) (pass : SendPassView) (refused : Refusal) (w : DeadLetterReason) → slice_get queues k ≡ Some pass.queue →
-    IsReason pass refused → w ≡ reason refused → may_be_refused (queue_to queues (suc k)) w ≡ true
+    IsReasonToRefuse pass refused → w ≡ reason refused → may_be_refused (queue_to queues (suc k)) w ≡ true
 may-find-full queues k pass Full w there full is = (λ i. may_be_refused (there i) (is i)) ∙ ap is_some full.1
 may-find-full queues k pass NoMemory w there full is = λ i. may_be_refused (there i) (is i)
 

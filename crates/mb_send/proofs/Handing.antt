@@ -4,10 +4,10 @@ use Rattle.mb_gate.specs.Accessors.{pass_view}
 use Rattle.mb_gate.specs.View.{View}
 use Rattle.mb_gate.specs.declared.claim.Claim.{Claim}
 use Rattle.mb_register.specs.Registering.{QueueAccount, HandsClaimOn, LosesNoClaim}
-use Rattle.mb_register.specs.declared.owed.Owed.{Owed}
+use Rattle.mb_register.specs.declared.actor_set.ActorSet.{ActorSet}
 use Rattle.mb_register.specs.declared.registrar.Registrar.{Registrar}
 use Rattle.mb_register.proofs.ClaimCounts.{hands-after, loses-handed}
-use Rattle.mb_send.specs.Asked.{account_of}
+use Rattle.mb_register.specs.Registers.{account_of}
 
 -- an actor was registered, after steps that got no claim
 pub hands-later : {H : Type 0} (id : ℕ) (old new : QueueAccount H) (u v w : View) (went : Bool) → v.got ≡ u.got → v.returned ≡ u.returned
@@ -20,6 +20,6 @@ pub loses-looked : {H W : Type 0} (pushed refused : W → List (Claim H)) (a b :
     → (pass_view b.pass).got ≡ (pass_view a.pass).got → (pass_view b.pass).returned ≡ (pass_view a.pass).returned
     → LosesNoClaim (account_of pushed refused a) (account_of pushed refused b) (pass_view a.pass) (pass_view b.pass)
 loses-looked {H} {W} pushed refused a b run_queue owed got returned =
-    let make : W → Owed → QueueAccount H = λ w o. record { pushed = pushed w; refused = refused w; owed = o } in
+    let make : W → ActorSet → QueueAccount H = λ w o. record { pushed = pushed w; refused = refused w; owed = o } in
     loses-handed 0 (account_of pushed refused a) (account_of pushed refused b) (pass_view a.pass) (pass_view b.pass) false
     (inl ((λ i. make (run_queue i) (owed i)), record { got = got; returned = returned }))

@@ -3,12 +3,13 @@ use Rattle.std.proofs.Common.{◌≡◌, ◌==◌, ◌||◌, ◌+◌, ◌-◌, �
 use Rattle.mb_core.specs.declared.wake_obligation.WakeObligation.{WakeObligation}
 use Rattle.mb_gate.specs.View.{View, Sent, obligation_to, seeing, sending}
 use Rattle.mb_gate.specs.declared.claim.Claim.{Claim}
-use Rattle.mb_register.specs.Owed.{is_owed}
+use Rattle.mb_register.specs.ActorSet.{has_actor}
 use Rattle.mb_register.specs.Registering.{QueueAccount, IsRegistered}
-use Rattle.mb_register.specs.declared.owed.Owed.{Owed}
+use Rattle.mb_register.specs.declared.actor_set.ActorSet.{ActorSet}
 use Rattle.mb_register.specs.declared.registrar.Registrar.{Registrar}
 use Rattle.mb_register.proofs.Views.{owes-same}
-use Rattle.mb_send.specs.Asked.{RegistersAtMost, account_of}
+use Rattle.mb_register.specs.Registers.{account_of}
+use Rattle.mb_send.specs.Asked.{RegistersAtMost}
 
 either-run_queue : (a b : Bool) → b ≡ true → (a || b) ≡ true
 either-run_queue true b owed = refl
@@ -16,16 +17,16 @@ either-run_queue false b owed = owed
 
 -- registering an actor forgets nobody
 pub still-registered : {H : Type 0} (id : ℕ) (a b : QueueAccount H) (registered : Bool) → IsRegistered id a b registered
-    → (other : ℕ) → is_owed a.owed other ≡ true → is_owed b.owed other ≡ true
-still-registered id a b true went other owed = ap (λ o. is_owed o other) went.owed ∙ owed
-still-registered {H} id a b false (inl same) other owed = ap (λ (k : QueueAccount H). is_owed k.owed other) same ∙ owed
+    → (other : ℕ) → has_actor a.owed other ≡ true → has_actor b.owed other ≡ true
+still-registered id a b true went other owed = ap (λ o. has_actor o other) went.owed ∙ owed
+still-registered {H} id a b false (inl same) other owed = ap (λ (k : QueueAccount H). has_actor k.owed other) same ∙ owed
 still-registered id a b false (inr refused) other owed =
-    refused.owed other ∙ either-run_queue (other == id) (is_owed a.owed other) owed
+    refused.owed other ∙ either-run_queue (other == id) (has_actor a.owed other) owed
 
 module _ {H W : Type 0} (pushed refused : W → List (Claim H)) (id : ℕ) where
   account-same : (a b : Registrar H W) → b.run_queue ≡ a.run_queue → b.owed ≡ a.owed → account_of pushed refused b ≡ account_of pushed refused a
   account-same a b run_queue owed =
-      let make : W → Owed → QueueAccount H = λ w o. record { pushed = pushed w; refused = refused w; owed = o } in
+      let make : W → ActorSet → QueueAccount H = λ w o. record { pushed = pushed w; refused = refused w; owed = o } in
       λ i. make (run_queue i) (owed i)
 
   -- nobody was registered

@@ -5,3 +5,4 @@ pub mod Bounded
 pub mod Answers
 pub mod Faults
 pub mod Asked
+pub mod LeavesSender

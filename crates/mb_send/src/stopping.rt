@@ -1,14 +1,13 @@
 //! Stopping an actor from outside.
-ghost use Rattle.std.specs.Prelude.{◌≡◌, ◌⊎◌, ℕ, ◌+◌, ◌<◌, ◌≤◌, true, vec_len, IfOk, IsErrOf, OnErr, Some};
+ghost use Rattle.std.specs.Prelude.{◌≡◌, ◌⊎◌, ◌+◌, ◌<◌, ◌≤◌, true, vec_len, IfOk, IsErrOf, OnErr, Some};
 ghost use Rattle.mb_core.specs.Actor.{nothing};
 ghost use Rattle.mb_gate.specs.View.{obligation_to};
 ghost use Rattle.mb_gate.specs.Accessors.{gates_id, pass_id, actors_of, pass_view};
 ghost use Rattle.mb_send.specs.declared.send_error.SendError.TheVariants as SendError;
 ghost use Rattle.mb_gate.specs.Untouched.{origin_of};
-ghost use Rattle.mb_register.specs.Owed.{is_owed};
-ghost use Rattle.mb_register.specs.Registering.{LosesNoClaim};
+ghost use Rattle.mb_register.specs.ActorSet.{has_actor};
 ghost use Rattle.mb_send.specs.Answers.{Stops};
-ghost use Rattle.mb_send.specs.Asked.{RegistersAtMost, account_of};
+ghost use Rattle.mb_send.specs.LeavesSender.{LeavesSender};
 
 use crate::send_error::SendError;
 use crate::sender::GatesSender;
@@ -36,12 +35,8 @@ impl<H: MailboxState, W: RunQueue<H>> GatesSender<H, W> {
         ensures refused { OnErr result ((self.new ≡ self.old) × ((IsErrOf result SendError.NoSuchActor × (actors_of gates.now ≤ id.0))
             ⊎ (IsErrOf result SendError.NoMemory × (id.0 < actors_of gates.now)))) }
         ensures stopped { IfOk result (Stops id.0 (pass_view self.old.registrar.pass) (pass_view self.new.registrar.pass)) }
-        ensures discharged { IfOk result (λ _. (obligation_to id.0 (pass_view self.new.registrar.pass) ≡ nothing) ⊎ (is_owed self.new.registrar.owed id.0 ≡ true)) }
-        ensures still { (other : ℕ) → is_owed self.old.registrar.owed other ≡ true → is_owed self.new.registrar.owed other ≡ true }
-        ensures registered { RegistersAtMost id.0 (account_of W.pushed W.refused self.old.registrar) (account_of W.pushed W.refused self.new.registrar) }
-        ensures handed { LosesNoClaim (account_of W.pushed W.refused self.old.registrar) (account_of W.pushed W.refused self.new.registrar)
-            (pass_view self.old.registrar.pass) (pass_view self.new.registrar.pass) }
-        ensures same_gates { (pass_id self.new.registrar.pass ≡ pass_id self.old.registrar.pass) × (W.origin self.new.registrar.run_queue ≡ W.origin self.old.registrar.run_queue) }
+        ensures discharged { IfOk result (λ _. (obligation_to id.0 (pass_view self.new.registrar.pass) ≡ nothing) ⊎ (has_actor self.new.registrar.owed id.0 ≡ true)) }
+        ensures leaves { LeavesSender W.origin W.pushed W.refused id.0 self.old self.new }
         ensures same { (self.new.send_log ≡ self.old.send_log) × (self.new.sends ≡ self.old.sends) }
     {
         if id.0 as usize > self.sends.len() {

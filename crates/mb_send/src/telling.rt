@@ -1,18 +1,16 @@
 //! What a sender outside the actors sends to them.
-ghost use Rattle.std.specs.Prelude.{◌≡◌, ◌⊎◌, ℕ, ◌+◌, ◌<◌, ◌≤◌, false, true, vec_len, IfOk, IsOk, IsErrOf, OnErr, Some};
+ghost use Rattle.std.specs.Prelude.{◌≡◌, ◌⊎◌, ◌+◌, ◌<◌, ◌≤◌, false, true, vec_len, IfOk, IsOk, IsErrOf, OnErr, Some};
 ghost use Rattle.mb_msg.specs.Payload.{body_of};
 ghost use Rattle.mb_core.specs.Actor.{nothing};
 ghost use Rattle.mb_gate.specs.View.{obligation_to};
 ghost use Rattle.mb_gate.specs.Accessors.{gates_id, pass_id, actors_of, pass_view};
 ghost use Rattle.mb_send.specs.declared.send_error.SendError.TheVariants as SendError;
 ghost use Rattle.mb_gate.specs.Untouched.{origin_of};
-ghost use Rattle.mb_register.specs.Owed.{is_owed};
-ghost use Rattle.mb_register.specs.Registering.{LosesNoClaim};
-ghost use Rattle.mb_send.specs.Sends.{receiving_queues};
+ghost use Rattle.mb_register.specs.ActorSet.{has_actor};
 ghost use Rattle.mb_send.specs.Answers.{IsSent, IsDeadLetter, IsTold, reason, receiver_of};
 ghost use Rattle.mb_send.specs.SeenClosed.{has_seen_closed};
-ghost use Rattle.mb_send.specs.Faults.{OnlyLooked, IsSameSendLog};
-ghost use Rattle.mb_send.specs.Asked.{RegistersAtMost, account_of};
+ghost use Rattle.mb_send.specs.Faults.{FailsToTell, IsSameSendLog, SendsNothing};
+ghost use Rattle.mb_send.specs.LeavesSender.{LeavesSender};
 
 use crate::send_error::SendError;
 use crate::send_outcome::SendOutcome;
@@ -41,22 +39,13 @@ impl<H: MailboxState, W: RunQueue<H>> GatesSender<H, W> {
         requires same_gates { (pass_id self.old.registrar.pass ≡ gates_id gates.now) × (W.origin self.old.registrar.run_queue ≡ Some (origin_of gates.now)) }
         requires all { vec_len self.old.sends + 1 ≡ actors_of gates.now }
         requires present { (0 < (receiver_of ticket).0) × ((receiver_of ticket).0 < actors_of gates.now) × ((receiver_of ticket).0 < 64) }
-        ensures refused { OnErr result (IsErrOf result SendError.NoMemory × (self.new.send_log.posted ≡ self.old.send_log.posted)
-            × (self.new.registrar ≡ self.old.registrar)) }
-        ensures unsent { OnErr result (IsSameSendLog self.old.send_log self.new.send_log × (self.new.sends ≡ self.old.sends)) }
+        ensures refused { OnErr result (IsErrOf result SendError.NoMemory × SendsNothing self.old self.new) }
         ensures never_short { self.old.send_log.dead.retention.keeps_all ≡ false → self.old.send_log.sent < 18446744073709551615 → IsOk result }
         ensures sent { IfOk result (IsSent self.old.send_log.by self.old.send_log.sent (receiver_of ticket) (body_of payload) self.old.send_log.posted self.new.send_log.posted
             self.old.sends.items (pass_view self.old.registrar.pass) (pass_view self.new.registrar.pass)) }
-        ensures discharged { IfOk result (λ _. (obligation_to (receiver_of ticket).0 (pass_view self.new.registrar.pass) ≡ nothing) ⊎ (is_owed self.new.registrar.owed (receiver_of ticket).0
+        ensures discharged { IfOk result (λ _. (obligation_to (receiver_of ticket).0 (pass_view self.new.registrar.pass) ≡ nothing) ⊎ (has_actor self.new.registrar.owed (receiver_of ticket).0
             ≡ true)) }
-        ensures still { (id : ℕ) → is_owed self.old.registrar.owed id ≡ true → is_owed self.new.registrar.owed id ≡ true }
-        ensures registered { RegistersAtMost (receiver_of ticket).0 (account_of W.pushed W.refused self.old.registrar) (account_of W.pushed W.refused self.new.registrar) }
-        ensures handed { LosesNoClaim (account_of W.pushed W.refused self.old.registrar) (account_of W.pushed W.refused self.new.registrar)
-            (pass_view self.old.registrar.pass) (pass_view self.new.registrar.pass) }
-        ensures same_gates { (pass_id self.new.registrar.pass ≡ pass_id self.old.registrar.pass) × (W.origin self.new.registrar.run_queue ≡ W.origin self.old.registrar.run_queue) }
-        ensures same { (self.new.send_log.by ≡ self.old.send_log.by) × (vec_len self.new.sends ≡ vec_len self.old.sends) }
-        ensures keeps { self.new.send_log.dead.retention ≡ self.old.send_log.dead.retention }
-        ensures queues { receiving_queues self.new.sends.items ≡ receiving_queues self.old.sends.items }
+        ensures leaves { LeavesSender W.origin W.pushed W.refused (receiver_of ticket).0 self.old self.new }
     {
         self.send_log.ready()?;
         let to = ticket.to;
@@ -96,25 +85,14 @@ impl<H: MailboxState, W: RunQueue<H>> GatesSender<H, W> {
     ) -> Result<SendOutcome, SendError>
         requires same_gates { (pass_id self.old.registrar.pass ≡ gates_id gates.now) × (W.origin self.old.registrar.run_queue ≡ Some (origin_of gates.now)) }
         requires all { (vec_len self.old.sends + 1 ≡ actors_of gates.now) × (actors_of gates.now ≤ 64) }
-        ensures refused { OnErr result ((self.new.send_log.posted ≡ self.old.send_log.posted)
-            × ((IsErrOf result SendError.NoSuchActor × ((to.0 ≡ 0) ⊎ (actors_of gates.now ≤ to.0)))
-            ⊎ (IsErrOf result SendError.NoMemory × (0 < to.0) × (to.0 < actors_of gates.now)))) }
-        ensures unknown { IsErrOf result SendError.NoSuchActor → self.new ≡ self.old }
-        ensures unsent { IsErrOf result SendError.NoMemory → OnlyLooked to self.old self.new }
+        ensures fails { FailsToTell (actors_of gates.now) to result self.old self.new }
         ensures never_short { self.old.send_log.dead.retention.keeps_all ≡ false → self.old.send_log.sent < 18446744073709551615 → 0 < to.0 → to.0 < actors_of gates.now
             → IsOk result }
         ensures present { IfOk result (λ _. (0 < to.0) × (to.0 < actors_of gates.now)) }
         ensures told { IfOk result (IsTold self.old.send_log.by self.old.send_log.sent to (body_of payload) self.old.send_log.posted self.new.send_log.posted
             self.old.sends.items (pass_view self.old.registrar.pass) (pass_view self.new.registrar.pass)) }
-        ensures discharged { IfOk result (λ _. (obligation_to to.0 (pass_view self.new.registrar.pass) ≡ nothing) ⊎ (is_owed self.new.registrar.owed to.0 ≡ true)) }
-        ensures still { (id : ℕ) → is_owed self.old.registrar.owed id ≡ true → is_owed self.new.registrar.owed id ≡ true }
-        ensures registered { RegistersAtMost to.0 (account_of W.pushed W.refused self.old.registrar) (account_of W.pushed W.refused self.new.registrar) }
-        ensures handed { LosesNoClaim (account_of W.pushed W.refused self.old.registrar) (account_of W.pushed W.refused self.new.registrar)
-            (pass_view self.old.registrar.pass) (pass_view self.new.registrar.pass) }
-        ensures same_gates { (pass_id self.new.registrar.pass ≡ pass_id self.old.registrar.pass) × (W.origin self.new.registrar.run_queue ≡ W.origin self.old.registrar.run_queue) }
-        ensures same { (self.new.send_log.by ≡ self.old.send_log.by) × (vec_len self.new.sends ≡ vec_len self.old.sends) }
-        ensures keeps { self.new.send_log.dead.retention ≡ self.old.send_log.dead.retention }
-        ensures queues { receiving_queues self.new.sends.items ≡ receiving_queues self.old.sends.items }
+        ensures discharged { IfOk result (λ _. (obligation_to to.0 (pass_view self.new.registrar.pass) ≡ nothing) ⊎ (has_actor self.new.registrar.owed to.0 ≡ true)) }
+        ensures leaves { LeavesSender W.origin W.pushed W.refused to.0 self.old self.new }
     {
         let look = self.look(gates, to)?;
         match look {

@@ -20,18 +20,18 @@ use Rattle.mb_report.specs.declared.report.Report.{Report}
 use Rattle.mb_system.specs.Belonging.{BelongsTogether, senders_numbers}
 use Rattle.mb_system.specs.Members.{IsSenderOf, OutsideSender}
 use Rattle.mb_system.specs.declared.built.Built.{Built}
-use Rattle.mb_system.specs.declared.end.WorkerEnd.{WorkerEnd}
+use Rattle.mb_system.specs.declared.handle.WorkerHandle.{WorkerHandle}
 use Rattle.mb_system.specs.declared.system.System.{System}
 use Rattle.mb_shutdown.specs.Belonging.{AreAnswers, AreSendPasses, HasAllSeen, HasRead, AllFoundIdle, brings, brought}
 use Rattle.mb_shutdown.specs.Refused.{FindsIdle, IsComplete}
-use Rattle.mb_shutdown.proofs.Back.{all-seen, was-settled}
+use Rattle.mb_shutdown.proofs.ComingBack.{all-seen, was-settled}
 use Rattle.mb_shutdown.proofs.Bringing.{answers, kept-in-place, known-senders, outsiders, passes-in-place}
-use Rattle.mb_shutdown.proofs.Gathered.{seen_by_end, seen_by_sender}
+use Rattle.mb_shutdown.proofs.Gathered.{seen_by_handle, seen_by_sender}
 use Rattle.mb_shutdown.proofs.Parts.{each-part}
 use Rattle.mb_shutdown.proofs.Places.{as-many-senders, outside-all}
 
 module _ {A K : Type 0} where
-  -- the system's gates came, with all that ends and senders saw, and with what the senders bring, in the order of their numbers
+  -- the system's gates came, with all that handles and senders saw, and with what the senders bring, in the order of their numbers
   pub record IsGathered (built : Built A K) (gates : Gates (Box Contents)) (log : List Observation) (outside : List FinishedSender) : Type 0 where
     pub gates_are : gates ≡ built.system.gates
     pub settled : AllFoundIdle built
@@ -99,13 +99,13 @@ module _ {A K : Type 0} (built : Built A K) (gates : Gates (Box Contents)) (log 
   pub came-passes : AreSendPasses built.system.senders built.senders.items (map (λ (o : FinishedSender). o.sends.items) outside)
   came-passes = passes-in-place built.system.senders built.senders.items came.now outside now-many came.same in-places came.shown
 
-  -- the report goes on from what each end and each sender saw
+  -- the report goes on from what each handle and each sender saw
   pub goes-on : (report : Report) (v : View) → v.log ≡ log → ReportExtendsAll report v
-      → All (λ (e : WorkerEnd A K). ReportExtendsAll report (pass_view e.registrar.pass)) built.ends.items
+      → All (λ (e : WorkerHandle A K). ReportExtendsAll report (pass_view e.registrar.pass)) built.handles.items
       × All (λ (s : OutsideSender). ReportExtendsAll report (pass_view s.registrar.pass)) built.senders.items
   goes-on report v is all = (
-    All-weaker (λ (e : WorkerEnd A K). IsPart (seen_by_end e) log) (λ (e : WorkerEnd A K). ReportExtendsAll report (pass_view e.registrar.pass))
-        (λ e part. each-part (ReportExtends report) (seen_by_end e) v.log (subst (IsPart (seen_by_end e)) (sym is) part) all) built.ends.items came.seen.0,
+    All-weaker (λ (e : WorkerHandle A K). IsPart (seen_by_handle e) log) (λ (e : WorkerHandle A K). ReportExtendsAll report (pass_view e.registrar.pass))
+        (λ e part. each-part (ReportExtends report) (seen_by_handle e) v.log (subst (IsPart (seen_by_handle e)) (sym is) part) all) built.handles.items came.seen.0,
     All-weaker (λ (s : OutsideSender). IsPart (seen_by_sender s) log) (λ (s : OutsideSender). ReportExtendsAll report (pass_view s.registrar.pass))
         (λ s part. each-part (ReportExtends report) (seen_by_sender s) v.log (subst (IsPart (seen_by_sender s)) (sym is) part) all) built.senders.items
         came.seen.1,

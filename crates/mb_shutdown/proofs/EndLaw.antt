@@ -25,8 +25,8 @@ use Rattle.mb_home.specs.Directory.{DirectoryEntry, queues_of as roll_queues}
 use Rattle.mb_report.specs.declared.report.ActorReport.{ActorReport}
 use Rattle.mb_report.specs.declared.report.Report.{Report}
 use Rattle.mb_report.specs.declared.report.SenderReport.{SenderReport}
-use Rattle.mb_shutdown.specs.Apart.{AreApart, HasNoSystemLeft, end_of, ended_of, sent_in, sent_of}
-use Rattle.mb_shutdown.specs.Homes.{AreHomes, HomesReturned, BoxedHome}
+use Rattle.mb_shutdown.specs.HomeParts.{AreApart, HasNoSystemLeft, end_of, ended_of, sent_in, sent_of}
+use Rattle.mb_shutdown.specs.Homes.{AreHomes, HomesReturned, ReturnedHome}
 use Rattle.mb_shutdown.specs.OutsideSenders.{AreFinishedSenders, HasKnownSenders}
 use Rattle.mb_shutdown.specs.Seen.{ReportExtends, ReportExtendsAll}
 use Rattle.mb_shutdown.specs.Shown.{ShowsAll, ShowsCell}
@@ -38,7 +38,7 @@ use Rattle.mb_shutdown.proofs.Columns.{different}
 use Rattle.mb_shutdown.proofs.Gathering.{Gathered, gathered, numbers-rise}
 use Rattle.mb_shutdown.proofs.Lists.{alike, at-place, became, each-place, from-mapped, in-first, length-mapped, mapped, mapped-to, same-maps, there, within}
 use Rattle.mb_shutdown.proofs.Parties.{Party}
-use Rattle.mb_shutdown.proofs.Standing.{Stands, closed-by-word, many-left, own_word, shut, stands, stands-put}
+use Rattle.mb_shutdown.proofs.KnownActors.{Stands, closed-by-word, many-left, own_word, shut, stands, stands-put}
 use Rattle.mb_shutdown.proofs.WholeLaw.{counts-given, counts-put, ended-phase, whole}
 
 -- one map after another
@@ -46,17 +46,17 @@ after-map : {X Y Z : Type 0} (f : X → Y) (g : Y → Z) (xs : List X) → map g
 after-map f g [] = refl
 after-map f g (x ∷ xs) = ap (λ l. g (f x) ∷ l) (after-map f g xs)
 
-module _ {A K : Type 0} (gives : ℕ → Moment → Reply → Type 0) (first : Contents) (n : ℕ) (v : View) (all : List (Option BoxedHome))
+module _ {A K : Type 0} (gives : ℕ → Moment → Reply → Type 0) (first : Contents) (n : ℕ) (v : View) (all : List (Option ReturnedHome))
     (left : AreHomes gives first n v all) (ended : List (Ended A K)) (takes : List TakePassView) (rows : List (List SendPassView))
     (senders : List SenderReport) (apart : AreApart all ended takes rows senders) (outs : List FinishedSender) (few : n ≤ 64)
     (same_directory : length first.directory ≡ n) (are : AreFinishedSenders first.directory v.log 64 outs) (small : All (λ (o : FinishedSender). o.send_log.sent < 2 ^ 64) outs) where
-  abbrev lefts : List BoxedHome
+  abbrev lefts : List ReturnedHome
   lefts = apart.lefts
 
-  done-at : (i : ℕ) (l : BoxedHome) → slice_get lefts i ≡ Some l → HasNoSystemLeft l
+  done-at : (i : ℕ) (l : ReturnedHome) → slice_get lefts i ≡ Some l → HasNoSystemLeft l
   done-at i l found = at-place HasNoSystemLeft lefts i l apart.done found
 
-  stands-at : (i : ℕ) (l : BoxedHome) → slice_get lefts i ≡ Some l → Stands gives first v.log i l.home.value
+  stands-at : (i : ℕ) (l : ReturnedHome) → slice_get lefts i ≡ Some l → Stands gives first v.log i l.home.value
   stands-at i l found = stands gives first n v all lefts left apart.are i l found (done-at i l found).1
 
   pub many-lefts : length lefts ≡ n
@@ -73,22 +73,22 @@ module _ {A K : Type 0} (gives : ℕ → Moment → Reply → Type 0) (first : C
   same-queues =
       ap queues_of apart.takes_are
       ∙ twice lefts
-      ∙ same-maps (λ (l : BoxedHome). l.home.value.take.queue) (λ (e : DirectoryEntry). e.queue) lefts first.directory many-enrolled
+      ∙ same-maps (λ (l : ReturnedHome). l.home.value.take.queue) (λ (e : DirectoryEntry). e.queue) lefts first.directory many-enrolled
       (λ i l e found is.
       let own = (stands-at i l found).is_home_of in
       ap (λ (x : DirectoryEntry). x.queue)
       (same_Some (record { who = l.home.value.cell.who; queue = l.home.value.take.queue; discipline = l.home.value.take.discipline }) e
       (sym own.settled.is_own.enrolled ∙ (λ k. slice_get (own.directory k) (own.number k)) ∙ is)))
     where
-      twice : (ls : List BoxedHome)
-          → queues_of (map (λ (l : BoxedHome). l.home.value.take) ls) ≡ map (λ (l : BoxedHome). l.home.value.take.queue) ls
+      twice : (ls : List ReturnedHome)
+          → queues_of (map (λ (l : ReturnedHome). l.home.value.take) ls) ≡ map (λ (l : ReturnedHome). l.home.value.take.queue) ls
       twice [] = refl
       twice (l ∷ ls) = ap (λ qs. l.home.value.take.queue ∷ qs) (twice ls)
 
   -- the homes are of the actors in the directory
-  same-kept : map (λ (l : BoxedHome). l.home.value.cell.who.retention) lefts ≡ map (λ (e : DirectoryEntry). e.who.retention) first.directory
+  same-kept : map (λ (l : ReturnedHome). l.home.value.cell.who.retention) lefts ≡ map (λ (e : DirectoryEntry). e.who.retention) first.directory
   same-kept =
-      same-maps (λ (l : BoxedHome). l.home.value.cell.who.retention) (λ (e : DirectoryEntry). e.who.retention) lefts first.directory many-enrolled
+      same-maps (λ (l : ReturnedHome). l.home.value.cell.who.retention) (λ (e : DirectoryEntry). e.who.retention) lefts first.directory many-enrolled
       (λ i l e found is.
       let own = (stands-at i l found).is_home_of in
       ap (λ (x : DirectoryEntry). x.who.retention)
@@ -128,9 +128,9 @@ module _ {A K : Type 0} (gives : ℕ → Moment → Reply → Type 0) (first : C
         (sents : map sent_of report.senders.items ≡ map sent_of senders ++ map (λ (o : FinishedSender). (o.send_log.sent, o.send_log.dead.items, o.send_log.dead.retention)) outs) where
       many-ended : length ended ≡ n
       many-ended =
-          sym (length-mapped ended_of ended) ∙ ap length apart.ended_are ∙ length-mapped (λ (l : BoxedHome). end_of l.home.value) lefts ∙ many-lefts
+          sym (length-mapped ended_of ended) ∙ ap length apart.ended_are ∙ length-mapped (λ (l : ReturnedHome). end_of l.home.value) lefts ∙ many-lefts
 
-      shown : (i : ℕ) (l : BoxedHome) (es : List Envelope) (a : ActorReport) → slice_get lefts i ≡ Some l → slice_get envelopes i ≡ Some es
+      shown : (i : ℕ) (l : ReturnedHome) (es : List Envelope) (a : ActorReport) → slice_get lefts i ≡ Some l → slice_get envelopes i ≡ Some es
           → slice_get report.actors.items i ≡ Some a
           → ShowsCell after (end_of l.home.value) es a × (es ≢ [] → (a.phase ≡ EndedPhase) ⊎ (0 < a.count))
       shown i l es a found es_are is =
@@ -138,7 +138,7 @@ module _ {A K : Type 0} (gives : ℕ → Moment → Reply → Type 0) (first : C
           let e = there ended i (let m = many-ended in omega (arith, lt, m)) in
           let w = there waiting i (omega (arith, lt, counted)) in
           let one = shows.each i e.0 es w.0 a e.1 es_are w.1 is in
-          let same = alike ended_of (λ (l : BoxedHome). end_of l.home.value) ended lefts i e.0 l apart.ended_are e.1 found in
+          let same = alike ended_of (λ (l : ReturnedHome). end_of l.home.value) ended lefts i e.0 l apart.ended_are e.1 found in
           (subst (λ x. ShowsCell after x es a) same one.shows, one.kept)
 
       pub report-whole : IsCompleteReport after gives first.directory v.log (map (λ (o : FinishedSender). o.send_log.posted) outs) report
@@ -153,7 +153,7 @@ module _ {A K : Type 0} (gives : ℕ → Moment → Reply → Type 0) (first : C
           ≡ map (λ (e : DirectoryEntry). e.who.retention) first.directory ++ map (λ (o : FinishedSender). o.send_log.dead.retention) outs
       report-letters =
           let kept = λ (x : ℕ × List DeadLetter × Retention). x.2 in
-          let of_home = λ (l : BoxedHome). sent_in l.home.value in
+          let of_home = λ (l : ReturnedHome). sent_in l.home.value in
           let of_outside = λ (o : FinishedSender). (let x : ℕ × List DeadLetter × Retention = (o.send_log.sent, o.send_log.dead.items, o.send_log.dead.retention) in x) in
           sym (after-map sent_of kept report.senders.items)
           ∙ ap (map kept) (sents ∙ ap (λ l. l ++ map of_outside outs) apart.senders_are)
@@ -163,17 +163,17 @@ module _ {A K : Type 0} (gives : ℕ → Moment → Reply → Type 0) (first : C
 
       -- what is reported of an actor is what its home shows
       reported : (actor : ℕ) (a : ActorReport) → slice_get report.actors.items actor ≡ Some a
-          → (l : BoxedHome) × (slice_get lefts actor ≡ Some l) × (es : List Envelope) × ShowsCell after (end_of l.home.value) es a
+          → (l : ReturnedHome) × (slice_get lefts actor ≡ Some l) × (es : List Envelope) × ShowsCell after (end_of l.home.value) es a
       reported actor a found =
           let lt : actor < length lefts
           = let b = within report.actors.items actor a found in let c = shows.same_count in let d = many-ended in let m = many-lefts in
           omega (arith, b, c, d, m) in
           let l = there lefts actor lt in
-          let m = taken.same_count in let t = ap length apart.takes_are in let q = length-mapped (λ (l : BoxedHome). l.home.value.take) lefts in
+          let m = taken.same_count in let t = ap length apart.takes_are in let q = length-mapped (λ (l : ReturnedHome). l.home.value.take) lefts in
           let es = there envelopes actor (omega (arith, lt, m, t, q)) in (l.0, l.1, es.0, (shown actor l.0 es.0 a l.1 es.1 found).0)
 
       -- the journals go on from all that was seen, and who was seen ended has ended
-      goes-on : (s : Observation) → ((i : ℕ) (l : BoxedHome) → slice_get lefts i ≡ Some l → IsKept i l.home.value.cell.journal (own_word l.home.value) s)
+      goes-on : (s : Observation) → ((i : ℕ) (l : ReturnedHome) → slice_get lefts i ≡ Some l → IsKept i l.home.value.cell.journal (own_word l.home.value) s)
           → ReportExtends report s
       goes-on (Saw actor journal) kept = λ a found.
           let of = reported actor a found in subst (λ j. Extends j journal) (sym of.3.journal_is) (kept actor of.0 of.1 refl)
@@ -190,7 +190,7 @@ module _ {A K : Type 0} (gives : ℕ → Moment → Reply → Type 0) (first : C
           of.3.phase_is ∙ ended-phase (phase h.cell.who h.cell.journal) (closed-by-word h.cell.who h.cell.journal (kept actor of.0 of.1 refl))
 
       all-go-on : (log : List Observation)
-          → ((i : ℕ) (l : BoxedHome) → slice_get lefts i ≡ Some l → Each (IsKept i l.home.value.cell.journal (own_word l.home.value)) log)
+          → ((i : ℕ) (l : ReturnedHome) → slice_get lefts i ≡ Some l → Each (IsKept i l.home.value.cell.journal (own_word l.home.value)) log)
           → Each (ReportExtends report) log
       all-go-on [] kept = tt
       all-go-on (s ∷ log) kept = (goes-on s (λ i l found. (kept i l found).0), all-go-on log (λ i l found. (kept i l found).1))
@@ -206,19 +206,19 @@ module _ {A K : Type 0} (gives : ℕ → Moment → Reply → Type 0) (first : C
           (λ i a w found is.
           let lt = within report.actors.items i a found in let c = shows.same_count in let d = many-ended in let m = many-lefts in
           let e = there ended i (omega (arith, lt, c)) in
-          let q = taken.same_count in let t = ap length apart.takes_are in let k = length-mapped (λ (l : BoxedHome). l.home.value.take) lefts in
+          let q = taken.same_count in let t = ap length apart.takes_are in let k = length-mapped (λ (l : ReturnedHome). l.home.value.take) lefts in
           let es = there envelopes i (omega (arith, lt, c, d, m, q, t, k)) in
           let one = shows.each i e.0 es.0 w a e.1 es.1 is found in
           ap length one.shows.left_is ∙ one.counted)
 
       -- the report shows each home that came
-      home-shown : (id : ℕ) (l : BoxedHome) (a : ActorReport) → slice_get all id ≡ Some (Some l) → slice_get report.actors.items id ≡ Some a
+      home-shown : (id : ℕ) (l : ReturnedHome) (a : ActorReport) → slice_get all id ≡ Some (Some l) → slice_get report.actors.items id ≡ Some a
           → (slice_get lefts id ≡ Some l) × (es : List Envelope) × ShowsCell after (end_of l.home.value) es a
       home-shown id l a is found =
-          let x = from-mapped (λ (x : BoxedHome). Some x) lefts id (Some l) (ap (λ y. slice_get y id) (sym apart.are) ∙ is) in
+          let x = from-mapped (λ (x : ReturnedHome). Some x) lefts id (Some l) (ap (λ y. slice_get y id) (sym apart.are) ∙ is) in
           let here : slice_get lefts id ≡ Some l = x.1 ∙ x.2 in
           let b = within lefts id l here in
-          let q = taken.same_count in let t = ap length apart.takes_are in let k = length-mapped (λ (l : BoxedHome). l.home.value.take) lefts in
+          let q = taken.same_count in let t = ap length apart.takes_are in let k = length-mapped (λ (l : ReturnedHome). l.home.value.take) lefts in
           let es = there envelopes id (omega (arith, b, q, t, k)) in
           (here, es.0, (shown id l es.0 a here es.1 found).0)
 
@@ -229,7 +229,7 @@ module _ {A K : Type 0} (gives : ℕ → Moment → Reply → Type 0) (first : C
         left = left;
         came = λ id lt whole.
             let l = there lefts id (let m = many-lefts in omega (arith, lt, m)) in
-            left.back whole id l.0 lt (mapped-to (λ (x : BoxedHome). Some x) lefts all id l.0 (sym apart.are) l.1);
+            left.back whole id l.0 lt (mapped-to (λ (x : ReturnedHome). Some x) lefts all id l.0 (sym apart.are) l.1);
         journal = λ id l a is found. (home-shown id l a is found).2.journal_is;
         given = λ id l a is found.
             let one = home-shown id l a is found in let b = within lefts id l one.0 in let m = many-lefts in let done = done-at id l one.0 in (
@@ -246,9 +246,9 @@ module _ {A K : Type 0} (gives : ℕ → Moment → Reply → Type 0) (first : C
             );
         cleaned = λ id l a is found. (home-shown id l a is found).2.cleaned_is;
         dead = λ id l s is found.
-            let x = from-mapped (λ (x : BoxedHome). Some x) lefts id (Some l) (ap (λ y. slice_get y id) (sym apart.are) ∙ is) in
+            let x = from-mapped (λ (x : ReturnedHome). Some x) lefts id (Some l) (ap (λ y. slice_get y id) (sym apart.are) ∙ is) in
             let here : slice_get lefts id ≡ Some l = x.1 ∙ x.2 in
-            let of_home = λ (l : BoxedHome). sent_in l.home.value in
+            let of_home = λ (l : ReturnedHome). sent_in l.home.value in
             let others = map {A = FinishedSender} {B = ℕ × List DeadLetter × Retention} (λ o. (o.send_log.sent, o.send_log.dead.items, o.send_log.dead.retention)) outs in
             let same : sent_of s ≡ sent_in l.home.value
             = same_Some (sent_of s) (sent_in l.home.value)

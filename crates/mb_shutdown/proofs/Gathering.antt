@@ -15,14 +15,14 @@ use Rattle.mb_home.specs.AtHome.{closed_receivers}
 use Rattle.mb_home.specs.Contents.{Contents}
 use Rattle.mb_home.specs.Directory.{DirectoryEntry}
 use Rattle.mb_send.specs.SeenClosed.{has_seen_closed}
-use Rattle.mb_shutdown.specs.Homes.{BoxedHome}
+use Rattle.mb_shutdown.specs.Homes.{ReturnedHome}
 use Rattle.mb_shutdown.specs.OutsideSenders.{AreFinishedSenders, IsFinishedSender}
 use Rattle.mb_shutdown.specs.CompleteReport.{sender_number}
 use Rattle.mb_shutdown.specs.declared.finished_sender.FinishedSender.{FinishedSender}
 use Rattle.mb_shutdown.proofs.Lists.{at-place, choose, in-either, in-first, in-second, length-mapped, mapped, from-mapped, same-maps, there, within}
 use Rattle.mb_shutdown.proofs.FinishedSenders.{outside-party, seen-shut}
 use Rattle.mb_shutdown.proofs.Parties.{IsParty, Party, home-party, party_of}
-use Rattle.mb_shutdown.proofs.Standing.{Stands, closed-by-word}
+use Rattle.mb_shutdown.proofs.KnownActors.{Stands, closed-by-word}
 
 -- ---- the numbers of senders
 
@@ -68,30 +68,30 @@ outsider-at directory log number (x ∷ outs) (suc j) o are is =
 -- ---- all senders
 
 -- the actor of this number is there, and ended
-pub record IsShut (lefts : List BoxedHome) (to : ℕ) : Type 0 where
-  pub one : BoxedHome
+pub record IsShut (lefts : List ReturnedHome) (to : ℕ) : Type 0 where
+  pub one : ReturnedHome
   pub there_is : slice_get lefts to ≡ Some one
   pub closed_is : closed one.home.value.cell.who one.home.value.cell.journal ≡ true
 
 abbrev pub outside_of : FinishedSender → Party
 outside_of o = record { row = o.sends.items; postings = o.send_log.posted; sent = (o.send_log.sent, o.send_log.dead.items, o.send_log.dead.retention) }
 
-pub record Gathered (directory : List DirectoryEntry) (lefts : List BoxedHome) (outs : List FinishedSender) : Type 0 where
+pub record Gathered (directory : List DirectoryEntry) (lefts : List ReturnedHome) (outs : List FinishedSender) : Type 0 where
   pub parties : List Party
   pub same_count : length parties ≡ length lefts + length outs
   pub each : (i : ℕ) (p : Party) → slice_get parties i ≡ Some p → IsParty directory (IsShut lefts) (sender_number (length lefts) i) p
   pub rows : map (λ (p : Party). p.row) parties
-      ≡ map (λ (l : BoxedHome). l.home.value.sends) lefts ++ map (λ (o : FinishedSender). o.sends.items) outs
+      ≡ map (λ (l : ReturnedHome). l.home.value.sends) lefts ++ map (λ (o : FinishedSender). o.sends.items) outs
   pub sents : map (λ (p : Party). p.sent) parties
-      ≡ map (λ (l : BoxedHome). (l.home.value.sent, l.home.value.dead, l.home.value.cell.who.retention)) lefts ++ map (λ (o : FinishedSender). (o.send_log.sent, o.send_log.dead.items, o.send_log.dead.retention)) outs
-  pub told_are : (i : ℕ) (l : BoxedHome) (p : Party) → slice_get lefts i ≡ Some l → slice_get parties i ≡ Some p
+      ≡ map (λ (l : ReturnedHome). (l.home.value.sent, l.home.value.dead, l.home.value.cell.who.retention)) lefts ++ map (λ (o : FinishedSender). (o.send_log.sent, o.send_log.dead.items, o.send_log.dead.retention)) outs
+  pub told_are : (i : ℕ) (l : ReturnedHome) (p : Party) → slice_get lefts i ≡ Some l → slice_get parties i ≡ Some p
       → accepted p.postings ≡ told l.home.value.cell.who l.home.value.cell.journal
   pub posted : (j : ℕ) (o : FinishedSender) → slice_get outs j ≡ Some o
       → (p : Party) × (slice_get parties (length lefts + j) ≡ Some p) × (p.postings ≡ o.send_log.posted)
 
-module _ (gives : ℕ → Moment → Reply → Type 0) (first : Contents) (log : List Observation) (lefts : List BoxedHome) (outs : List FinishedSender)
-    (stands : (i : ℕ) (l : BoxedHome) → slice_get lefts i ≡ Some l → Stands gives first log i l.home.value)
-    (shut : (i other : ℕ) (l m : BoxedHome) → slice_get lefts i ≡ Some l → slice_get lefts other ≡ Some m
+module _ (gives : ℕ → Moment → Reply → Type 0) (first : Contents) (log : List Observation) (lefts : List ReturnedHome) (outs : List FinishedSender)
+    (stands : (i : ℕ) (l : ReturnedHome) → slice_get lefts i ≡ Some l → Stands gives first log i l.home.value)
+    (shut : (i other : ℕ) (l m : ReturnedHome) → slice_get lefts i ≡ Some l → slice_get lefts other ≡ Some m
     → IsAmong other (closed_receivers l.home.value.dead) → closed m.home.value.cell.who m.home.value.cell.journal ≡ true)
     (many : length lefts ≡ length first.directory) (are : AreFinishedSenders first.directory log 64 outs)
     (small : All (λ (o : FinishedSender). o.send_log.sent < 2 ^ 64) outs) where
@@ -99,13 +99,13 @@ module _ (gives : ℕ → Moment → Reply → Type 0) (first : Contents) (log :
   Shut = IsShut lefts
 
   -- the party of an actor
-  record IsInside (i : ℕ) (l : BoxedHome) (p : Party) : Type 0 where
+  record IsInside (i : ℕ) (l : ReturnedHome) (p : Party) : Type 0 where
     pub is : IsParty first.directory Shut i p
     pub row_is : p.row ≡ l.home.value.sends
     pub sent_is : p.sent ≡ (l.home.value.sent, l.home.value.dead, l.home.value.cell.who.retention)
     pub told_is : accepted p.postings ≡ told l.home.value.cell.who l.home.value.cell.journal
 
-  inside-one : (i : ℕ) (l : BoxedHome) → slice_get lefts i ≡ Some l → (p : Party) × IsInside i l p
+  inside-one : (i : ℕ) (l : ReturnedHome) → slice_get lefts i ≡ Some l → (p : Party) × IsInside i l p
   inside-one i l found =
       let one =
       home-party first.directory Shut (gives i) first i l.home.value refl (stands i l found).is_home_of
@@ -147,10 +147,10 @@ module _ (gives : ℕ → Moment → Reply → Type 0) (first : Contents) (log :
             (λ k. (sym (number-outside n i b.0 (let e = b.1 in omega (arith, e, same_many))) k, o.2 k)) (outside-one b.0 o.0 o.1))
             (in-either ps (map outside_of outs) i p found);
         rows = map-append (λ (p : Party). p.row) ps (map outside_of outs)
-            ∙ (λ i. same-maps (λ (p : Party). p.row) (λ (l : BoxedHome). l.home.value.sends) ps lefts same_many
+            ∙ (λ i. same-maps (λ (p : Party). p.row) (λ (l : ReturnedHome). l.home.value.sends) ps lefts same_many
             (λ k p l pa la. (inside.2 k l p la pa).row_is) i ++ same-rows outs i);
         sents = map-append (λ (p : Party). p.sent) ps (map outside_of outs)
-            ∙ (λ i. same-maps (λ (p : Party). p.sent) (λ (l : BoxedHome). (l.home.value.sent, l.home.value.dead, l.home.value.cell.who.retention)) ps lefts same_many
+            ∙ (λ i. same-maps (λ (p : Party). p.sent) (λ (l : ReturnedHome). (l.home.value.sent, l.home.value.dead, l.home.value.cell.who.retention)) ps lefts same_many
             (λ k p l pa la. (inside.2 k l p la pa).sent_is) i ++ same-sents outs i);
         told_are = λ i l p la pa.
             let q = there ps i (let lt = within lefts i l la in omega (arith, lt, same_many)) in

@@ -15,7 +15,7 @@ use Rattle.mb_journal.proofs.Naming.{kept-in-order, stands-once}
 use Rattle.mb_shutdown.specs.AllArrived.{AllArrived}
 use Rattle.mb_shutdown.specs.Parts.{ArePartsInOrder, IsControlsFirst}
 use Rattle.mb_shutdown.specs.Joined.{AreOfAllSenders, AreOfDifferent, column, joined_by, joins_all}
-use Rattle.mb_shutdown.specs.Rest.{AreRests, IsOver, IsOverfull, IsRest}
+use Rattle.mb_shutdown.specs.LeftInQueues.{AreRests, IsOver, IsOverfull, IsRest}
 use Rattle.mb_shutdown.proofs.ArrivedLemmas.{same-queue, same-taken, same-discipline}
 use Rattle.mb_shutdown.proofs.LeftLemmas.{all-joined}
 use Rattle.mb_shutdown.proofs.QueuedLemmas.{queued-are}
@@ -30,6 +30,10 @@ ok-then (Err e) f h = tt
 pub err-each : {T E : Type 0} (r : Result T E) (P Q : E → Type 0) → ((e : E) → P e → Q e) → IfErr r P → IfErr r Q
 err-each (Ok x) P Q f h = h
 err-each (Err e) P Q f h = f e h
+
+pub err-both : {T E : Type 0} (r : Result T E) (P Q R : E → Type 0) → ((e : E) → P e → Q e → R e) → IfErr r P → IfErr r Q → IfErr r R
+err-both (Ok x) P Q R f p q = p
+err-both (Err e) P Q R f p q = f e p q
 
 -- the rest of one receiver
 rest-at : (takes : List TakePassView) (lefts : List (List Envelope)) (place : ℕ) (take : TakePassView) (left : List Envelope) → AreRests takes lefts

@@ -1,9 +1,9 @@
 pub mod Answered
 pub mod ArrivedLemmas
-pub mod Back
 pub mod Bringing
 pub mod Closing
 pub mod Columns
+pub mod ComingBack
 pub mod EndLaw
 pub mod FinishedSenders
 pub mod Gathered
@@ -13,6 +13,7 @@ pub mod HeadlineLaw
 pub mod IdleLemmas
 pub mod JoinAndDrainLemmas
 pub mod JoinLemmas
+pub mod KnownActors
 pub mod LeftLemmas
 pub mod Letters
 pub mod Lists
@@ -27,7 +28,6 @@ pub mod QueuedLemmas
 pub mod Reaching
 pub mod RestLemmas
 pub mod Rests
-pub mod Standing
 pub mod Steps
 pub mod Sums
 pub mod WholeLaw

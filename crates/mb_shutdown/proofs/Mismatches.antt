@@ -11,12 +11,12 @@ use Rattle.mb_msg.specs.declared.envelope.Envelope.{Envelope}
 use Rattle.mb_cell.specs.CellView.{CellView}
 use Rattle.mb_queue.specs.Passes.{SendPassView, TakePassView}
 use Rattle.mb_shutdown.specs.AllArrived.{AllArrived}
-use Rattle.mb_shutdown.specs.Rest.{WasLeft}
+use Rattle.mb_shutdown.specs.LeftInQueues.{WasLeft}
 use Rattle.mb_gate.specs.View.{View}
 use Rattle.mb_actor.specs.Behaviour.{Moment, Reply}
 use Rattle.mb_home.specs.Contents.{Contents}
-use Rattle.mb_shutdown.specs.Apart.{end_of, ended_of}
-use Rattle.mb_shutdown.specs.Homes.{AreHomes, Disagrees, HasClaimOutIfHeld, BoxedHome}
+use Rattle.mb_shutdown.specs.HomeParts.{end_of, ended_of}
+use Rattle.mb_shutdown.specs.Homes.{AreHomes, Disagrees, HasClaimOutIfHeld, ReturnedHome}
 use Rattle.mb_shutdown.specs.Mismatched.{
   CanHandle,
   IsNotReturned,
@@ -38,7 +38,7 @@ use Rattle.mb_shutdown.specs.declared.room.Ended.{Ended}
 use Rattle.mb_shutdown.proofs.Lists.{alike, from-mapped, length-mapped, mapped, there, within}
 
 -- the home of one actor among all
-pub did-not-come : (all : List (Option BoxedHome)) (left : Option BoxedHome) (id : ℕ) (what : Mismatch) → slice_get all id ≡ Some left
+pub did-not-come : (all : List (Option ReturnedHome)) (left : Option ReturnedHome) (id : ℕ) (what : Mismatch) → slice_get all id ≡ Some left
     → IsUnopened left id what → IsNotReturned all what
 did-not-come all left id (Held w) is un = (left, ap (slice_get all) un.0 ∙ is, (refl, un.1))
 did-not-come all left id (Listed w) is un = (left, ap (slice_get all) un.0 ∙ is, (refl, un.1))
@@ -51,14 +51,14 @@ next-of xs rest all x joined = ap (λ l. slice_get l (length xs)) (sym joined) �
     here [] = refl
     here (y ∷ ys) = here ys
 
-not-come : (all : List (Option BoxedHome)) (outside : List (List SendPassView)) (waiting : List ℕ) (what : Mismatch) → IsNotReturned all what
+not-come : (all : List (Option ReturnedHome)) (outside : List (List SendPassView)) (waiting : List ℕ) (what : Mismatch) → IsNotReturned all what
     → IsMismatch all outside waiting what
 not-come all outside waiting (Held w) d = d.1 ∙ ap Some d.2.1
 not-come all outside waiting (Listed w) d = (d.2.1.0, d.1 ∙ ap Some d.2.1.1, d.2.1.2)
 not-come all outside waiting (Waiting w) d = absurd d.2
 
 -- a claim is out of the actor whose home did not come
-out-if-held : (gives : ℕ → Moment → Reply → Type 0) (first : Contents) (n : ℕ) (v : View) (all : List (Option BoxedHome))
+out-if-held : (gives : ℕ → Moment → Reply → Type 0) (first : Contents) (n : ℕ) (v : View) (all : List (Option ReturnedHome))
     (outside : List (List SendPassView)) (waiting : List ℕ) (what : Mismatch) → AreHomes gives first n v all
     → IsMismatch all outside waiting what → HasClaimOutIfHeld v what
 out-if-held gives first n v all outside waiting (Held w) left is = λ whole.
@@ -66,7 +66,7 @@ out-if-held gives first n v all outside waiting (Held w) left is = λ whole.
 out-if-held gives first n v all outside waiting (Listed w) left is = tt
 out-if-held gives first n v all outside waiting (Waiting w) left is = tt
 
-disagrees : (gives : ℕ → Moment → Reply → Type 0) (first : Contents) (n : ℕ) (v : View) (all : List (Option BoxedHome))
+disagrees : (gives : ℕ → Moment → Reply → Type 0) (first : Contents) (n : ℕ) (v : View) (all : List (Option ReturnedHome))
     (outside : List (List SendPassView)) (waiting : List ℕ) (what : Mismatch) → AreHomes gives first n v all
     → IsMismatch all outside waiting what → Disagrees gives first n v outside waiting what
 disagrees gives first n v all outside waiting what left why =
@@ -94,21 +94,21 @@ was-left takes rows lefts (suc k) take left taken is found =
       came = taken.came k take left (ap (slice_get takes) e ∙ is) (ap (slice_get lefts) e ∙ found);
     }
 
-module _ (all : List (Option BoxedHome)) (lefts : List BoxedHome) (are : all ≡ map (λ (l : BoxedHome). Some l) lefts) (outside : List (List
-    SendPassView)) (takes : List TakePassView) (takes_are : takes ≡ map (λ (l : BoxedHome). l.home.value.take) lefts) (rows : List (List SendPassView))
-    (rows_are : rows ≡ map (λ (l : BoxedHome). l.home.value.sends) lefts ++ outside) (waiting : List ℕ) (counted : length waiting ≡ length all) where
+module _ (all : List (Option ReturnedHome)) (lefts : List ReturnedHome) (are : all ≡ map (λ (l : ReturnedHome). Some l) lefts) (outside : List (List
+    SendPassView)) (takes : List TakePassView) (takes_are : takes ≡ map (λ (l : ReturnedHome). l.home.value.take) lefts) (rows : List (List SendPassView))
+    (rows_are : rows ≡ map (λ (l : ReturnedHome). l.home.value.sends) lefts ++ outside) (waiting : List ℕ) (counted : length waiting ≡ length all) where
   many : length all ≡ length lefts
-  many = ap length are ∙ length-mapped (λ (l : BoxedHome). Some l) lefts
+  many = ap length are ∙ length-mapped (λ (l : ReturnedHome). Some l) lefts
 
-  back : (id : ℕ) (take : TakePassView) (l : BoxedHome) (left : List Envelope) → l.home.value.take ≡ take → WasLeft take (passes_to id rows) left
-      → WasLeft l.home.value.take (passes_to id (map (λ (l : BoxedHome). l.home.value.sends) lefts ++ outside)) left
+  back : (id : ℕ) (take : TakePassView) (l : ReturnedHome) (left : List Envelope) → l.home.value.take ≡ take → WasLeft take (passes_to id rows) left
+      → WasLeft l.home.value.take (passes_to id (map (λ (l : ReturnedHome). l.home.value.sends) lefts ++ outside)) left
   back id take l left same was =
       subst (λ (x : TakePassView × List (List SendPassView)). WasLeft x.0 (passes_to id x.1) left) (λ i. (sym same i, rows_are i)) was
 
   over-counted : (rooms : List (Vec Envelope Global)) (id : ℕ) → AllZip IsEmptyWithRoom waiting rooms → IsTooMuchFor takes rows rooms id
       → IsMiscounted all outside waiting id
   over-counted rooms id enough too =
-      let l = from-mapped (λ (l : BoxedHome). l.home.value.take) lefts id too.take (ap (λ x. slice_get x id) (sym takes_are) ∙ too.present) in
+      let l = from-mapped (λ (l : ReturnedHome). l.home.value.take) lefts id too.take (ap (λ x. slice_get x id) (sym takes_are) ∙ too.present) in
       let n = there waiting id (let lt = within lefts id l.0 l.1 in omega (arith, lt, counted, many)) in
       record {
         lefts = lefts;
@@ -132,15 +132,15 @@ module _ (all : List (Option BoxedHome)) (lefts : List BoxedHome) (are : all ≡
   too-much rooms (Listed w) enough too = absurd too
 
   otherwise-for : {A K : Type 0} (ended : List (Ended A K)) (envelopes : List (List Envelope)) (id : ℕ)
-      → map ended_of ended ≡ map (λ (l : BoxedHome). end_of l.home.value) lefts → AreTaken takes rows envelopes
+      → map ended_of ended ≡ map (λ (l : ReturnedHome). end_of l.home.value) lefts → AreTaken takes rows envelopes
       → DiffersFromCountFor ended envelopes waiting id → IsMiscounted all outside waiting id
   otherwise-for {A} {K} ended envelopes id ended_are taken other =
-      let a = ap length ended_are in let b = length-mapped ended_of ended in let c = length-mapped (λ (l : BoxedHome). end_of l.home.value) lefts in
+      let a = ap length ended_are in let b = length-mapped ended_of ended in let c = length-mapped (λ (l : ReturnedHome). end_of l.home.value) lefts in
       let l = there lefts id (let lt = within ended id other.end other.present in omega (arith, lt, a, b, c)) in
-      let same = alike ended_of (λ (l : BoxedHome). end_of l.home.value) ended lefts id other.end l.0 ended_are other.present l.1 in
+      let same = alike ended_of (λ (l : ReturnedHome). end_of l.home.value) ended lefts id other.end l.0 ended_are other.present l.1 in
       let cell : other.end.cell ≡ l.0.home.value.cell = ap (λ (x : CellView × List Envelope × ℕ × Retention). x.0) same in
       let take : slice_get takes id ≡ Some l.0.home.value.take
-      = ap (λ x. slice_get x id) takes_are ∙ mapped (λ (l : BoxedHome). l.home.value.take) lefts id l.0 l.1 in
+      = ap (λ x. slice_get x id) takes_are ∙ mapped (λ (l : ReturnedHome). l.home.value.take) lefts id l.0 l.1 in
       record {
         lefts = lefts;
         are = are;
@@ -154,18 +154,18 @@ module _ (all : List (Option BoxedHome)) (lefts : List BoxedHome) (are : all ≡
       }
 
   otherwise : {A K : Type 0} (ended : List (Ended A K)) (envelopes : List (List Envelope)) (what : Mismatch)
-      → map ended_of ended ≡ map (λ (l : BoxedHome). end_of l.home.value) lefts → AreTaken takes rows envelopes
+      → map ended_of ended ≡ map (λ (l : ReturnedHome). end_of l.home.value) lefts → AreTaken takes rows envelopes
       → DiffersFromCount ended envelopes waiting what → IsMismatch all outside waiting what
   otherwise ended envelopes (Waiting w) ended_are taken other = otherwise-for ended envelopes w.0 ended_are taken other
   otherwise ended envelopes (Held w) ended_are taken other = absurd other
   otherwise ended envelopes (Listed w) ended_are taken other = absurd other
 
-whom-counted : (all : List (Option BoxedHome)) (outside : List (List SendPassView)) (waiting : List ℕ) (what : Mismatch)
+whom-counted : (all : List (Option ReturnedHome)) (outside : List (List SendPassView)) (waiting : List ℕ) (what : Mismatch)
     → IsMismatch all outside waiting what → of_whom what < length all
 whom-counted all outside waiting (Held w) is = within all w.0 None is
 whom-counted all outside waiting (Listed w) is = within all w.0 (Some is.0) is.1
 whom-counted all outside waiting (Waiting w) is =
-    let lt = within is.lefts w.0 is.one is.present in let a = ap length is.are in let b = length-mapped (λ (l : BoxedHome). Some l) is.lefts in
+    let lt = within is.lefts w.0 is.one is.present in let a = ap length is.are in let b = length-mapped (λ (l : ReturnedHome). Some l) is.lefts in
     omega (arith, lt, a, b)
 
 pub otherwise-at : {A K : Type 0} (ended : List (Ended A K)) (lefts : List (Vec Envelope Global)) (waiting : List ℕ) (k : ℕ) (one : Ended A K)
@@ -184,7 +184,7 @@ otherwise-at ended lefts waiting k one left count is lies counted differs = reco
 
 -- ---- at the end
 
-module _ (gives : ℕ → Moment → Reply → Type 0) (first : Contents) (n : ℕ) (v : View) (all : List (Option BoxedHome))
+module _ (gives : ℕ → Moment → Reply → Type 0) (first : Contents) (n : ℕ) (v : View) (all : List (Option ReturnedHome))
     (left : AreHomes gives first n v all) (outside : List (List SendPassView)) (waiting : List ℕ) (counted : length waiting ≡ n) where
   abbrev IsWhy : Mismatch → Type 0
   IsWhy what = (of_whom what < n) × Disagrees gives first n v outside waiting what
@@ -197,10 +197,10 @@ module _ (gives : ℕ → Moment → Reply → Type 0) (first : Contents) (n : �
   pub why-not-come : (what : Mismatch) → IsNotReturned all what → IsWhy what
   why-not-come what d = is-why what (not-come all outside waiting what d)
 
-  module _ (lefts : List BoxedHome) (are : all ≡ map (λ (l : BoxedHome). Some l) lefts) (takes : List TakePassView)
-      (takes_are : takes ≡ map (λ (l : BoxedHome). l.home.value.take) lefts) (rows before : List (List SendPassView)) (joined : rows ≡ before ++ outside)
-      (rows_are : before ≡ map (λ (l : BoxedHome). l.home.value.sends) lefts) where
-    joined_are : rows ≡ map (λ (l : BoxedHome). l.home.value.sends) lefts ++ outside
+  module _ (lefts : List ReturnedHome) (are : all ≡ map (λ (l : ReturnedHome). Some l) lefts) (takes : List TakePassView)
+      (takes_are : takes ≡ map (λ (l : ReturnedHome). l.home.value.take) lefts) (rows before : List (List SendPassView)) (joined : rows ≡ before ++ outside)
+      (rows_are : before ≡ map (λ (l : ReturnedHome). l.home.value.sends) lefts) where
+    joined_are : rows ≡ map (λ (l : ReturnedHome). l.home.value.sends) lefts ++ outside
     joined_are = joined ∙ ap (λ l. l ++ outside) rows_are
 
     as_many : length waiting ≡ length all
@@ -212,7 +212,7 @@ module _ (gives : ℕ → Moment → Reply → Type 0) (first : Contents) (n : �
         is-why what (too-much all lefts are outside takes takes_are rows joined_are waiting as_many rooms what enough too)
 
     pub why-otherwise : {A K : Type 0} (ended : List (Ended A K)) (envelopes : List (List Envelope)) (what : Mismatch)
-        → map ended_of ended ≡ map (λ (l : BoxedHome). end_of l.home.value) lefts → AreTaken takes rows envelopes
+        → map ended_of ended ≡ map (λ (l : ReturnedHome). end_of l.home.value) lefts → AreTaken takes rows envelopes
         → DiffersFromCount ended envelopes waiting what → IsWhy what
     why-otherwise ended envelopes what ended_are taken other =
         is-why what

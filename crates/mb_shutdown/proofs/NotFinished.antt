@@ -8,24 +8,24 @@ use Rattle.mb_gate.specs.View.{View}
 use Rattle.mb_msg.specs.declared.plan.Plan.{Plan}
 use Rattle.mb_shutdown.specs.declared.mismatch.Mismatch.{Mismatch as What}
 use Rattle.mb_build.specs.Planned.{IsDirectoryOf}
-use Rattle.mb_system.specs.Members.{IsEndOf}
+use Rattle.mb_system.specs.Members.{IsHandleOf}
 use Rattle.mb_system.specs.declared.built.Built.{Built}
-use Rattle.mb_system.specs.declared.end.WorkerEnd.{WorkerEnd}
+use Rattle.mb_system.specs.declared.handle.WorkerHandle.{WorkerHandle}
 use Rattle.mb_shutdown.specs.Belonging.{HasRead}
 use Rattle.mb_shutdown.specs.Refused.{DisagreesAtEnd, FindsBusy}
 use Rattle.mb_shutdown.specs.NotFinished.{DoesNotAgree, HasWorkLeft}
 
 module _ {A K : Type 0} (plan : Plan) (built : Built A K) (planned : IsDirectoryOf plan (first_home built.system.gates).value.directory) where
-  pub work-left : All (λ (e : WorkerEnd A K). IsEndOf built.system.gates e.registrar) built.ends.items → (id : ℕ) (back : Built A K)
+  pub work-left : All (λ (e : WorkerHandle A K). IsHandleOf built.system.gates e.registrar) built.handles.items → (id : ℕ) (back : Built A K)
       → id < actors_of built.system.gates → HasRead (FindsBusy id) built back → HasWorkLeft plan id
-  work-left ends id back within (before, after, is, first_busy_of) = record {
+  work-left handles id back within (before, after, is, first_busy_of) = record {
     gates = built.system.gates;
     planned = planned;
     within = within;
     before = is.first.registrar;
     after = is.first'.registrar;
-    same_gates = All-head (λ (e : WorkerEnd A K). IsEndOf built.system.gates e.registrar) is.first is.rest
-        (subst (λ l. All (λ (e : WorkerEnd A K). IsEndOf built.system.gates e.registrar) l) is.was ends);
+    same_gates = All-head (λ (e : WorkerHandle A K). IsHandleOf built.system.gates e.registrar) is.first is.rest
+        (subst (λ l. All (λ (e : WorkerHandle A K). IsHandleOf built.system.gates e.registrar) l) is.was handles);
     same = is.same_gates;
     found = subst (λ (p : View × View). FindsBusy id p.0 p.1) (λ i. (sym is.knew i, sym is.knows i)) first_busy_of;
   }

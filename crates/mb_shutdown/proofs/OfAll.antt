@@ -1,4 +1,4 @@
--- What all ends and senders of a system know, at its end.
+-- What all handles and senders of a system know, at its end.
 use Rattle.std.proofs.Common.{◌≡◌, ℕ, ◌+◌, ◌<◌, List, [], ◌++◌, length, map, sym, ap, ◌∙◌, subst, arith, Option, Some, None}
 use Rattle.std.specs.Prelude.{IsPermutation, slice_get}
 use Rattle.std.proofs.lemmas.List.Sorted.{IsPermutation-append_right, IsPermutation-map}
@@ -15,13 +15,13 @@ use Rattle.mb_home.specs.Directory.{DirectoryEntry}
 use Rattle.mb_report.specs.declared.report.ActorReport.{ActorReport}
 use Rattle.mb_report.specs.declared.report.Report.{Report}
 use Rattle.mb_syslist.specs.MessageList.{numbered}
-use Rattle.mb_system.specs.Shares.{shares_of, shares_of_ends, shares_of_senders, views_of}
+use Rattle.mb_system.specs.Shares.{shares_of, shares_of_handles, shares_of_senders, views_of}
 use Rattle.mb_system.specs.declared.built.Built.{Built}
 use Rattle.mb_system.specs.Members.{OutsideSender}
-use Rattle.mb_shutdown.specs.Belonging.{HasAllSeen, HasRead, OnlyFirstEndRead, directory_of}
-use Rattle.mb_shutdown.specs.Homes.{BoxedHome, HomesReturned}
+use Rattle.mb_shutdown.specs.Belonging.{HasAllSeen, HasRead, OnlyFirstHandleRead, directory_of}
+use Rattle.mb_shutdown.specs.Homes.{ReturnedHome, HomesReturned}
 use Rattle.mb_shutdown.specs.Refused.{CountsAllPut, FindsIdle, IsOfAll}
-use Rattle.mb_shutdown.proofs.Gathered.{view_of_end, view_of_sender}
+use Rattle.mb_shutdown.proofs.Gathered.{view_of_handle, view_of_sender}
 use Rattle.mb_shutdown.proofs.IdleLemmas.{OnlyReads, found-reads}
 use Rattle.mb_shutdown.proofs.Lists.{there, within}
 use Rattle.mb_shutdown.proofs.Sums.{HasAll, all-of-permuted, total-flat, whole-alike}
@@ -30,19 +30,19 @@ module _ {A K : Type 0} where
   sum-of-shares : (built : Built A K) (part : ℕ → ℕ)
       → total part (shares_of built) ≡ total (λ (w : View). total part w.share) (views_of built)
   sum-of-shares built part =
-      let ends = built.ends.items in let senders = built.senders.items in let share = λ (w : View). w.share in
-      total_append part (shares_of_ends ends) (shares_of_senders senders)
-      ∙ (λ i. total-flat part share view_of_end ends i + total-flat part share view_of_sender senders i)
-      ∙ sym (total_append (λ (w : View). total part w.share) (map view_of_end ends) (map view_of_sender senders))
+      let handles = built.handles.items in let senders = built.senders.items in let share = λ (w : View). w.share in
+      total_append part (shares_of_handles handles) (shares_of_senders senders)
+      ∙ (λ i. total-flat part share view_of_handle handles i + total-flat part share view_of_sender senders i)
+      ∙ sym (total_append (λ (w : View). total part w.share) (map view_of_handle handles) (map view_of_sender senders))
 
-  -- a view that has all that the ends and these senders have
+  -- a view that has all that the handles and these senders have
   pub of-all : (built : Built A K) (v : View) (now : List OutsideSender) → HasAllSeen built v.log → IsPermutation now built.senders.items
-      → HasAll (map view_of_end built.ends.items ++ map view_of_sender now) v → IsOfAll built v
+      → HasAll (map view_of_handle built.handles.items ++ map view_of_sender now) v → IsOfAll built v
   of-all built v now seen same joined =
-      let ends = map view_of_end built.ends.items in let senders = built.senders.items in
+      let handles = map view_of_handle built.handles.items in let senders = built.senders.items in
       let all : HasAll (views_of built) v
-      = all-of-permuted (ends ++ map view_of_sender now) (views_of built) v
-      (IsPermutation-append_right ends (map view_of_sender now) (map view_of_sender senders) (IsPermutation-map view_of_sender now senders same)) joined in
+      = all-of-permuted (handles ++ map view_of_sender now) (views_of built) v
+      (IsPermutation-append_right handles (map view_of_sender now) (map view_of_sender senders) (IsPermutation-map view_of_sender now senders same)) joined in
       record {
         seen = seen;
         share = whole-alike v.share (shares_of built) (λ part. all.share part ∙ sym (sum-of-shares built part));
@@ -51,21 +51,21 @@ module _ {A K : Type 0} where
         back = λ actor measure. all.releases (back_in_release actor measure);
       }
 
-  module _ (old new : Built A K) (before after : View) (read : OnlyFirstEndRead old new before after) where
+  module _ (old new : Built A K) (before after : View) (read : OnlyFirstHandleRead old new before after) where
     sum-stays : (f : View → ℕ) → f after ≡ f before → total f (views_of new) ≡ total f (views_of old)
     sum-stays f same =
-        let others = map view_of_end read.rest ++ map view_of_sender old.senders.items in
-        ap (total f) (λ i. map view_of_end (read.is i) ++ map view_of_sender (read.senders i))
+        let others = map view_of_handle read.rest ++ map view_of_sender old.senders.items in
+        ap (total f) (λ i. map view_of_handle (read.is i) ++ map view_of_sender (read.senders i))
         ∙ ap (λ n. n + total f others) (ap f read.knows ∙ same ∙ sym (ap f read.knew))
-        ∙ ap (λ l. total f (map view_of_end l ++ map view_of_sender old.senders.items)) (sym read.was)
+        ∙ ap (λ l. total f (map view_of_handle l ++ map view_of_sender old.senders.items)) (sym read.was)
 
     shares-stay : after.share ≡ before.share → shares_of new ≡ shares_of old
     shares-stay same =
-        let others = shares_of_ends read.rest ++ shares_of_senders old.senders.items in
-        (λ i. shares_of_ends (read.is i) ++ shares_of_senders (read.senders i))
-        ∙ ap (λ s. (s ++ shares_of_ends read.rest) ++ shares_of_senders old.senders.items)
+        let others = shares_of_handles read.rest ++ shares_of_senders old.senders.items in
+        (λ i. shares_of_handles (read.is i) ++ shares_of_senders (read.senders i))
+        ∙ ap (λ s. (s ++ shares_of_handles read.rest) ++ shares_of_senders old.senders.items)
         (ap (λ (v : View). v.share) read.knows ∙ same ∙ sym (ap (λ (v : View). v.share) read.knew))
-        ∙ ap (λ l. shares_of_ends l ++ shares_of_senders old.senders.items) (sym read.was)
+        ∙ ap (λ l. shares_of_handles l ++ shares_of_senders old.senders.items) (sym read.was)
 
     of-all-read : (v : View) → OnlyReads before after → HasAllSeen old v.log → IsOfAll new v → IsOfAll old v
     of-all-read v only seen all = record {
@@ -78,7 +78,7 @@ module _ {A K : Type 0} where
           ∙ sum-stays (back_by actor measure) (ap (total (back_in_release actor measure)) only.releases);
     }
 
-  -- what the first end read first changes none of it
+  -- what the first handle read first changes none of it
   pub of-all-before : (many : ℕ) (old new : Built A K) (v : View) → HasRead (FindsIdle many) old new → HasAllSeen old v.log → IsOfAll new v
       → IsOfAll old v
   of-all-before many old new v found seen all =
@@ -91,19 +91,19 @@ module _ {A K : Type 0} (gives : ℕ → Moment → Reply → Type 0) (built : B
   inside id a found = let lt = within report.actors.items id a found in omega (arith, lt, many)
 
   -- the home of each actor of the report came back
-  pub home-of : (id : ℕ) (a : ActorReport) → slice_get report.actors.items id ≡ Some a → (l : BoxedHome) × (slice_get home.all id ≡ Some (Some l))
+  pub home-of : (id : ℕ) (a : ActorReport) → slice_get report.actors.items id ≡ Some a → (l : ReturnedHome) × (slice_get home.all id ≡ Some (Some l))
   home-of id a found =
       let lt = inside id a found in let count = home.left.same_count in
       let one = there home.all id (omega (arith, lt, count)) in
       by_home lt one.0 one.1
     where
-      by_home : id < actors_of built.system.gates → (left : Option BoxedHome) → slice_get home.all id ≡ Some left
-          → (l : BoxedHome) × (slice_get home.all id ≡ Some (Some l))
+      by_home : id < actors_of built.system.gates → (left : Option ReturnedHome) → slice_get home.all id ≡ Some left
+          → (l : ReturnedHome) × (slice_get home.all id ≡ Some (Some l))
       by_home lt None is =
           let out = home.left.out (all.share whole) id lt is in let back = home.came id lt (all.share whole) in absurd (omega (arith, out, back))
       by_home lt (Some l) is = (l, is)
 
-  -- what the ends and senders gave back adds up to the journals of the report
+  -- what the handles and senders gave back adds up to the journals of the report
   pub releases-add-up : (id : ℕ) (a : ActorReport) → slice_get report.actors.items id ≡ Some a → ReleasesAddUp id a.journal.entries (views_of built)
   releases-add-up id a found measure =
       let one = home-of id a found in
@@ -113,7 +113,7 @@ module _ {A K : Type 0} (gives : ℕ → Moment → Reply → Type 0) (built : B
       let taken = all.taken id measure in let back = all.back id measure in
       omega (arith, at_home, same, taken, back)
 
-  -- the system messages that the report counts are what the ends and senders put into the actor's list
+  -- the system messages that the report counts are what the handles and senders put into the actor's list
   pub put-adds-up : (id : ℕ) (e : DirectoryEntry) (a : ActorReport) → slice_get (directory_of built) id ≡ Some e
       → slice_get report.actors.items id ≡ Some a → CountsAllPut built e.who a
   put-adds-up id e a is found =

@@ -1,4 +1,4 @@
--- The numbers of ends and senders, by their places.
+-- The numbers of handles and senders, by their places.
 use Rattle.std.proofs.Common.{◌≡◌, ◌⊎◌, inl, inr, ℕ, zero, suc, ◌+◌, ◌-◌, ◌<◌, ◌≤◌, List, [], ◌∷◌, length, map, refl, sym, ap, ◌∙◌, subst, Some}
 use Rattle.std.proofs.Common.{arith, get_or}
 use Rattle.std.specs.Prelude.{All, AllPairs, Bool, Contains, IsPermutation, IsTrue, MatchOption, None, Option, is_some, slice_get, ◌≢◌, ◌↔◌}

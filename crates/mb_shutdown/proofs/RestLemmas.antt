@@ -11,7 +11,7 @@ use Rattle.mb_queue.specs.Takes.{EachOnce}
 use Rattle.mb_shutdown.specs.AllArrived.{AllArrived}
 use Rattle.mb_shutdown.specs.Joined.{AreOfDifferent, joined_by}
 use Rattle.mb_shutdown.specs.Parts.{IsControlsFirst}
-use Rattle.mb_shutdown.specs.Rest.{AreRests, IsRest}
+use Rattle.mb_shutdown.specs.LeftInQueues.{AreRests, IsRest}
 use Rattle.mb_shutdown.proofs.ArrivedLemmas.{IsKnownBy, PartsOut, all-came, all-known, same-taken, same-discipline}
 
 -- the receiver takes from the same queue, and in the same order

@@ -12,7 +12,7 @@ use Rattle.mb_queue.specs.Passes.{IsOfQueue, Queue, SendPassView, TakePassView, 
 use Rattle.mb_shutdown.specs.AllArrived.{AllArrived}
 use Rattle.mb_shutdown.specs.Joined.{AreOfAllSenders, column}
 use Rattle.mb_shutdown.specs.Parts.{IsControlsFirst}
-use Rattle.mb_shutdown.specs.Rest.{IsOverfull}
+use Rattle.mb_shutdown.specs.LeftInQueues.{IsOverfull}
 use Rattle.mb_shutdown.specs.Mismatched.{IsTooMuchFor}
 use Rattle.mb_shutdown.specs.Taken.{AreTaken}
 

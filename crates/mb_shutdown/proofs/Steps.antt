@@ -21,7 +21,7 @@ use Rattle.mb_home.specs.Contents.{Contents}
 use Rattle.mb_home.specs.declared.home.HomeParts.{HomeParts}
 use Rattle.mb_report.specs.declared.report.ActorReport.{ActorReport}
 use Rattle.mb_report.specs.declared.report.SenderReport.{SenderReport}
-use Rattle.mb_shutdown.specs.Apart.{AreApart, HasNoSystemLeft, IsOpened, end_of, ended_of, sent_in, sent_of}
+use Rattle.mb_shutdown.specs.HomeParts.{AreApart, HasNoSystemLeft, IsOpened, end_of, ended_of, sent_in, sent_of}
 use Rattle.mb_shutdown.specs.Rooms.{AreCounted, HasOnlyCounted, IsEmptyWithRoom}
 use Rattle.mb_shutdown.specs.Idle.{WereReadIdle, WasReadIdle, one_more}
 use Rattle.mb_shutdown.specs.Shown.{ShowsCell, ShowsOne}

@@ -46,8 +46,8 @@ use Rattle.mb_home.proofs.OnceLaw.{stands-once}
 use Rattle.mb_report.specs.declared.report.ActorReport.{ActorReport}
 use Rattle.mb_report.specs.declared.report.Report.{Report}
 use Rattle.mb_report.specs.declared.report.SenderReport.{SenderReport}
-use Rattle.mb_shutdown.specs.Apart.{HasNoSystemLeft, end_of, sent_in, sent_of}
-use Rattle.mb_shutdown.specs.Homes.{CountsGiven, BoxedHome}
+use Rattle.mb_shutdown.specs.HomeParts.{HasNoSystemLeft, end_of, sent_in, sent_of}
+use Rattle.mb_shutdown.specs.Homes.{CountsGiven, ReturnedHome}
 use Rattle.mb_shutdown.specs.OutsideSenders.{HasKnownSenders, IsSenderAmong}
 use Rattle.mb_shutdown.specs.Shown.{ShowsCell}
 use Rattle.mb_shutdown.specs.Taken.{AreTaken}
@@ -57,7 +57,7 @@ use Rattle.mb_shutdown.proofs.Columns.{in-column, sender-in-column}
 use Rattle.mb_shutdown.proofs.Gathering.{Gathered, IsShut}
 use Rattle.mb_shutdown.proofs.Lists.{alike, at-place, from-mapped, in-first, length-mapped, mapped, there, within}
 use Rattle.mb_shutdown.proofs.Parties.{HasReason, IsParty, Party}
-use Rattle.mb_shutdown.proofs.Standing.{Stands}
+use Rattle.mb_shutdown.proofs.KnownActors.{Stands}
 
 pub ended-phase : (p : Phase) → phase_is p EndedPhase ≡ true → p ≡ EndedPhase
 ended-phase EndedPhase t = refl
@@ -95,7 +95,7 @@ of-nobody queue (e ∷ es) none all =
 module _ (after : ℕ → List Message → ℤ) (gives : ℕ → Moment → Reply → Type 0) (first : Contents) (log : List Observation) where
   -- ---- one actor
 
-  module _ (id : ℕ) (l : BoxedHome) (st : Stands gives first log id l.home.value) (done : HasNoSystemLeft l) (left : List Envelope) (a : ActorReport)
+  module _ (id : ℕ) (l : ReturnedHome) (st : Stands gives first log id l.home.value) (done : HasNoSystemLeft l) (left : List Envelope) (a : ActorReport)
       (shows : ShowsCell after (end_of l.home.value) left a) where
     abbrev h : Contents
     h = l.home.value
@@ -172,19 +172,19 @@ module _ (after : ℕ → List Message → ℤ) (gives : ℕ → Moment → Repl
 
   -- ---- all
 
-  module _ (lefts : List BoxedHome) (outs : List FinishedSender) (g : Gathered first.directory lefts outs)
-      (stands : (i : ℕ) (l : BoxedHome) → slice_get lefts i ≡ Some l → Stands gives first log i l.home.value)
-      (done : (i : ℕ) (l : BoxedHome) → slice_get lefts i ≡ Some l → HasNoSystemLeft l) (many : length lefts ≡ length first.directory)
+  module _ (lefts : List ReturnedHome) (outs : List FinishedSender) (g : Gathered first.directory lefts outs)
+      (stands : (i : ℕ) (l : ReturnedHome) → slice_get lefts i ≡ Some l → Stands gives first log i l.home.value)
+      (done : (i : ℕ) (l : ReturnedHome) → slice_get lefts i ≡ Some l → HasNoSystemLeft l) (many : length lefts ≡ length first.directory)
       (known : HasKnownSenders first.directory (length outs)) (envelopes : List (List Envelope))
-      (taken : AreTaken (map (λ (l : BoxedHome). l.home.value.take) lefts) (map (λ (p : Party). p.row) g.parties) envelopes) (report : Report)
+      (taken : AreTaken (map (λ (l : ReturnedHome). l.home.value.take) lefts) (map (λ (p : Party). p.row) g.parties) envelopes) (report : Report)
       (many_actors : length report.actors.items ≡ length lefts)
-      (shown : (i : ℕ) (l : BoxedHome) (left : List Envelope) (a : ActorReport) → slice_get lefts i ≡ Some l → slice_get envelopes i ≡ Some left
+      (shown : (i : ℕ) (l : ReturnedHome) (left : List Envelope) (a : ActorReport) → slice_get lefts i ≡ Some l → slice_get envelopes i ≡ Some left
       → slice_get report.actors.items i ≡ Some a
       → ShowsCell after (end_of l.home.value) left a × (left ≢ [] → (a.phase ≡ EndedPhase) ⊎ (0 < a.count)))
       (sents : map sent_of report.senders.items ≡ map (λ (p : Party). p.sent) g.parties) where
     -- what is left of an actor that is reported
     record At (id : ℕ) (a : ActorReport) : Type 0 where
-      pub l : BoxedHome
+      pub l : ReturnedHome
       pub left : List Envelope
       pub there_is : slice_get lefts id ≡ Some l
       pub left_there : slice_get envelopes id ≡ Some left
@@ -193,7 +193,7 @@ module _ (after : ℕ → List Message → ℤ) (gives : ℕ → Moment → Repl
 
     left-at : (id : ℕ) → id < length lefts → (left : List Envelope) × (slice_get envelopes id ≡ Some left)
     left-at id lt =
-        there envelopes id (let a = taken.same_count in let b = length-mapped (λ (l : BoxedHome). l.home.value.take) lefts in omega (arith, lt, a, b))
+        there envelopes id (let a = taken.same_count in let b = length-mapped (λ (l : ReturnedHome). l.home.value.take) lefts in omega (arith, lt, a, b))
 
     at-actor : (id : ℕ) (a : ActorReport) → slice_get report.actors.items id ≡ Some a → At id a
     at-actor id a found =
@@ -204,24 +204,24 @@ module _ (after : ℕ → List Message → ℤ) (gives : ℕ → Moment → Repl
     abbrev enrolled_as : Contents → DirectoryEntry
     enrolled_as h = record { who = h.cell.who; queue = h.take.queue; discipline = h.take.discipline }
 
-    enrolled-at : (id : ℕ) (e : DirectoryEntry) (l : BoxedHome) → slice_get first.directory id ≡ Some e → slice_get lefts id ≡ Some l → e ≡ enrolled_as l.home.value
+    enrolled-at : (id : ℕ) (e : DirectoryEntry) (l : ReturnedHome) → slice_get first.directory id ≡ Some e → slice_get lefts id ≡ Some l → e ≡ enrolled_as l.home.value
     enrolled-at id e l is found =
         let own = (stands id l found).is_home_of in
         same_Some e (enrolled_as l.home.value) (sym is ∙ (λ i. slice_get (sym own.directory i) (sym own.number i)) ∙ own.settled.is_own.enrolled)
 
     -- the queue of an actor has only senders that exist
-    senders-at : (id : ℕ) (l : BoxedHome) → slice_get lefts id ≡ Some l
+    senders-at : (id : ℕ) (l : ReturnedHome) → slice_get lefts id ≡ Some l
         → All (IsSenderAmong (length first.directory) (length outs)) l.home.value.take.queue.senders
     senders-at id l found =
         let e = there first.directory id (let lt = within lefts id l found in omega (arith, lt, many)) in
         subst (λ (n : DirectoryEntry). All (IsSenderAmong (length first.directory) (length outs)) n.queue.senders) (enrolled-at id e.0 l e.1 found)
         (at-place (λ (n : DirectoryEntry). All (IsSenderAmong (length first.directory) (length outs)) n.queue.senders) first.directory id e.0 known e.1)
 
-    take-at : (k : ℕ) (l : BoxedHome) → slice_get lefts (suc k) ≡ Some l
-        → slice_get (map (λ (l : BoxedHome). l.home.value.take) lefts) (k + 1) ≡ Some l.home.value.take
+    take-at : (k : ℕ) (l : ReturnedHome) → slice_get lefts (suc k) ≡ Some l
+        → slice_get (map (λ (l : ReturnedHome). l.home.value.take) lefts) (k + 1) ≡ Some l.home.value.take
     take-at k l found =
-        ap (slice_get (map (λ (l : BoxedHome). l.home.value.take) lefts)) (let e : k + 1 ≡ suc k = omega arith in e)
-        ∙ mapped (λ (l : BoxedHome). l.home.value.take) lefts (suc k) l found
+        ap (slice_get (map (λ (l : ReturnedHome). l.home.value.take) lefts)) (let e : k + 1 ≡ suc k = omega arith in e)
+        ∙ mapped (λ (l : ReturnedHome). l.home.value.take) lefts (suc k) l found
 
     envelopes-at : (k : ℕ) (left : List Envelope) → slice_get envelopes (suc k) ≡ Some left → slice_get envelopes (k + 1) ≡ Some left
     envelopes-at k left found = ap (slice_get envelopes) (let e : k + 1 ≡ suc k = omega arith in e) ∙ found
@@ -302,10 +302,10 @@ module _ (after : ℕ → List Message → ℤ) (gives : ℕ → Moment → Repl
         )
 
     -- an actor's dead letters are its home's
-    letters-of : (i : ℕ) (l : BoxedHome) (p : Party) → slice_get lefts i ≡ Some l → slice_get g.parties i ≡ Some p
+    letters-of : (i : ℕ) (l : ReturnedHome) (p : Party) → slice_get lefts i ≡ Some l → slice_get g.parties i ≡ Some p
         → l.home.value.dead ≡ dead_letters p.postings
     letters-of i l p found is =
-        let of_home = λ (l : BoxedHome). sent_in l.home.value in
+        let of_home = λ (l : ReturnedHome). sent_in l.home.value in
         let others = map {A = FinishedSender} {B = ℕ × List DeadLetter × Retention} (λ o. (o.send_log.sent, o.send_log.dead.items, o.send_log.dead.retention)) outs in
         let here : p.sent ≡ sent_in l.home.value
         = same_Some p.sent (sent_in l.home.value)
@@ -468,7 +468,7 @@ module _ (after : ℕ → List Message → ℤ) (gives : ℕ → Moment → Repl
         let one = All-contains (IsSenderAmong (length first.directory) (length outs)) t.queue.senders e.by.0 (senders-at id x.l x.there_is) of.0 in
         let among = one.within in let m = many-senders in let n = g.same_count in
         (one.place, omega (arith, among, m, n, many), one.number_is)) (t.taken ++ x.left)
-        (taken.known id t x.left (mapped (λ (l : BoxedHome). l.home.value.take) lefts id x.l x.there_is) x.left_there))
+        (taken.known id t x.left (mapped (λ (l : ReturnedHome). l.home.value.take) lefts id x.l x.there_is) x.left_there))
 
     -- nothing for the guardian
     nobody-clause : (a : ActorReport) → slice_get report.actors.items 0 ≡ Some a → fates_in a ≡ []
@@ -476,7 +476,7 @@ module _ (after : ℕ → List Message → ℤ) (gives : ℕ → Moment → Repl
         let x = at-actor 0 a found in let t = x.l.home.value.take in let st = stands 0 x.l x.there_is in
         fates-are 0 x.l st (done 0 x.l x.there_is) x.left a x.shows
         ∙ of-nobody t.queue (t.taken ++ x.left) (no-senders x.l.home.value st.is_home_of.settled.is_own st.is_home_of.number)
-        (taken.known 0 t x.left (mapped (λ (l : BoxedHome). l.home.value.take) lefts 0 x.l x.there_is) x.left_there)
+        (taken.known 0 t x.left (mapped (λ (l : ReturnedHome). l.home.value.take) lefts 0 x.l x.there_is) x.left_there)
 
     pub whole : IsCompleteReport after gives first.directory log (map (λ (o : FinishedSender). o.send_log.posted) outs) report
     whole = record {

@@ -11,7 +11,7 @@ use Rattle.mb_send.specs.declared.send_log.SendLog.{SendLog}
 use Rattle.mb_shutdown.specs.Idle.{WereReadIdle}
 use Rattle.mb_shutdown.specs.declared.finished_sender.FinishedSender.{FinishedSender}
 use Rattle.mb_system.specs.declared.built.Built.{Built}
-use Rattle.mb_system.specs.declared.end.WorkerEnd.{WorkerEnd}
+use Rattle.mb_system.specs.declared.handle.WorkerHandle.{WorkerHandle}
 use Rattle.mb_system.specs.Members.{OutsideSender}
 
 -- The directory of a system's actors.
@@ -51,39 +51,39 @@ pub record AreSendPasses (many : ℕ) (senders : List OutsideSender) (send_passe
   pub each : All (λ (s : OutsideSender). slice_get send_passes (s.send_log.by.0 - most_actors) ≡ Some s.sends.items) senders
 
 module _ {A K : Type 0} where
-  -- All that workers' ends and senders saw is among this.
+  -- All that workers' handles and senders saw is among this.
   abbrev pub HasAllSeen : Built A K → List Observation → Type 0
-  HasAllSeen built log = All (λ (e : WorkerEnd A K). IsPart (pass_view e.registrar.pass).log log) built.ends.items
+  HasAllSeen built log = All (λ (e : WorkerHandle A K). IsPart (pass_view e.registrar.pass).log log) built.handles.items
       × All (λ (s : OutsideSender). IsPart (pass_view s.registrar.pass).log log) built.senders.items
 
-  -- All is as it was, but that the first end has read more.
-  pub record OnlyFirstEndRead (old new : Built A K) (before after : View) : Type 0 where
+  -- All is as it was, but that the first handle has read more.
+  pub record OnlyFirstHandleRead (old new : Built A K) (before after : View) : Type 0 where
     pub system : new.system ≡ old.system
     pub senders : new.senders.items ≡ old.senders.items
-    pub first : WorkerEnd A K
-    pub first' : WorkerEnd A K
-    pub rest : List (WorkerEnd A K)
-    pub was : old.ends.items ≡ (first ∷ rest)
-    pub is : new.ends.items ≡ (first' ∷ rest)
+    pub first : WorkerHandle A K
+    pub first' : WorkerHandle A K
+    pub rest : List (WorkerHandle A K)
+    pub was : old.handles.items ≡ (first ∷ rest)
+    pub is : new.handles.items ≡ (first' ∷ rest)
     pub others : (first'.number ≡ first.number) × (first'.registrar.run_queue ≡ first.registrar.run_queue) × (first'.registrar.owed ≡ first.registrar.owed)
         × (first'.taken ≡ first.taken)
     pub same_gates : pass_id first'.registrar.pass ≡ pass_id first.registrar.pass
     pub knew : pass_view first.registrar.pass ≡ before
     pub knows : pass_view first'.registrar.pass ≡ after
 
-  -- The first end has read more, what its view was before and after it is so related, and all else is as it was.
+  -- The first handle has read more, what its view was before and after it is so related, and all else is as it was.
   abbrev pub HasRead : (View → View → Type 0) → Built A K → Built A K → Type 0
-  HasRead Reads old new = (before : View) × (after : View) × OnlyFirstEndRead old new before after × Reads before after
+  HasRead Reads old new = (before : View) × (after : View) × OnlyFirstHandleRead old new before after × Reads before after
 
-  -- The first end read of each actor that it had nothing to run, and what it read is among this.
+  -- The first handle read of each actor that it had nothing to run, and what it read is among this.
   pub record WasFoundIdle (built : Built A K) (log : List Observation) : Type 0 where
-    pub first : WorkerEnd A K
-    pub rest : List (WorkerEnd A K)
-    pub are : built.ends.items ≡ (first ∷ rest)
+    pub first : WorkerHandle A K
+    pub rest : List (WorkerHandle A K)
+    pub are : built.handles.items ≡ (first ∷ rest)
     pub read : View
     pub settled : WereReadIdle 0 (actors_of built.system.gates) (pass_view first.registrar.pass) read
     pub among : IsPart read.log log
 
-  -- Each actor could be read as having nothing to run, and these readings are among all that ends and senders saw.
+  -- Each actor could be read as having nothing to run, and these readings are among all that handles and senders saw.
   abbrev pub AllFoundIdle : Built A K → Type 0
   AllFoundIdle built = (log : List Observation) × HasAllSeen built log × WasFoundIdle built log

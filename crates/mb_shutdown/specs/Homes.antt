@@ -26,11 +26,11 @@ use Rattle.mb_shutdown.specs.declared.mismatch.Mismatch.{Mismatch}
 use Rattle.mb_shutdown.specs.declared.mismatch.Mismatch.TheVariants.{Held, List as Listed, Waiting}
 
 -- What the gates give back of one actor.
-abbrev pub BoxedHome : Type 0
-BoxedHome = ReturnedActor (Box Contents)
+abbrev pub ReturnedHome : Type 0
+ReturnedHome = ReturnedActor (Box Contents)
 
 -- What gates with this first home gave back of so many actors, by what the last pass knows.
-abbrev pub AreHomes : (ℕ → Moment → Reply → Type 0) → Contents → ℕ → View → List (Option BoxedHome) → Type 0
+abbrev pub AreHomes : (ℕ → Moment → Reply → Type 0) → Contents → ℕ → View → List (Option ReturnedHome) → Type 0
 AreHomes gives first =
     AreReturned {H = Box Contents} (λ actor home. IsHomeOf (gives actor) first actor home.value) (λ home. facts_of home.value)
 
@@ -57,7 +57,7 @@ CountsGiven who given a = (given + (if closed who a.journal.entries then length 
 module _ (gives : ℕ → Moment → Reply → Type 0) (first : Contents) (actors : ℕ) (v : View) where
   -- By what the gates gave back of each actor, this does not agree.
   pub record Disagrees (outside : List (List SendPassView)) (waiting : List ℕ) (what : Mismatch) : Type 0 where
-    pub all : List (Option BoxedHome)
+    pub all : List (Option ReturnedHome)
     pub left : AreHomes gives first actors v all
     pub why : IsMismatch all outside waiting what
     pub held : HasClaimOutIfHeld v what
@@ -66,17 +66,17 @@ module _ (gives : ℕ → Moment → Reply → Type 0) (first : Contents) (actor
   -- took out, and as the actor's dead letters those of the home. If this pass is the only one, the system messages that it counts are what this pass
   -- put into the actor's list.
   pub record HomesReturned (report : Report) : Type 0 where
-    pub all : List (Option BoxedHome)
+    pub all : List (Option ReturnedHome)
     pub left : AreHomes gives first actors v all
     pub came : (id : ℕ) → id < actors → HasNoClaimOut v id
-    pub journal : (id : ℕ) (l : BoxedHome) (a : ActorReport) → slice_get all id ≡ Some (Some l) → slice_get report.actors.items id ≡ Some a
+    pub journal : (id : ℕ) (l : ReturnedHome) (a : ActorReport) → slice_get all id ≡ Some (Some l) → slice_get report.actors.items id ≡ Some a
         → a.journal.entries ≡ l.home.value.cell.journal
-    pub given : (id : ℕ) (l : BoxedHome) (a : ActorReport) → slice_get all id ≡ Some (Some l) → slice_get report.actors.items id ≡ Some a
+    pub given : (id : ℕ) (l : ReturnedHome) (a : ActorReport) → slice_get all id ≡ Some (Some l) → slice_get report.actors.items id ≡ Some a
         → (l.listed ≡ false) × CountsGiven l.home.value.cell.who l.given a
-    pub put : (id : ℕ) (l : BoxedHome) (a : ActorReport) → slice_get all id ≡ Some (Some l) → slice_get report.actors.items id ≡ Some a
+    pub put : (id : ℕ) (l : ReturnedHome) (a : ActorReport) → slice_get all id ≡ Some (Some l) → slice_get report.actors.items id ≡ Some a
         → (counts : CountsSystems v.log l.home.value.cell.who a)
         × (IsWhole v.share → (measure : ℕ × SysMsg → ℕ) → put_by id measure v ≡ total measure (numbered 0 counts.pushed))
-    pub cleaned : (id : ℕ) (l : BoxedHome) (a : ActorReport) → slice_get all id ≡ Some (Some l) → slice_get report.actors.items id ≡ Some a
+    pub cleaned : (id : ℕ) (l : ReturnedHome) (a : ActorReport) → slice_get all id ≡ Some (Some l) → slice_get report.actors.items id ≡ Some a
         → a.cleaned.items ≡ l.home.value.cleaned
-    pub dead : (id : ℕ) (l : BoxedHome) (s : SenderReport) → slice_get all id ≡ Some (Some l) → slice_get report.senders.items id ≡ Some s
+    pub dead : (id : ℕ) (l : ReturnedHome) (s : SenderReport) → slice_get all id ≡ Some (Some l) → slice_get report.senders.items id ≡ Some s
         → s.dead.items ≡ l.home.value.dead

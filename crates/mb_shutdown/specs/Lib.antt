@@ -1,5 +1,5 @@
 pub mod AllArrived
-pub mod Apart
+pub mod HomeParts
 pub mod Belonging
 pub mod CompleteReport
 pub mod GateStates
@@ -14,8 +14,9 @@ pub mod OutsideSenders
 pub mod Parts
 pub mod Letters
 pub mod Refused
+pub mod Reported
 pub mod ReportedHomes
-pub mod Rest
+pub mod LeftInQueues
 pub mod Rooms
 pub mod Seen
 pub mod Shown

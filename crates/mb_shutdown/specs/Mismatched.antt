@@ -8,7 +8,7 @@ use Rattle.mb_journal.specs.Suspension.{count}
 use Rattle.mb_cell.specs.CellView.{CellView}
 use Rattle.mb_queue.specs.Passes.{SendPassView, TakePassView}
 use Rattle.mb_shutdown.specs.Joined.{column}
-use Rattle.mb_shutdown.specs.Rest.{WasLeft}
+use Rattle.mb_shutdown.specs.LeftInQueues.{WasLeft}
 use Rattle.mb_gate.specs.declared.returned_actor.ReturnedActor.{ReturnedActor}
 use Rattle.mb_home.specs.Contents.{Contents}
 use Rattle.mb_home.specs.Steps.{HasNext}

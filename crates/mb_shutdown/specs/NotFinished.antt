@@ -13,11 +13,11 @@ use Rattle.mb_shutdown.specs.Rooms.{AreCounted}
 use Rattle.mb_shutdown.specs.declared.mismatch.Mismatch.{Mismatch}
 use Rattle.mb_register.specs.declared.registrar.Registrar.{Registrar}
 use Rattle.mb_pool.specs.WorkerPorts.{WorkerPortView}
-use Rattle.mb_system.specs.Members.{IsEndOf}
+use Rattle.mb_system.specs.Members.{IsHandleOf}
 use Rattle.mb_build.specs.Planned.{IsDirectoryOf}
 use Rattle.mb_shutdown.specs.Refused.{FindsBusy}
 
--- A worker's end of a system of the plan read, one actor after another, whether it has something to run. This is the least that has, and what the end
+-- A worker's handle of a system of the plan read, one actor after another, whether it has something to run. This is the least that has, and what the handle
 -- knows afterwards is what it read.
 pub record HasWorkLeft (plan : Plan) (id : ℕ) : Type 0 where
   pub gates : Gates (Box Contents)
@@ -25,7 +25,7 @@ pub record HasWorkLeft (plan : Plan) (id : ℕ) : Type 0 where
   pub within : id < actors_of gates
   pub before : Registrar (Box Contents) (WorkerPortView (Box Contents))
   pub after : Registrar (Box Contents) (WorkerPortView (Box Contents))
-  pub same_gates : IsEndOf gates before
+  pub same_gates : IsHandleOf gates before
   pub same : pass_id after.pass ≡ pass_id before.pass
   pub found : FindsBusy id (pass_view before.pass) (pass_view after.pass)
 

@@ -11,7 +11,7 @@ use Rattle.mb_journal.specs.Life.{phase}
 use Rattle.mb_journal.specs.Suspension.{count}
 use Rattle.mb_cell.specs.CellView.{CellView}
 use Rattle.mb_report.specs.declared.report.ActorReport.{ActorReport}
-use Rattle.mb_shutdown.specs.Apart.{ended_of}
+use Rattle.mb_shutdown.specs.HomeParts.{ended_of}
 use Rattle.mb_shutdown.specs.declared.room.Ended.{Ended}
 
 -- The report shows this cell, and what was cleaned up, left and dead. It keeps of the journal and of what was cleaned up what these kept.

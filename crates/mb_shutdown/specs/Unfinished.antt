@@ -17,10 +17,10 @@ use Rattle.mb_journal.specs.Suspension.{count}
 use Rattle.mb_pool.specs.Moves.{WasEmpty}
 use Rattle.mb_pool.specs.Places.{ports_of}
 use Rattle.mb_pool.specs.WorkerPorts.{TakesClaim, WorkerPortView}
-use Rattle.mb_shutdown.specs.Homes.{AreHomes, BoxedHome}
+use Rattle.mb_shutdown.specs.Homes.{AreHomes, ReturnedHome}
 use Rattle.mb_shutdown.specs.declared.unfinished.UnfinishedActor.{UnfinishedActor}
 use Rattle.mb_system.specs.declared.built.Built.{Built}
-use Rattle.mb_system.specs.declared.end.WorkerEnd.{WorkerEnd}
+use Rattle.mb_system.specs.declared.handle.WorkerHandle.{WorkerHandle}
 
 -- It shows the journal of this cell, and what this journal says of the actor.
 pub record ShowsCellNow (cell : CellView) (a : UnfinishedActor) : Type 0 where
@@ -31,7 +31,7 @@ pub record ShowsCellNow (cell : CellView) (a : UnfinishedActor) : Type 0 where
   pub aside_is : a.aside.items ≡ aside cell.who cell.journal
 
 -- The home came back, and its cell is shown; or it did not come back, and nothing is shown.
-abbrev pub ShowsHome : Option BoxedHome → Option UnfinishedActor → Type 0
+abbrev pub ShowsHome : Option ReturnedHome → Option UnfinishedActor → Type 0
 ShowsHome (Some left) (Some a) = ShowsCellNow left.home.value.cell a
 ShowsHome (Some left) None = ⊥
 ShowsHome None (Some a) = ⊥
@@ -40,30 +40,30 @@ ShowsHome None None = Unit {0}
 -- What gates with this first home gave back of so many actors is shown, by what was known at the end.
 pub record ShowsHomes (gives : ℕ → Moment → Reply → Type 0) (first : Contents) (actors : ℕ) (view : View) (shown : List (Option UnfinishedActor))
     : Type 0 where
-  pub all : List (Option BoxedHome)
+  pub all : List (Option ReturnedHome)
   pub left : AreHomes gives first actors view all
   pub shows : AllZip ShowsHome all shown
 
 -- By this port claims were taken until it kept none and found the pool empty, and each went back to its actor. By that the first view became the second.
 pub data GivesBack (gives : ℕ → Moment → Reply → Type 0) : WorkerPortView (Box Contents) → View → View → Type 0 where
-  found_none : (port : WorkerPortView (Box Contents)) (view : View) → port.next ≡ [] → All (WasEmpty (IsFreshClaim gives)) (ports_of port.end)
+  found_none : (port : WorkerPortView (Box Contents)) (view : View) → port.next ≡ [] → All (WasEmpty (IsFreshClaim gives)) (ports_of port.handle)
       → GivesBack gives port view view
   gave_one : (old new : WorkerPortView (Box Contents)) (claim : Claim (Box Contents)) (before after : View) → TakesClaim (IsFreshClaim gives) old claim new
       → GivesBack gives new (idling (held_actor claim) (facts_of claim.home.value).journal (taking_in (claim_view claim) before)) after
       → GivesBack gives old before after
 
--- Each of these workers' ends did so, one after another. What they know then is put together in this view.
-pub data HaveGivenBack {A K : Type 0} (gives : ℕ → Moment → Reply → Type 0) : List (WorkerEnd A K) → View → Type 0 where
-  by_first : (end : WorkerEnd A K) (view : View) → GivesBack gives end.registrar.run_queue (pass_view end.registrar.pass) view
-      → HaveGivenBack gives (end ∷ []) view
-  by_one_more : (ends : List (WorkerEnd A K)) (end : WorkerEnd A K) (view other : View) → HaveGivenBack gives ends view
-      → GivesBack gives end.registrar.run_queue (pass_view end.registrar.pass) other
-      → HaveGivenBack gives (ends ++ end ∷ []) (taking_over view other)
+-- Each of these workers' handles did so, one after another. What they know then is put together in this view.
+pub data HaveGivenBack {A K : Type 0} (gives : ℕ → Moment → Reply → Type 0) : List (WorkerHandle A K) → View → Type 0 where
+  by_first : (handle : WorkerHandle A K) (view : View) → GivesBack gives handle.registrar.run_queue (pass_view handle.registrar.pass) view
+      → HaveGivenBack gives (handle ∷ []) view
+  by_one_more : (handles : List (WorkerHandle A K)) (handle : WorkerHandle A K) (view other : View) → HaveGivenBack gives handles view
+      → GivesBack gives handle.registrar.run_queue (pass_view handle.registrar.pass) other
+      → HaveGivenBack gives (handles ++ handle ∷ []) (taking_over view other)
 
--- It shows what the gates of this system gave back of each actor. All that its ends saw was known then, and each claim that they found in the pool had
+-- It shows what the gates of this system gave back of each actor. All that its handles saw was known then, and each claim that they found in the pool had
 -- gone back to its actor.
 pub record AreUnfinished {A K : Type 0} (gives : ℕ → Moment → Reply → Type 0) (built : Built A K) (shown : List (Option UnfinishedActor)) : Type 0 where
   pub view : View
-  pub seen : All (λ (e : WorkerEnd A K). IsPart (pass_view e.registrar.pass).log view.log) built.ends.items
-  pub back : HaveGivenBack gives built.ends.items view
+  pub seen : All (λ (e : WorkerHandle A K). IsPart (pass_view e.registrar.pass).log view.log) built.handles.items
+  pub back : HaveGivenBack gives built.handles.items view
   pub homes : ShowsHomes gives (first_home built.system.gates).value (actors_of built.system.gates) view shown

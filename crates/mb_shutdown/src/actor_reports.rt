@@ -1,6 +1,6 @@
 //! What is reported of the actors.
 ghost use Rattle.std.specs.Prelude.{◌≡◌, ◌≢◌, ◌≤◌, ◌⊎◌, [], IfErr, IfOk, MatchBool, length, map, vec_capacity};
-ghost use Rattle.mb_shutdown.specs.Apart.{ended_of};
+ghost use Rattle.mb_shutdown.specs.HomeParts.{ended_of};
 ghost use Rattle.mb_shutdown.specs.Mismatched.{CanHandle, CannotHandle, DiffersFromCount};
 ghost use Rattle.mb_shutdown.specs.Shown.{ShowsAll, ShowsCell};
 

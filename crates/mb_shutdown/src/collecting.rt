@@ -1,11 +1,7 @@
 //! The receivers take in all passes, and all that is left is taken out.
-ghost use Rattle.std.specs.Prelude.{◌≡◌, ◌<◌, ℕ, [], ◌++◌, All, List, length, map, slice_get, Some, IfErr, IfOk};
-ghost use Rattle.mb_msg.specs.declared.envelope.Envelope.{Envelope};
-ghost use Rattle.mb_queue.specs.Passes.{IsOfQueue, TakePassView, control_first};
-ghost use Rattle.mb_shutdown.specs.AllArrived.{AllArrived};
-ghost use Rattle.mb_shutdown.specs.Joined.{AreOfAllSenders, AreOfDifferent, column, queues_of, queues_pushed_into};
-ghost use Rattle.mb_shutdown.specs.Parts.{IsControlsFirst};
-ghost use Rattle.mb_shutdown.specs.Rest.{IsFullAt, IsOverfull};
+ghost use Rattle.std.specs.Prelude.{◌≡◌, ℕ, [], All, length, map, IfErr, IfOk};
+ghost use Rattle.mb_shutdown.specs.Joined.{AreOfDifferent, column, queues_of, queues_pushed_into};
+ghost use Rattle.mb_shutdown.specs.LeftInQueues.{AreAllCollected, IsTooManyFor};
 
 use crate::draining::{TooMany, drain_queues};
 use crate::joining::join_all;
@@ -32,17 +28,8 @@ pub fn join_and_drain<R: Wait>(
     requires different { (place : ℕ) → AreOfDifferent (column place (map (λ row. row.items) senders.items)) }
     requires same_count { length rooms.old ≡ length takes.items }
     requires empty { All (λ room. room.items ≡ []) rooms.old }
-    ensures came { IfOk result (λ _. (place : ℕ) (take : TakePassView) (left : List Envelope) → slice_get takes.items place ≡ Some take
-        → slice_get (map (λ room. room.items) rooms.new) place ≡ Some left
-        → All (AllArrived take.discipline (take.taken ++ left)) (column place (map (λ row. row.items) senders.items))) }
-    ensures known { IfOk result (λ _. (place : ℕ) (take : TakePassView) (left : List Envelope) → slice_get takes.items place ≡ Some take
-        → slice_get (map (λ room. room.items) rooms.new) place ≡ Some left → All (IsOfQueue take.queue) (take.taken ++ left)) }
-    ensures ordered { IfOk result (λ _. (place : ℕ) (take : TakePassView) (left : List Envelope) → slice_get takes.items place ≡ Some take
-        → slice_get (map (λ room. room.items) rooms.new) place ≡ Some left → take.discipline ≡ control_first
-        → AreOfAllSenders take.queue (column place (map (λ row. row.items) senders.items)) → IsControlsFirst left) }
-    ensures place { IfErr result (λ many. many.0 < length takes.items) }
-    ensures overfull { IfErr result (λ many. IsOverfull takes.items (map (λ row. row.items) senders.items) rooms.old many.0) }
-    ensures full { IfErr result (λ many. IsFullAt many.0 rooms.new) }
+    ensures collected { IfOk result (λ _. AreAllCollected takes.items (map (λ row. row.items) senders.items) (map (λ room. room.items) rooms.new)) }
+    ensures too_many { IfErr result (λ many. IsTooManyFor takes.items (map (λ row. row.items) senders.items) rooms.old rooms.new many.0) }
 {
     let mut takes = takes;
     join_all(&mut takes, senders);

@@ -1,6 +1,6 @@
 //! Taking out what is left in the queues.
 ghost use Rattle.std.specs.Prelude.{◌≡◌, ◌<◌, [], All, length, map, vec_capacity, vec_len, IfErr, IfOk, false, true};
-ghost use Rattle.mb_shutdown.specs.Rest.{AreRests, IsFullAt, IsMoreThan, IsOver, IsRest};
+ghost use Rattle.mb_shutdown.specs.LeftInQueues.{AreRests, IsFullAt, IsMoreThan, IsOver, IsRest};
 
 use mb_msg::Envelope;
 use mb_queue::TakePass;

@@ -1,18 +1,14 @@
 //! Ending a system, with a report or the reason why there is none.
-ghost use Rattle.std.specs.Prelude.{◌≡◌, ◌<◌, ◌≤◌, [], All, List, IfErr, IfOk, IfSome, MatchOption, length, vec_capacity};
-ghost use Rattle.mb_journal.specs.declared.sent_envelope.SentEnvelope.{SentEnvelope};
-ghost use Rattle.mb_gate.specs.Accessors.{actors_of, first_home, pass_view};
-ghost use Rattle.mb_gate.specs.View.{Observation};
+ghost use Rattle.std.specs.Prelude.{◌≡◌, ◌<◌, ◌≤◌, [], All, IfErr, IfOk, IfSome, MatchOption, length, vec_capacity};
+ghost use Rattle.mb_gate.specs.Accessors.{actors_of};
 ghost use Rattle.mb_shutdown.specs.Rooms.{AreCounted, HasOnlyCounted, IsRoom, counted_in};
 ghost use Rattle.mb_shutdown.specs.Headline.{Headline};
 ghost use Rattle.mb_shutdown.specs.Idle.{WereReadIdle};
-ghost use Rattle.mb_shutdown.specs.Letters.{KeepsLetters};
-ghost use Rattle.mb_shutdown.specs.Seen.{ReportExtendsAll};
-ghost use Rattle.mb_shutdown.specs.CompleteReport.{IsCompleteReport};
 ghost use Rattle.mb_system.specs.Belonging.{BelongsTogether};
-ghost use Rattle.mb_system.specs.Members.{IsEndOf};
-ghost use Rattle.mb_shutdown.specs.Belonging.{AreAnswers, HasAllSeen, HasRead, AllFoundIdle};
-ghost use Rattle.mb_shutdown.specs.Refused.{DisagreesIfSaid, FindsBusy, HasHomesReturned, IsComplete, IsRefusal, PutAddsUpTo, ReleasesAddUpTo};
+ghost use Rattle.mb_system.specs.Members.{IsHandleOf};
+ghost use Rattle.mb_shutdown.specs.Belonging.{HasRead, AllFoundIdle};
+ghost use Rattle.mb_shutdown.specs.Refused.{DisagreesIfSaid, FindsBusy, IsComplete, IsRefusal};
+ghost use Rattle.mb_shutdown.specs.Reported.{AddsUp, IsReportOnSystem};
 
 use crate::finished_sender::FinishedSender;
 use crate::gather::gather;
@@ -30,8 +26,8 @@ use std::sync::Wait;
 /// Why there is no report.
 #[derive(Drop)]
 pub enum FinishError<A: Actor, K: Behaviours> {
-    /// The end of this worker is missing. All comes back.
-    MissingEnd(u32, Built<A, K>),
+    /// The handle of this worker is missing. All comes back.
+    MissingHandle(u32, Built<A, K>),
     /// This sender is missing, counted from 0. All comes back.
     MissingSender(u32, Built<A, K>),
     /// This actor is scheduled, or has something to run. All comes back.
@@ -45,7 +41,7 @@ pub enum FinishError<A: Actor, K: Behaviours> {
 /// Ends the system: the report of what became of each actor, the guardian first, and of each envelope. (This project's own
 /// profile: Akka's `ActorSystem.terminate` stops the actors, and reports nothing of them.)
 ///
-/// It answers the least number of a worker whose end is missing; else that of a sender that is missing; else the least actor
+/// It answers the least number of a worker whose handle is missing; else that of a sender that is missing; else the least actor
 /// that is scheduled or has something to run; else `NoMemory` if memory was refused. In these cases all comes back, and the
 /// call may be made again. Else it answers what does not agree, and nothing comes back.
 pub fn finish<A: Actor, K: Behaviours, R: Wait>(
@@ -53,22 +49,15 @@ pub fn finish<A: Actor, K: Behaviours, R: Wait>(
     built: Built<A, K>,
 ) -> Result<Report, FinishError<A, K>>
     requires together { BelongsTogether built }
-    ensures whole { IfOk result (λ report. (log : List Observation) × HasAllSeen built log
-        × ((answers : List (List SentEnvelope)) × AreAnswers built.system.senders built.senders.items answers
-        × IsCompleteReport K.after K.gives (first_home built.system.gates).value.directory log answers report)) }
-    ensures letters { IfOk result (KeepsLetters built) }
+    ensures report { IfOk result (IsReportOnSystem K.after K.gives built) }
     ensures headline { IfOk result (Headline K.after K.gives built) }
     ensures all_idle { IfOk result (λ _. IsComplete built × AllFoundIdle built) }
-    ensures seen { IfOk result (λ report. All (λ e. ReportExtendsAll report (pass_view e.registrar.pass)) built.ends.items
-        × All (λ s. ReportExtendsAll report (pass_view s.registrar.pass)) built.senders.items) }
-    ensures home { IfOk result (HasHomesReturned K.gives built) }
-    ensures releases { IfOk result (ReleasesAddUpTo built) }
-    ensures put { IfOk result (PutAddsUpTo built) }
+    ensures adds_up { IfOk result (AddsUp K.gives built) }
     ensures refused { IfErr result (IsRefusal built) }
     ensures disagreement { IfErr result (DisagreesIfSaid K.gives built) }
 {
-    if let Some(number) = missing(built.system.workers, &built.ends) {
-        return Err(FinishError::MissingEnd(number, built));
+    if let Some(number) = missing(built.system.workers, &built.handles) {
+        return Err(FinishError::MissingHandle(number, built));
     }
     if let Some(number) = missing(built.system.senders, &built.senders) {
         return Err(FinishError::MissingSender(number, built));
@@ -89,21 +78,21 @@ pub fn finish<A: Actor, K: Behaviours, R: Wait>(
 
 // The least actor that is scheduled or has something to run.
 fn first_busy_of<A: Actor, K: Behaviours>(built: &mut Built<A, K>) -> Option<ActorId>
-    requires same_gates { All (λ e. IsEndOf built.old.system.gates e.registrar) built.old.ends.items }
-    requires not_empty { 0 < length built.old.ends.items }
+    requires same_gates { All (λ e. IsHandleOf built.old.system.gates e.registrar) built.old.handles.items }
+    requires not_empty { 0 < length built.old.handles.items }
     ensures { MatchOption result (HasRead (WereReadIdle 0 (actors_of built.old.system.gates)) built.old built.new)
         (λ id. (id.0 < actors_of built.old.system.gates) × HasRead (FindsBusy id.0) built.old built.new) }
 {
     let system = &built.system;
-    first_busy(&system.gates, &mut built.ends[0].registrar.pass)
+    first_busy(&system.gates, &mut built.handles[0].registrar.pass)
 }
 
 // All the memory that is needed.
 fn room_of<A: Actor, K: Behaviours>(
     built: &mut Built<A, K>,
 ) -> Option<(Room<A, K>, Vec<FinishedSender>)>
-    requires same_gates { All (λ e. IsEndOf built.old.system.gates e.registrar) built.old.ends.items }
-    requires not_empty { 0 < length built.old.ends.items }
+    requires same_gates { All (λ e. IsHandleOf built.old.system.gates e.registrar) built.old.handles.items }
+    requires not_empty { 0 < length built.old.handles.items }
     requires within_limit { length built.old.senders.items ≤ 16 }
     ensures read { HasRead HasOnlyCounted built.old built.new }
     ensures room { IfSome result (λ made. IsRoom (actors_of built.old.system.gates) (length built.old.senders.items) made.0
@@ -115,7 +104,7 @@ fn room_of<A: Actor, K: Behaviours>(
     let room = make_room(
         system.alloc,
         &system.gates,
-        &mut built.ends[0].registrar.pass,
+        &mut built.handles[0].registrar.pass,
         senders,
     );
     let (Ok(room), Ok(outside)) = (room, Vec::with_capacity(system.alloc, senders)) else {

@@ -14,7 +14,7 @@ use mb_gate::{Gates, Pass};
 use mb_home::BoxedHome;
 use mb_system::{Built, System};
 
-/// The gates, and the first end's pass, which took over what all others knew; and of each sender, in the order of their
+/// The gates, and the first handle's pass, which took over what all others knew; and of each sender, in the order of their
 /// numbers, its passes and its log. Claims that are still in the pool are dropped: each of their actors would be scheduled.
 pub(crate) fn gather<A: Actor, K: Behaviours>(
     built: Built<A, K>,
@@ -30,7 +30,7 @@ pub(crate) fn gather<A: Actor, K: Behaviours>(
 {
     let Built {
         system,
-        ends,
+        handles,
         mut senders,
     } = built;
     let System {
@@ -43,13 +43,13 @@ pub(crate) fn gather<A: Actor, K: Behaviours>(
         alloc: _,
     } = system;
     sort_by_number(&mut senders);
-    let mut ends = ends.into_iter();
-    let Some(first) = ends.next() else {
+    let mut handles = handles.into_iter();
+    let Some(first) = handles.next() else {
         unreachable!()
     };
     let mut pass = first.into_pass();
-    for end in ends {
-        gates.absorb(&mut pass, end.into_pass());
+    for handle in handles {
+        gates.absorb(&mut pass, handle.into_pass());
     }
     for sender in senders {
         let (other, sends, send_log) = sender.into_parts();

@@ -1,16 +1,15 @@
 //! Taking the homes apart, at the end of a system.
 ghost use Rattle.std.specs.Prelude.{◌≡◌, ◌+◌, ◌<◌, ◌≤◌, ◌^◌, [], ◌++◌, All, IfErr, MatchResult, OnOk, length, map, vec_capacity};
-ghost use Rattle.mb_shutdown.specs.Apart.{AreApart, IsOpened, sent_of};
+ghost use Rattle.mb_shutdown.specs.HomeParts.{AreApart, IsOpened, sent_of};
 ghost use Rattle.mb_shutdown.specs.Mismatched.{IsNotReturned, IsUnopened};
 
-use crate::boxed_home::BoxedHome;
 use crate::finished_sender::FinishedSender;
 use crate::mismatch::Mismatch;
 use crate::room::Ended;
 use mb_actor::{Actor, Behaviours};
 use mb_dead_letters::DeadLetters;
 use mb_gate::ReturnedActor;
-use mb_home::HomeParts;
+use mb_home::{BoxedHome, HomeParts};
 use mb_msg::ActorId;
 use mb_queue::{SendPass, TakePass};
 use mb_report::SenderReport;

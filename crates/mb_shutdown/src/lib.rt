@@ -15,7 +15,6 @@
 #![tactic(auto)]
 
 mod actor_reports;
-mod boxed_home;
 mod collecting;
 mod draining;
 mod ending;

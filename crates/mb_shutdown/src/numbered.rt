@@ -1,9 +1,9 @@
-//! Ends and senders by their numbers.
+//! Handles and senders by their numbers.
 ghost use Rattle.std.specs.Prelude.{◌≡◌, ℕ};
 
 use mb_actor::{Actor, Behaviours};
 use mb_msg::limits::ACTORS;
-use mb_system::{Sender, WorkerEnd};
+use mb_system::{Sender, WorkerHandle};
 
 /// Something that has a number.
 pub(crate) trait Numbered {
@@ -15,7 +15,7 @@ pub(crate) trait Numbered {
         ensures { result ≡ numbered self.now };
 }
 
-impl<A: Actor, K: Behaviours> Numbered for WorkerEnd<A, K> {
+impl<A: Actor, K: Behaviours> Numbered for WorkerHandle<A, K> {
     ghost numbered = { λ e. e.number };
 
     fn number(&self) -> u32 {

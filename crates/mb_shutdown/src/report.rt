@@ -1,15 +1,12 @@
 //! The report on all actors and envelopes.
-ghost use Rattle.std.specs.Prelude.{◌≡◌, ◌<◌, ◌≤◌, ◌++◌, IfErr, IfOk, length, map};
-ghost use Rattle.mb_gate.specs.Accessors.{actors_of, first_home, gates_id, pass_view, pass_id};
+ghost use Rattle.std.specs.Prelude.{◌≡◌, ◌<◌, IfErr, IfOk, length, map};
+ghost use Rattle.mb_gate.specs.Accessors.{actors_of, first_home, pass_view};
 ghost use Rattle.mb_shutdown.specs.Homes.{HomesReturned, Disagrees};
 ghost use Rattle.mb_shutdown.specs.Mismatched.{of_whom};
-ghost use Rattle.mb_shutdown.specs.OutsideSenders.{AreFinishedSenders, HasKnownSenders};
+ghost use Rattle.mb_shutdown.specs.Reported.{IsGathered, IsReportOnAll};
 ghost use Rattle.mb_shutdown.specs.Rooms.{IsRoom, counted_in};
-ghost use Rattle.mb_shutdown.specs.Seen.{ReportExtendsAll};
-ghost use Rattle.mb_shutdown.specs.CompleteReport.{IsCompleteReport};
 
 use crate::actor_reports::report_on;
-use crate::boxed_home::BoxedHome;
 use crate::finished_sender::FinishedSender;
 use crate::home_parts::{add_outside, take_apart};
 use crate::left_envelopes::take_rests;
@@ -17,6 +14,7 @@ use crate::mismatch::Mismatch;
 use crate::room::Room;
 use mb_actor::{Actor, Behaviours};
 use mb_gate::{Gates, Pass};
+use mb_home::BoxedHome;
 use mb_report::Report;
 use std::sync::Wait;
 
@@ -31,17 +29,9 @@ pub fn build_report<A: Actor, K: Behaviours, R: Wait>(
     outside: Vec<FinishedSender>,
     room: Room<A, K>,
 ) -> Result<Report, Mismatch>
-    requires same_gates { pass_id pass ≡ gates_id gates }
-    requires within_limit { (actors_of gates ≤ 64) × (length outside.items ≤ 16) }
-    requires directory { length (first_home gates).value.directory ≡ actors_of gates }
-    requires senders { HasKnownSenders (first_home gates).value.directory (length outside.items) }
-    requires outside { AreFinishedSenders (first_home gates).value.directory (pass_view pass).log 64 outside.items }
+    requires gathered { IsGathered gates pass outside.items }
     requires room { IsRoom (actors_of gates) (length outside.items) room }
-    ensures whole { IfOk result (λ report.
-        IsCompleteReport K.after K.gives (first_home gates).value.directory (pass_view pass).log (map (λ o. o.send_log.posted) outside.items) report) }
-    ensures letters { IfOk result (λ report. map (λ s. s.dead.retention) report.senders.items
-        ≡ map (λ e. e.who.retention) (first_home gates).value.directory ++ map (λ o. o.send_log.dead.retention) outside.items) }
-    ensures seen { IfOk result (λ report. ReportExtendsAll report (pass_view pass)) }
+    ensures report { IfOk result (IsReportOnAll K.after K.gives (first_home gates).value.directory (pass_view pass) outside.items) }
     ensures home { IfOk result (HomesReturned K.gives (first_home gates).value (actors_of gates) (pass_view pass)) }
     ensures counted { IfOk result (λ report. map (λ a. length a.left.items) report.actors.items ≡ counted_in room) }
     ensures in_plan { IfErr result (λ mismatch. of_whom mismatch < actors_of gates) }

@@ -5,11 +5,11 @@ ghost use Rattle.mb_gate.specs.Accessors.{actors_of, gates_id, pass_view, pass_i
 ghost use Rattle.mb_gate.specs.Rule.{IsPart};
 ghost use Rattle.mb_shutdown.specs.Rooms.{AreCounted, HasOnlyCounted, IsEmptyWithRoom, IsRoom, counted_in};
 
-use crate::boxed_home::BoxedHome;
 use mb_actor::{Actor, Behaviours};
 use mb_cell::Cell;
 use mb_dead_letters::KeptList;
 use mb_gate::{Gates, MailboxState, Pass, ReturnedActor};
+use mb_home::BoxedHome;
 use mb_msg::{ActorId, Envelope};
 use mb_queue::{SendPass, TakePass};
 use mb_report::{ActorReport, SenderReport};

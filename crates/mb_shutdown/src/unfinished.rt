@@ -4,15 +4,14 @@ ghost use Rattle.std.specs.List.{AllZip};
 ghost use Rattle.mb_gate.specs.Accessors.{gates_id, pass_id, pass_view};
 ghost use Rattle.mb_gate.specs.Rule.{IsPart};
 ghost use Rattle.mb_shutdown.specs.Unfinished.{AreUnfinished, GivesBack, HaveGivenBack, ShowsCellNow, ShowsHome};
-ghost use Rattle.mb_system.specs.Members.{AreEndsOf, IsEndOf};
+ghost use Rattle.mb_system.specs.Members.{AreHandlesOf, IsHandleOf};
 
-use crate::boxed_home::BoxedHome;
 use mb_actor::{Actor, Behaviours, Phase};
 use mb_gate::{Gates, Pass, ReturnedActor};
-use mb_home::HomeParts;
+use mb_home::{BoxedHome, HomeParts};
 use mb_journal::Journal;
 use mb_msg::SysMsg;
-use mb_system::{Built, System, WorkerEnd};
+use mb_system::{Built, System, WorkerHandle};
 use std::alloc::AllocError;
 use std::sync::Wait;
 
@@ -29,7 +28,7 @@ pub struct UnfinishedActor {
     pub aside: Vec<(u64, SysMsg)>,
 }
 
-/// Ends a system whose run was broken off, by its workers' ends: what is left of each actor, the guardian first, and `None` for
+/// Ends a system whose run was broken off, by its workers' handles: what is left of each actor, the guardian first, and `None` for
 /// one of which a claim is out. Claims that are still in the pool go back to their actors first. Senders may be missing. (This
 /// project's own profile: Akka shows nothing of an actor system that was broken off.)
 ///
@@ -38,8 +37,8 @@ pub fn unfinished_actors<A: Actor, K: Behaviours, R: Wait>(
     rt: &R,
     built: Built<A, K>,
 ) -> Result<Vec<Option<UnfinishedActor>>, AllocError>
-    requires same_gates { AreEndsOf built.system.gates built.ends.items }
-    requires not_empty { 0 < length built.ends.items }
+    requires same_gates { AreHandlesOf built.system.gates built.handles.items }
+    requires not_empty { 0 < length built.handles.items }
     ensures { IfOk result (λ actors. AreUnfinished K.gives built actors.items) }
 {
     let alloc = built.system.alloc;
@@ -48,7 +47,7 @@ pub fn unfinished_actors<A: Actor, K: Behaviours, R: Wait>(
     let room = Vec::with_capacity(alloc, actors)?;
     let Built {
         system,
-        ends,
+        handles,
         senders: _,
     } = built;
     let System {
@@ -60,52 +59,52 @@ pub fn unfinished_actors<A: Actor, K: Behaviours, R: Wait>(
         throughput: _,
         alloc: _,
     } = system;
-    let pass = give_all_back(rt, &gates, ends);
+    let pass = give_all_back(rt, &gates, handles);
     let all = gates.finish(pass, homes);
     Ok(show_all(all, room))
 }
 
-// What all these ends know, once each claim that they find went back to its actor.
+// What all these handles know, once each claim that they find went back to its actor.
 fn give_all_back<A: Actor, K: Behaviours, R: Wait>(
     rt: &R,
     gates: &Gates<BoxedHome<A, K>>,
-    ends: Vec<WorkerEnd<A, K>>,
+    handles: Vec<WorkerHandle<A, K>>,
 ) -> Pass<BoxedHome<A, K>>
-    requires same_gates { AreEndsOf gates.now ends.items }
-    requires not_empty { 0 < length ends.items }
+    requires same_gates { AreHandlesOf gates.now handles.items }
+    requires not_empty { 0 < length handles.items }
     ensures same_gates { pass_id result ≡ gates_id gates.now }
-    ensures seen { All (λ e. IsPart (pass_view e.registrar.pass).log (pass_view result).log) ends.items }
-    ensures back { HaveGivenBack K.gives ends.items (pass_view result) }
+    ensures seen { All (λ e. IsPart (pass_view e.registrar.pass).log (pass_view result).log) handles.items }
+    ensures back { HaveGivenBack K.gives handles.items (pass_view result) }
 {
-    let mut ends = ends.into_iter();
-    let Some(first) = ends.next() else {
+    let mut handles = handles.into_iter();
+    let Some(first) = handles.next() else {
         unreachable!()
     };
     let mut pass = give_back(rt, gates, first);
-    for end in ends {
-        let other = give_back(rt, gates, end);
+    for handle in handles {
+        let other = give_back(rt, gates, handle);
         gates.absorb(&mut pass, other);
     }
     pass
 }
 
-// What this end knows, once each claim that it finds went back to its actor.
+// What this handle knows, once each claim that it finds went back to its actor.
 fn give_back<A: Actor, K: Behaviours, R: Wait>(
     rt: &R,
     gates: &Gates<BoxedHome<A, K>>,
-    end: WorkerEnd<A, K>,
+    handle: WorkerHandle<A, K>,
 ) -> Pass<BoxedHome<A, K>>
-    requires same_gates { IsEndOf gates.now end.registrar }
+    requires same_gates { IsHandleOf gates.now handle.registrar }
     ensures same_gates { pass_id result ≡ gates_id gates.now }
-    ensures seen { IsPart (pass_view end.registrar.pass).log (pass_view result).log }
-    ensures back { GivesBack K.gives end.registrar.run_queue (pass_view end.registrar.pass) (pass_view result) }
+    ensures seen { IsPart (pass_view handle.registrar.pass).log (pass_view result).log }
+    ensures back { GivesBack K.gives handle.registrar.run_queue (pass_view handle.registrar.pass) (pass_view result) }
 {
-    let mut end = end;
+    let mut handle = handle;
     for _ in rt.forever() {
-        let Some(claim) = end.take(rt) else {
-            return end.into_pass();
+        let Some(claim) = handle.take(rt) else {
+            return handle.into_pass();
         };
-        gates.release(claim, &mut end.registrar.pass);
+        gates.release(claim, &mut handle.registrar.pass);
     }
     unreachable!()
 }

@@ -1,6 +1,6 @@
 pub mod Right
 pub mod Known
-pub mod EndsAndSenders
+pub mod HandlesAndSenders
 pub mod Sharing
 pub mod NewGates
 pub mod Obligations

@@ -1,4 +1,4 @@
--- The actors of a new system are new: its ends and senders have the whole share together, and ran nobody.
+-- The actors of a new system are new: its handles and senders have the whole share together, and ran nobody.
 use Rattle.std.proofs.Common.{◌≡◌, ◌⊎◌, inl, inr, ℕ, zero, suc, ◌+◌, ◌==◌, ◌%◌, ◌^◌, if◌then◌else◌, false, List, [], ◌∷◌, ◌++◌, map, refl, sym, ap, ◌∙◌, subst, Some, arith}
 use Rattle.std.specs.Prelude.{slice_get}
 use Rattle.std.specs.Global.{Box}
@@ -29,16 +29,16 @@ use Rattle.mb_gate.specs.Waiting.{counted_on, counted_off, on_by, off_by}
 use Rattle.mb_gate.specs.declared.gates.Gates.{Gates}
 use Rattle.mb_gate.specs.declared.slot.Slot.{Slot}
 use Rattle.mb_gate.proofs.NotRun.{shows_not_run}
-use Rattle.mb_home.specs.AgreesWithJournal.{messages_of}
+use Rattle.mb_home.specs.AgreesWithJournal.{messages_in}
 use Rattle.mb_home.specs.AtHome.{IsHomeOf, facts_of}
 use Rattle.mb_home.specs.Contents.{Contents}
 use Rattle.mb_home.specs.Directory.{DirectoryEntry}
 use Rattle.mb_home.proofs.UnusedHomeLaw.{unused-until-run}
 use Rattle.mb_build.specs.Planned.{actors_in, IsDirectoryOf}
-use Rattle.mb_system.specs.Shares.{shares_of_ends, shares_of_senders}
-use Rattle.mb_system.specs.declared.end.WorkerEnd.{WorkerEnd}
+use Rattle.mb_system.specs.Shares.{shares_of_handles, shares_of_senders}
+use Rattle.mb_system.specs.declared.handle.WorkerHandle.{WorkerHandle}
 use Rattle.mb_system.specs.Members.{OutsideSender}
-use Rattle.mb_startup.specs.Begun.{AreFirstEnds, AreNewEnds, AreNewSenders}
+use Rattle.mb_startup.specs.Begun.{AreFirstHandles, AreNewHandles, AreNewSenders}
 use Rattle.mb_startup.specs.NewActors.{first_messages, IsNewActor, AreNewActors}
 
 -- ---- what was put into the lists
@@ -107,7 +107,7 @@ second-number : (x y : ℕ × SysMsg) (rest more : List (ℕ × SysMsg)) → x �
 second-number x y rest more e = let same : y ≡ (1, y.1) = cc in ap (λ (m : ℕ × SysMsg). m.0) same
 
 create-drained : (pushed : List SysMsg) (rest : List (ℕ × SysMsg)) → pushed ≡ system.Create ∷ [] → Each (λ m. IsAmong m (numbered 0 pushed)) rest
-    → rest ≡ numbered 0 (messages_of rest) → (rest ≡ []) ⊎ (rest ≡ (0, system.Create) ∷ [])
+    → rest ≡ numbered 0 (messages_in rest) → (rest ≡ []) ⊎ (rest ≡ (0, system.Create) ∷ [])
 create-drained pushed [] one each numbers = inl refl
 create-drained pushed (m ∷ []) one each numbers =
     inr (ap (λ x. x ∷ []) (only-among m (0, system.Create) (subst (λ l. IsAmong m (numbered 0 l)) one each.0)))
@@ -118,11 +118,11 @@ create-drained pushed (m ∷ n ∷ rest) one each numbers =
 
 -- what is drained of what was put into the list
 first-drained : (actor : ℕ) (pushed : List SysMsg) (rest : List (ℕ × SysMsg)) → pushed ≡ first_messages actor → Each (λ m. IsAmong m (numbered 0 pushed)) rest
-    → rest ≡ numbered 0 (messages_of rest) → (rest ≡ []) ⊎ (rest ≡ numbered 0 (first_messages actor))
+    → rest ≡ numbered 0 (messages_in rest) → (rest ≡ []) ⊎ (rest ≡ numbered 0 (first_messages actor))
 first-drained zero pushed rest put each numbers = create-drained pushed rest put each numbers
 first-drained (suc actor) pushed rest put each numbers = inl (nothing-drained pushed rest put each)
 
--- ---- what the ends and senders of a new system know
+-- ---- what the handles and senders of a new system know
 
 shares-map : {X : Type 0} (f : X → View) (xs : List X) → shares_in (map f xs) ≡ flat_map (λ x. (f x).share) xs
 shares-map f [] = refl
@@ -148,41 +148,41 @@ module _ (gates : Gates (Box Contents)) where
       let here = ap (total h) are.0.blank in let rest = senders-logged h (number + 1) rows senders are.1 in omega (arith, here, rest)
 
 module _ {A K : Type 0} (gates : Gates (Box Contents)) where
-  abbrev end-view : WorkerEnd A K → View
-  end-view e = pass_view e.registrar.pass
+  abbrev handle-view : WorkerHandle A K → View
+  handle-view e = pass_view e.registrar.pass
 
-  ends-ran : (number : ℕ) (ends : List (WorkerEnd A K)) → AreNewEnds gates number ends → Each RanNobody (map end-view ends)
-  ends-ran number [] are = tt
-  ends-ran number (e ∷ ends) are = ((are.0.unclaimed, are.0.none_released), ends-ran (number + 1) ends are.1)
+  handles-ran : (number : ℕ) (handles : List (WorkerHandle A K)) → AreNewHandles gates number handles → Each RanNobody (map handle-view handles)
+  handles-ran number [] are = tt
+  handles-ran number (e ∷ handles) are = ((are.0.unclaimed, are.0.none_released), handles-ran (number + 1) handles are.1)
 
-  ends-logged : (h : Observation → ℕ) (number : ℕ) (ends : List (WorkerEnd A K)) → AreNewEnds gates number ends
-      → total (λ (v : View). total h v.log) (map end-view ends) ≡ 0
-  ends-logged h number [] are = refl
-  ends-logged h number (e ∷ ends) are =
-      let here = ap (total h) are.0.blank in let rest = ends-logged h (number + 1) ends are.1 in omega (arith, here, rest)
+  handles-logged : (h : Observation → ℕ) (number : ℕ) (handles : List (WorkerHandle A K)) → AreNewHandles gates number handles
+      → total (λ (v : View). total h v.log) (map handle-view handles) ≡ 0
+  handles-logged h number [] are = refl
+  handles-logged h number (e ∷ handles) are =
+      let here = ap (total h) are.0.blank in let rest = handles-logged h (number + 1) handles are.1 in omega (arith, here, rest)
 
-  module _ (number : ℕ) (rows : List (List SendPassView)) (ends : List (WorkerEnd A K)) (senders : List OutsideSender) (first : AreFirstEnds gates ends)
+  module _ (number : ℕ) (rows : List (List SendPassView)) (handles : List (WorkerHandle A K)) (senders : List OutsideSender) (first : AreFirstHandles gates handles)
       (are : AreNewSenders gates number rows senders) where
     abbrev all : List View
-    all = map end-view ends ++ map sender-view senders
+    all = map handle-view handles ++ map sender-view senders
 
-    all-shares : shares_in all ≡ shares_of_ends ends ++ shares_of_senders senders
-    all-shares = flat_map-append (λ (v : View). v.share) (map end-view ends) (map sender-view senders)
-        ∙ (λ i. shares-map end-view ends i ++ shares-map sender-view senders i)
+    all-shares : shares_in all ≡ shares_of_handles handles ++ shares_of_senders senders
+    all-shares = flat_map-append (λ (v : View). v.share) (map handle-view handles) (map sender-view senders)
+        ∙ (λ i. shares-map handle-view handles i ++ shares-map sender-view senders i)
 
     all-ran : Each RanNobody all
-    all-ran = each_append RanNobody (map end-view ends) (map sender-view senders)
-        (subst (λ (l : List (WorkerEnd A K)). Each RanNobody (map end-view l)) (sym first.ends_are)
-        ((first.unclaimed, first.none_released), ends-ran 1 first.others first.others_are)) (senders-ran gates number rows senders are)
+    all-ran = each_append RanNobody (map handle-view handles) (map sender-view senders)
+        (subst (λ (l : List (WorkerHandle A K)). Each RanNobody (map handle-view l)) (sym first.handles_are)
+        ((first.unclaimed, first.none_released), handles-ran 1 first.others first.others_are)) (senders-ran gates number rows senders are)
 
-    -- all that was logged is the Create, by the first end
+    -- all that was logged is the Create, by the first handle
     all-logged : (h : Observation → ℕ) → total (λ (v : View). total h v.log) all ≡ h (Pushed 0 first.created.0 system.Create)
     all-logged h =
-        let sum = total_append (λ (v : View). total h v.log) (map end-view ends) (map sender-view senders) in
+        let sum = total_append (λ (v : View). total h v.log) (map handle-view handles) (map sender-view senders) in
         let outside = senders-logged gates h number rows senders are in
-        let inside = ap (λ (l : List (WorkerEnd A K)). total (λ (v : View). total h v.log) (map end-view l)) first.ends_are in
+        let inside = ap (λ (l : List (WorkerHandle A K)). total (λ (v : View). total h v.log) (map handle-view l)) first.handles_are in
         let own = ap (total h) first.created.1 in
-        let others = ends-logged h 1 first.others first.others_are in omega (arith, sum, outside, inside, own, others)
+        let others = handles-logged h 1 first.others first.others_are in omega (arith, sum, outside, inside, own, others)
 
     all-put : (actor : ℕ) (pushed : List SysMsg)
         → ((measure : ℕ × SysMsg → ℕ) → total (put_by actor measure) all ≡ total measure (numbered 0 pushed)) → pushed ≡ first_messages actor
@@ -205,18 +205,18 @@ entry-of (e ∷ directory) zero who there = (e, refl, same_Some e.who who there)
 entry-of (e ∷ directory) (suc actor) who there = entry-of directory actor who there
 
 module _ {A K : Type 0} (gives : ℕ → Moment → Reply → Type 0) (plan : Plan) (gates : Gates (Box Contents)) (number : ℕ) (rows : List (List SendPassView))
-    (ends : List (WorkerEnd A K)) (senders : List OutsideSender) where
+    (handles : List (WorkerHandle A K)) (senders : List OutsideSender) where
   abbrev is-own : ℕ → Box Contents → Type 0
   is-own actor home = IsHomeOf (gives actor) (first_home gates).value actor home.value
 
-  module _ (of : IsDirectoryOf plan (first_home gates).value.directory) (first : AreFirstEnds gates ends) (are : AreNewSenders gates number rows senders) where
+  module _ (of : IsDirectoryOf plan (first_home gates).value.directory) (first : AreFirstHandles gates handles) (are : AreNewSenders gates number rows senders) where
     is-new : (actor : ℕ) (x : Spot Word SlotName (Slot (Box Contents)) Ghost)
-        → IsNotRun is-own (λ (home : Box Contents). facts_of home.value) actor x (map (end-view gates) ends ++ map (sender-view) senders)
+        → IsNotRun is-own (λ (home : Box Contents). facts_of home.value) actor x (map (handle-view gates) handles ++ map (sender-view) senders)
         → (who : Identity) → slice_get (actors_in plan) actor ≡ Some who → IsNewActor plan (first_home gates).value.directory actor who x
     is-new actor x not_run who planned =
         let directory = (first_home gates).value.directory in
         let entry = entry-of directory actor who (ap (λ l. slice_get l actor) of.who ∙ planned) in
-        let put = all-put gates number rows ends senders first are actor x.ghost.pushed not_run.put in
+        let put = all-put gates number rows handles senders first are actor x.ghost.pushed not_run.put in
         let unused = unused-until-run gives (first_home gates).value not_run.home.value actor entry.0 not_run.of_actor not_run.journal entry.1 in record {
           home = not_run.home;
           present = not_run.present;
@@ -226,16 +226,16 @@ module _ {A K : Type 0} (gives : ℕ → Moment → Reply → Type 0) (plan : Pl
           mailbox = λ place a at this. of.mailboxes place a entry.0 this (ap (slice_get directory) (sym at) ∙ entry.1);
           unused = unused;
           word = not_run.word ∙ ap word_of unused.mailbox;
-          waiting = none-waiting gates number rows ends senders first are actor (x.row Waiting) not_run.balance;
+          waiting = none-waiting gates number rows handles senders first are actor (x.row Waiting) not_run.balance;
           put = put;
           beside = first-drained actor x.ghost.pushed not_run.home.value.rest put
               (subst (Each (WasPushed x.ghost)) unused.drained not_run.drained) unused.rest;
         }
 
-    pub new-actors : IsWhole (shares_of_ends ends ++ shares_of_senders senders)
-        → AreNewActors gives plan gates (map (end-view gates) ends ++ map (sender-view) senders)
+    pub new-actors : IsWhole (shares_of_handles handles ++ shares_of_senders senders)
+        → AreNewActors gives plan gates (map (handle-view gates) handles ++ map (sender-view) senders)
     new-actors whole s r seats at actor inside who planned =
         is-new actor _ (shows_not_run is-own (λ (home : Box Contents). facts_of home.value) (actors_of gates)
-        (map (end-view gates) ends ++ map (sender-view) senders)
-        (subst IsWhole (sym (all-shares gates number rows ends senders first are)) whole)
-        (all-ran gates number rows ends senders first are) s r seats at actor inside) who planned
+        (map (handle-view gates) handles ++ map (sender-view) senders)
+        (subst IsWhole (sym (all-shares gates number rows handles senders first are)) whole)
+        (all-ran gates number rows handles senders first are) s r seats at actor inside) who planned

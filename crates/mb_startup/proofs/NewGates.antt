@@ -16,7 +16,7 @@ use Rattle.mb_gate.specs.Accessors.{actors_of, first_home}
 use Rattle.mb_gate.specs.declared.gates.Gates.{Gates}
 use Rattle.mb_home.specs.Contents.{Contents}
 use Rattle.mb_home.specs.Directory.{queues_of}
-use Rattle.mb_pool.specs.Places.{AreEnds, AreFeeds, Parts, PoolEndpoint, PoolView, end_parts, feed_parts, gates_of, numbers as pool_numbers, parts_of}
+use Rattle.mb_pool.specs.Places.{AreHandles, AreFeeds, Parts, PoolEndpoint, PoolView, handle_parts, feed_parts, gates_of, numbers as pool_numbers, parts_of}
 use Rattle.mb_build.specs.Handed.{passes_of}
 use Rattle.mb_build.specs.NewHomes.{AreNewHomes, directory_of}
 use Rattle.mb_build.specs.Kinds.{AreKindsOf}
@@ -27,12 +27,12 @@ use Rattle.mb_build.proofs.NumberLemmas.{senders-different}
 use Rattle.mb_build.proofs.PlannedLemmas.{length-queues}
 use Rattle.mb_build.proofs.QueueLemmas.{as-many}
 use Rattle.mb_build.proofs.DirectoryLemmas.{length-enrolled}
-use Rattle.mb_startup.specs.Begun.{AreNewEnds, AreNewSenders, AreUnused}
+use Rattle.mb_startup.specs.Begun.{AreNewHandles, AreNewSenders, AreUnused}
 use Rattle.mb_system.specs.Belonging.{senders_numbers}
 use Rattle.mb_system.specs.KnownSenders.{AreKnown}
 use Rattle.mb_startup.specs.NewGates.{AreNewGates}
-use Rattle.mb_system.specs.Members.{IsEndOf, IsSenderOf, OutsideSender}
-use Rattle.mb_system.specs.declared.end.WorkerEnd.{WorkerEnd}
+use Rattle.mb_system.specs.Members.{IsHandleOf, IsSenderOf, OutsideSender}
+use Rattle.mb_system.specs.declared.handle.WorkerHandle.{WorkerHandle}
 use Rattle.mb_startup.proofs.Known.{as-many-homes, first-directory, known-first, unused-outside}
 
 length-numbers : (first count : ℕ) → length (numbers first count) ≡ count
@@ -81,26 +81,26 @@ founded gives mode limit plans kinds senders homes outside gates few queues hous
       rows = ap length housed.passes ∙ length-map (numbers most_actors senders) (passes_of housed.takes) ∙ length-numbers most_actors senders;
     }
 
--- the ends and feeds of a new pool are of its gates
+-- the handles and feeds of a new pool are of its gates
 module _ {H : Type 0} (pool : PoolView H) where
   length-pool : (first count : ℕ) → length (pool_numbers first count) ≡ count
   length-pool first zero = refl
   length-pool first (suc count) = ap suc (length-pool (first + 1) count)
 
-  ends-there : (first count : ℕ) (ends : List (PoolEndpoint H)) → map (parts_of {H = H}) ends ≡ map (end_parts pool) (pool_numbers first count)
-      → All (λ (w : PoolEndpoint H). gates_of w ≡ Some pool.gates) ends
-  ends-there first count [] are = All-nil (λ (w : PoolEndpoint H). gates_of w ≡ Some pool.gates)
-  ends-there first zero (e ∷ ends) are = absurd (cc)
-  ends-there first (suc count) (e ∷ ends) are =
-      let this : parts_of e ≡ end_parts pool first = cc in
-      let rest : map (parts_of {H = H}) ends ≡ map (end_parts pool) (pool_numbers (first + 1) count) = cc in
-      All-cons (λ (w : PoolEndpoint H). gates_of w ≡ Some pool.gates) e ends (ap (λ (p : Parts H). p.shared_port.gates) this)
-      (ends-there (first + 1) count ends rest)
+  handles-there : (first count : ℕ) (handles : List (PoolEndpoint H)) → map (parts_of {H = H}) handles ≡ map (handle_parts pool) (pool_numbers first count)
+      → All (λ (w : PoolEndpoint H). gates_of w ≡ Some pool.gates) handles
+  handles-there first count [] are = All-nil (λ (w : PoolEndpoint H). gates_of w ≡ Some pool.gates)
+  handles-there first zero (e ∷ handles) are = absurd (cc)
+  handles-there first (suc count) (e ∷ handles) are =
+      let this : parts_of e ≡ handle_parts pool first = cc in
+      let rest : map (parts_of {H = H}) handles ≡ map (handle_parts pool) (pool_numbers (first + 1) count) = cc in
+      All-cons (λ (w : PoolEndpoint H). gates_of w ≡ Some pool.gates) e handles (ap (λ (p : Parts H). p.shared_port.gates) this)
+      (handles-there (first + 1) count handles rest)
 
-  pub ends-gates : (ends : List (PoolEndpoint H)) → AreEnds pool ends → All (λ (w : PoolEndpoint H). gates_of w ≡ Some pool.gates) ends × (length ends ≡ pool.ends)
-  ends-gates ends are = (
-    ends-there 0 pool.ends ends are,
-    sym (length-map ends (parts_of {H = H})) ∙ ap length are ∙ length-map (pool_numbers 0 pool.ends) (end_parts pool) ∙ length-pool 0 pool.ends,
+  pub handles-gates : (handles : List (PoolEndpoint H)) → AreHandles pool handles → All (λ (w : PoolEndpoint H). gates_of w ≡ Some pool.gates) handles × (length handles ≡ pool.handles)
+  handles-gates handles are = (
+    handles-there 0 pool.handles handles are,
+    sym (length-map handles (parts_of {H = H})) ∙ ap length are ∙ length-map (pool_numbers 0 pool.handles) (handle_parts pool) ∙ length-pool 0 pool.handles,
   )
 
   feeds-there : (count : ℕ) (feeds : List (PoolEndpoint H)) → map (parts_of {H = H}) feeds ≡ replicate count (feed_parts pool)
@@ -119,7 +119,7 @@ module _ {H : Type 0} (pool : PoolView H) where
     sym (length-map feeds (parts_of {H = H})) ∙ ap length are ∙ length-replicate pool.feeds (feed_parts pool),
   )
 
--- ends and senders that were opened belong to their gates
+-- handles and senders that were opened belong to their gates
 module _ (gates : Gates (Box Contents)) where
   pub all-senders : (number : ℕ) (rows : List (List SendPassView)) (senders : List OutsideSender) → AreNewSenders gates number rows senders
       → All (λ (s : OutsideSender). IsSenderOf gates s) senders
@@ -171,7 +171,7 @@ module _ (gates : Gates (Box Contents)) where
       subst (AllPairs (λ a b. a ≢ b)) (append-nil (numbers 0 (length senders)) ∙ sym are_numbers) (senders-different (length senders) 0 few)
 
 module _ {A K : Type 0} (gates : Gates (Box Contents)) where
-  pub all-ends : (number : ℕ) (ends : List (WorkerEnd A K)) → AreNewEnds gates number ends → All (λ (e : WorkerEnd A K). IsEndOf gates e.registrar) ends
-  all-ends number [] are = All-nil (λ (e : WorkerEnd A K). IsEndOf gates e.registrar)
-  all-ends number (e ∷ ends) are =
-      All-cons (λ (e : WorkerEnd A K). IsEndOf gates e.registrar) e ends are.0.same_gates (all-ends (number + 1) ends are.1)
+  pub all-handles : (number : ℕ) (handles : List (WorkerHandle A K)) → AreNewHandles gates number handles → All (λ (e : WorkerHandle A K). IsHandleOf gates e.registrar) handles
+  all-handles number [] are = All-nil (λ (e : WorkerHandle A K). IsHandleOf gates e.registrar)
+  all-handles number (e ∷ handles) are =
+      All-cons (λ (e : WorkerHandle A K). IsHandleOf gates e.registrar) e handles are.0.same_gates (all-handles (number + 1) handles are.1)

@@ -1,11 +1,11 @@
--- What the ends of a new system owe.
+-- What the handles of a new system owe.
 use Rattle.std.proofs.Common.{◌≡◌, ◌==◌, ◌||◌, ℕ, Bool, true, false, [], if◌then◌else◌, refl, ap, ◌∙◌, arith}
 use Rattle.std.proofs.lemmas.Bool.Decides.{nat_tests}
 use Rattle.mb_core.specs.declared.wake_obligation.WakeObligation.{WakeObligation}
 use Rattle.mb_core.specs.Actor.{nothing}
 use Rattle.mb_msg.specs.declared.system.SysMsg.{SysMsg}
 use Rattle.mb_gate.specs.View.{View, added_obligations, obligation_of, either_obligation, enlisting, obligation_to}
-use Rattle.mb_gate.proofs.Parting.{obligation_by-added}
+use Rattle.mb_gate.proofs.SplitsAndJoins.{obligation_by-added}
 use Rattle.mb_startup.specs.Begun.{OwesFirstRun, HasNoObligations}
 
 or-false : (b : Bool) → (b || false) ≡ b

@@ -12,8 +12,8 @@ use Rattle.mb_gate.specs.Accessors.{pass_view}
 use Rattle.mb_gate.specs.declared.pass.Pass.{Pass}
 use Rattle.mb_home.specs.Contents.{Contents}
 use Rattle.mb_startup.specs.Shared.{KeepsWhole}
-use Rattle.mb_system.specs.Shares.{share_of_end, shares_of_ends}
-use Rattle.mb_system.specs.declared.end.WorkerEnd.{WorkerEnd}
+use Rattle.mb_system.specs.Shares.{share_of_handle, shares_of_handles}
+use Rattle.mb_system.specs.declared.handle.WorkerHandle.{WorkerHandle}
 
 each-first : {A : Type 0} (P : A → Type 0) (xs ys : List A) → Each P (xs ++ ys) → Each P xs
 each-first P [] ys all = tt
@@ -61,21 +61,21 @@ module _ {X : Type 0} (f : X → List ℕ) where
       subst (λ s. KeepsWhole before s (flat_map f new)) (sym is)
       (subst (λ l. KeepsWhole before (halved share) l) (sym more) (keeps-half before share (flat_map f xs) keeps))
 
--- the whole is with the ends, of which the first took over the pass, and with the senders
-pub whole-with : (share sent mine outside ends lent new : List ℕ) → IsWhole share → KeepsWhole share sent outside → KeepsWhole sent mine ends
-    → new ≡ mine ++ lent → lent ≡ ends → IsWhole (new ++ outside)
-whole-with share sent mine outside ends lent new whole senders led is same =
+-- the whole is with the handles, of which the first took over the pass, and with the senders
+pub whole-with : (share sent mine outside handles lent new : List ℕ) → IsWhole share → KeepsWhole share sent outside → KeepsWhole sent mine handles
+    → new ≡ mine ++ lent → lent ≡ handles → IsWhole (new ++ outside)
+whole-with share sent mine outside handles lent new whole senders led is same =
     let first : IsWhole (sent ++ (outside ++ [])) = senders [] (subst IsWhole (sym (append-nil share)) whole) in
-    let all : IsWhole (mine ++ (ends ++ outside)) =
+    let all : IsWhole (mine ++ (handles ++ outside)) =
     led outside (subst (λ l. IsWhole (sent ++ l)) (append-nil outside) first) in
-    subst IsWhole (sym (append_assoc mine ends outside) ∙ ap (λ l. l ++ outside) (sym (is ∙ ap (λ l. mine ++ l) same))) all
+    subst IsWhole (sym (append_assoc mine handles outside) ∙ ap (λ l. l ++ outside) (sym (is ∙ ap (λ l. mine ++ l) same))) all
 
 module _ {A K : Type 0} where
-  -- the first end has its share and that of the pass
-  pub first-shares : (ends : List (WorkerEnd A K)) (d e : WorkerEnd A K) (p : Pass (Box Contents)) (share : List ℕ) → e ≡ get_or ends 0 d
-      → 0 < length ends → (pass_view p).share ≡ share ++ share_of_end e
-      → shares_of_ends (set ends 0 (record e { registrar = record e.registrar { pass = p } })) ≡ share ++ shares_of_ends ends
+  -- the first handle has its share and that of the pass
+  pub first-shares : (handles : List (WorkerHandle A K)) (d e : WorkerHandle A K) (p : Pass (Box Contents)) (share : List ℕ) → e ≡ get_or handles 0 d
+      → 0 < length handles → (pass_view p).share ≡ share ++ share_of_handle e
+      → shares_of_handles (set handles 0 (record e { registrar = record e.registrar { pass = p } })) ≡ share ++ shares_of_handles handles
   first-shares [] d e p share is some has = absurd (omega (arith, some))
   first-shares (x ∷ others) d e p share is some has =
-      ap (λ l. l ++ shares_of_ends others) (has ∙ ap (λ z. share ++ share_of_end z) is)
-      ∙ append_assoc share (share_of_end x) (shares_of_ends others)
+      ap (λ l. l ++ shares_of_handles others) (has ∙ ap (λ z. share ++ share_of_handle z) is)
+      ∙ append_assoc share (share_of_handle x) (shares_of_handles others)

@@ -1,4 +1,4 @@
--- All ends and senders with which a system begins are there, in order.
+-- All handles and senders with which a system begins are there, in order.
 use Rattle.std.proofs.Common.{◌≡◌, ◌≢◌, ◌+◌, ◌-◌, ◌<◌, ◌≤◌, ℕ, zero, suc, List, [], ◌∷◌, length, refl, sym, ap, ◌∙◌, Some, arith}
 use Rattle.std.specs.Prelude.{slice_get}
 use Rattle.std.specs.Global.{Box}
@@ -11,11 +11,11 @@ use Rattle.mb_msg.specs.declared.plan.Plan.{Plan}
 use Rattle.mb_queue.specs.Passes.{SendPassView}
 use Rattle.mb_build.specs.Handed.{passes_of}
 use Rattle.mb_build.specs.Numbers.{numbers}
-use Rattle.mb_startup.specs.Begun.{AreNewEnds, AreNewSenders, IsBegun}
+use Rattle.mb_startup.specs.Begun.{AreNewHandles, AreNewSenders, IsBegun}
 use Rattle.mb_system.specs.Belonging.{senders_numbers}
-use Rattle.mb_system.specs.Members.{OutsideSender, ends_numbers}
+use Rattle.mb_system.specs.Members.{OutsideSender, handle_numbers}
 use Rattle.mb_system.specs.declared.built.Built.{Built}
-use Rattle.mb_system.specs.declared.end.WorkerEnd.{WorkerEnd}
+use Rattle.mb_system.specs.declared.handle.WorkerHandle.{WorkerHandle}
 
 -- numbers in a row
 pub length-numbers : (first count : ℕ) → length (numbers first count) ≡ count
@@ -41,12 +41,12 @@ module _ (gates : Gates (Box Contents)) where
       ((λ i. one i ∷ (rest.0 ∙ ap (λ n. numbers n (length senders)) next) i), ap suc rest.1)
 
 module _ {A K : Type 0} (gates : Gates (Box Contents)) where
-  numbers-of-ends : (number : ℕ) (ends : List (WorkerEnd A K)) → AreNewEnds gates number ends → ends_numbers ends ≡ numbers number (length ends)
-  numbers-of-ends number [] are = refl
-  numbers-of-ends number (e ∷ ends) are = λ i. are.0.number_is i ∷ numbers-of-ends (number + 1) ends are.1 i
+  numbers-of-handles : (number : ℕ) (handles : List (WorkerHandle A K)) → AreNewHandles gates number handles → handle_numbers handles ≡ numbers number (length handles)
+  numbers-of-handles number [] are = refl
+  numbers-of-handles number (e ∷ handles) are = λ i. are.0.number_is i ∷ numbers-of-handles (number + 1) handles are.1 i
 
 module _ {A K : Type 0} (gives : ℕ → Moment → Reply → Type 0) (plan : Plan) (built : Built A K) (begun : IsBegun gives plan built) where
-  -- all senders and ends of the plan are there, in order
+  -- all senders and handles of the plan are there, in order
   pub senders-there : (length built.senders.items ≡ plan.senders) × (senders_numbers built.senders.items ≡ numbers 0 plan.senders)
   senders-there =
       let are = numbers-of-senders built.system.gates most_actors begun.outside built.senders.items (omega arith) begun.senders in
@@ -55,13 +55,13 @@ module _ {A K : Type 0} (gives : ℕ → Moment → Reply → Type 0) (plan : Pl
       ∙ length-numbers most_actors plan.senders in
       (many, are.0 ∙ ap (numbers 0) many)
 
-  pub ends-there : ends_numbers built.ends.items ≡ numbers 0 plan.workers
-  ends-there =
-      let all : ends_numbers built.ends.items ≡ numbers 0 (length built.ends.items) =
-      ap ends_numbers begun.ends_are
-      ∙ (λ i. begun.first_end.0 i ∷ numbers-of-ends built.system.gates 1 begun.others begun.others_are i)
-      ∙ ap (λ l. numbers 0 (length l)) (sym begun.ends_are) in
+  pub handles-there : handle_numbers built.handles.items ≡ numbers 0 plan.workers
+  handles-there =
+      let all : handle_numbers built.handles.items ≡ numbers 0 (length built.handles.items) =
+      ap handle_numbers begun.handles_are
+      ∙ (λ i. begun.first_handle.0 i ∷ numbers-of-handles built.system.gates 1 begun.others begun.others_are i)
+      ∙ ap (λ l. numbers 0 (length l)) (sym begun.handles_are) in
       all ∙ ap (numbers 0) begun.same_count
 
-  pub some-end : built.ends.items ≢ []
-  some-end none = let e = ap length (sym begun.ends_are ∙ none) in omega (arith, e)
+  pub some-handle : built.handles.items ≢ []
+  some-handle none = let e = ap length (sym begun.handles_are ∙ none) in omega (arith, e)

@@ -13,7 +13,7 @@ use Rattle.mb_gate.specs.declared.gates.Gates.{Gates}
 use Rattle.mb_msg.specs.declared.journal_mode.JournalMode.{JournalMode}
 use Rattle.mb_msg.specs.declared.plan.Plan.{Plan}
 use Rattle.mb_pool.specs.Made.{AreUnused as AreUnusedWays, IsOfKind}
-use Rattle.mb_pool.specs.Places.{AreEnds, AreFeeds}
+use Rattle.mb_pool.specs.Places.{AreHandles, AreFeeds}
 use Rattle.mb_msg.specs.declared.mailbox_type.MailboxType.{MailboxType}
 use Rattle.mb_queue.specs.Passes.{Queue, SendPassView}
 use Rattle.mb_home.specs.Contents.{Contents}
@@ -21,12 +21,12 @@ use Rattle.mb_build.specs.NewHomes.{AreNewHomes}
 use Rattle.mb_build.specs.Planned.{actors_in}
 use Rattle.mb_build.specs.Kinds.{AreKindsOf}
 use Rattle.mb_send.specs.Sends.{AreRoutes, receiving_queues}
-use Rattle.mb_register.specs.Owed.{IsNobody}
-use Rattle.mb_system.specs.Members.{IsEndOf, IsSenderOf, OutsideSender, pool_ends_of, pool_feeds_of}
+use Rattle.mb_register.specs.ActorSet.{IsNobody}
+use Rattle.mb_system.specs.Members.{IsHandleOf, IsSenderOf, OutsideSender, pool_handles_of, pool_feeds_of}
 use Rattle.mb_system.specs.Shares.{shares_of, views_of}
 use Rattle.mb_system.specs.Belonging.{BelongsTogether}
 use Rattle.mb_system.specs.declared.built.Built.{Built}
-use Rattle.mb_system.specs.declared.end.WorkerEnd.{WorkerEnd}
+use Rattle.mb_system.specs.declared.handle.WorkerHandle.{WorkerHandle}
 use Rattle.mb_startup.specs.NewActors.{AreNewActors}
 
 -- A sender's passes: one into each of these queues, in order, for the sender of this number. Nothing was pushed by them.
@@ -52,8 +52,8 @@ HasNoObligations view = (id : ℕ) → obligation_to id view ≡ nothing
 abbrev pub OwesFirstRun : View → Type 0
 OwesFirstRun view = (obligation_to 0 view ≡ record nothing { system = true }) × ((id : ℕ) → id ≢ 0 → obligation_to id view ≡ nothing)
 
--- No claim went into the end's run queue, none was refused, and the end took none.
-abbrev pub HasNoClaims : {A K : Type 0} → WorkerEnd A K → Type 0
+-- No claim went into the handle's run queue, none was refused, and the handle took none.
+abbrev pub HasNoClaims : {A K : Type 0} → WorkerHandle A K → Type 0
 HasNoClaims e = (e.registrar.run_queue.pushed ≡ []) × (e.registrar.run_queue.refused ≡ []) × (e.taken ≡ [])
 
 -- Each of these senders keeps of its dead letters what a journal of this mode keeps of its entries.
@@ -82,10 +82,10 @@ module _ (gates : Gates (Box Contents)) where
   AreNewSenders number _ _ = ⊥
 
 module _ {A K : Type 0} (gates : Gates (Box Contents)) where
-  -- A new worker's end of this number, which saw nothing, got and took no claim, gave no cell back and owes nobody anything. Nothing went into its run
+  -- A new worker's handle of this number, which saw nothing, got and took no claim, gave no cell back and owes nobody anything. Nothing went into its run
   -- queue, and nothing was refused.
-  pub record IsNewEnd (number : ℕ) (e : WorkerEnd A K) : Type 0 where
-    pub same_gates : IsEndOf gates e.registrar
+  pub record IsNewHandle (number : ℕ) (e : WorkerHandle A K) : Type 0 where
+    pub same_gates : IsHandleOf gates e.registrar
     pub number_is : e.number ≡ number
     pub nobody : IsNobody e.registrar.owed
     pub settled : HasNoObligations (pass_view e.registrar.pass)
@@ -94,31 +94,31 @@ module _ {A K : Type 0} (gates : Gates (Box Contents)) where
     pub none_released : (pass_view e.registrar.pass).releases ≡ []
     pub no_claims : HasNoClaims e
 
-  -- New ends, numbered on from this one.
-  abbrev pub AreNewEnds : ℕ → List (WorkerEnd A K) → Type 0
-  AreNewEnds number [] = Unit {0}
-  AreNewEnds number (e ∷ ends) = IsNewEnd number e × AreNewEnds (number + 1) ends
+  -- New handles, numbered on from this one.
+  abbrev pub AreNewHandles : ℕ → List (WorkerHandle A K) → Type 0
+  AreNewHandles number [] = Unit {0}
+  AreNewHandles number (e ∷ handles) = IsNewHandle number e × AreNewHandles (number + 1) handles
 
-  -- New ends, numbered on from 0. But the first put the Create into the guardian's list, and owes the guardian its first run.
-  pub record AreFirstEnds (ends : List (WorkerEnd A K)) : Type 0 where
-    pub end : WorkerEnd A K
-    pub others : List (WorkerEnd A K)
-    pub ends_are : ends ≡ (end ∷ others)
-    pub others_are : AreNewEnds 1 others
-    pub same_gates : IsEndOf gates end.registrar
-    pub first_end : (end.number ≡ 0) × IsNobody end.registrar.owed
-    pub created : IsCreated (pass_view end.registrar.pass)
-    pub settled : OwesFirstRun (pass_view end.registrar.pass)
-    pub unclaimed : (pass_view end.registrar.pass).got ≡ []
-    pub none_released : (pass_view end.registrar.pass).releases ≡ []
-    pub no_claims : HasNoClaims end
+  -- New handles, numbered on from 0. But the first put the Create into the guardian's list, and owes the guardian its first run.
+  pub record AreFirstHandles (handles : List (WorkerHandle A K)) : Type 0 where
+    pub handle : WorkerHandle A K
+    pub others : List (WorkerHandle A K)
+    pub handles_are : handles ≡ (handle ∷ others)
+    pub others_are : AreNewHandles 1 others
+    pub same_gates : IsHandleOf gates handle.registrar
+    pub first_handle : (handle.number ≡ 0) × IsNobody handle.registrar.owed
+    pub created : IsCreated (pass_view handle.registrar.pass)
+    pub settled : OwesFirstRun (pass_view handle.registrar.pass)
+    pub unclaimed : (pass_view handle.registrar.pass).got ≡ []
+    pub none_released : (pass_view handle.registrar.pass).releases ≡ []
+    pub no_claims : HasNoClaims handle
 
 -- A new system of this plan. The actors' homes are as the plan says, its queues are of the plan's kinds and empty, and its pool is of the plan's
--- kind. Its ends and its senders are unused; they have the ends and feeds of that pool, by which nothing was pushed or taken. Its senders keep of their
+-- kind. Its handles and its senders are unused; they have the handles and feeds of that pool, by which nothing was pushed or taken. Its senders keep of their
 -- dead letters what the plan says that journals keep. One Create, to the
--- guardian, is the only message that anybody put into a list: the first end put it there, and owes the guardian its first run. Nobody got a claim,
--- gave a cell back or owes anything else, and there are no passes but those of these ends and senders. So each actor is new, in each state of the gates
--- in which these ends and senders know what they know.
+-- guardian, is the only message that anybody put into a list: the first handle put it there, and owes the guardian its first run. Nobody got a claim,
+-- gave a cell back or owes anything else, and there are no passes but those of these handles and senders. So each actor is new, in each state of the gates
+-- in which these handles and senders know what they know.
 pub record IsBegun {A K : Type 0} (gives : ℕ → Moment → Reply → Type 0) (plan : Plan) (built : Built A K) : Type 0 where
   pub together : BelongsTogether built
   pub kinds : List MailboxType
@@ -132,17 +132,17 @@ pub record IsBegun {A K : Type 0} (gives : ℕ → Moment → Reply → Type 0) 
   pub keep_letters : KeepLettersIn plan.journal built.senders.items
   pub numbers : (built.system.workers ≡ plan.workers) × (built.system.senders ≡ plan.senders) × (built.system.throughput ≡ plan.throughput)
   pub pool : IsOfKind plan.pool built.system.pool
-  pub of_pool : AreEnds built.system.pool (pool_ends_of built.ends.items) × AreFeeds built.system.pool (pool_feeds_of built.senders.items)
-  pub unused : AreUnusedWays (pool_ends_of built.ends.items ++ pool_feeds_of built.senders.items)
-  pub same_count : length built.ends.items ≡ plan.workers
-  pub end : WorkerEnd A K
-  pub others : List (WorkerEnd A K)
-  pub ends_are : built.ends.items ≡ (end ∷ others)
-  pub others_are : AreNewEnds built.system.gates 1 others
-  pub first_end : (end.number ≡ 0) × IsNobody end.registrar.owed
-  pub created : IsCreated (pass_view end.registrar.pass)
-  pub settled : OwesFirstRun (pass_view end.registrar.pass)
-  pub unclaimed : (pass_view end.registrar.pass).got ≡ []
-  pub none_released : (pass_view end.registrar.pass).releases ≡ []
+  pub of_pool : AreHandles built.system.pool (pool_handles_of built.handles.items) × AreFeeds built.system.pool (pool_feeds_of built.senders.items)
+  pub unused : AreUnusedWays (pool_handles_of built.handles.items ++ pool_feeds_of built.senders.items)
+  pub same_count : length built.handles.items ≡ plan.workers
+  pub handle : WorkerHandle A K
+  pub others : List (WorkerHandle A K)
+  pub handles_are : built.handles.items ≡ (handle ∷ others)
+  pub others_are : AreNewHandles built.system.gates 1 others
+  pub first_handle : (handle.number ≡ 0) × IsNobody handle.registrar.owed
+  pub created : IsCreated (pass_view handle.registrar.pass)
+  pub settled : OwesFirstRun (pass_view handle.registrar.pass)
+  pub unclaimed : (pass_view handle.registrar.pass).got ≡ []
+  pub none_released : (pass_view handle.registrar.pass).releases ≡ []
   pub whole : IsWhole (shares_of built)
   pub new_actors : AreNewActors gives plan built.system.gates (views_of built)

@@ -3,3 +3,4 @@ pub mod NewActors
 pub mod Begun
 pub mod NewGates
 pub mod Unbuilt
+pub mod Opened

@@ -5,7 +5,7 @@ ghost use Rattle.mb_build.specs.Reasons.{reasons};
 ghost use Rattle.mb_startup.specs.Begun.{IsBegun};
 ghost use Rattle.mb_startup.specs.Unbuilt.{IsNoSystem};
 
-use crate::ends_and_senders::{EndsAndSenders, open};
+use crate::handles_and_senders::{HandlesAndSenders, open};
 use crate::new_gates::{NewGates, found};
 use mb_actor::{Actor, Behaviours};
 use mb_build::{PlanError, check_plan};
@@ -42,14 +42,15 @@ pub fn build<A: Actor, K: Behaviours, R: Wait>(
     if let Err(reason) = check_plan(&plan, actors.len()) {
         return Err(BuildError::BadPlan(reason, plan, actors));
     }
-    match assemble(rt, alloc, plan, actors) {
+    match build_checked(rt, alloc, plan, actors) {
         Ok(built) => Ok(built),
         Err(_) => Err(BuildError::NoMemory),
     }
 }
 
-// Puts the system together, of a plan that is not refused.
-fn assemble<A: Actor, K: Behaviours, R: Wait>(
+/// Builds a system as `build` does, from a plan that `check_plan` does not refuse, and without a look at the plan. The only error: memory was
+/// refused. The plan and the actors are dropped then.
+pub fn build_checked<A: Actor, K: Behaviours, R: Wait>(
     rt: &R,
     alloc: Global,
     plan: Plan,
@@ -73,11 +74,17 @@ fn assemble<A: Actor, K: Behaviours, R: Wait>(
         pass,
         outside,
     } = found(alloc, plans, actors, senders, journal, journal_limit)?;
-    let (pool, ends, feeds) = Pool::new(alloc, &gates, pool, workers as usize, senders as usize)?;
-    let EndsAndSenders {
-        ends,
+    let (pool, handles, feeds) = Pool::new(
+        alloc,
+        &gates,
+        pool,
+        workers as usize,
+        senders as usize,
+    )?;
+    let HandlesAndSenders {
+        handles,
         senders: outside,
-    } = open(rt, alloc, &gates, pass, ends, feeds, outside, journal)?;
+    } = open(rt, alloc, &gates, pass, handles, feeds, outside, journal)?;
     let system = System {
         workers,
         senders,
@@ -89,7 +96,7 @@ fn assemble<A: Actor, K: Behaviours, R: Wait>(
     };
     Ok(Built {
         system,
-        ends,
+        handles,
         senders: outside,
     })
 }

@@ -123,6 +123,15 @@ pub acts-done : (this : ActorId) (acts whole : List Act) (list : List ActorId) (
 acts-done this acts whole list all none before =
     sym (ap (λ es. acts ++ effect_acts this list es) none ∙ (ap (λ more. acts ++ more) (effect_acts-none this list) ∙ append-nil acts)) ∙ before
 
+pub children-done : (children whole : List ActorId) (all : List Effect) → all ≡ [] → children ++ spawns_of all ≡ whole → children ≡ whole
+children-done children whole all none before = sym (ap (λ es. children ++ spawns_of es) none ∙ append-nil children) ∙ before
+
+pub watching-done : (this : ActorId) (list whole : List ActorId) (all : List Effect) → all ≡ [] → watching_after this list all ≡ whole → list ≡ whole
+watching-done this list whole all none before = sym (ap (λ es. watching_after this list es) none) ∙ before
+
+pub due-done : (list whole : List ActorId) (all : List Effect) → all ≡ [] → due_after list all ≡ whole → list ≡ whole
+due-done list whole all none before = sym (ap (λ es. due_after list es) none) ∙ before
+
 -- ---- room for what is left
 
 pub act-fits : (first now steps count : ℕ) → first ≤ now + steps → count ≤ first → steps < count → 0 < now

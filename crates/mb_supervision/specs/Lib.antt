@@ -5,3 +5,4 @@ pub mod ActorIdentity
 pub mod ActQueueView
 pub mod RetryCounts
 pub mod Rows
+pub mod Effects

@@ -10,7 +10,7 @@ mod create;
 mod died;
 mod failed;
 mod handle;
-mod pass;
+mod ignore;
 mod recreate;
 mod resume;
 mod suspend;

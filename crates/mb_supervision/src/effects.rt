@@ -1,9 +1,9 @@
 //! Carrying out the effects of a call, one after another.
 
 ghost use Rattle.std.specs.Prelude.{◌≡◌, ◌+◌, ◌≤◌, ◌<◌, [], ◌∷◌, ◌++◌, length, vec_len, vec_capacity};
-ghost use Rattle.mb_actor.specs.OutboxView.{spawns_of};
 ghost use Rattle.mb_journal.specs.Acts.{effect_acts, stop_acts};
-ghost use Rattle.mb_journal.specs.Watching.{watching_after, due_after};
+ghost use Rattle.mb_journal.specs.Watching.{watching_after};
+ghost use Rattle.mb_supervision.specs.Effects.{CarriesOut, GrowsAtMostByOne};
 
 use crate::act_queue::ActQueue;
 use crate::actor_list::{has, join, leave};
@@ -23,10 +23,8 @@ pub(crate) fn carry_out(
     requires room { length effects.now ≤ acts.old.room }
     requires children_room { vec_len children.old + length effects.now ≤ vec_capacity children.old }
     requires watching_room { vec_len watching.old + length effects.now ≤ vec_capacity watching.old }
-    ensures acts { acts.new.acts ≡ acts.old.acts ++ effect_acts this watching.old.items effects.now }
-    ensures children { children.new.items ≡ children.old.items ++ spawns_of effects.now }
-    ensures watching { watching.new.items ≡ watching_after this watching.old.items effects.now }
-    ensures due { due.new.items ≡ due_after due.old.items effects.now }
+    ensures carried_out { CarriesOut this effects.now acts.old.acts acts.new.acts children.old.items children.new.items
+        watching.old.items watching.new.items due.old.items due.new.items }
     ensures few_acts { acts.old.room ≤ acts.new.room + length effects.now }
     ensures few_children { vec_len children.new ≤ vec_len children.old + length effects.now }
 {
@@ -68,15 +66,11 @@ fn carry_out_one(
     requires room { 0 < acts.old.room }
     requires children_room { vec_len children.old < vec_capacity children.old }
     requires watching_room { vec_len watching.old < vec_capacity watching.old }
-    ensures acts { acts.new.acts ≡ acts.old.acts ++ effect_acts this watching.old.items (effect ∷ []) }
-    ensures children { children.new.items ≡ children.old.items ++ spawns_of (effect ∷ []) }
-    ensures watching { watching.new.items ≡ watching_after this watching.old.items (effect ∷ []) }
-    ensures due { due.new.items ≡ due_after due.old.items (effect ∷ []) }
+    ensures carried_out { CarriesOut this (effect ∷ []) acts.old.acts acts.new.acts children.old.items children.new.items
+        watching.old.items watching.new.items due.old.items due.new.items }
     ensures one_act { acts.old.room ≤ acts.new.room + 1 }
-    ensures one_child { (vec_len children.new ≤ vec_len children.old + 1) }
-    ensures one_watched { (vec_len watching.new ≤ vec_len watching.old + 1) }
-    ensures children_capacity { vec_capacity children.old ≤ vec_capacity children.new }
-    ensures watching_capacity { vec_capacity watching.old ≤ vec_capacity watching.new }
+    ensures one_child { GrowsAtMostByOne children.old children.new }
+    ensures one_watched { GrowsAtMostByOne watching.old watching.new }
 {
     match effect {
         Effect::Tell { to, kind, value } => acts.push(QueuedAct::Tell(
@@ -107,8 +101,7 @@ fn watch(this: ActorId, id: ActorId, acts: &mut ActQueue, watching: &mut Vec<Act
     ensures acts { acts.new.acts ≡ acts.old.acts ++ effect_acts this watching.old.items (Effect.Watch id ∷ []) }
     ensures watching { watching.new.items ≡ watching_after this watching.old.items (Effect.Watch id ∷ []) }
     ensures one_act { acts.old.room ≤ acts.new.room + 1 }
-    ensures one_watched { vec_len watching.new ≤ vec_len watching.old + 1 }
-    ensures watching_capacity { vec_capacity watching.old ≤ vec_capacity watching.new }
+    ensures one_watched { GrowsAtMostByOne watching.old watching.new }
 {
     if this.0 == id.0 || has(watching, id) {
         return;
@@ -124,8 +117,7 @@ fn unwatch(this: ActorId, id: ActorId, acts: &mut ActQueue, watching: &mut Vec<A
     ensures acts { acts.new.acts ≡ acts.old.acts ++ effect_acts this watching.old.items (Effect.Unwatch id ∷ []) }
     ensures watching { watching.new.items ≡ watching_after this watching.old.items (Effect.Unwatch id ∷ []) }
     ensures one_act { acts.old.room ≤ acts.new.room + 1 }
-    ensures one_watched { vec_len watching.new ≤ vec_len watching.old + 1 }
-    ensures watching_capacity { vec_capacity watching.old ≤ vec_capacity watching.new }
+    ensures one_watched { GrowsAtMostByOne watching.old watching.new }
 {
     let watched = has(watching, id);
     leave(watching, id);

@@ -1,4 +1,4 @@
--- Ends and senders may go to other threads where actors and their kind of behaviours may, and threads may share the system then.
+-- Handles and senders may go to other threads where actors and their kind of behaviours may, and threads may share the system then.
 use Prim.Native.Nat.{ℕ}
 use denote.RattleType.{RattleType}
 use mir.Syntax.{Ty}
@@ -25,9 +25,9 @@ use Rattle.mb_send.proofs.Crossing as send
 use Rattle.mb_pool.proofs.Crossing.{pool_sync}
 use Rattle.mb_pool.specs.contracts.worker_port.WorkerPort as worker_port
 use Rattle.mb_pool.specs.contracts.feed_port.FeedPort as feed_port
-use Rattle.mb_pool.proofs.PoolPortCrossing.{end_way_send as worker_port_send, feed_way_send as feed_port_send}
+use Rattle.mb_pool.proofs.PoolPortCrossing.{handle_way_send as worker_port_send, feed_way_send as feed_port_send}
 use Rattle.mb_system.proofs.run_activity.RunActivity.TheSendSync as going
-use Rattle.mb_system.specs.contracts.end.WorkerEnd as end
+use Rattle.mb_system.specs.contracts.handle.WorkerHandle as handle
 use Rattle.mb_system.specs.contracts.system.System as system
 
 -- so may what is passed for a type parameter
@@ -50,8 +50,8 @@ module _ (A K : RattleType) (gA : actor.Ghosts A.Denot) (gK : behaviours.Ghosts 
   pub place_send : IsSend (ThePlace A K gA gK)
   place_send = Box-send (home.the_row A K gA gK) (home_send A K gA gK a k)
 
-  pub end_send : IsSend (end.the_row A K gA gK)
-  end_send = declared_send (end.the_type A K gA gK) (
+  pub handle_send : IsSend (handle.the_row A K gA gK)
+  handle_send = declared_send (handle.the_type A K gA gK) (
     search sendable,
     (
       registrar_send (ThePlace A K gA gK) (worker_port.the_row (ThePlace A K gA gK) (place_ghosts A K gA gK)) place_send

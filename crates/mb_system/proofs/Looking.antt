@@ -1,4 +1,4 @@
--- What registering actors changes of a worker's end.
+-- What registering actors changes of a worker's handle.
 use Rattle.std.proofs.Common.{◌≡◌, ◌⊎◌, inl, inr, ◌++◌, [], Bool, true, false, ℕ, ap, refl, sym, ◌∙◌, Option, Some, None, append_assoc}
 use Rattle.std.specs.Prelude.{IfNone}
 use Rattle.std.proofs.lemmas.List.{append-nil}

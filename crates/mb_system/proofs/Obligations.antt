@@ -3,7 +3,7 @@ use Rattle.std.proofs.Common.{◌≡◌, ◌≢◌, ◌⊎◌, inl, inr, ℕ, �
 use Rattle.mb_core.specs.Actor.{nothing}
 use Rattle.mb_gate.specs.View.{obligation_to}
 use Rattle.mb_register.specs.Caller.{Caller, IsDischargedOrOwed, LeavesCaller}
-use Rattle.mb_register.specs.Owed.{is_owed}
+use Rattle.mb_register.specs.ActorSet.{has_actor}
 use Rattle.mb_register.specs.Views.{LooksAmong}
 use Rattle.mb_register.proofs.Bits.{same_or_other}
 use Rattle.mb_system.specs.Obligations.{AreDischargedOrOwed, KeepsObligations, HasNoObligationTo}
@@ -18,22 +18,22 @@ not-both b owed_it free = let clash : true ≡ false = sym owed_it ∙ free in a
 module _ {H : Type 0} (actors : ℕ) where
   -- nothing became of them
   pub obligations-same : (a b : Caller H) → b.view ≡ a.view → b.account.owed ≡ a.account.owed → KeepsObligations actors a b
-  obligations-same a b view owed id lt = by_look (true-or-false (is_owed a.account.owed id))
+  obligations-same a b view owed id lt = by_look (true-or-false (has_actor a.account.owed id))
     where
-      by_look : (is_owed a.account.owed id ≡ true) ⊎ (is_owed a.account.owed id ≡ false)
-          → IsDischargedOrOwed id b ⊎ ((is_owed a.account.owed id ≡ false) × (obligation_to id b.view ≡ obligation_to id a.view))
-      by_look (inl owed_it) = inl (inr (ap (λ o. is_owed o id) owed ∙ owed_it))
+      by_look : (has_actor a.account.owed id ≡ true) ⊎ (has_actor a.account.owed id ≡ false)
+          → IsDischargedOrOwed id b ⊎ ((has_actor a.account.owed id ≡ false) × (obligation_to id b.view ≡ obligation_to id a.view))
+      by_look (inl owed_it) = inl (inr (ap (λ o. has_actor o id) owed ∙ owed_it))
       by_look (inr free) = inr (free, ap (obligation_to id) view)
 
   pub obligations-then : (a b c : Caller H) → KeepsObligations actors a b → KeepsObligations actors b c → KeepsObligations actors a c
   obligations-then a b c p q id lt = by_last (q id lt) (p id lt)
     where
-      by_last : IsDischargedOrOwed id c ⊎ ((is_owed b.account.owed id ≡ false) × (obligation_to id c.view ≡ obligation_to id b.view))
-          → IsDischargedOrOwed id b ⊎ ((is_owed a.account.owed id ≡ false) × (obligation_to id b.view ≡ obligation_to id a.view))
-          → IsDischargedOrOwed id c ⊎ ((is_owed a.account.owed id ≡ false) × (obligation_to id c.view ≡ obligation_to id a.view))
+      by_last : IsDischargedOrOwed id c ⊎ ((has_actor b.account.owed id ≡ false) × (obligation_to id c.view ≡ obligation_to id b.view))
+          → IsDischargedOrOwed id b ⊎ ((has_actor a.account.owed id ≡ false) × (obligation_to id b.view ≡ obligation_to id a.view))
+          → IsDischargedOrOwed id c ⊎ ((has_actor a.account.owed id ≡ false) × (obligation_to id c.view ≡ obligation_to id a.view))
       by_last (inl discharged) before = inl discharged
       by_last (inr kept) (inl (inl none)) = inl (inl (kept.1 ∙ none))
-      by_last (inr kept) (inl (inr owed)) = not-both (is_owed b.account.owed id) owed kept.0
+      by_last (inr kept) (inl (inr owed)) = not-both (has_actor b.account.owed id) owed kept.0
       by_last (inr kept) (inr before) = inr (before.0, kept.1 ∙ before.1)
 
   -- nothing became of them in between
@@ -43,31 +43,31 @@ module _ {H : Type 0} (actors : ℕ) where
 
   -- a look, or a run of a mailbox, lets none go
   pub obligations-left : (a b : Caller H) → LeavesCaller a b → KeepsObligations actors a b
-  obligations-left a b left id lt = by_look (left.obligations id) (true-or-false (is_owed a.account.owed id))
+  obligations-left a b left id lt = by_look (left.obligations id) (true-or-false (has_actor a.account.owed id))
     where
-      by_look : IsDischargedOrOwed id b ⊎ (obligation_to id b.view ≡ obligation_to id a.view) → (is_owed a.account.owed id ≡ true) ⊎ (is_owed a.account.owed id ≡ false)
-          → IsDischargedOrOwed id b ⊎ ((is_owed a.account.owed id ≡ false) × (obligation_to id b.view ≡ obligation_to id a.view))
+      by_look : IsDischargedOrOwed id b ⊎ (obligation_to id b.view ≡ obligation_to id a.view) → (has_actor a.account.owed id ≡ true) ⊎ (has_actor a.account.owed id ≡ false)
+          → IsDischargedOrOwed id b ⊎ ((has_actor a.account.owed id ≡ false) × (obligation_to id b.view ≡ obligation_to id a.view))
       by_look (inl discharged) owed = inl discharged
       by_look (inr same) (inl owed_it) = inl (inr (left.account.still id owed_it))
       by_look (inr same) (inr free) = inr (free, same)
 
   -- nor does one that registers refused actors again
-  pub obligations-discharged : (a b : Caller H) → actors ≤ 64 → LooksAmong (is_owed a.account.owed) a.view b.view
-      → ((id : ℕ) → id < 64 → is_owed a.account.owed id ≡ true → IsDischargedOrOwed id b) → KeepsObligations actors a b
-  obligations-discharged a b few looks kept id lt = by_look (true-or-false (is_owed a.account.owed id))
+  pub obligations-discharged : (a b : Caller H) → actors ≤ 64 → LooksAmong (has_actor a.account.owed) a.view b.view
+      → ((id : ℕ) → id < 64 → has_actor a.account.owed id ≡ true → IsDischargedOrOwed id b) → KeepsObligations actors a b
+  obligations-discharged a b few looks kept id lt = by_look (true-or-false (has_actor a.account.owed id))
     where
-      by_look : (is_owed a.account.owed id ≡ true) ⊎ (is_owed a.account.owed id ≡ false)
-          → IsDischargedOrOwed id b ⊎ ((is_owed a.account.owed id ≡ false) × (obligation_to id b.view ≡ obligation_to id a.view))
+      by_look : (has_actor a.account.owed id ≡ true) ⊎ (has_actor a.account.owed id ≡ false)
+          → IsDischargedOrOwed id b ⊎ ((has_actor a.account.owed id ≡ false) × (obligation_to id b.view ≡ obligation_to id a.view))
       by_look (inl owed_it) = inl (kept id (omega (arith, lt, few)) owed_it)
       by_look (inr free) = inr (free, looks.others id free)
 
   -- nor does one that does something at one actor, and then looks at it
   pub obligations-at : (at : ℕ) (a b : Caller H) → ((id : ℕ) → id ≢ at → obligation_to id b.view ≡ obligation_to id a.view) → IsDischargedOrOwed at b
-      → ((id : ℕ) → is_owed a.account.owed id ≡ true → is_owed b.account.owed id ≡ true) → KeepsObligations actors a b
-  obligations-at at a b others discharged still id lt = by_actor (same_or_other id at) (true-or-false (is_owed a.account.owed id))
+      → ((id : ℕ) → has_actor a.account.owed id ≡ true → has_actor b.account.owed id ≡ true) → KeepsObligations actors a b
+  obligations-at at a b others discharged still id lt = by_actor (same_or_other id at) (true-or-false (has_actor a.account.owed id))
     where
-      by_actor : (id ≡ at) ⊎ (id ≢ at) → (is_owed a.account.owed id ≡ true) ⊎ (is_owed a.account.owed id ≡ false)
-          → IsDischargedOrOwed id b ⊎ ((is_owed a.account.owed id ≡ false) × (obligation_to id b.view ≡ obligation_to id a.view))
+      by_actor : (id ≡ at) ⊎ (id ≢ at) → (has_actor a.account.owed id ≡ true) ⊎ (has_actor a.account.owed id ≡ false)
+          → IsDischargedOrOwed id b ⊎ ((has_actor a.account.owed id ≡ false) × (obligation_to id b.view ≡ obligation_to id a.view))
       by_actor (inl same) owed = inl (subst (λ n. IsDischargedOrOwed n b) (sym same) discharged)
       by_actor (inr other) (inl owed_it) = inl (inr (still id owed_it))
       by_actor (inr other) (inr free) = inr (free, others id other)
@@ -76,18 +76,18 @@ module _ {H : Type 0} (actors : ℕ) where
   pub discharged-still : (a b : Caller H) → AreDischargedOrOwed actors a → KeepsObligations actors a b → AreDischargedOrOwed actors b
   discharged-still a b p q id lt = by_last (q id lt) (p id lt)
     where
-      by_last : IsDischargedOrOwed id b ⊎ ((is_owed a.account.owed id ≡ false) × (obligation_to id b.view ≡ obligation_to id a.view)) → IsDischargedOrOwed id a → IsDischargedOrOwed id b
+      by_last : IsDischargedOrOwed id b ⊎ ((has_actor a.account.owed id ≡ false) × (obligation_to id b.view ≡ obligation_to id a.view)) → IsDischargedOrOwed id a → IsDischargedOrOwed id b
       by_last (inl discharged) before = discharged
       by_last (inr kept) (inl none) = inl (kept.1 ∙ none)
-      by_last (inr kept) (inr owed) = not-both (is_owed a.account.owed id) owed kept.0
+      by_last (inr kept) (inr owed) = not-both (has_actor a.account.owed id) owed kept.0
 
   -- and where it owes nobody a look, it owes nothing
-  pub owes-nothing : (a : Caller H) → AreDischargedOrOwed actors a → ((id : ℕ) → id < actors → is_owed a.account.owed id ≡ false) → HasNoObligationTo actors a
+  pub owes-nothing : (a : Caller H) → AreDischargedOrOwed actors a → ((id : ℕ) → id < actors → has_actor a.account.owed id ≡ false) → HasNoObligationTo actors a
   owes-nothing a p nobody id lt = by_obligation (p id lt)
     where
       by_obligation : IsDischargedOrOwed id a → obligation_to id a.view ≡ nothing
       by_obligation (inl none) = none
-      by_obligation (inr owed) = not-both (is_owed a.account.owed id) owed (nobody id lt)
+      by_obligation (inr owed) = not-both (has_actor a.account.owed id) owed (nobody id lt)
 
 -- one actor after another was looked after
 pub discharged-more : {H : Type 0} (many : ℕ) (a b : Caller H) → AreDischargedOrOwed many a → LeavesCaller a b → IsDischargedOrOwed many b → AreDischargedOrOwed (many + 1) b

@@ -1,4 +1,4 @@
--- What an end saw it still knows.
+-- What a handle saw it still knows.
 use Rattle.std.proofs.Common.{◌≡◌, List, [], ◌++◌, append_assoc, append-nil, sym, ap, ◌∙◌}
 use Rattle.mb_gate.specs.Rule.{IsPart}
 

@@ -1,4 +1,4 @@
-//! What is kept of ends that are dropped.
+//! What is kept of handles that are dropped.
 ghost use Rattle.std.specs.Prelude.{◌≡◌};
 
 use mb_gate::Pass;

@@ -1,7 +1,7 @@
 //! Whether workers still have anything to wait for.
 use std::sync::atomic::{AtomicUsize, Ordering};
 
-/// How many jobs are open, and how many workers are busy. Jobs count themselves when they begin and end, workers when they find
+/// How many jobs are open, and how many workers are busy. Jobs count themselves when they begin and handle, workers when they find
 /// no claim and when they find one again; messages do not. (This project's own profile: Akka's threads wait in their executor.)
 #[derive(Drop)]
 #[repr(C)]

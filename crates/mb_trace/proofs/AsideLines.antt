@@ -2,7 +2,7 @@
 use Rattle.std.proofs.Common.{◌≡◌, ℕ, ◌+◌, ◌++◌, ◌<◌, List, ap, drop, get_or, length, sym, ◌∙◌}
 use Rattle.std.proofs.lemmas.List.{drop_more}
 use Rattle.mb_report.specs.declared.report.ActorReport.{ActorReport}
-use Rattle.mb_trace.specs.Rest.{all_aside_text, set_aside_text}
+use Rattle.mb_trace.specs.Undelivered.{all_aside_text, set_aside_text}
 use Rattle.mb_trace.specs.declared.filter.Filter.{Filter}
 
 pub aside-next : (names : List (List ℕ)) (f : Filter) (i number : ℕ) (actors : List ActorReport) (r : ActorReport) → number ≡ i →

@@ -7,7 +7,7 @@ use Rattle.std.proofs.lemmas.List.Elements.{All-cons, All-head, All-nil, All-tai
 use Rattle.std.proofs.lemmas.List.Sums.{sum_by-cons, sum_by_push}
 use Rattle.mb_build.specs.Planned.{actors_in}
 use Rattle.mb_causal_order.specs.Merged.{IsMerged}
-use Rattle.mb_causal_order.specs.Places.{is_of, journal_of, standing}
+use Rattle.mb_causal_order.specs.Places.{is_of, journal_of, entries_placed}
 use Rattle.mb_causal_order.specs.declared.place.Place.{Place}
 use Rattle.mb_journal.specs.Entry.{Entry}
 use Rattle.mb_journal.specs.Identity.{Identity}
@@ -21,7 +21,7 @@ use Rattle.mb_trace.specs.declared.trace.Trace.{Trace}
 use Rattle.mb_trace.specs.declared.trace.TurnLength.{TurnLength}
 use Rattle.mb_trace.proofs.Covered.{has_of}
 use Rattle.mb_trace.proofs.Left.{steps-past}
-use Rattle.mb_trace.proofs.OrderLines.{standing-more}
+use Rattle.mb_trace.proofs.OrderLines.{placed-more}
 use Rattle.mb_trace.proofs.Stepped.{length-steps}
 
 -- some, and some more behind them
@@ -143,41 +143,41 @@ at-other a b (suc n) (x ∷ xs) other own = at-other a b n xs other (All-tail (�
 
 -- the places of an actor have the entries that follow those of its places before
 places-joined : (steps : ℕ → List Step) → ((a : ℕ) → All (λ (s : Step). s.actor ≡ a) (steps a)) → (a : ℕ) (before places : List Place) →
-    of_actor a (steps_at steps before places) ≡ take (standing a places) (drop (standing a before) (steps a))
+    of_actor a (steps_at steps before places) ≡ take (entries_placed a places) (drop (entries_placed a before) (steps a))
 places-joined steps own a before [] = refl
 places-joined steps own a before (p ∷ places) =
     filter-append (λ (s : Step). s.actor == a) here (steps_at steps (p ∷ before) places)
     ∙ by_number (places-joined steps own a (p ∷ before) places) (p.actor == a) refl
   where
     here : List Step
-    here = option_to_list (slice_get (steps p.actor) (standing p.actor before))
+    here = option_to_list (slice_get (steps p.actor) (entries_placed p.actor before))
 
-    by_number : of_actor a (steps_at steps (p ∷ before) places) ≡ take (standing a places) (drop (standing a (p ∷ before)) (steps a)) →
+    by_number : of_actor a (steps_at steps (p ∷ before) places) ≡ take (entries_placed a places) (drop (entries_placed a (p ∷ before)) (steps a)) →
         (b : Bool) → (p.actor == a) ≡ b → of_actor a here ++ of_actor a (steps_at steps (p ∷ before) places)
-        ≡ take (standing a (p ∷ places)) (drop (standing a before) (steps a))
+        ≡ take (entries_placed a (p ∷ places)) (drop (entries_placed a before) (steps a))
     by_number later true same =
         let is : p.actor ≡ a = eqb-true p.actor a same in
-        let first : of_actor a here ≡ take 1 (drop (standing a before) (steps a)) =
-        ap (λ n. of_actor a (option_to_list (slice_get (steps n) (standing n before)))) is ∙ at-own a (standing a before) (steps a) (own a) in
-        let more : standing a (p ∷ before) ≡ standing a before + 1 = standing-more a p before true same in
-        let all : standing a (p ∷ places) ≡ 1 + standing a places = let m = standing-more a p places true same in omega (arith, m) in
-        (λ i. first i ++ (later ∙ ap (λ n. take (standing a places) (drop n (steps a))) more) i)
-        ∙ (both-taken 1 (standing a places) (standing a before) (steps a) ∙ ap (λ n. take n (drop (standing a before) (steps a))) (sym all))
+        let first : of_actor a here ≡ take 1 (drop (entries_placed a before) (steps a)) =
+        ap (λ n. of_actor a (option_to_list (slice_get (steps n) (entries_placed n before)))) is ∙ at-own a (entries_placed a before) (steps a) (own a) in
+        let more : entries_placed a (p ∷ before) ≡ entries_placed a before + 1 = placed-more a p before true same in
+        let all : entries_placed a (p ∷ places) ≡ 1 + entries_placed a places = let m = placed-more a p places true same in omega (arith, m) in
+        (λ i. first i ++ (later ∙ ap (λ n. take (entries_placed a places) (drop n (steps a))) more) i)
+        ∙ (both-taken 1 (entries_placed a places) (entries_placed a before) (steps a) ∙ ap (λ n. take n (drop (entries_placed a before) (steps a))) (sym all))
     by_number later false other =
-        let more : standing a (p ∷ before) ≡ standing a before = let m = standing-more a p before false other in omega (arith, m) in
-        let all : standing a (p ∷ places) ≡ standing a places = let m = standing-more a p places false other in omega (arith, m) in
-        (λ i. at-other a p.actor (standing p.actor before) (steps p.actor) other (own p.actor) i ++ later i)
+        let more : entries_placed a (p ∷ before) ≡ entries_placed a before = let m = placed-more a p before false other in omega (arith, m) in
+        let all : entries_placed a (p ∷ places) ≡ entries_placed a places = let m = placed-more a p places false other in omega (arith, m) in
+        (λ i. at-other a p.actor (entries_placed p.actor before) (steps p.actor) other (own p.actor) i ++ later i)
         ∙ (λ i. take (sym all i) (drop (more i) (steps a)))
 
 -- an order has as many places of an actor in either direction
-standing-turned : (a : ℕ) (places : List Place) → standing a (reverse places) ≡ standing a places
-standing-turned a [] = refl
-standing-turned a (p ∷ places) =
+placed-turned : (a : ℕ) (places : List Place) → entries_placed a (reverse places) ≡ entries_placed a places
+placed-turned a [] = refl
+placed-turned a (p ∷ places) =
     let one = λ (x : Place). cond (is_of a x) 1 0 in
-    let turned = ap (standing a) (reverse-append (p ∷ []) places) in
+    let turned = ap (entries_placed a) (reverse-append (p ∷ []) places) in
     let pushed = sum_by_push one (reverse places) p in
     let first = sum_by-cons one p places in
-    let same = standing-turned a places in
+    let same = placed-turned a places in
     turned ∙ omega (arith, pushed, first, same)
 
 pub places-all : (trace : Trace) (places : List Place) →
@@ -188,5 +188,5 @@ places-all trace places merged a =
     let own = λ (n : ℕ). own-from n (who_in trace.plan.now n) (script_in trace.scripts.now n) [] (reverse (journal n)) in
     let many : length (steps_in trace a) ≡ length (journal a) = length-steps a (who_in trace.plan.now a) (script_in trace.scripts.now a) (journal a) in
     let all = merged.all a in
-    let turned = standing-turned a places in
-    places-joined (steps_in trace) own a [] places ∙ take_all (standing a places) (steps_in trace a) (omega (arith, many, all, turned))
+    let turned = placed-turned a places in
+    places-joined (steps_in trace) own a [] places ∙ take_all (entries_placed a places) (steps_in trace a) (omega (arith, many, all, turned))

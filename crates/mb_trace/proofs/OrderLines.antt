@@ -4,7 +4,7 @@ use Rattle.std.specs.Prelude.{◌==◌, Option, codes, filter, if◌then◌else�
 use Rattle.std.proofs.lemmas.Bool.{eqb-true}
 use Rattle.std.proofs.lemmas.List.{append-nil, drop-drop, drop_all, drop_more, reverse-append, take_more}
 use Rattle.std.proofs.lemmas.List.Sums.{sum_by-append}
-use Rattle.mb_causal_order.specs.Places.{is_of, standing}
+use Rattle.mb_causal_order.specs.Places.{is_of, entries_placed}
 use Rattle.mb_causal_order.specs.declared.place.Place.{Place}
 use Rattle.mb_trace.specs.Steps.{Step, step_data}
 use Rattle.mb_trace.specs.Text.{is_above, is_shown, runs_text, shown, step_text, steps_at, title_text}
@@ -13,10 +13,10 @@ use Rattle.mb_trace.proofs.Left.{slice_get-drop}
 use Rattle.mb_trace.specs.declared.filter.Filter.{Filter}
 
 -- one place more
-pub standing-more : (a : ℕ) (p : Place) (order : List Place) (b : Bool) → (p.actor == a) ≡ b →
-    standing a (p ∷ order) ≡ standing a order + cond b 1 0
-standing-more a p order b is =
-    let both : standing a (p ∷ order) ≡ count_by (is_of a) (p ∷ []) + standing a order =
+pub placed-more : (a : ℕ) (p : Place) (order : List Place) (b : Bool) → (p.actor == a) ≡ b →
+    entries_placed a (p ∷ order) ≡ entries_placed a order + cond b 1 0
+placed-more a p order b is =
+    let both : entries_placed a (p ∷ order) ≡ count_by (is_of a) (p ∷ []) + entries_placed a order =
     sum_by-append (λ (x : Place). cond (is_of a x) 1 0) (p ∷ []) order in
     let here : count_by (is_of a) (p ∷ []) ≡ 0 + cond b 1 0 = ap (λ x. 0 + cond x 1 0) is in
     omega (arith, here, both)
@@ -31,35 +31,35 @@ turned a b false is = by_other (b == a) refl
     by_other true other = eq-eqb b a (eqb-true b a other) ∙ (sym (eq-eqb a b (sym (eqb-true b a other))) ∙ is)
 
 -- what is left of an actor's steps, at the next place
-pub standing-left : (a : ℕ) (p : Place) (before : List Place) (all mid last : List Step) → mid ≡ drop (standing a before) all →
-    last ≡ drop (if a == p.actor then 1 else 0) mid → last ≡ drop (standing a (p ∷ before)) all
-standing-left a p before all mid last is_mid is_last = by_actor (a == p.actor) refl is_last
+pub placed-left : (a : ℕ) (p : Place) (before : List Place) (all mid last : List Step) → mid ≡ drop (entries_placed a before) all →
+    last ≡ drop (if a == p.actor then 1 else 0) mid → last ≡ drop (entries_placed a (p ∷ before)) all
+placed-left a p before all mid last is_mid is_last = by_actor (a == p.actor) refl is_last
   where
-    by_actor : (b : Bool) → (a == p.actor) ≡ b → last ≡ drop (if b then 1 else 0) mid → last ≡ drop (standing a (p ∷ before)) all
+    by_actor : (b : Bool) → (a == p.actor) ≡ b → last ≡ drop (if b then 1 else 0) mid → last ≡ drop (entries_placed a (p ∷ before)) all
     by_actor true same is_last =
         is_last
         ∙ (ap (λ (l : List Step). drop 1 l) is_mid
-        ∙ (drop-drop 1 (standing a before) all ∙ ap (λ n. drop n all) (sym (standing-more a p before true (turned a p.actor true same)))))
+        ∙ (drop-drop 1 (entries_placed a before) all ∙ ap (λ n. drop n all) (sym (placed-more a p before true (turned a p.actor true same)))))
     by_actor false other is_last =
-        let same : standing a (p ∷ before) ≡ standing a before = (let more = standing-more a p before false (turned a p.actor false other) in omega (arith, more)) in
+        let same : entries_placed a (p ∷ before) ≡ entries_placed a before = (let more = placed-more a p before false (turned a p.actor false other) in omega (arith, more)) in
         is_last ∙ (is_mid ∙ ap (λ n. drop n all) (sym same))
 
 -- the same at a place of no actor
-pub standing-none : (a : ℕ) (p : Place) (before : List Place) (steps : ℕ → List Step) (left : List Step) → steps p.actor ≡ [] →
-    left ≡ drop (standing a before) (steps a) → left ≡ drop (standing a (p ∷ before)) (steps a)
-standing-none a p before steps left none is = by_actor (a == p.actor) refl
+pub placed-none : (a : ℕ) (p : Place) (before : List Place) (steps : ℕ → List Step) (left : List Step) → steps p.actor ≡ [] →
+    left ≡ drop (entries_placed a before) (steps a) → left ≡ drop (entries_placed a (p ∷ before)) (steps a)
+placed-none a p before steps left none is = by_actor (a == p.actor) refl
   where
-    by_actor : (b : Bool) → (a == p.actor) ≡ b → left ≡ drop (standing a (p ∷ before)) (steps a)
+    by_actor : (b : Bool) → (a == p.actor) ≡ b → left ≡ drop (entries_placed a (p ∷ before)) (steps a)
     by_actor true same =
         let here : steps a ≡ [] = ap steps (eqb-true a p.actor same) ∙ none in
-        is ∙ (ap (λ l. drop (standing a before) l) here ∙ (dropped (standing a before)
-        ∙ (sym (dropped (standing a (p ∷ before))) ∙ ap (λ l. drop (standing a (p ∷ before)) l) (sym here))))
+        is ∙ (ap (λ l. drop (entries_placed a before) l) here ∙ (dropped (entries_placed a before)
+        ∙ (sym (dropped (entries_placed a (p ∷ before))) ∙ ap (λ l. drop (entries_placed a (p ∷ before)) l) (sym here))))
       where
         dropped : (n : ℕ) → drop n (let none : List Step = [] in none) ≡ []
         dropped zero = refl
         dropped (suc n) = refl
     by_actor false other =
-        let same : standing a (p ∷ before) ≡ standing a before = (let more = standing-more a p before false (turned a p.actor false other) in omega (arith, more)) in
+        let same : entries_placed a (p ∷ before) ≡ entries_placed a before = (let more = placed-more a p before false (turned a p.actor false other) in omega (arith, more)) in
         is ∙ ap (λ n. drop n (steps a)) (sym same)
 
 pub grown : (order : List Place) (i : ℕ) (d : Place) → i < length order →
@@ -82,7 +82,7 @@ module _ (names : List (List ℕ)) (f : Filter) (steps : ℕ → List Step) (ord
   later-is : later ≡ steps_at steps (reverse (take (i + 1) order)) (drop (i + 1) order)
   later-is = ap (λ b. steps_at steps b (drop (i + 1) order)) (sym (grown order i d within))
 
-  opened : (o : Option Step) → slice_get (steps p.actor) (standing p.actor before) ≡ o →
+  opened : (o : Option Step) → slice_get (steps p.actor) (entries_placed p.actor before) ≡ o →
       whole ≡ so_far ++ runs_text names above (shown f left (option_to_list o ++ later))
   opened o found =
       is
@@ -94,7 +94,7 @@ module _ (names : List (List ℕ)) (f : Filter) (steps : ℕ → List Step) (ord
       whole ≡ so_far ++ runs_text names above (shown f left (steps_at steps (reverse (take (i + 1) order)) (drop (i + 1) order)))
 
   -- no entry is there
-  pub next-none : slice_get (steps p.actor) (standing p.actor before) ≡ None → Next above left so_far
+  pub next-none : slice_get (steps p.actor) (entries_placed p.actor before) ≡ None → Next above left so_far
   next-none none = opened None none ∙ ap (λ l. so_far ++ runs_text names above (shown f left l)) later-is
 
   -- no more are shown
@@ -105,7 +105,7 @@ module _ (names : List (List ℕ)) (f : Filter) (steps : ℕ → List Step) (ord
       ∙ ap (λ n. so_far ++ runs_text names above (shown f n (steps_at steps (reverse (take (i + 1) order)) (drop (i + 1) order)))) (sym full))
 
   -- the filter leaves it out
-  pub next-left_out : (s : Step) → slice_get (steps p.actor) (standing p.actor before) ≡ Some s → is_shown f s ≡ false → Next above left so_far
+  pub next-left_out : (s : Step) → slice_get (steps p.actor) (entries_placed p.actor before) ≡ Some s → is_shown f s ≡ false → Next above left so_far
   next-left_out s found out =
       opened (Some s) found
       ∙ (ap (λ b. so_far ++ runs_text names above (take left (cond b (s ∷ filter (is_shown f) later) (filter (is_shown f) later)))) out
@@ -115,7 +115,7 @@ module _ (names : List (List ℕ)) (f : Filter) (steps : ℕ → List Step) (ord
   piece s = (if is_above above s.actor then [] else title_text names (codes "actor") s.actor) ++ step_text names s
 
   -- it is shown
-  pub next-shown : (s : Step) → slice_get (steps p.actor) (standing p.actor before) ≡ Some s → is_shown f s ≡ true → 0 < left →
+  pub next-shown : (s : Step) → slice_get (steps p.actor) (entries_placed p.actor before) ≡ Some s → is_shown f s ≡ true → 0 < left →
       Next (Some s.actor) (left - 1) (so_far ++ piece s)
   next-shown s found passes some =
       opened (Some s) found

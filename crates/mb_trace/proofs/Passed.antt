@@ -12,10 +12,10 @@ use Rattle.mb_journal.specs.Suspension.{count}
 use Rattle.mb_script.specs.Script.{Scripted}
 use Rattle.mb_trace.specs.Cursors.{IsAt}
 use Rattle.mb_trace.specs.Lives.{Follows}
-use Rattle.mb_trace.specs.Steps.{Step, standing_after, step_after, steps_of}
+use Rattle.mb_trace.specs.Steps.{Step, snapshot_after, step_after, steps_of}
 use Rattle.mb_trace.specs.declared.cursor.JournalCursor.{JournalCursor}
 use Rattle.mb_trace.specs.declared.life.Life.{Life}
-use Rattle.mb_trace.specs.declared.standing.Standing.{Standing}
+use Rattle.mb_trace.specs.declared.actor_snapshot.ActorSnapshot.{ActorSnapshot}
 use Rattle.mb_trace.proofs.Stepped.{length-steps, step-at}
 
 length-earliest : (n : ℕ) (journal : List Entry) → n ≤ length journal → length (earliest n journal) ≡ n
@@ -45,9 +45,9 @@ roomy who script before old new f kept items = record {
 }
 
 -- how a life stands is how its actor stands
-pub stands : (who : Identity) (script : Option Scripted) (before : List Entry) (life : Life) (s : Standing) → Follows who script before life →
+pub stands : (who : Identity) (script : Option Scripted) (before : List Entry) (life : Life) (s : ActorSnapshot) → Follows who script before life →
     s ≡ record { phase = life.phase; suspended = (if phase_is life.phase Ended then 0 else life.suspended); state = life.state } →
-    s ≡ standing_after who script before
+    s ≡ snapshot_after who script before
 unfolding count
 stands who script before life s f is =
     is
@@ -78,7 +78,7 @@ passed who script journal old e room life at found kept items apply few =
 
 -- the entry at a cursor is the next step
 pub found-step : (actor : ℕ) (who : Identity) (script : Option Scripted) (journal : List Entry) (old : JournalCursor) (e : Entry)
-    (room life : Life) (s t : Standing) → IsAt who script journal old → slice_get (reverse journal) old.next ≡ Some e →
+    (room life : Life) (s t : ActorSnapshot) → IsAt who script journal old → slice_get (reverse journal) old.next ≡ Some e →
     room ≡ record old.life { children = room.children } → room.children.items ≡ old.life.children.items →
     ((before : List Entry) → Follows who script before room → Follows who script (e ∷ before) life) →
     s ≡ record {
@@ -92,12 +92,12 @@ pub found-step : (actor : ℕ) (who : Identity) (script : Option Scripted) (jour
 found-step actor who script journal old e room life s t at found kept items apply is_s is_t =
     let before = earliest old.next journal in
     let index : length before ≡ old.next = length-earliest old.next journal at.within in
-    let standing : s ≡ standing_after who script before = stands who script before old.life s at.follows is_s in
-    let after : t ≡ standing_after who script (e ∷ before) =
+    let snapshot : s ≡ snapshot_after who script before = stands who script before old.life s at.follows is_s in
+    let after : t ≡ snapshot_after who script (e ∷ before) =
     stands who script (e ∷ before) life t (apply before (roomy who script before old.life room at.follows kept items)) is_t in
     let same : (let step : Step = record { actor = actor; index = old.next; entry = e; before = s; after = t } in
     step ≡ step_after actor who script before e) =
-    (λ i. record { actor = actor; index = sym index i; entry = e; before = standing i; after = after i }) in
+    (λ i. record { actor = actor; index = sym index i; entry = e; before = snapshot i; after = after i }) in
     ap (λ (x : Step). Some x) same ∙ sym (step-at actor who script journal old.next e found)
 
 -- no step is left at the end

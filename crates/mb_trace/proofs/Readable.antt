@@ -8,7 +8,7 @@ use Rattle.mb_report.specs.Keeps.{KeepsAllIf}
 use Rattle.mb_report.specs.declared.report.ActorReport.{ActorReport}
 use Rattle.mb_report.specs.declared.report.Report.{Report}
 use Rattle.mb_report.specs.declared.report.SenderReport.{SenderReport}
-use Rattle.mb_trace.specs.Rest.{
+use Rattle.mb_trace.specs.Undelivered.{
   all_aside_text,
   all_cleaned,
   all_letters,

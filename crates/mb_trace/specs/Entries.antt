@@ -9,8 +9,8 @@ use Rattle.mb_journal.specs.Entry.{Entry, outcome_answer, outcome_effects, outco
 use Rattle.mb_journal.specs.Entry.Entry.{Handled, System, Dropped}
 use Rattle.mb_journal.specs.Entry.Outcome.{Applied, SetAside}
 use Rattle.mb_trace.specs.Words.{effect_text, envelope_text, system_text}
-use Rattle.mb_trace.specs.Standing.{change_text}
-use Rattle.mb_trace.specs.declared.standing.Standing.{Standing}
+use Rattle.mb_trace.specs.ActorSnapshot.{change_text}
+use Rattle.mb_trace.specs.declared.actor_snapshot.ActorSnapshot.{ActorSnapshot}
 
 -- What the call of an actor answered. Where it was not called, the message is handled by its cell.
 abbrev pub outcome_text : Option Answer → List ℕ
@@ -36,6 +36,6 @@ abbrev pub effect_lines_text : List (List ℕ) → List Effect → List ℕ
 effect_lines_text names effects = flat_map (λ (e : Effect). codes "    " ++ effect_text names e ++ codes "\n") effects
 
 -- The lines of an entry: what came and what became of it, what that changed, and the effects.
-abbrev pub entry_text : List (List ℕ) → Standing → Standing → Entry → List ℕ
+abbrev pub entry_text : List (List ℕ) → ActorSnapshot → ActorSnapshot → Entry → List ℕ
 entry_text names before after e = codes "  " ++ arrival_text names e ++ change_text before after ++ codes "\n"
     ++ effect_lines_text names (outcome_effects (outcome_of e))

@@ -6,7 +6,7 @@ use Rattle.mb_msg.specs.Limits.{most_actors}
 use Rattle.mb_report.specs.declared.report.ActorReport.{ActorReport}
 use Rattle.mb_report.specs.declared.report.Report.{Report}
 use Rattle.mb_report.specs.declared.report.SenderReport.{SenderReport}
-use Rattle.mb_trace.specs.Rest.{shows_envelopes, where_shown}
+use Rattle.mb_trace.specs.Undelivered.{shows_envelopes, where_shown}
 use Rattle.mb_trace.specs.Words.{name_of, sender_text}
 use Rattle.mb_trace.specs.declared.filter.Filter.{Filter}
 

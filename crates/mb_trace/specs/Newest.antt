@@ -9,7 +9,7 @@ use Rattle.mb_report.specs.declared.report.Report.{Report}
 use Rattle.mb_trace.specs.Entries.{arrival_text, effect_lines_text}
 use Rattle.mb_trace.specs.Filter.{is_of_kind}
 use Rattle.mb_trace.specs.GoneLetters.{gone_dead_letters_text}
-use Rattle.mb_trace.specs.Rest.{readable_rest_text, where_shown}
+use Rattle.mb_trace.specs.Undelivered.{readable_rest_text, where_shown}
 use Rattle.mb_trace.specs.Text.{title_text}
 use Rattle.mb_trace.specs.declared.filter.EntryKinds.{EntryKinds}
 use Rattle.mb_trace.specs.declared.filter.Filter.{Filter}

@@ -10,7 +10,7 @@ use Rattle.mb_journal.specs.Life.{phase}
 use Rattle.mb_journal.specs.Suspension.{count}
 use Rattle.mb_script.specs.Script.{Scripted, after_of}
 use Rattle.mb_trace.specs.Actors.{who_in}
-use Rattle.mb_trace.specs.declared.standing.Standing.{Standing}
+use Rattle.mb_trace.specs.declared.actor_snapshot.ActorSnapshot.{ActorSnapshot}
 use Rattle.mb_trace.specs.declared.step.TraceStep.{TraceStep}
 use Rattle.mb_trace.specs.declared.trace.Trace.{Trace}
 
@@ -20,8 +20,8 @@ state_after None sent = None
 state_after (Some read) sent = Some (after_of read.state read.script.rows sent)
 
 -- how an actor stands after these entries, of which the newest is first
-abbrev pub standing_after : Identity → Option Scripted → List Entry → Standing
-standing_after who script journal = record {
+abbrev pub snapshot_after : Identity → Option Scripted → List Entry → ActorSnapshot
+snapshot_after who script journal = record {
   phase = phase who journal;
   suspended = count who journal;
   state = state_after script (messages who journal);
@@ -32,8 +32,8 @@ pub record Step : Type 0 where
   pub actor : ℕ
   pub index : ℕ
   pub entry : Entry
-  pub before : Standing
-  pub after : Standing
+  pub before : ActorSnapshot
+  pub after : ActorSnapshot
 
 -- the step that an entry is behind these entries, of which the newest is first
 abbrev pub step_after : ℕ → Identity → Option Scripted → List Entry → Entry → Step
@@ -41,8 +41,8 @@ step_after actor who script before e = record {
   actor = actor;
   index = length before;
   entry = e;
-  before = standing_after who script before;
-  after = standing_after who script (e ∷ before);
+  before = snapshot_after who script before;
+  after = snapshot_after who script (e ∷ before);
 }
 
 -- the steps that these entries are, the earliest first, behind these

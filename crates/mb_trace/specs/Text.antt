@@ -2,7 +2,7 @@
 use Rattle.std.specs.Prelude.{ℕ, ◌+◌, ◌-◌, ◌==◌, if◌then◌else◌, Bool, false, List, [], ◌∷◌, ◌++◌, codes, drop, filter, length, sum_by, take}
 use Rattle.std.specs.Prelude.{Option, Some, None, option_to_list, slice_get}
 use Rattle.std.specs.List.{flat_map}
-use Rattle.mb_causal_order.specs.Places.{standing}
+use Rattle.mb_causal_order.specs.Places.{entries_placed}
 use Rattle.mb_causal_order.specs.declared.place.Place.{Place}
 use Rattle.mb_report.specs.declared.report.ActorReport.{ActorReport}
 use Rattle.mb_trace.specs.Entries.{entry_text}
@@ -86,4 +86,4 @@ runs_text names above (s ∷ steps) =
 abbrev pub steps_at : (ℕ → List Step) → List Place → List Place → List Step
 steps_at steps before [] = []
 steps_at steps before (p ∷ places) =
-    option_to_list (slice_get (steps p.actor) (standing p.actor before)) ++ steps_at steps (p ∷ before) places
+    option_to_list (slice_get (steps p.actor) (entries_placed p.actor before)) ++ steps_at steps (p ∷ before) places

@@ -5,7 +5,7 @@ use Rattle.mb_build.specs.Planned.{actors_in}
 use Rattle.mb_causal_order.specs.Merged.{IsMerged}
 use Rattle.mb_causal_order.specs.declared.place.Place.{Place}
 use Rattle.mb_trace.specs.Coverage.{CoverJournals}
-use Rattle.mb_trace.specs.Rest.{rest_text}
+use Rattle.mb_trace.specs.Undelivered.{rest_text}
 use Rattle.mb_trace.specs.Steps.{steps_in}
 use Rattle.mb_trace.specs.Text.{journal_parts, parts_text, runs_text, shown, steps_at, turn_parts}
 use Rattle.mb_trace.specs.declared.filter.Filter.{Filter}

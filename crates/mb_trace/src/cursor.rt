@@ -54,11 +54,11 @@ impl JournalCursor {
             return Ok(None);
         }
         let entry = journal.get(index);
-        let before = self.life.standing();
+        let before = self.life.snapshot();
         self.life.make_room(rules, &entry)?;
         self.life.apply(rules, &entry);
         self.next = index + 1;
-        let after = self.life.standing();
+        let after = self.life.snapshot();
         Ok(Some(TraceStep {
             actor,
             index,

@@ -6,9 +6,9 @@ ghost use Rattle.mb_trace.specs.Entries.{arrival_text, entry_text, numbered_text
 ghost use Rattle.mb_trace.specs.Newest.{gone_line_text, lines_text};
 ghost use Rattle.mb_trace.specs.Words.{envelope_text, system_text};
 
+use crate::actor_snapshot::{ActorSnapshot, write_change};
 use crate::effect_lines::EffectLines;
 use crate::entry_kind::effects_of;
-use crate::standing::{Standing, write_change};
 use crate::words::{EnvelopeWords, SystemWords};
 use mb_actor::Answer;
 use mb_journal::{EntryRef, Received};
@@ -19,8 +19,8 @@ use std::fmt;
 pub(crate) struct EntryLines<'a> {
     pub(crate) names: &'a [String],
     pub(crate) entry: EntryRef<'a>,
-    pub(crate) before: Standing,
-    pub(crate) after: Standing,
+    pub(crate) before: ActorSnapshot,
+    pub(crate) after: ActorSnapshot,
 }
 
 impl fmt::Display for EntryLines<'_> {

@@ -6,6 +6,7 @@
 #![tactic(auto)]
 
 mod actor_list;
+mod actor_snapshot;
 mod by_actor;
 mod coverage;
 mod cursor;
@@ -25,7 +26,6 @@ mod output;
 mod parts;
 mod quiet;
 mod rules;
-mod standing;
 mod state;
 mod step;
 mod steps;
@@ -36,6 +36,7 @@ mod trace;
 mod undelivered;
 mod words;
 
+pub use actor_snapshot::ActorSnapshot;
 pub use coverage::cover_journals;
 pub use error::TraceError;
 pub use filter::{EntryKinds, Filter};
@@ -46,7 +47,6 @@ pub use laws::{
 };
 pub use newest::write_newest;
 pub use output::write_whole;
-pub use standing::Standing;
 pub use step::TraceStep;
 pub use steps::TraceSteps;
 pub use text::write_text;

@@ -17,6 +17,7 @@ ghost use Rattle.mb_trace.specs.Lives.{AreRulesOf, Follows, passes_up_by, script
 ghost use Rattle.mb_trace.specs.Steps.{state_after};
 
 use crate::actor_list::leave;
+use crate::actor_snapshot::{ActorSnapshot, is_same};
 use crate::entry_kind::{
     applies_create, applies_recreate, applies_resume, applies_resume_of_failure, applies_suspend,
     applies_terminate, ends_last_child, fails_by_envelope, failure_source, lasting_effects_of,
@@ -24,7 +25,6 @@ use crate::entry_kind::{
 };
 use crate::filter::has_failed;
 use crate::rules::Rules;
-use crate::standing::{Standing, is_same};
 use crate::state::{initial_of, state_after_entry};
 use crate::suspensions::{Marks, count_after};
 use mb_actor::{Effect, Phase};
@@ -83,7 +83,7 @@ impl Life {
     }
 
     /// How the actor stands. A closed mailbox is not suspended.
-    pub(crate) fn standing(&self) -> Standing
+    pub(crate) fn snapshot(&self) -> ActorSnapshot
         ensures { result ≡ record {
           phase = self.now.phase;
           suspended = (if phase_is self.now.phase Ended then 0 else self.now.suspended);
@@ -95,7 +95,7 @@ impl Life {
         } else {
             self.suspended
         };
-        Standing {
+        ActorSnapshot {
             phase: self.phase,
             suspended,
             state: self.state,

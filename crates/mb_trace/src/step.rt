@@ -1,5 +1,5 @@
 //! An entry with how its actor stood before it and after it.
-use crate::standing::Standing;
+use crate::actor_snapshot::ActorSnapshot;
 use mb_journal::EntryRef;
 use mb_msg::ActorId;
 
@@ -13,7 +13,7 @@ pub struct TraceStep<'a> {
     /// What came and what became of it.
     pub entry: EntryRef<'a>,
     /// How the actor stood before.
-    pub before: Standing,
+    pub before: ActorSnapshot,
     /// How it stands after.
-    pub after: Standing,
+    pub after: ActorSnapshot,
 }

@@ -7,7 +7,7 @@ ghost use Rattle.mb_report.specs.declared.report.ActorReport.{ActorReport as Rep
 ghost use Rattle.mb_report.specs.declared.report.SenderReport.{SenderReport as Sent};
 ghost use Rattle.mb_trace.specs.Ends.{aside_text, left_text, letter_text};
 ghost use Rattle.mb_trace.specs.Output.{IsWritten};
-ghost use Rattle.mb_trace.specs.Rest.{all_aside_text, cleaned_text, envelopes_text, letters_text, queued_text, readable_cleaned, readable_letters, readable_rest_text, set_aside_text, shows_envelopes, shows_system_messages, where_shown};
+ghost use Rattle.mb_trace.specs.Undelivered.{all_aside_text, cleaned_text, envelopes_text, letters_text, queued_text, readable_cleaned, readable_letters, readable_rest_text, set_aside_text, shows_envelopes, shows_system_messages, where_shown};
 
 use crate::end_lines::{AsideLine, LeftLine, LetterLine};
 use crate::error::TraceError;

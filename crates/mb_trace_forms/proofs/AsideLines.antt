@@ -3,7 +3,7 @@ use Rattle.std.proofs.Common.{◌≡◌, ℕ, ◌+◌, ◌++◌, ◌<◌, List, 
 use Rattle.std.specs.List.{flat_map}
 use Rattle.std.proofs.lemmas.List.{drop_more}
 use Rattle.mb_report.specs.declared.report.ActorReport.{ActorReport}
-use Rattle.mb_trace.specs.Rest.{where_shown}
+use Rattle.mb_trace.specs.Undelivered.{where_shown}
 use Rattle.mb_trace.specs.declared.filter.Filter.{Filter}
 use Rattle.mb_trace_forms.specs.JsonRest.{all_aside_json, aside_json}
 

@@ -4,7 +4,7 @@ use Rattle.std.specs.Prelude.{◌==◌, ⊤, filter, if◌then◌else◌, nat_lt
 use Rattle.std.proofs.lemmas.Bool.{eqb-true, ltb-false, ltb-true}
 use Rattle.std.proofs.lemmas.List.{get_or_at, length-append, length_push, take_all}
 use Rattle.std.proofs.lemmas.List.Sums.{sum_by-append}
-use Rattle.mb_causal_order.specs.Places.{journal_of, standing}
+use Rattle.mb_causal_order.specs.Places.{journal_of, entries_placed}
 use Rattle.mb_causal_order.specs.declared.place.Place.{Place}
 use Rattle.mb_report.specs.declared.report.ActorReport.{ActorReport}
 use Rattle.mb_trace.specs.Actors.{who_in}
@@ -13,7 +13,7 @@ use Rattle.mb_trace.specs.Text.{entries_in, journal_parts, steps_at, turn_parts}
 use Rattle.mb_trace.specs.declared.trace.Trace.{Trace}
 use Rattle.mb_trace.specs.declared.trace.TurnLength.{TurnLength}
 use Rattle.mb_trace.proofs.At.{journal-at}
-use Rattle.mb_trace.proofs.OrderLines.{standing-more, turned}
+use Rattle.mb_trace.proofs.OrderLines.{placed-more, turned}
 use Rattle.mb_trace.proofs.Stepped.{length-steps}
 use Rattle.mb_trace_forms.specs.Order.{all_steps, is_among, journal_lengths, single}
 
@@ -38,25 +38,25 @@ no-entry (suc n) = refl
 module _ (steps : ℕ → List Step) (n : ℕ) (none : (a : ℕ) → n ≤ a → steps a ≡ []) where
   -- as many entries of each actor were in the earlier parts as there are at the places before
   abbrev AreAlike : List TurnLength → List Place → Type 0
-  AreAlike earlier before = (a : ℕ) → a < n → entries_in a earlier ≡ standing a before
+  AreAlike earlier before = (a : ℕ) → a < n → entries_in a earlier ≡ entries_placed a before
 
   alike-more : (earlier : List TurnLength) (before : List Place) (p : Place) → AreAlike earlier before →
       AreAlike (earlier ++ single p ∷ []) (p ∷ before)
   alike-more earlier before p alike a within = by_actor (a == p.actor) refl
     where
-      by_actor : (b : Bool) → (a == p.actor) ≡ b → entries_in a (earlier ++ single p ∷ []) ≡ standing a (p ∷ before)
+      by_actor : (b : Bool) → (a == p.actor) ≡ b → entries_in a (earlier ++ single p ∷ []) ≡ entries_placed a (p ∷ before)
       by_actor b is =
           entries-more a earlier (single p)
-          ∙ ((λ j. alike a within j + (if is j then 1 else 0)) ∙ sym (standing-more a p before b (turned a p.actor b is)))
+          ∙ ((λ j. alike a within j + (if is j then 1 else 0)) ∙ sym (placed-more a p before b (turned a p.actor b is)))
 
   alike-other : (earlier : List TurnLength) (before : List Place) (p : Place) → n ≤ p.actor → AreAlike earlier before →
       AreAlike earlier (p ∷ before)
   alike-other earlier before p past alike a within = by_actor (a == p.actor) refl
     where
-      by_actor : (b : Bool) → (a == p.actor) ≡ b → entries_in a earlier ≡ standing a (p ∷ before)
+      by_actor : (b : Bool) → (a == p.actor) ≡ b → entries_in a earlier ≡ entries_placed a (p ∷ before)
       by_actor true same = absurd (let e : a ≡ p.actor = eqb-true a p.actor same in omega (arith, e, within, past))
       by_actor false other =
-          let more = standing-more a p before false (turned a p.actor false other) in
+          let more = placed-more a p before false (turned a p.actor false other) in
           alike a within ∙ omega (arith, more)
 
   -- one place more, where this is so of those behind it
@@ -68,14 +68,14 @@ module _ (steps : ℕ → List Step) (n : ℕ) (none : (a : ℕ) → n ≤ a →
       ≡ steps_at steps before (p ∷ places)
   single-more earlier before p places alike behind true inside =
       let within = ltb-true p.actor n inside in
-      let here : take 1 (drop (entries_in p.actor earlier) (steps p.actor)) ≡ option_to_list (slice_get (steps p.actor) (standing p.actor before)) =
-      ap (λ k. take 1 (drop k (steps p.actor))) (alike p.actor within) ∙ first-at (standing p.actor before) (steps p.actor) in
+      let here : take 1 (drop (entries_in p.actor earlier) (steps p.actor)) ≡ option_to_list (slice_get (steps p.actor) (entries_placed p.actor before)) =
+      ap (λ k. take 1 (drop k (steps p.actor))) (alike p.actor within) ∙ first-at (entries_placed p.actor before) (steps p.actor) in
       let rest = behind (earlier ++ single p ∷ []) (alike-more earlier before p alike) in (λ j. here j ++ rest j)
   single-more earlier before p places alike behind false outside =
       let past = ltb-false p.actor n outside in
       let rest = behind earlier (alike-other earlier before p past alike) in
-      let nothing : option_to_list (slice_get (steps p.actor) (standing p.actor before)) ≡ [] =
-      ap (λ (l : List Step). option_to_list (slice_get l (standing p.actor before))) (none p.actor past) ∙ no-entry (standing p.actor before) in
+      let nothing : option_to_list (slice_get (steps p.actor) (entries_placed p.actor before)) ≡ [] =
+      ap (λ (l : List Step). option_to_list (slice_get l (entries_placed p.actor before))) (none p.actor past) ∙ no-entry (entries_placed p.actor before) in
       rest ∙ sym (ap (λ l. l ++ steps_at steps (p ∷ before) places) nothing)
 
   -- one entry for each place of an actor

@@ -6,10 +6,10 @@ use Rattle.mb_msg.specs.declared.envelope.Envelope.{Envelope}
 use Rattle.mb_msg.specs.declared.system.SysMsg.{SysMsg}
 use Rattle.mb_report.specs.declared.report.ActorReport.{ActorReport}
 use Rattle.mb_report.specs.declared.report.Report.{Report}
-use Rattle.mb_trace.specs.Rest.{shows_envelopes, shows_system_messages, where_shown}
+use Rattle.mb_trace.specs.Undelivered.{shows_envelopes, shows_system_messages, where_shown}
 use Rattle.mb_trace.specs.declared.filter.Filter.{Filter}
 use Rattle.mb_trace_json.specs.Lines.{line_text}
-use Rattle.mb_trace_json.specs.Rest.{aside_data, left_data, letter_data}
+use Rattle.mb_trace_json.specs.Undelivered.{aside_data, left_data, letter_data}
 use Rattle.mb_trace_forms.specs.Letters.{letters_in}
 
 -- the line of a dead letter

@@ -8,7 +8,7 @@ use Rattle.mb_report.specs.declared.report.ActorReport.{ActorReport}
 use Rattle.mb_report.specs.declared.report.Report.{Report}
 use Rattle.mb_report.specs.declared.report.SenderReport.{SenderReport}
 use Rattle.mb_trace.specs.Filter.{shows_actor}
-use Rattle.mb_trace.specs.Rest.{shows_envelopes}
+use Rattle.mb_trace.specs.Undelivered.{shows_envelopes}
 use Rattle.mb_trace.specs.declared.filter.Filter.{Filter}
 
 -- the filter shows the envelope's receiver

@@ -3,7 +3,7 @@ ghost use Rattle.std.specs.Prelude.{◌≤◌, ◌++◌, length, map, string_byt
 ghost use Rattle.std.specs.List.{flat_map};
 ghost use Rattle.mb_report.specs.Keeps.{KeepsAllIf};
 ghost use Rattle.mb_trace.specs.Output.{IsWritten};
-ghost use Rattle.mb_trace.specs.Rest.{where_shown};
+ghost use Rattle.mb_trace.specs.Undelivered.{where_shown};
 ghost use Rattle.mb_trace_forms.specs.JsonRest.{all_aside_json, all_left_json, aside_json, left_json, letter_json, queued_json, rest_json, set_aside_json};
 
 use crate::json_ends::{write_left_line, write_letter_line, write_set_aside_line};

@@ -1,6 +1,6 @@
 //! Which of the lines at the end are shown.
 ghost use Rattle.std.specs.Prelude.{◌≡◌};
-ghost use Rattle.mb_trace.specs.Rest as spec;
+ghost use Rattle.mb_trace.specs.Undelivered as spec;
 
 use mb_trace::EntryKinds;
 

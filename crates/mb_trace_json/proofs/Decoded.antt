@@ -22,7 +22,7 @@ use Rattle.mb_trace_json.specs.Effects.{effect_data, effects_data}
 use Rattle.mb_trace_json.specs.Entries.{answer_error, answer_text, entry_data}
 use Rattle.mb_trace_json.specs.Messages.{body_data, cause_error, cause_text, system_data}
 use Rattle.mb_trace_json.specs.Names.{name_data}
-use Rattle.mb_trace.specs.declared.standing.Standing.{Standing}
+use Rattle.mb_trace.specs.declared.actor_snapshot.ActorSnapshot.{ActorSnapshot}
 use Rattle.mb_trace_json.specs.Telling.{IsKnown, IsKnownBody, IsKnownEffect, IsKnownEntry, IsKnownEnvelope, IsKnownMessage}
 
 -- ---- parts of a value
@@ -206,7 +206,7 @@ module _ (id : Data → ℕ) where
         let rest = effects-back effects (λ k d l. h (suc k) d (suc-le-suc l)) in
         λ i. one i ∷ rest i
 
-    pub entry-back : (actor place : ℕ) (after : Standing) (e : Entry) → IsKnown names actor → IsKnownEntry names actor e
+    pub entry-back : (actor place : ℕ) (after : ActorSnapshot) (e : Entry) → IsKnown names actor → IsKnownEntry names actor e
         → entry_from (entry_data names actor place after e) ≡ e
     entry-back actor place after (Handled e reading (Applied a effects)) known h =
         let by = back e.by.0 h.0.by in
@@ -232,14 +232,14 @@ module _ (id : Data → ℕ) where
 
 -- ---- whose journal it is of, and where it stands there
 
-pub actor-at : (names : List (List ℕ)) (actor place : ℕ) (after : Standing) (e : Entry) → value_at 0 (entry_data names actor place after e) ≡ name_data names actor
+pub actor-at : (names : List (List ℕ)) (actor place : ℕ) (after : ActorSnapshot) (e : Entry) → value_at 0 (entry_data names actor place after e) ≡ name_data names actor
 actor-at names actor place after (Handled e reading (Applied a effects)) = refl
 actor-at names actor place after (Handled e reading SetAside) = refl
 actor-at names actor place after (System n message (Applied a effects)) = refl
 actor-at names actor place after (System n message SetAside) = refl
 actor-at names actor place after (Dropped e) = refl
 
-pub place-in : (names : List (List ℕ)) (actor place : ℕ) (after : Standing) (e : Entry) → natural_from (value_at 3 (entry_data names actor place after e)) ≡ place
+pub place-in : (names : List (List ℕ)) (actor place : ℕ) (after : ActorSnapshot) (e : Entry) → natural_from (value_at 3 (entry_data names actor place after e)) ≡ place
 place-in names actor place after (Handled e reading (Applied a effects)) = refl
 place-in names actor place after (Handled e reading SetAside) = refl
 place-in names actor place after (System n message (Applied a effects)) = refl

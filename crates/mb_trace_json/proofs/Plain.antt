@@ -26,9 +26,9 @@ use Rattle.mb_trace_json.specs.Entries.{answer_error, answer_text, entry_data, w
 use Rattle.mb_trace_json.specs.Messages.{about_data, body_data, cause_error, cause_text, plain_data, system_data, user_data}
 use Rattle.mb_trace_json.specs.Names.{name_data}
 use Rattle.mb_report.specs.Lines.{phase_text}
-use Rattle.mb_trace.specs.declared.standing.Standing.{Standing}
-use Rattle.mb_trace_json.specs.Standing.{standing_data, state_data, within_64_bits}
-use Rattle.mb_trace_json.specs.Rest.{aside_data, left_data, letter_data, why_text}
+use Rattle.mb_trace.specs.declared.actor_snapshot.ActorSnapshot.{ActorSnapshot}
+use Rattle.mb_trace_json.specs.ActorSnapshot.{snapshot_data, state_data, within_64_bits}
+use Rattle.mb_trace_json.specs.Undelivered.{aside_data, left_data, letter_data, why_text}
 
 -- no float, and not deeper than this
 pub record IsPlain (n : ℕ) (d : Data) : Type 0 where
@@ -150,21 +150,21 @@ plain-state : (n : ℕ) (state : Option ℤ) → IsPlain n (state_data state)
 plain-state n None = nothing n
 plain-state n (Some state) = integer n state
 
-plain-standing : (s : Standing) → IsPlain 1 (standing_data s)
-plain-standing s =
+plain-snapshot : (s : ActorSnapshot) → IsPlain 1 (snapshot_data s)
+plain-snapshot s =
     of_members 0 _ (one_more 0 _ _ _ (text 0 (phase_text s.phase)) (one_more 0 _ _ _ (plain-state 0 s.state)
     (one_more 0 _ _ _ (natural 0 (within_64_bits s.suspended)) (no_more 0))))
 
-plain-whole : (names : List (List ℕ)) (actor place : ℕ) (after : Standing) (message sender : Data) (n : ℕ) (outcome : List ℕ) (error : Data) (effects : List Effect)
+plain-whole : (names : List (List ℕ)) (actor place : ℕ) (after : ActorSnapshot) (message sender : Data) (n : ℕ) (outcome : List ℕ) (error : Data) (effects : List Effect)
     (status : Data) → IsPlain 1 message → IsPlain 2 sender → IsPlain 2 error → IsPlain 2 status
     → IsPlain 3 (whole_data names actor place after message sender n outcome error (effects_data names effects) status)
 plain-whole names actor place after message sender n outcome error effects status of_message of_sender of_error of_status =
-    of_members 2 _ (one_more 2 _ _ _ (text 2 _) (one_more 2 _ _ _ (higher (standing_data after) (plain-standing after)) (one_more 2 _ _ _ (plain-effects names effects) (one_more 2 _ _ _ (natural 2 place)
+    of_members 2 _ (one_more 2 _ _ _ (text 2 _) (one_more 2 _ _ _ (higher (snapshot_data after) (plain-snapshot after)) (one_more 2 _ _ _ (plain-effects names effects) (one_more 2 _ _ _ (natural 2 place)
     (one_more 2 _ _ _ of_error (one_more 2 _ _ _ (text 2 _) (one_more 2 _ _ _ (higher message of_message) (one_more 2 _ _ _ (natural 2 n)
     (one_more 2 _ _ _ (text 2 outcome) (one_more 2 _ _ _ of_sender (one_more 2 _ _ _ of_status
     (one_more 2 _ _ _ (natural 2 1) (no_more 2)))))))))))))
 
-pub plain-entry : (names : List (List ℕ)) (actor place : ℕ) (after : Standing) (e : Entry) → IsPlain 3 (entry_data names actor place after e)
+pub plain-entry : (names : List (List ℕ)) (actor place : ℕ) (after : ActorSnapshot) (e : Entry) → IsPlain 3 (entry_data names actor place after e)
 plain-entry names actor place after (Handled e reading (Applied a effects)) =
     plain-whole names actor place after _ _ _ (answer_text a) _ effects _ (plain-body names e.body) (text 2 _) (plain-answer_error 2 a) (natural 2 reading)
 plain-entry names actor place after (Handled e reading SetAside) =

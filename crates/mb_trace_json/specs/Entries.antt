@@ -10,9 +10,9 @@ use Rattle.mb_journal.specs.Entry.Outcome.{Applied, SetAside}
 use Rattle.mb_trace_json.specs.Effects.{effects_data}
 use Rattle.mb_trace_json.specs.Messages.{body_data, system_data}
 use Rattle.mb_trace_json.specs.Names.{name_data}
-use Rattle.mb_trace_json.specs.Standing.{standing_data}
+use Rattle.mb_trace_json.specs.ActorSnapshot.{snapshot_data}
 use Rattle.mb_trace_json.specs.Version.{version_data}
-use Rattle.mb_trace.specs.declared.standing.Standing.{Standing}
+use Rattle.mb_trace.specs.declared.actor_snapshot.ActorSnapshot.{ActorSnapshot}
 
 -- What the actor answered; `applied` where it was not called.
 abbrev pub answer_text : Option Answer → List ℕ
@@ -30,10 +30,10 @@ answer_error (Some (answer.Failed n)) = number (unsigned n)
 
 -- What every entry says: whose journal has it and where, how the actor stands after it, the message, who sent it, its number, what came of
 -- it, the number of a failure, the effects, the status that was read before, and the version of the form.
-abbrev pub whole_data : List (List ℕ) → ℕ → ℕ → Standing → Data → Data → ℕ → List ℕ → Data → Data → Data → Data
+abbrev pub whole_data : List (List ℕ) → ℕ → ℕ → ActorSnapshot → Data → Data → ℕ → List ℕ → Data → Data → Data → Data
 whole_data names actor place after message sender n outcome error effects status = object
     (member (codes "actor") (name_data names actor)
-    (member (codes "after") (standing_data after)
+    (member (codes "after") (snapshot_data after)
     (member (codes "effects") effects
     (member (codes "entry") (number (unsigned place))
     (member (codes "error") error
@@ -46,7 +46,7 @@ whole_data names actor place after message sender n outcome error effects status
     (member (codes "version") version_data no_members))))))))))))
 
 -- The entry of this actor's journal, at this place there, after which the actor stands so.
-abbrev pub entry_data : List (List ℕ) → ℕ → ℕ → Standing → Entry → Data
+abbrev pub entry_data : List (List ℕ) → ℕ → ℕ → ActorSnapshot → Entry → Data
 entry_data names actor place after (Handled e reading (Applied a effects)) = whole_data names actor place after (body_data names e.body)
     (name_data names e.by.0) e.number (answer_text a) (answer_error a) (effects_data names effects) (number (unsigned reading))
 entry_data names actor place after (Handled e reading SetAside) = whole_data names actor place after (body_data names e.body)

@@ -1,9 +1,9 @@
+pub mod ActorSnapshot
 pub mod Effects
 pub mod Entries
 pub mod Lines
 pub mod Messages
 pub mod Names
-pub mod Rest
-pub mod Standing
 pub mod Telling
+pub mod Undelivered
 pub mod Version

@@ -12,7 +12,7 @@ use Rattle.mb_actor.specs.declared.effect.Effect.TheVariants as effect
 use Rattle.mb_journal.specs.Entry.{Entry, outcome_effects}
 use Rattle.mb_journal.specs.Entry.Entry.{Handled, System, Dropped}
 use Rattle.mb_trace_json.specs.Entries.{entry_data}
-use Rattle.mb_trace.specs.declared.standing.Standing.{Standing}
+use Rattle.mb_trace.specs.declared.actor_snapshot.ActorSnapshot.{ActorSnapshot}
 use Rattle.mb_trace_json.specs.Names.{name_of}
 
 -- No two actors have one name, the guardian among them, and none is named as a sender outside the actors.
@@ -61,8 +61,8 @@ IsKnownEntry names actor (Dropped e) = IsKnownEnvelope names actor e
 
 -- With such names, the value of this entry of the journal of the actor of this number, at this place there, is that of no other entry, no
 -- other actor and no other place, however the actors stand.
-abbrev pub TellsEntry : List (List ℕ) → ℕ → ℕ → Standing → Entry → Type 0
+abbrev pub TellsEntry : List (List ℕ) → ℕ → ℕ → ActorSnapshot → Entry → Type 0
 TellsEntry names actor place after e =
     AreDistinct names → IsKnown names actor → IsKnownEntry names actor e
-    → (other elsewhere : ℕ) (otherwise : Standing) (f : Entry) → IsKnown names other → IsKnownEntry names other f
+    → (other elsewhere : ℕ) (otherwise : ActorSnapshot) (f : Entry) → IsKnown names other → IsKnownEntry names other f
     → entry_data names other elsewhere otherwise f ≡ entry_data names actor place after e → (other ≡ actor) × (elsewhere ≡ place) × (f ≡ e)

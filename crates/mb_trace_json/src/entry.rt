@@ -8,15 +8,15 @@ ghost use Rattle.mb_trace_json.specs.Entries.{answer_text, answer_error, whole_d
 ghost use Rattle.mb_trace_json.specs.Messages.{body_data, system_data};
 ghost use Rattle.mb_trace_json.specs.Names.{name_data};
 
+use crate::actor_snapshot::snapshot_value;
 use crate::effect::effects_value;
 use crate::message::{body_value, system_value};
 use crate::names::name_value;
-use crate::standing::standing_value;
 use crate::version::put_version;
 use mb_actor::{Answer, Effect};
 use mb_journal::{EntryRef, Received};
 use mb_msg::{ActorId, Envelope, SysMsg};
-use mb_trace::Standing;
+use mb_trace::ActorSnapshot;
 use serde_json::{Map, Value, put};
 use std::alloc::{AllocError, Global};
 
@@ -26,7 +26,7 @@ pub(crate) struct Place {
     pub(crate) actor: ActorId,
     /// Where the entry stands in that journal, from 0.
     pub(crate) index: usize,
-    pub(crate) after: Standing,
+    pub(crate) after: ActorSnapshot,
 }
 
 /// An entry.
@@ -160,7 +160,7 @@ fn whole_value(
     put_came(alloc, &mut members, came)?;
     let effects = effects_value(alloc, names, effects)?;
     put(&mut members, alloc, "effects", effects)?;
-    let after = standing_value(alloc, place.after)?;
+    let after = snapshot_value(alloc, place.after)?;
     put(&mut members, alloc, "after", after)?;
     put_place(alloc, &mut members, names, place)?;
     put_version(alloc, &mut members)?;

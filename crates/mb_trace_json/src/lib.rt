@@ -4,12 +4,12 @@
 //! `docs/trace.schema.json` describes the lines. No object has another key than those that it describes, and no key is left out.
 #![tactic(auto)]
 
+mod actor_snapshot;
 mod effect;
 mod entry;
 mod line;
 mod message;
 mod names;
-mod standing;
 mod undelivered;
 mod version;
 

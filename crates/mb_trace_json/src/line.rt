@@ -7,14 +7,14 @@ ghost use Rattle.serde_json.specs.Written.{has_float};
 ghost use Rattle.mb_journal.specs.JournalView.{entry_of};
 ghost use Rattle.mb_trace_json.specs.Entries.{entry_data};
 ghost use Rattle.mb_trace_json.specs.Lines.{ReadsAs, line_text};
-ghost use Rattle.mb_trace_json.specs.Rest.{aside_data, left_data, letter_data};
+ghost use Rattle.mb_trace_json.specs.Undelivered.{aside_data, left_data, letter_data};
 ghost use Rattle.mb_trace_json.specs.Telling.{TellsEntry};
 
 use crate::entry::{Place, entry_value};
 use crate::undelivered::{dead_letter_value, left_value, set_aside_value};
 use mb_journal::EntryRef;
 use mb_msg::{ActorId, DeadLetter, Envelope, SysMsg};
-use mb_trace::Standing;
+use mb_trace::ActorSnapshot;
 use serde_json::Value;
 use std::alloc::{AllocError, Global};
 
@@ -25,7 +25,7 @@ pub fn entry_line(
     names: &[String],
     actor: ActorId,
     place: usize,
-    after: Standing,
+    after: ActorSnapshot,
     entry: &EntryRef<'_>,
 ) -> Result<String, AllocError>
     ensures text { IfOk result (λ line. string_bytes line ≡ line_text (entry_data (map string_bytes names.now) actor.0 place after (entry_of entry.now))) }

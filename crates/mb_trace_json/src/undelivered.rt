@@ -5,7 +5,7 @@ ghost use Rattle.serde_json.specs.Data.{string, unsigned, member, no_members};
 ghost use Rattle.serde_json.specs.View.{view, members_view};
 ghost use Rattle.mb_trace_json.specs.Messages.{body_data};
 ghost use Rattle.mb_trace_json.specs.Names.{name_data};
-ghost use Rattle.mb_trace_json.specs.Rest.{why_text, letter_data, left_data, aside_data};
+ghost use Rattle.mb_trace_json.specs.Undelivered.{why_text, letter_data, left_data, aside_data};
 ghost use Rattle.mb_trace_json.specs.Version.{version_data};
 
 use crate::message::{body_value, system_value};

@@ -3,7 +3,7 @@ use crate::made::{envelope, live, names};
 use mb_actor::{Answer, Effect, Phase};
 use mb_journal::{EntryRef, Received};
 use mb_msg::{ActorId, Body, Cause, DeadLetter, DeadLetterReason, SysMsg};
-use mb_trace::Standing;
+use mb_trace::ActorSnapshot;
 use mb_trace_json::{dead_letter_line, entry_line, left_line, set_aside_line};
 use std::alloc::AllocError;
 use std::test::Fail;
@@ -123,7 +123,7 @@ fn a_line_has_all_keys(rt: HostRuntime) -> Result<(), Fail> {
         "{line}"
     );
     // A count that does not fit 64 bits is written as the greatest that does.
-    let suspended = Standing {
+    let suspended = ActorSnapshot {
         phase: Phase::Ending,
         suspended: u128::MAX,
         state: None,

@@ -9,7 +9,7 @@ use mb_msg::{
     ActorId, Body, Cause, DeadLetter, DeadLetterReason, Envelope, JournalMode, SenderId, SysMsg,
 };
 use mb_report::{ActorReport, Report, SenderReport};
-use mb_trace::Standing;
+use mb_trace::ActorSnapshot;
 use std::alloc::Global;
 
 /// An envelope of the first sender outside, to this actor.
@@ -146,8 +146,8 @@ fn senders(alloc: Global) -> Option<Vec<SenderReport>> {
 }
 
 /// How an actor stands that is live, with this state.
-pub fn live(state: Option<i64>) -> Standing {
-    Standing {
+pub fn live(state: Option<i64>) -> ActorSnapshot {
+    ActorSnapshot {
         phase: Phase::Live,
         suspended: 0,
         state,
@@ -162,7 +162,7 @@ pub fn entries(alloc: Global, report: &Report) -> Option<Vec<PictureEntry<'_>>> 
             return None;
         }
         let after = live(if id == 0 { None } else { Some(id as i64) });
-        let mut before = Standing {
+        let mut before = ActorSnapshot {
             phase: Phase::Fresh,
             suspended: 1,
             state: None,

@@ -1,7 +1,9 @@
 pub mod Behaves
+pub mod Choices
 pub mod Dispatched
 pub mod Ending
 pub mod MailboxView
 pub mod Numbered
+pub mod Registered
 pub mod Running
 pub mod World

@@ -1,6 +1,6 @@
 -- A running system as a value, and what one step makes of it.
-use Rattle.std.specs.Prelude.{◌≡◌, ℕ, ◌+◌, ◌≤◌, List, [], ◌∷◌, Some, length, map, slice_get, slice_set, nat_lt, if◌then◌else◌}
-use Rattle.std.specs.List.{All}
+use Rattle.std.specs.Prelude.{◌≡◌, Bool, ℕ, ◌+◌, ◌≤◌, List, [], ◌∷◌, Some, length, map, slice_get, slice_set, nat_lt, if◌then◌else◌}
+use Rattle.std.specs.List.{All, filter}
 use Rattle.mb_msg.specs.declared.id.ActorId.{ActorId}
 use Rattle.mb_msg.specs.declared.order.Order.{Order}
 use Rattle.mb_cell.specs.CellView.{CellView}
@@ -16,11 +16,13 @@ pub record Sender : Type 0 where
   pub place : ℕ
   pub done : ℕ
 
--- a running system: the cells and the mailboxes of all actors, by their numbers; and the senders outside, by theirs
+-- a running system: the cells and the mailboxes of all actors, by their numbers; the senders outside, by theirs; and the actors that are registered
+-- for execution, in the order in which they were
 pub record WorldView : Type 0 where
   pub cells : List CellView
   pub mailboxes : List MailboxView
   pub senders : List Sender
+  pub registered : List ActorId
 
 -- the cells are those of the actors that are numbered on from this number, in order
 abbrev pub AreNumberedFrom : ℕ → List CellView → Type 0
@@ -41,12 +43,18 @@ pub record IsNew (actors : ℕ) (cells : List CellView) (mailboxes : List Mailbo
   pub fresh : All (λ (c : CellView). c.journal ≡ []) cells
   pub rest : IsAtRest cells mailboxes
 
--- a system to which nothing came yet: each journal is empty, and each sender outside has all these orders before it
+-- an order is carried out once at least
+abbrev pub is_carried_out : Order → Bool
+is_carried_out order = nat_lt 0 order.times
+
+-- a system to which nothing came yet: each journal is empty, and each sender outside has all these orders before it, but for those that are never
+-- carried out
 pub record IsStart (actors : ℕ) (orders : List (List Order)) (world : WorldView) : Type 0 where
   pub same_count : length world.cells ≡ actors + 1
   pub fresh : All (λ (c : CellView). c.journal ≡ []) world.cells
   pub unsent : All (λ (s : Sender). (s.place ≡ 0) × (s.done ≡ 0)) world.senders
   pub as_many : length world.senders ≡ length orders
+  pub own : map (λ (s : Sender). s.orders) world.senders ≡ map (filter is_carried_out) orders
 
 -- the sender, once it has carried out this order once more: it goes on to the order's next time, or to the next order
 abbrev pub advanced : Sender → Order → Sender

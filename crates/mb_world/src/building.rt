@@ -1,8 +1,8 @@
 //! Making the cells and the mailboxes of a plan.
-ghost use Rattle.std.specs.Prelude.{◌≡◌, ◌+◌, ◌<◌, ◌≤◌, length, IfOk, All, []};
+ghost use Rattle.std.specs.Prelude.{◌≡◌, ◌+◌, ◌<◌, ◌≤◌, filter, length, map, IfOk, All, []};
 ghost use Rattle.mb_msg.specs.Limits.{most_actors, most_entries};
 ghost use Rattle.mb_world.specs.Behaves.{Behaves, BehaveFrom};
-ghost use Rattle.mb_world.specs.World.{IsNew};
+ghost use Rattle.mb_world.specs.World.{is_carried_out, IsNew};
 
 use crate::mailbox::Mailbox;
 use crate::numbered_cell::NumberedCell;
@@ -192,6 +192,7 @@ pub(crate) fn logs_of(alloc: Global, senders: usize) -> Result<Vec<SendLog>, All
 pub(crate) fn queues_of(alloc: Global, orders: &[Vec<Order>]) -> Result<Vec<OrderQueue>, AllocError>
     ensures as_many { IfOk result (λ queues. length queues.items ≡ length orders.now) }
     ensures unsent { IfOk result (λ queues. All (λ q. (q.place ≡ 0) × (q.done ≡ 0)) queues.items) }
+    ensures own { IfOk result (λ queues. map (λ q. q.orders) queues.items ≡ map (filter is_carried_out) (map (λ list. list.items) orders.now)) }
 {
     let mut queues = Vec::new(alloc);
     for list in orders {

@@ -1,6 +1,7 @@
 //! The mailboxes of all actors, and who is registered for execution.
-ghost use Rattle.std.specs.Prelude.{◌≡◌, true, length, IfNone, IfSome};
+ghost use Rattle.std.specs.Prelude.{◌≡◌, ◌↔◌, ◌<◌, true, length, map, slice_index_or, Contains, IfNone, IfSome, IsTrue, MatchOption};
 ghost use Rattle.mb_world.specs.Dispatched.{mark_of, marks_of, GivesTo};
+ghost use Rattle.mb_world.specs.Registered.{is_scheduled, IsRegistry};
 
 use crate::mailbox::Mailbox;
 use crate::send_log::SendLog;
@@ -19,6 +20,10 @@ pub(crate) struct Dispatcher {
     pub(crate) logs: Vec<SendLog>,
     /// The actors that are registered for execution, in the order in which they were.
     pub(crate) claims: VecDeque<ActorId>,
+    /// The actor whose mailbox is run, or was when its run ended early.
+    pub(crate) running: Option<ActorId>,
+    // Who is registered is scheduled, and is registered once.
+    pub(crate) ghost registry: { IsRegistry (map is_scheduled mailboxes.items) claims.items running },
 }
 
 impl Dispatcher {
@@ -30,7 +35,7 @@ impl Dispatcher {
         let Some(mailbox) = self.mailboxes.get_mut(actor.0 as usize) else {
             return Ok(());
         };
-        if !mailbox.is_due() {
+        if !mailbox.can_be_scheduled() {
             return Ok(());
         }
         self.claims.push_back(actor)?;
@@ -233,41 +238,61 @@ impl Dispatcher {
 
     /// Takes an actor out of those that are registered for execution; `false` if it is none of them.
     pub(crate) fn take_claim(&mut self, actor: ActorId) -> bool
+        ensures taken { IsTrue result ↔ Contains self.old.claims.items actor }
         ensures marks { marks_of self.new.mailboxes.items ≡ marks_of self.old.mailboxes.items }
         ensures logs { length self.new.logs.items ≡ length self.old.logs.items }
     {
-        for place in 0..self.claims.len() {
-            if self.claims.get(place).copied() == Some(actor) {
-                self.claims.remove(place);
-                return true;
-            }
+        let Some(place) = place_of(&self.claims, actor) else {
+            return false;
+        };
+        self.claims.remove(place);
+        self.running = Some(actor);
+        true
+    }
+
+    /// Sets the mailbox idle whose run has come to its end, and registers its actor again if that is due (`Mailbox.run`). The only error: memory
+    /// was refused.
+    pub(crate) fn release(&mut self) -> Result<(), AllocError>
+        ensures marks { marks_of self.new.mailboxes.items ≡ marks_of self.old.mailboxes.items }
+        ensures logs { length self.new.logs.items ≡ length self.old.logs.items }
+    {
+        match self.set_idle() {
+            Some(actor) => self.register(actor),
+            None => Ok(()),
         }
-        false
     }
 
-    /// Sets an actor's mailbox idle after its run, and registers the actor again if that is due (`Mailbox.run`). The only error: memory was
-    /// refused.
-    pub(crate) fn release(&mut self, actor: ActorId) -> Result<(), AllocError>
+    /// Sets the mailbox idle that is run, and gives its actor.
+    fn set_idle(&mut self) -> Option<ActorId>
         ensures marks { marks_of self.new.mailboxes.items ≡ marks_of self.old.mailboxes.items }
         ensures logs { length self.new.logs.items ≡ length self.old.logs.items }
     {
-        self.set_idle(actor);
-        self.register(actor)
-    }
-
-    fn set_idle(&mut self, actor: ActorId)
-        ensures marks { marks_of self.new.mailboxes.items ≡ marks_of self.old.mailboxes.items }
-        ensures logs { length self.new.logs.items ≡ length self.old.logs.items }
-    {
+        let actor = self.running?;
+        self.running = None;
         if let Some(mailbox) = self.mailboxes.get_mut(actor.0 as usize) {
             mailbox.set_scheduled(false);
         }
+        Some(actor)
     }
+}
+
+/// Where an actor stands among these.
+fn place_of(actors: &VecDeque<ActorId>, actor: ActorId) -> Option<usize>
+    ensures { MatchOption result (Contains actors.now.items actor → ⊥)
+        (λ place. (place < length actors.now.items) × (slice_index_or actors.now.items place actor ≡ actor)) }
+{
+    for place in 0..actors.len() {
+        if actors.get(place).copied() == Some(actor) {
+            return Some(place);
+        }
+    }
+    None
 }
 
 /// Closes a mailbox, and keeps the envelopes that are left as dead letters. The answer is the system messages that are left.
 fn close_mailbox(alloc: Global, mailbox: &mut Mailbox) -> Result<VecDeque<SysMsg>, AllocError>
-    ensures { mark_of mailbox.new ≡ mark_of mailbox.old }
+    ensures mark { mark_of mailbox.new ≡ mark_of mailbox.old }
+    ensures scheduled { mailbox.new.is_scheduled ≡ mailbox.old.is_scheduled }
 {
     let messages = mailbox.close(alloc);
     clean_up(mailbox)?;
@@ -277,7 +302,8 @@ fn close_mailbox(alloc: Global, mailbox: &mut Mailbox) -> Result<VecDeque<SysMsg
 /// Cleans up a mailbox that was closed: the envelopes that are left are dead letters. The only error: memory was refused.
 fn clean_up(mailbox: &mut Mailbox) -> Result<(), AllocError>
     requires { mailbox.old.is_closed ≡ true }
-    ensures { mark_of mailbox.new ≡ mark_of mailbox.old }
+    ensures mark { mark_of mailbox.new ≡ mark_of mailbox.old }
+    ensures scheduled { mailbox.new.is_scheduled ≡ mailbox.old.is_scheduled }
 {
     'envelopes: while mailbox.clean_next()? {}
     Ok(())

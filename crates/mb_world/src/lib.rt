@@ -7,6 +7,7 @@
 
 mod building;
 mod choice;
+mod choices;
 mod dispatcher;
 mod ending;
 mod mailbox;

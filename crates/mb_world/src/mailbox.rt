@@ -134,7 +134,7 @@ impl Mailbox {
     }
 
     /// How it stands, as one number: whether it is closed, suspended and scheduled.
-    pub(crate) fn standing(&self) -> u64 {
+    pub(crate) fn status_number(&self) -> u64 {
         match (self.is_closed, self.is_suspended, self.is_scheduled) {
             (true, _, _) => 0,
             (false, false, false) => 1,
@@ -146,7 +146,9 @@ impl Mailbox {
 
     /// Whether the actor is to be registered for execution now (`Mailbox.canBeScheduledForExecution`, `setAsScheduled`): it is not yet, the
     /// mailbox is open, and there is a system message, or an envelope that may be handled.
-    pub(crate) fn is_due(&self) -> bool {
+    pub(crate) fn can_be_scheduled(&self) -> bool
+        ensures { IsTrue result → self.now.is_scheduled ≡ false }
+    {
         if self.is_closed || self.is_scheduled {
             return false;
         }
@@ -176,6 +178,7 @@ impl Mailbox {
         }) }
         ensures refused { OnErr result (self.new ≡ self.old) }
         ensures mark { mark_of self.new ≡ mark_of self.old }
+        ensures scheduled { self.new.is_scheduled ≡ self.old.is_scheduled }
     {
         self.queue.enqueue(envelope)?;
         self.arrived.add(envelope);
@@ -187,6 +190,7 @@ impl Mailbox {
         ensures queued { OnOk result (self.new ≡ record self.old { system = self.old.system ++ message ∷ [] }) }
         ensures refused { OnErr result (self.new ≡ self.old) }
         ensures mark { mark_of self.new ≡ mark_of self.old }
+        ensures scheduled { self.new.is_scheduled ≡ self.old.is_scheduled }
     {
         self.system.push_back(message)?;
         Ok(())
@@ -195,6 +199,7 @@ impl Mailbox {
     /// Takes out the next system message (`Mailbox.systemDrain`).
     pub(crate) fn next_system(&mut self) -> Option<SysMsg>
         ensures mark { mark_of self.new ≡ mark_of self.old }
+        ensures scheduled { self.new.is_scheduled ≡ self.old.is_scheduled }
         ensures next { MatchOption result ((self.old.system ≡ []) × (self.new ≡ self.old))
             (λ message. (self.old.system ≡ message ∷ self.new.system) × (self.new ≡ record self.old { system = self.new.system })) }
     {
@@ -210,6 +215,7 @@ impl Mailbox {
         ensures next { IfSome result (Gives self.old.queue self.new.queue) }
         ensures addressed { IfSome result (λ envelope. envelope.to ≡ self.old.actor) }
         ensures none { IfNone result (self.new ≡ self.old) }
+        ensures scheduled { self.new.is_scheduled ≡ self.old.is_scheduled }
     {
         if self.is_closed {
             return None;

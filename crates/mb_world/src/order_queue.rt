@@ -1,6 +1,6 @@
 //! What a sender outside is still to send.
-ghost use Rattle.std.specs.Prelude.{◌≡◌, ◌≤◌, IfOk, IfNone, IfSome, IsTrue, slice_get};
-ghost use Rattle.mb_world.specs.World.{advanced};
+ghost use Rattle.std.specs.Prelude.{◌≡◌, ◌≤◌, ◌↔◌, filter, length, IfOk, IfNone, IfSome, IsTrue, slice_get};
+ghost use Rattle.mb_world.specs.World.{advanced, is_carried_out};
 
 use mb_msg::Order;
 use std::alloc::{AllocError, Global};
@@ -28,7 +28,8 @@ impl Model for OrderQueue {
 impl OrderQueue {
     /// All these orders are still to be carried out, each as often as it says. The only error: memory was refused.
     pub(crate) fn new(alloc: Global, orders: &[Order]) -> Result<OrderQueue, AllocError>
-        ensures { IfOk result (λ queue. (queue.place ≡ 0) × (queue.done ≡ 0)) }
+        ensures unsent { IfOk result (λ queue. (queue.place ≡ 0) × (queue.done ≡ 0)) }
+        ensures own { IfOk result (λ queue. queue.orders ≡ filter is_carried_out orders.now) }
     {
         let mut some = Vec::new(alloc);
         for order in orders {
@@ -44,7 +45,9 @@ impl OrderQueue {
     }
 
     /// Whether all is sent.
-    pub(crate) fn is_done(&self) -> bool {
+    pub(crate) fn is_done(&self) -> bool
+        ensures { IsTrue result ↔ (length self.now.orders ≤ self.now.place) }
+    {
         self.place >= self.orders.len()
     }
 

@@ -6,7 +6,7 @@ ghost use Rattle.mb_world.specs.Running.{IsInRun, LeavesInRun};
 
 use crate::dispatcher::Dispatcher;
 use crate::numbered_cell::NumberedCell;
-use crate::step_error::StepError;
+use crate::step_error::RunError;
 use mb_actor::{Actor, Behaviours};
 use mb_cell::Act;
 use mb_msg::{ActorId, SenderId, SysMsg};
@@ -23,7 +23,7 @@ pub(crate) fn run_mailbox<A: Actor, K: Behaviours>(
     cell: &mut NumberedCell<A, K>,
     dispatcher: &mut Dispatcher,
     throughput: u32,
-) -> Result<(), StepError>
+) -> Result<(), RunError>
     requires run { IsInRun actor cell.old dispatcher.old.mailboxes.items }
     ensures run { LeavesInRun actor cell.old cell.new dispatcher.old.mailboxes.items dispatcher.new.mailboxes.items }
     ensures logs { length dispatcher.new.logs.items ≡ length dispatcher.old.logs.items }
@@ -44,7 +44,7 @@ fn apply_systems<A: Actor, K: Behaviours>(
     actor: ActorId,
     cell: &mut NumberedCell<A, K>,
     dispatcher: &mut Dispatcher,
-) -> Result<(), StepError>
+) -> Result<(), RunError>
     requires run { IsInRun actor cell.old dispatcher.old.mailboxes.items }
     ensures run { LeavesInRun actor cell.old cell.new dispatcher.old.mailboxes.items dispatcher.new.mailboxes.items }
     ensures logs { length dispatcher.new.logs.items ≡ length dispatcher.old.logs.items }
@@ -59,7 +59,7 @@ fn apply_next<A: Actor, K: Behaviours>(
     actor: ActorId,
     cell: &mut NumberedCell<A, K>,
     dispatcher: &mut Dispatcher,
-) -> Result<bool, StepError>
+) -> Result<bool, RunError>
     requires run { IsInRun actor cell.old dispatcher.old.mailboxes.items }
     ensures run { LeavesInRun actor cell.old cell.new dispatcher.old.mailboxes.items dispatcher.new.mailboxes.items }
     ensures logs { length dispatcher.new.logs.items ≡ length dispatcher.old.logs.items }
@@ -110,7 +110,7 @@ fn handle_next<A: Actor, K: Behaviours>(
     actor: ActorId,
     cell: &mut NumberedCell<A, K>,
     dispatcher: &mut Dispatcher,
-) -> Result<bool, StepError>
+) -> Result<bool, RunError>
     requires run { IsInRun actor cell.old dispatcher.old.mailboxes.items }
     ensures run { LeavesInRun actor cell.old cell.new dispatcher.old.mailboxes.items dispatcher.new.mailboxes.items }
     ensures logs { length dispatcher.new.logs.items ≡ length dispatcher.old.logs.items }

@@ -51,7 +51,7 @@ fn add_entry(key: &mut Vec<u64>, arrival: Received) -> Result<(), AllocError> {
 
 /// Adds what is in a mailbox, and how it stands.
 fn add_mailbox(key: &mut Vec<u64>, mailbox: &Mailbox) -> Result<(), AllocError> {
-    key.push(mailbox.standing())?;
+    key.push(mailbox.status_number())?;
     let envelopes = mailbox.envelopes();
     key.push(envelopes.len() as u64)?;
     for envelope in envelopes {

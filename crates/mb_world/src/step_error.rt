@@ -1,6 +1,9 @@
 //! Why a step was not made.
+ghost use Rattle.std.specs.Prelude.{◌≡◌, ◌≢◌};
+ghost use Rattle.mb_world.specs.declared.step_error.StepError.TheVariants.{NotPossible, NoMemory};
+
 use mb_journal::ReadyError;
-use std::alloc::{AllocError, AllocFailed};
+use std::alloc::AllocError;
 
 /// Why a step was not made, or not to its end.
 #[derive(Clone, Copy, Debug, PartialEq, Eq)]
@@ -13,23 +16,45 @@ pub enum StepError {
     NoMemory,
 }
 
-impl From<ReadyError> for StepError {
-    fn from(error: ReadyError) -> StepError {
+/// Why the run of a mailbox ended early.
+#[derive(Clone, Copy, Debug, PartialEq, Eq)]
+pub(crate) enum RunError {
+    /// The actor's journal has as many entries as it may have.
+    JournalFull,
+    /// Memory was refused.
+    NoMemory,
+}
+
+impl From<RunError> for StepError {
+    ghost from_gives = { λ _ e. e ≢ NotPossible };
+
+    fn from(error: RunError) -> StepError {
         match error {
-            ReadyError::JournalFull => StepError::JournalFull,
-            ReadyError::NoMemory => StepError::NoMemory,
+            RunError::JournalFull => StepError::JournalFull,
+            RunError::NoMemory => StepError::NoMemory,
         }
     }
 }
 
 impl From<AllocError> for StepError {
+    ghost from_gives = { λ _ e. e ≡ NoMemory };
+
     fn from(_: AllocError) -> StepError {
         StepError::NoMemory
     }
 }
 
-impl<T: Drop> From<AllocFailed<T>> for StepError {
-    fn from(_: AllocFailed<T>) -> StepError {
-        StepError::NoMemory
+impl From<ReadyError> for RunError {
+    fn from(error: ReadyError) -> RunError {
+        match error {
+            ReadyError::JournalFull => RunError::JournalFull,
+            ReadyError::NoMemory => RunError::NoMemory,
+        }
+    }
+}
+
+impl From<AllocError> for RunError {
+    fn from(_: AllocError) -> RunError {
+        RunError::NoMemory
     }
 }

@@ -1,5 +1,6 @@
 //! One step of a system, by its parts.
-ghost use Rattle.std.specs.Prelude.{◌≡◌, ◌≤◌, length, OnOk};
+ghost use Rattle.std.specs.Prelude.{◌≡◌, ◌≤◌, length, Contains, IsErrOf, OnOk};
+ghost use Rattle.mb_world.specs.Choices.{HasLeft};
 ghost use Rattle.mb_world.specs.Dispatched.{marks_of};
 ghost use Rattle.mb_world.specs.World.{IsAtRest, RunsOnce, SendsOnce};
 
@@ -23,6 +24,7 @@ pub(crate) fn send_once(
 ) -> Result<(), StepError>
     requires few { (length senders.old.items ≤ 16) × (actors ≤ 64) }
     ensures sent { OnOk result (SendsOnce senders.old.items senders.new.items sender) }
+    ensures refused { IsErrOf result StepError.NotPossible → HasLeft senders.old.items sender → ⊥ }
     ensures as_many { length senders.new.items ≡ length senders.old.items }
     ensures marks { marks_of dispatcher.new.mailboxes.items ≡ marks_of dispatcher.old.mailboxes.items }
     ensures logs { length dispatcher.new.logs.items ≡ length dispatcher.old.logs.items }
@@ -70,6 +72,8 @@ pub(crate) fn run_once<A: Actor, K: Behaviours>(
     requires rest { IsAtRest cells.old.items dispatcher.old.mailboxes.items }
     ensures rest { IsAtRest cells.new.items dispatcher.new.mailboxes.items }
     ensures ran { OnOk result (RunsOnce cells.old.items cells.new.items actor) }
+    ensures possible { OnOk result (Contains dispatcher.old.claims.items actor) }
+    ensures refused { IsErrOf result StepError.NotPossible → Contains dispatcher.old.claims.items actor → ⊥ }
     ensures as_many { length cells.new.items ≡ length cells.old.items }
     ensures logs { length dispatcher.new.logs.items ≡ length dispatcher.old.logs.items }
 {
@@ -80,6 +84,6 @@ pub(crate) fn run_once<A: Actor, K: Behaviours>(
         return Err(StepError::NotPossible);
     }
     run_mailbox(alloc, actor, cell, dispatcher, throughput)?;
-    dispatcher.release(actor)?;
+    dispatcher.release()?;
     Ok(())
 }

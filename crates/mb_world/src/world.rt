@@ -1,7 +1,8 @@
 //! The running system as a value.
-ghost use Rattle.std.specs.Prelude.{◌≡◌, ◌<◌, ◌≤◌, length, map, IfOk, OnOk};
+ghost use Rattle.std.specs.Prelude.{◌≡◌, ◌<◌, ◌≤◌, length, map, IfOk, IsErrOf, OnOk};
 ghost use Rattle.mb_msg.specs.Limits.{most_entries};
 ghost use Rattle.mb_world.specs.Behaves.{BehaveFrom};
+ghost use Rattle.mb_world.specs.Choices.{IsPossible};
 ghost use Rattle.mb_world.specs.Dispatched.{marks_of};
 ghost use Rattle.mb_world.specs.World.{IsStart, Steps};
 
@@ -34,7 +35,12 @@ impl<A: Actor, K: Behaviours> Model for World<A, K> {
 
     ghost Value = { WorldView };
 
-    ghost view = { λ w. record { cells = w.cells.items; mailboxes = w.dispatcher.mailboxes.items; senders = w.senders.items } };
+    ghost view = { λ w. record {
+      cells = w.cells.items;
+      mailboxes = w.dispatcher.mailboxes.items;
+      senders = w.senders.items;
+      registered = w.dispatcher.claims.items;
+    } };
 
     ghost invariant = { λ w. IsAtRest w.cells.items w.dispatcher.mailboxes.items × (length w.senders.items ≤ 16)
         × (length w.dispatcher.logs.items ≡ length w.cells.items + length w.senders.items) };
@@ -62,6 +68,7 @@ impl<A: Actor, K: Behaviours> World<A, K> {
             mailboxes: built.mailboxes,
             logs,
             claims: VecDeque::new(alloc),
+            running: None,
         };
         Ok(World {
             cells: built.cells,
@@ -80,25 +87,12 @@ impl<A: Actor, K: Behaviours> World<A, K> {
         register_from(&mut self.dispatcher, self.cells.len())
     }
 
-    /// The steps that are possible now: first a send of each sender outside that has something left to send, by number, and then a run of each
-    /// actor that is registered for execution, in the order in which they were. The only error: memory was refused.
-    pub fn choices(&self, alloc: Global) -> Result<Vec<Choice>, AllocError> {
-        let mut choices = Vec::new(alloc);
-        for number in 0..self.senders.len() {
-            if !self.senders[number].is_done() {
-                choices.push(Choice::Send(number as u32))?;
-            }
-        }
-        for actor in &self.dispatcher.claims {
-            choices.push(Choice::Run(*actor))?;
-        }
-        Ok(choices)
-    }
-
     /// Makes the step that is chosen. It answers `NotPossible` if that is none of `choices`; `JournalFull` or `NoMemory` if the run of a mailbox
     /// ended early for that reason; and `NoMemory` if memory was refused for what was sent.
     pub fn step(&mut self, alloc: Global, choice: Choice) -> Result<(), StepError>
         ensures made { OnOk result (Steps self.old choice self.new) }
+        ensures possible { OnOk result (IsPossible self.old choice) }
+        ensures refused { IsErrOf result StepError.NotPossible → IsPossible self.old choice → ⊥ }
     {
         match choice {
             Choice::Send(sender) => {

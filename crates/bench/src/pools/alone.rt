@@ -1,4 +1,4 @@
-//! Benchmark of a pool with one end on one thread.
+//! Benchmark of a pool with one handle on one thread.
 ghost use Rattle.std.specs.Prelude.{All};
 ghost use Rattle.bench.specs.Ready.{IsReadyWorker};
 

@@ -1,4 +1,4 @@
-//! Benchmark of a pool with four ends on four threads.
+//! Benchmark of a pool with four handles on four threads.
 ghost use Rattle.std.specs.Prelude.{All, IfSome};
 ghost use Rattle.bench.specs.Ready.{AreReady, IsReadyWorker};
 

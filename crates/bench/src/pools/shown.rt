@@ -4,7 +4,7 @@ use crate::times::ROUNDS;
 use crate::told::tell;
 use std::io;
 
-/// How often the work was done in the last round by all ends together, and how long a round took: of each end the
+/// How often the work was done in the last round by all handles together, and how long a round took: of each handle the
 /// median by its own clock; of these the least and the greatest.
 #[derive(Drop)]
 pub struct PoolFigure {
@@ -16,11 +16,11 @@ pub struct PoolFigure {
 /// A figure; `None` where memory was refused.
 pub type Made = Option<PoolFigure>;
 
-/// How often an end does the work in one round.
+/// How often a handle does the work in one round.
 pub const TURNS: u64 = 1_000_000;
 
 impl PoolFigure {
-    /// The figure of one end.
+    /// The figure of one handle.
     pub fn of(worker: &Worker) -> PoolFigure {
         let median = worker.times.median();
         PoolFigure {
@@ -30,7 +30,7 @@ impl PoolFigure {
         }
     }
 
-    /// The figure of these ends and those.
+    /// The figure of these handles and those.
     pub fn with(self, other: PoolFigure) -> PoolFigure {
         PoolFigure {
             done: self.done.wrapping_add(other.done),

@@ -11,17 +11,17 @@ use crate::pools::shown::TURNS;
 use crate::times::Times;
 use mb_gate::{Claim, Gates, MailboxState, Pass};
 use mb_msg::{ActorId, PoolKind};
-use mb_pool::{ClaimRefused, Pool, PoolEnd};
+use mb_pool::{ClaimRefused, Pool, PoolHandle};
 use mb_testkit::{StubHome, attempt, give};
 use std::alloc::Global;
 use std::sync::Wait;
 use std::time::{Clock, Instant};
 
-/// An end of a pool, a pass, and the actor whose claim is pushed and taken; how often that was done in the last round, and how
+/// A handle of a pool, a pass, and the actor whose claim is pushed and taken; how often that was done in the last round, and how
 /// long the rounds took.
 #[derive(Drop)]
 pub struct Worker {
-    pub end: PoolEnd<StubHome>,
+    pub handle: PoolHandle<StubHome>,
     pub pass: Pass<StubHome>,
     pub actor: ActorId,
     pub done: u64,
@@ -40,33 +40,33 @@ pub fn workers(
     requires present { (0 < count) × (count ≤ actors_of gates.now) }
     ensures { IfSome result (λ workers. All (IsReadyWorker gates.now) workers.items) }
 {
-    let Ok((_pool, mut ends, _feeds)) = Pool::new(alloc, gates, kind, count as usize, 0) else {
+    let Ok((_pool, mut handles, _feeds)) = Pool::new(alloc, gates, kind, count as usize, 0) else {
         return None;
     };
-    workers_of(alloc, gates, pass, &mut ends, count)
+    workers_of(alloc, gates, pass, &mut handles, count)
 }
 
-/// This many workers, with the last of these ends.
+/// This many workers, with the last of these handles.
 fn workers_of(
     alloc: Global,
     gates: &Gates<StubHome>,
     pass: &mut Pass<StubHome>,
-    ends: &mut Vec<PoolEnd<StubHome>>,
+    handles: &mut Vec<PoolHandle<StubHome>>,
     count: u32,
 ) -> Option<Vec<Worker>>
     requires same_gates { pass_id pass.old ≡ gates_id gates.now }
     requires present { count ≤ actors_of gates.now }
-    requires same_origin { All (λ (w : PoolEndpoint StubHome). gates_of w ≡ Some (origin_of gates.now)) ends.old.items }
+    requires same_origin { All (λ (w : PoolEndpoint StubHome). gates_of w ≡ Some (origin_of gates.now)) handles.old.items }
     ensures { IfSome result (λ workers. All (IsReadyWorker gates.now) workers.items) }
 {
-    let Ok(mut workers) = Vec::with_capacity(alloc, ends.len()) else {
+    let Ok(mut workers) = Vec::with_capacity(alloc, handles.len()) else {
         return None;
     };
     for number in 0..count {
-        let Some(end) = ends.pop() else {
+        let Some(handle) = handles.pop() else {
             return None;
         };
-        let worker = worker_of(gates, pass, end, ActorId(number as u16));
+        let worker = worker_of(gates, pass, handle, ActorId(number as u16));
         let Ok(()) = workers.push(worker) else {
             return None;
         };
@@ -77,17 +77,17 @@ fn workers_of(
 fn worker_of(
     gates: &Gates<StubHome>,
     pass: &mut Pass<StubHome>,
-    end: PoolEnd<StubHome>,
+    handle: PoolHandle<StubHome>,
     actor: ActorId,
 ) -> Worker
     requires same_gates { pass_id pass.old ≡ gates_id gates.now }
     requires present { actor.0 < actors_of gates.now }
-    requires same_origin { gates_of end ≡ Some (origin_of gates.now) }
+    requires same_origin { gates_of handle ≡ Some (origin_of gates.now) }
     ensures same_gates { pass_id pass.new ≡ gates_id gates.now }
     ensures ready { IsReadyWorker gates.now result }
 {
     Worker {
-        end,
+        handle,
         pass: gates.split_pass(pass),
         actor,
         done: 0,
@@ -101,7 +101,13 @@ pub fn work<R: Clock + Wait>(rt: &R, gates: &Gates<StubHome>, mut worker: Worker
     ensures { IsReadyWorker gates.now result }
 {
     let begin = Instant::now(rt).ok();
-    worker.done = turn_often(rt, gates, &mut worker.pass, &mut worker.end, worker.actor);
+    worker.done = turn_often(
+        rt,
+        gates,
+        &mut worker.pass,
+        &mut worker.handle,
+        worker.actor,
+    );
     worker.times.add(rt, begin);
     worker
 }
@@ -110,28 +116,28 @@ fn turn_often<H: MailboxState, R: Wait>(
     rt: &R,
     gates: &Gates<H>,
     pass: &mut Pass<H>,
-    end: &mut PoolEnd<H>,
+    handle: &mut PoolHandle<H>,
     actor: ActorId,
 ) -> u64
     requires same_gates { pass_id pass.old ≡ gates_id gates.now }
     requires present { actor.0 < actors_of gates.now }
-    requires same_origin { gates_of end.old ≡ Some (origin_of gates.now) }
+    requires same_origin { gates_of handle.old ≡ Some (origin_of gates.now) }
     ensures same_gates { pass_id pass.new ≡ pass_id pass.old }
-    ensures same_origin { gates_of end.new ≡ Some (origin_of gates.now) }
+    ensures same_origin { gates_of handle.new ≡ Some (origin_of gates.now) }
 {
     let Some(mut claim) = attempt(gates, pass, actor) else {
         return 0;
     };
     let mut done = 0u64;
     for _ in 0..TURNS {
-        match end.push(rt, claim) {
+        match handle.push(rt, claim) {
             Ok(()) => {}
             Err(refused) => {
                 give(gates, back(refused), pass);
                 return done;
             }
         }
-        match end.take(rt) {
+        match handle.take(rt) {
             Some(next) => claim = next,
             None => return done,
         }

@@ -2,7 +2,7 @@
 ghost use Rattle.std.specs.Prelude.{◌≡◌, false};
 ghost use Rattle.mb_journal.specs.Aside.{sets_aside};
 ghost use Rattle.mb_journal.specs.Lawful.{IsLawful};
-ghost use Rattle.mb_cell.specs.Nothing.{DoesNothing};
+ghost use Rattle.mb_cell.specs.WithoutEffect.{DoesNothing};
 ghost use Rattle.mb_cell.specs.CellView.{MayTake, TakesSystem};
 
 use crate::cell::Cell;
@@ -17,7 +17,7 @@ impl<A: Actor, K: Behaviours> Cell<A, K> {
         ensures taken { TakesSystem self.old self.new number message }
         ensures lawful { IsLawful self.new.who (K.gives self.new.who.this.0) self.new.journal }
     {
-        self.cell_state.pass(number);
+        self.cell_state.ignore(number);
         self.journal.push_system(number, message, None, &[]);
     }
 }

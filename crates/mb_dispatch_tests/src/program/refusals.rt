@@ -46,7 +46,7 @@ fn is_either(found: &Outcome) -> bool {
 #[test]
 fn each_prefix(rt: HostRuntime) {
     let text = COUNT.as_bytes();
-    for end in 0..text.len() {
-        is_run_or_refused(&rt, rt.alloc(), &text[..end]);
+    for handle in 0..text.len() {
+        is_run_or_refused(&rt, rt.alloc(), &text[..handle]);
     }
 }

@@ -13,17 +13,17 @@ use std::sync::Wait;
 /// A call, and its answer.
 #[derive(Clone, Copy)]
 pub enum PoolStep {
-    /// The claims of the actors from this one up to before that one are pushed to this end.
+    /// The claims of the actors from this one up to before that one are pushed to this handle.
     Push(usize, u16, u16),
     /// The same to the feed.
     Feed(u16, u16),
-    /// A push of the actor's claim to this end finds the pool full.
+    /// A push of the actor's claim to this handle finds the pool full.
     Full(usize, u16),
-    /// This end takes the claim of this actor, or finds none.
+    /// This handle takes the claim of this actor, or finds none.
     Take(usize, Option<u16>),
 }
 
-/// Makes a pool for this many actors, with three ends and a feed, and does all these steps.
+/// Makes a pool for this many actors, with three handles and a feed, and does all these steps.
 pub fn played<R: Abort + Wait>(
     rt: &R,
     alloc: Global,
@@ -46,11 +46,11 @@ pub fn leaves<R: Abort + Wait>(
     actors: u16,
     steps: &[PoolStep],
     first: u16,
-    end: u16,
+    handle: u16,
 ) -> Result<(), AllocError>
     requires { 0 < actors }
 {
-    let are_left = played(rt, alloc, kind, actors, steps)?.leaves(rt, alloc, first, end)?;
+    let are_left = played(rt, alloc, kind, actors, steps)?.leaves(rt, alloc, first, handle)?;
     assert!(rt; are_left);
     Ok(())
 }
@@ -64,23 +64,23 @@ fn play<H: MailboxState, R: Abort + Wait>(rt: &R, scene: &mut TestPool<H>, steps
 /// Whether the calls of the step have their answers.
 fn answers<H: MailboxState, R: Wait>(rt: &R, scene: &mut TestPool<H>, step: PoolStep) -> bool {
     match step {
-        PoolStep::Push(end, first, last) => push_each(rt, scene, end, first, last),
+        PoolStep::Push(handle, first, last) => push_each(rt, scene, handle, first, last),
         PoolStep::Feed(first, last) => feed_each(rt, scene, first, last),
-        PoolStep::Full(end, actor) => matches!(scene.push(rt, end, actor), PushAnswer::Full),
-        PoolStep::Take(end, actor) => scene.take(rt, end) == actor,
+        PoolStep::Full(handle, actor) => matches!(scene.push(rt, handle, actor), PushAnswer::Full),
+        PoolStep::Take(handle, actor) => scene.take(rt, handle) == actor,
     }
 }
 
 fn push_each<H: MailboxState, R: Wait>(
     rt: &R,
     scene: &mut TestPool<H>,
-    end: usize,
+    handle: usize,
     first: u16,
     last: u16,
 ) -> bool {
     let mut are_done = true;
     for actor in first..last {
-        are_done &= matches!(scene.push(rt, end, actor), PushAnswer::Done);
+        are_done &= matches!(scene.push(rt, handle, actor), PushAnswer::Done);
     }
     are_done
 }

@@ -5,7 +5,7 @@ ghost use Rattle.mb_pool.specs.Moves.{given_back};
 ghost use Rattle.mb_pool.specs.Places.{gates_of, parts_of};
 
 use mb_gate::{Claim, MailboxState, PooledClaim};
-use mb_pool::{ClaimRefused, Feed, PoolEnd};
+use mb_pool::{ClaimRefused, Feed, PoolHandle};
 use std::sync::Wait;
 
 /// The answer of a push: done, or why the claim came back; or that there is no such claim or port.
@@ -18,17 +18,17 @@ pub enum PushAnswer {
     Nowhere,
 }
 
-/// A push to this end, retried where memory is refused. A claim that comes back then is dropped.
+/// A push to this handle, retried where memory is refused. A claim that comes back then is dropped.
 pub fn push_at_last<H: MailboxState, R: Wait>(
     rt: &R,
-    end: &mut PoolEnd<H>,
+    handle: &mut PoolHandle<H>,
     claim: Claim<H>,
 ) -> PushAnswer
-    requires untouched { IsUntouched H.is_of H.facts (gates_of end.old) claim }
-    ensures same { parts_of end.new ≡ parts_of end.old }
+    requires untouched { IsUntouched H.is_of H.facts (gates_of handle.old) claim }
+    ensures same { parts_of handle.new ≡ parts_of handle.old }
 {
-    match end.push(rt, claim) {
-        Err(ClaimRefused::NoMemory(claim)) => told(end.push(rt, claim)),
+    match handle.push(rt, claim) {
+        Err(ClaimRefused::NoMemory(claim)) => told(handle.push(rt, claim)),
         pushed => told(pushed),
     }
 }

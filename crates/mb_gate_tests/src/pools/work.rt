@@ -1,4 +1,4 @@
-//! What a thread does with an end, and what another does with a feed.
+//! What a thread does with a handle, and what another does with a feed.
 ghost use Rattle.std.specs.Prelude.{◌≡◌, ◌<◌, Some};
 ghost use Rattle.mb_gate.specs.Accessors.{gates_id, pass_id, actors_of};
 ghost use Rattle.mb_gate.specs.Untouched.{origin_of};
@@ -7,7 +7,7 @@ ghost use Rattle.mb_pool.specs.Places.{gates_of, parts_of};
 use crate::pools::pushed::back;
 use mb_gate::{Gates, MailboxState, Pass};
 use mb_msg::ActorId;
-use mb_pool::{Feed, PoolEnd};
+use mb_pool::{Feed, PoolHandle};
 use mb_testkit::{attempt, give};
 use std::sync::Wait;
 use std::sync::atomic::AtomicU64;
@@ -20,29 +20,29 @@ pub const MOVES: u64 = 100_000;
 /// More actors than a shared pool has places.
 pub const ACTORS: u16 = 80;
 
-/// Moves claims through this end until enough were taken.
+/// Moves claims through this handle until enough were taken.
 pub fn work<H: MailboxState, R: Wait>(
     rt: &R,
     gates: &Gates<H>,
     mut pass: Pass<H>,
-    mut end: PoolEnd<H>,
+    mut handle: PoolHandle<H>,
     moved: &AtomicU64,
-) -> PoolEnd<H>
+) -> PoolHandle<H>
     requires same_gates { pass_id pass ≡ gates_id gates.now }
-    requires same_origin { gates_of end ≡ Some (origin_of gates.now) }
-    ensures same { parts_of result ≡ parts_of end }
+    requires same_origin { gates_of handle ≡ Some (origin_of gates.now) }
+    ensures same { parts_of result ≡ parts_of handle }
 {
     for _ in rt.forever() {
         if moved.load(SeqCst) >= MOVES {
             break;
         }
-        if move_one(rt, gates, &mut pass, &mut end) {
+        if move_one(rt, gates, &mut pass, &mut handle) {
             moved.fetch_add(1, SeqCst);
         } else {
             thread::yield_now();
         }
     }
-    end
+    handle
 }
 
 /// Takes a claim, if there is one, and releases it. Then schedules its actor again and pushes that claim, which is
@@ -51,20 +51,20 @@ fn move_one<H: MailboxState, R: Wait>(
     rt: &R,
     gates: &Gates<H>,
     pass: &mut Pass<H>,
-    end: &mut PoolEnd<H>,
+    handle: &mut PoolHandle<H>,
 ) -> bool
     requires same_gates { pass_id pass.old ≡ gates_id gates.now }
-    requires same_origin { gates_of end.old ≡ Some (origin_of gates.now) }
+    requires same_origin { gates_of handle.old ≡ Some (origin_of gates.now) }
     ensures same_gates { pass_id pass.new ≡ pass_id pass.old }
-    ensures same { parts_of end.new ≡ parts_of end.old }
+    ensures same { parts_of handle.new ≡ parts_of handle.old }
 {
-    let Some(claim) = end.take(rt) else {
+    let Some(claim) = handle.take(rt) else {
         return false;
     };
     let actor = claim.actor();
     give(gates, claim, pass);
     if let Some(claim) = attempt(gates, pass, actor)
-        && let Err(refused) = end.push(rt, claim)
+        && let Err(refused) = handle.push(rt, claim)
     {
         give(gates, back(refused), pass);
     }

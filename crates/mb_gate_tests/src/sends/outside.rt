@@ -12,7 +12,7 @@ use mb_dead_letters::DeadLetters;
 use mb_gate::{Gates, Pass};
 use mb_msg::{ActorId, MailboxType, SenderId};
 use mb_queue::{MailQueue, SendPass};
-use mb_register::{Owed, Registrar, Told};
+use mb_register::{ActorSet, Registrar, Told};
 use mb_send::{GatesSender, Look, SendError, SendOutcome, Ticket};
 use std::alloc::Global;
 use std::sync::Wait;
@@ -58,7 +58,7 @@ impl Outside {
         let registrar = Registrar {
             pass,
             run_queue: OnePlace::new(&gates),
-            owed: Owed::none(),
+            owed: ActorSet::none(),
             told: Told::none(),
         };
         let sender = GatesSender::new(alloc, ME, registrar, sends, DeadLetters::keeping_all(alloc));
@@ -108,8 +108,8 @@ impl Outside {
             SendStep::HasSystem(actor, is_there) => {
                 self.gates.has_system(&mut self.other, actor.id()) == is_there
             }
-            SendStep::Owes(actor, is_owed) => {
-                self.sender.registrar.owed.contains(actor.id()) == is_owed
+            SendStep::Owes(actor, has_actor) => {
+                self.sender.registrar.owed.contains(actor.id()) == has_actor
             }
             SendStep::Sent(count) => self.sender.send_log.sent == count,
             SendStep::Dead(place, letter) => self.sender.send_log.dead.kept().get(place).copied()

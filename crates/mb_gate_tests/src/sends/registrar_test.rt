@@ -8,7 +8,7 @@ use crate::sends::one_place::OnePlace;
 use crate::sends::registering::SendStep;
 use mb_gate::Gates;
 use mb_msg::ActorId;
-use mb_register::{Hint, Owed, Registrar, Told};
+use mb_register::{ActorSet, Hint, Registrar, Told};
 use std::alloc::Global;
 use std::sync::Wait;
 use std::test::Fail;
@@ -45,7 +45,7 @@ impl RegistrarTest {
         let registrar = Registrar {
             pass,
             run_queue,
-            owed: Owed::none(),
+            owed: ActorSet::none(),
             told: Told::none(),
         };
         Ok(RegistrarTest { gates, registrar })
@@ -61,7 +61,8 @@ impl RegistrarTest {
                 self.gates.note_sent(&mut self.registrar.pass, actor.id());
                 true
             }
-            SendStep::Owes(actor, is_owed) => self.registrar.owed.contains(actor.id()) == is_owed,
+            SendStep::Owes(actor, has_actor) => self.registrar.owed.contains(actor.id())
+                == has_actor,
             SendStep::OwesNobody(is_so) => self.registrar.owed.is_empty() == is_so,
             SendStep::Pay(is_paid) => self.registrar.retry_refused(rt, &self.gates).is_ok()
                 == is_paid,

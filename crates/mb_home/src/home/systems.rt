@@ -12,7 +12,7 @@ ghost use Rattle.mb_journal.specs.Life.{closed};
 ghost use Rattle.mb_gate.specs.Lists.{IsNumberedFrom};
 ghost use Rattle.mb_home.specs.AtHome.{given_of};
 ghost use Rattle.mb_home.specs.Carried.{LeadsOn};
-ghost use Rattle.mb_home.specs.AgreesWithJournal.{AgreesWithJournal, messages_of};
+ghost use Rattle.mb_home.specs.AgreesWithJournal.{AgreesWithJournal, messages_in};
 ghost use Rattle.mb_home.specs.Steps.{HasNext, HasNoBacklog, AppliesNext, IsDue, most_tells};
 
 use super::Home;
@@ -101,7 +101,7 @@ impl<A: Actor, K: Behaviours> Home<A, K> {
 
     /// Puts the drained messages beside the cell.
     fn set_backlog(&mut self, drained: Chain)
-        requires continues { drained ≡ numbered ((next_number self.old.cell.journal + self.old.dropped) % 2 ^ 64) (messages_of drained) }
+        requires continues { drained ≡ numbered ((next_number self.old.cell.journal + self.old.dropped) % 2 ^ 64) (messages_in drained) }
         requires settled { AgreesWithJournal (K.gives self.old.cell.who.this.0) self.old.cell.acts self.old }
         ensures kept { self.new ≡ record self.old { rest = drained } }
         ensures settled { AgreesWithJournal (K.gives self.new.cell.who.this.0) self.new.cell.acts self.new }

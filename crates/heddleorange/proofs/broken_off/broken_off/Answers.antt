@@ -5,12 +5,12 @@ use Rattle.heddleorange.proofs.Remains.{as-many, few-actors, shows-full}
 use Rattle.heddleorange.proofs.broken_off.broken_off.Goals as goal
 
 pub unfinished_actors-requires : goal.unfinished_actors-requires
-unfinished_actors-requires g c = record { same_gates = c.requires.own_ends.0; not_empty = c.requires.own_ends.1 }
+unfinished_actors-requires g c = record { same_gates = c.requires.own_handles.0; not_empty = c.requires.own_handles.1 }
 
 pub error_of-error-requires-clause-few : goal.error_of-error-requires-clause-few
 error_of-error-requires-clause-few g c =
     let many = as-many g.K.Behaviours.gives c.args.built c.in-Ok.actors.items c.in-Ok.ensures in
-    let few = few-actors c.args.built c.requires.own_ends in
+    let few = few-actors c.args.built c.requires.own_handles in
     subst (λ (l : List (Option UnfinishedActor)). length l ≤ 64) (sym c.deref.ensures.value) (omega (arith, many, few))
 
 pub error_of-error-requires-clause-full : goal.error_of-error-requires-clause-full

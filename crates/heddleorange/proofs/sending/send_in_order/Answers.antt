@@ -1,10 +1,10 @@
 use Rattle.std.proofs.Common.{◌<◌, length, get_or, subst, arith}
+use Rattle.std.specs.Prelude.{slice_set}
 use Rattle.std.proofs.lemmas.List.{take_all}
 use Rattle.std.proofs.lemmas.List.Elements.{All-get_or, All-set}
 use Rattle.mb_system.specs.Members.{IsSenderOf}
-use Rattle.heddleorange.specs.Orders.{lists_of}
-use Rattle.heddleorange.specs.Sent.{BreaksOne}
-use Rattle.heddleorange.proofs.InOrder.{breaks-one}
+use Rattle.heddleorange.specs.BrokenOff.{BreaksRow}
+use Rattle.heddleorange.proofs.BrokenOff.{breaks-row}
 use Rattle.heddleorange.proofs.InTurn.{AreEach, DidOwn, all-in-turn, no-sending, none-sent, one-sent}
 use Rattle.heddleorange.proofs.Sent.{err-of}
 use Rattle.heddleorange.proofs.sending.send_in_order.Goals as goal
@@ -21,7 +21,8 @@ loop-send-preserved g c =
     let many = at.invariant.1.same_count in (
       All-set (λ s. IsSenderOf gates s) at.senders send.from c.send_and_retry.new.sender one.same_gates at.invariant.0,
       one-sent gates sends at.send-index no-sending c.args.senders.now at.senders c.index-senders-send.result c.send_and_retry.new.sender
-          c.loop-send-test.true (omega (arith, from, many)) at.invariant.1 one.sent,
+          c.loop-send-test.true (omega (arith, from, many)) at.invariant.1
+          (one.done.sent, one.done.nobody, one.done.obligations),
     )
 
 pub returns-clause-sent : goal.returns-clause-sent
@@ -32,11 +33,13 @@ returns-clause-sent g c =
 
 pub returns-in_err-send_and_retry-clause-fault : goal.returns-in_err-send_and_retry-clause-fault
 returns-in_err-send_and_retry-clause-fault g c =
-    let at = c.loop-send in let gates = c.args.system.now.gates in let sends = c.args.sends.now in let senders = length c.args.senders.now in
-    let from = All-get_or (λ s. s.from < senders) sends at.send-index no-sending c.loop-send-test.true c.requires.from in
-    err-of (BreaksOne gates (lists_of senders sends)) c.from_residual.result c.in_err-send_and_retry.field-0.0 c.from_residual.ensures.1
-    (breaks-one gates senders sends at.send-index no-sending c.in_err-send_and_retry.field-0.0 c.loop-send-test.true from c.requires.from
-    c.in_err-send_and_retry.ensures.fault)
+    let at = c.loop-send in let gates = c.args.system.now.gates in let sends = c.args.sends.now in
+    let send = get_or sends at.send-index no-sending in let new = c.send_and_retry.new.sender in
+    let from = All-get_or (λ s. s.from < length c.args.senders.now) sends at.send-index no-sending c.loop-send-test.true c.requires.from in
+    let many = at.invariant.1.same_count in let error = c.in_err-send_and_retry.field-0.0 in
+    err-of (BreaksRow gates sends c.args.senders.now (slice_set at.senders send.from new)) c.from_residual.result error c.from_residual.ensures.1
+    (breaks-row gates sends at.send-index no-sending c.args.senders.now at.senders c.index-senders-send.result new error c.loop-send-test.true
+    (omega (arith, from, many)) at.invariant.1 c.in_err-send_and_retry.ensures.fault)
 
 pub returns-clause-same_gates : goal.returns-clause-same_gates
 returns-clause-same_gates g c = c.loop-send.invariant.0

@@ -1,14 +1,20 @@
-use Rattle.std.proofs.Common.{◌∙◌, ap, inl, inr, length, refl, subst, sym}
+use Rattle.std.proofs.Common.{◌∙◌, ap, inl, inr, length, refl, subst, sym, List}
 use Rattle.std.specs.Prelude.{All}
+use Rattle.std.specs.List.{AllZip}
+use Rattle.std.specs.Vec.{with_items}
 use Rattle.std.proofs.lemmas.List.{with_items_is}
-use Rattle.mb_dispatch.specs.Sources.{others_of}
+use Rattle.mb_dispatch.specs.Paired.{pairs}
+use Rattle.mb_dispatch.specs.Parallel.{FirstZip}
+use Rattle.mb_dispatch.specs.Sources.{BreaksPair, IsPairDone, others_of}
 use Rattle.mb_system.specs.Members.{IsSenderOf, OutsideSender}
 use Rattle.mb_source.specs.Given.{Gave, GaveAll}
 use Rattle.heddleorange.specs.FromSources.{orders_given}
-use Rattle.heddleorange.specs.Sent.{BreaksOff, HaveSent}
-use Rattle.heddleorange.proofs.FromSources.{many-given, of-firsts, of-seconds, pairs-broke, pairs-sent}
+use Rattle.heddleorange.specs.BrokenOff.{BreaksHereFrom}
+use Rattle.heddleorange.specs.Sent.{HaveSent}
+use Rattle.heddleorange.proofs.FromSources.{many-given, of-firsts, of-seconds, pairs-sent}
 use Rattle.heddleorange.proofs.PassedOn.{none-of-err}
-use Rattle.heddleorange.proofs.Sent.{err-of, together-kept}
+use Rattle.heddleorange.proofs.Sent.{err-of}
+use Rattle.heddleorange.proofs.SentAndRun.{sent-and-run}
 use Rattle.heddleorange.proofs.sending_from.send_from_and_run.Goals as goal
 
 pub send_from_each-requires : goal.send_from_each-requires
@@ -18,31 +24,20 @@ send_from_each-requires g c = record {
 }
 
 pub run_first-requires : goal.run_first-requires
-run_first-requires g c = record { same_gates = c.requires.together.ends; not_empty = c.requires.not_empty }
+run_first-requires g c = record { same_gates = c.requires.together.handles; not_empty = c.requires.not_empty }
 
-pub returns-clause-sent : goal.returns-clause-sent
-returns-clause-sent g c =
+pub returns-clause-ran : goal.returns-clause-ran
+returns-clause-ran g c =
     let old = c.args.built.now in let gates = old.system.gates in let was = old.senders in let sent = c.send_from_each in let now = sent.new.senders in
     let first = c.args.sources.now in let last = sent.new.sources in let S = g.S.Source in
     let lent = ap length c.deref_mut.ensures.value ∙ c.requires.same_count in let same = sent.auto.senders in let long = sent.auto.sources in
-    let did = subst (λ l. HaveSent gates (orders_given (others_of gates) first last) l now) c.deref_mut.ensures.value
-    (pairs-sent gates S.gives S.takes_back _ _ _ _ lent same long c.in_ok-send_from_each.ensures.ended.done) in
-    subst (λ v. HaveSent gates (orders_given (others_of gates) first last) was.items v.items) (sym c.run_first.ensures.senders)
-    (subst (HaveSent gates (orders_given (others_of gates) first last) was.items) (sym (with_items_is was now (did.same_count ∙ sym was.ok.0))) did)
-
-pub returns-clause-together : goal.returns-clause-together
-returns-clause-together g c =
-    let old = c.args.built.now in let gates = old.system.gates in let was = old.senders in let sent = c.send_from_each in let now = sent.new.senders in
-    let first = c.args.sources.now in let last = sent.new.sources in let S = g.S.Source in
-    let lent = ap length c.deref_mut.ensures.value ∙ c.requires.same_count in let same = sent.auto.senders in let long = sent.auto.sources in
-    let orders = orders_given (others_of gates) first last in
-    let did = subst (λ l. HaveSent gates (orders_given (others_of gates) first last) l now) c.deref_mut.ensures.value
-    (pairs-sent gates S.gives S.takes_back _ _ _ _ lent same long c.in_ok-send_from_each.ensures.ended.done) in
-    let items = with_items_is was now (did.same_count ∙ sym was.ok.0) in let ran = c.run_first.ensures in let ours = λ (s : OutsideSender). IsSenderOf gates s in
-    together-kept orders old c.run_first.new.built (c.requires.same_count ∙ sym (many-given (others_of gates) first last long)) ran.system c.requires.together
-    (subst (λ v. HaveSent gates orders was.items v.items) (sym ran.senders) (subst (HaveSent gates orders was.items) (sym items) did)) ran.same_gates
-    (subst (λ v. All ours v.items) (sym ran.senders) (subst (All ours) (sym items)
-    (of-firsts _ ours (λ a b kept. kept.same_gates) _ _ _ _ lent same c.in_ok-send_from_each.ensures.ended.keeps)))
+    let orders = orders_given (others_of gates) first last in let ended = c.in_ok-send_from_each.ensures.ended in
+    let did = subst (λ l. HaveSent gates orders l now) c.deref_mut.ensures.value
+    (pairs-sent gates S.gives S.takes_back _ _ _ _ lent same long ended.done) in let ran = c.run_first.ensures in
+    let is = ap (λ v. v.items) ran.senders ∙ with_items_is was now (did.same_count ∙ sym was.ok.0) in
+    sent-and-run g.K.Behaviours.gives orders old c.run_first.new.built now (c.requires.same_count ∙ sym (many-given (others_of gates) first last long))
+    c.requires.together did (of-firsts _ (λ (s : OutsideSender). IsSenderOf gates s) (λ a b kept. kept.same_gates) _ _ _ _ lent same ended.keeps) is
+    ran.same_system.system ran.same_system.same_gates ran.log_kept c.in_ok-run_first.ensures.runs
 
 pub returns-clause-gave : goal.returns-clause-gave
 returns-clause-gave g c =
@@ -73,84 +68,27 @@ returns-clause-gave_all g c =
     of-seconds _ (GaveAll S.gives S.takes_back (others_of gates)) (λ a b did. did.gave) _ _ _ _ lent same long
     c.in_ok-send_from_each.ensures.ended.done
 
-pub returns-clause-system : goal.returns-clause-system
-returns-clause-system g c =
-    c.run_first.ensures.system
+pub returns-clause-same_system : goal.returns-clause-same_system
+returns-clause-same_system g c =
+    let same = c.run_first.ensures.same_system in record { system = same.system; handles = same.handles; same_gates = same.same_gates }
 
-pub returns-in_err-run_first-clause-system : goal.returns-in_err-run_first-clause-system
-returns-in_err-run_first-clause-system g c =
-    c.run_first.ensures.system
+pub returns-in_err-run_first-clause-same_system : goal.returns-in_err-run_first-clause-same_system
+returns-in_err-run_first-clause-same_system g c =
+    let same = c.run_first.ensures.same_system in record { system = same.system; handles = same.handles; same_gates = same.same_gates }
 
-pub returns-clause-ends : goal.returns-clause-ends
-returns-clause-ends g c =
-    c.run_first.ensures.ends
+pub returns-in_err-send_from_each-clause-same_system : goal.returns-in_err-send_from_each-clause-same_system
+returns-in_err-send_from_each-clause-same_system g c = record { system = refl; handles = refl; same_gates = c.requires.together.handles }
 
-pub returns-in_err-run_first-clause-ends : goal.returns-in_err-run_first-clause-ends
-returns-in_err-run_first-clause-ends g c =
-    c.run_first.ensures.ends
-
-pub returns-clause-same_gates : goal.returns-clause-same_gates
-returns-clause-same_gates g c =
-    c.run_first.ensures.same_gates
-
-pub returns-in_err-run_first-clause-same_gates : goal.returns-in_err-run_first-clause-same_gates
-returns-in_err-run_first-clause-same_gates g c =
-    c.run_first.ensures.same_gates
-
-pub returns-in_err-send_from_each-clause-system : goal.returns-in_err-send_from_each-clause-system
-returns-in_err-send_from_each-clause-system g c =
-    refl
-
-pub returns-in_err-send_from_each-clause-ends : goal.returns-in_err-send_from_each-clause-ends
-returns-in_err-send_from_each-clause-ends g c =
-    refl
-
-pub returns-in_err-send_from_each-clause-same_gates : goal.returns-in_err-send_from_each-clause-same_gates
-returns-in_err-send_from_each-clause-same_gates g c =
-    c.requires.together.ends
-
-pub returns-clause-log_kept : goal.returns-clause-log_kept
-returns-clause-log_kept g c =
-    c.run_first.ensures.log_kept
-
-pub returns-clause-runs : goal.returns-clause-runs
-returns-clause-runs g c =
-    c.in_ok-run_first.ensures.runs
-
-pub returns-in_err-run_first-clause-together : goal.returns-in_err-run_first-clause-together
-returns-in_err-run_first-clause-together g c =
-    none-of-err _ c.from_residual-in_err-run_first.result c.in_err-run_first.field-0.0 c.from_residual-in_err-run_first.ensures.1
-
-pub returns-in_err-run_first-clause-sent : goal.returns-in_err-run_first-clause-sent
-returns-in_err-run_first-clause-sent g c =
-    none-of-err _ c.from_residual-in_err-run_first.result c.in_err-run_first.field-0.0 c.from_residual-in_err-run_first.ensures.1
-
-pub returns-in_err-run_first-clause-log_kept : goal.returns-in_err-run_first-clause-log_kept
-returns-in_err-run_first-clause-log_kept g c =
-    none-of-err _ c.from_residual-in_err-run_first.result c.in_err-run_first.field-0.0 c.from_residual-in_err-run_first.ensures.1
-
-pub returns-in_err-run_first-clause-runs : goal.returns-in_err-run_first-clause-runs
-returns-in_err-run_first-clause-runs g c =
+pub returns-in_err-run_first-clause-ran : goal.returns-in_err-run_first-clause-ran
+returns-in_err-run_first-clause-ran g c =
     none-of-err _ c.from_residual-in_err-run_first.result c.in_err-run_first.field-0.0 c.from_residual-in_err-run_first.ensures.1
 
 pub returns-in_err-run_first-clause-gave_all : goal.returns-in_err-run_first-clause-gave_all
 returns-in_err-run_first-clause-gave_all g c =
     none-of-err _ c.from_residual-in_err-run_first.result c.in_err-run_first.field-0.0 c.from_residual-in_err-run_first.ensures.1
 
-pub returns-in_err-send_from_each-clause-together : goal.returns-in_err-send_from_each-clause-together
-returns-in_err-send_from_each-clause-together g c =
-    none-of-err _ c.from_residual.result c.in_err-send_from_each.field-0.0 c.from_residual.ensures.1
-
-pub returns-in_err-send_from_each-clause-sent : goal.returns-in_err-send_from_each-clause-sent
-returns-in_err-send_from_each-clause-sent g c =
-    none-of-err _ c.from_residual.result c.in_err-send_from_each.field-0.0 c.from_residual.ensures.1
-
-pub returns-in_err-send_from_each-clause-log_kept : goal.returns-in_err-send_from_each-clause-log_kept
-returns-in_err-send_from_each-clause-log_kept g c =
-    none-of-err _ c.from_residual.result c.in_err-send_from_each.field-0.0 c.from_residual.ensures.1
-
-pub returns-in_err-send_from_each-clause-runs : goal.returns-in_err-send_from_each-clause-runs
-returns-in_err-send_from_each-clause-runs g c =
+pub returns-in_err-send_from_each-clause-ran : goal.returns-in_err-send_from_each-clause-ran
+returns-in_err-send_from_each-clause-ran g c =
     none-of-err _ c.from_residual.result c.in_err-send_from_each.field-0.0 c.from_residual.ensures.1
 
 pub returns-in_err-send_from_each-clause-gave_all : goal.returns-in_err-send_from_each-clause-gave_all
@@ -159,18 +97,25 @@ returns-in_err-send_from_each-clause-gave_all g c =
 
 pub returns-in_err-send_from_each-clause-fault : goal.returns-in_err-send_from_each-clause-fault
 returns-in_err-send_from_each-clause-fault g c =
-    let old = c.args.built.now in let gates = old.system.gates in let was = old.senders in let sent = c.send_from_each in let now = sent.new.senders in
-    let first = c.args.sources.now in let last = sent.new.sources in let S = g.S.Source in
-    let lent = ap length c.deref_mut.ensures.value ∙ c.requires.same_count in let same = sent.auto.senders in let long = sent.auto.sources in
-    let error = c.in_err-send_from_each.field-0.0 in
-    err-of (BreaksOff g.K.Behaviours.gives old.system old.ends.items (orders_given (others_of gates) first last)) c.from_residual.result error
-    c.from_residual.ensures.1 (inl (pairs-broke gates S.gives S.takes_back _ error _ _ _ _ c.in_err-send_from_each.ensures.ended.fails))
+    let old = c.args.built.now in let gates = old.system.gates in let sent = c.send_from_each in let now = sent.new.senders in
+    let first = c.args.sources.now in let last = sent.new.sources in let S = g.S.Source in let error = c.in_err-send_from_each.field-0.0 in
+    let items = with_items_is old.senders now (sent.auto.senders ∙ ap length c.deref_mut.ensures.value ∙ sym old.senders.ok.0) in
+    err-of (BreaksHereFrom g.K.Behaviours.gives S.gives S.takes_back first last old (record old { senders = with_items old.senders now }))
+    c.from_residual.result error c.from_residual.ensures.1 (inl (
+      subst (λ (p : List OutsideSender × List OutsideSender). FirstZip (IsPairDone gates S.gives S.takes_back) (λ o n. BreaksPair gates o n error)
+          (pairs p.0 first) (pairs p.1 last)) (λ i. (c.deref_mut.ensures.value i, sym items i)) c.in_err-send_from_each.ensures.ended.fails,
+      refl,
+    ))
 
 pub returns-in_err-run_first-clause-fault : goal.returns-in_err-run_first-clause-fault
 returns-in_err-run_first-clause-fault g c =
-    let old = c.args.built.now in let gates = old.system.gates in let was = old.senders in let sent = c.send_from_each in let now = sent.new.senders in
-    let first = c.args.sources.now in let last = sent.new.sources in let S = g.S.Source in
-    let lent = ap length c.deref_mut.ensures.value ∙ c.requires.same_count in let same = sent.auto.senders in let long = sent.auto.sources in
-    let error = c.in_err-run_first.field-0.0 in
-    err-of (BreaksOff g.K.Behaviours.gives old.system c.run_first.new.built.ends.items (orders_given (others_of gates) first last)) c.from_residual-in_err-run_first.result
-    error c.from_residual-in_err-run_first.ensures.1 (inr c.in_err-run_first.ensures.fault)
+    let old = c.args.built.now in let gates = old.system.gates in let sent = c.send_from_each in let now = sent.new.senders in
+    let first = c.args.sources.now in let last = sent.new.sources in let S = g.S.Source in let error = c.in_err-run_first.field-0.0 in
+    let items = with_items_is old.senders now (sent.auto.senders ∙ ap length c.deref_mut.ensures.value ∙ sym old.senders.ok.0) in
+    let is = ap (λ v. v.items) c.run_first.ensures.senders ∙ items in
+    err-of (BreaksHereFrom g.K.Behaviours.gives S.gives S.takes_back first last old c.run_first.new.built) c.from_residual-in_err-run_first.result error
+    c.from_residual-in_err-run_first.ensures.1 (inr (
+      subst (λ (p : List OutsideSender × List OutsideSender). AllZip (IsPairDone gates S.gives S.takes_back) (pairs p.0 first) (pairs p.1 last))
+          (λ i. (c.deref_mut.ensures.value i, sym is i)) c.in_ok-send_from_each.ensures.ended.done,
+      c.in_err-run_first.ensures.fault,
+    ))

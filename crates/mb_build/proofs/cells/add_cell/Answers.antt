@@ -17,15 +17,13 @@ new-requires-clause-numbered g c =
     subst (All (λ (x : ActorId). x.0 < 64)) (sym c.in_ok-prepared.ensures)
     (children-below 64 1 c.len.result c.args.parents.now (omega (arith, few)))
 
-pub new-requires-clause-behaves : goal.new-requires-clause-behaves
-new-requires-clause-behaves g c =
-    let place : c.len.result ≡ length c.args.cells.now.items = search rules in
-    c.requires.behaved.behaves ∙ ap g.K.Behaviours.after (sym place)
-
-pub new-requires-clause-allows : goal.new-requires-clause-allows
-new-requires-clause-allows g c =
-    let place : c.len.result ≡ length c.args.cells.now.items = search rules in
-    subst (λ n. AllowsSame (g.A.Actor.gives c.args.actor) (g.K.Behaviours.gives n)) (sym place) c.requires.behaved.allows
+pub new-requires-clause-new_actor : goal.new-requires-clause-new_actor
+new-requires-clause-new_actor g c =
+    let place : c.len.result ≡ length c.args.cells.now.items = search rules in record {
+      unused = c.requires.behaved.unused;
+      behaves = c.requires.behaved.behaves ∙ ap g.K.Behaviours.after (sym place);
+      allows = subst (λ n. AllowsSame (g.A.Actor.gives c.args.actor) (g.K.Behaviours.gives n)) (sym place) c.requires.behaved.allows;
+    }
 
 pub returns-clause-cell : goal.returns-clause-cell
 returns-clause-cell g c =

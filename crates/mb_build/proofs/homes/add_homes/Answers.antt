@@ -85,45 +85,31 @@ new-requires-clause-number g c =
     at.yielded cell rest place all at.invariant.count in
     ap id number ∙ sym planned.this
 
-pub new-requires-clause-untouched : goal.new-requires-clause-untouched
-new-requires-clause-untouched g c =
+pub new-requires-clause-unused : goal.new-requires-clause-unused
+new-requires-clause-unused g c =
     let at = c.loop-cell in let cells = c.args.cells.items in let made = c.requires.made in let all_takes = c.args.takes.items in
     let rows = map (λ row. row.items) (into_iter_items c.args.rows.now) in
     let cell = c.in-Some.cell in let rest = into_iter_items c.next.new.self in let place = length at.homes.items in
     let steps : into_iter_items at.cell-iterator ≡ cell ∷ rest = c.in-Some.ensures.steps.0 in
     let all = ap (λ l. at.yielded ++ l) (sym steps) ∙ at.invariant.cells in
-    let is = here.unstarted-there cells made.0 made.1 all_takes rows c.requires.cells.0 c.requires.cells.1 made.2 made.3
+    let unstarted_is = here.unstarted-there cells made.0 made.1 all_takes rows c.requires.cells.0 c.requires.cells.1 made.2 made.3
     at.yielded cell rest place all at.invariant.count in
-    (ap (λ (x : CellView). x.journal) is, ap (λ (x : CellView). x.acts) is)
-
-pub new-requires-clause-none_taken : goal.new-requires-clause-none_taken
-new-requires-clause-none_taken g c =
-    let at = c.loop-cell in let cells = c.args.cells.items in let made = c.requires.made in let all_takes = c.args.takes.items in
-    let rows = map (λ row. row.items) (into_iter_items c.args.rows.now) in
-    let cell = c.in-Some.cell in let rest = into_iter_items c.next.new.self in let place = length at.homes.items in
-    let steps : into_iter_items at.cell-iterator ≡ cell ∷ rest = c.in-Some.ensures.steps.0 in
-    let all = ap (λ l. at.yielded ++ l) (sym steps) ∙ at.invariant.cells in
     let take' = c.in-Some-next.take in
     let mine : into_iter_items at.takes ≡ take' ∷ into_iter_items c.next-in-loop-cell.new.self = c.in-Some-next.ensures.cases.0 in
     let this : drop place all_takes ≡ take' ∷ into_iter_items c.next-in-loop-cell.new.self = sym at.invariant.takes ∙ mine in
     let pass = here.pass-there cells made.0 made.1 all_takes rows c.requires.cells.0 c.requires.cells.1 made.2 made.3
     at.yielded cell rest place all at.invariant.count take' _ this in
-    pass.taken
-
-pub new-requires-clause-none_pushed : goal.new-requires-clause-none_pushed
-new-requires-clause-none_pushed g c =
-    let at = c.loop-cell in let cells = c.args.cells.items in let made = c.requires.made in let all_takes = c.args.takes.items in
-    let rows = map (λ row. row.items) (into_iter_items c.args.rows.now) in
-    let cell = c.in-Some.cell in let rest = into_iter_items c.next.new.self in let place = length at.homes.items in
-    let steps : into_iter_items at.cell-iterator ≡ cell ∷ rest = c.in-Some.ensures.steps.0 in
-    let all = ap (λ l. at.yielded ++ l) (sym steps) ∙ at.invariant.cells in
     let sends = c.in-Some-next-2.sends in
     let lines : into_iter_items at.rows ≡ sends ∷ into_iter_items c.next-in-loop-cell-2.new.self = c.in-Some-next-2.ensures.cases.0 in
     let row : drop place rows ≡ sends.items ∷ map (λ r. r.items) (into_iter_items c.next-in-loop-cell-2.new.self) =
     drop-map (λ r. r.items) place (into_iter_items c.args.rows.now) ∙ ap (map (λ r. r.items)) (sym at.invariant.rows ∙ lines) in
-    let is = here.row-there cells made.0 made.1 all_takes rows c.requires.cells.0 c.requires.cells.1 made.2 made.3
+    let row_is = here.row-there cells made.0 made.1 all_takes rows c.requires.cells.0 c.requires.cells.1 made.2 made.3
     at.yielded cell rest place all at.invariant.count sends.items _ row in
-    subst (All (λ (p : SendPassView). p.pushed ≡ [])) (sym is) (all-unused (drop 1 all_takes) place)
+    record {
+      untouched = (ap (λ (x : CellView). x.journal) unstarted_is, ap (λ (x : CellView). x.acts) unstarted_is);
+      none_taken = pass.taken;
+      none_pushed = subst (All (λ (p : SendPassView). p.pushed ≡ [])) (sym row_is) (all-unused (drop 1 all_takes) place);
+    }
 
 pub new-requires-clause-owner : goal.new-requires-clause-owner
 new-requires-clause-owner g c =

@@ -1,14 +1,14 @@
 use Rattle.std.proofs.Common.{◌≡◌, suc, ◌∷◌, length, subst, sym, ap, arith, inr}
 use Rattle.mb_gate.specs.Accessors.{actors_of, pass_view}
-use Rattle.mb_system.specs.Members.{AreEndsOf}
+use Rattle.mb_system.specs.Members.{AreHandlesOf}
 use Rattle.mb_dispatch.specs.AtRest.{NoClaimIsLeft, views_of}
 use Rattle.mb_dispatch.proofs.AllTogether.{none-left}
 use Rattle.mb_dispatch.proofs.last_look.+all.Goals as goal
 
 pub look_by_all-at_first-looked-requires-clause-may : goal.look_by_all-at_first-looked-requires-clause-may
 look_by_all-at_first-looked-requires-clause-may g t c = λ first others are.
-    (let all : AreEndsOf c.args.gates.now (first.now ∷ others.now) = subst (λ l. AreEndsOf c.args.gates.now l) are c.requires.ends in
-    let longer : length c.args.ends.now ≡ suc (length others.now) = ap length are in
+    (let all : AreHandlesOf c.args.gates.now (first.now ∷ others.now) = subst (λ l. AreHandlesOf c.args.gates.now l) are c.requires.handles in
+    let longer : length c.args.handles.now ≡ suc (length others.now) = ap length are in
     (omega (arith, longer, c.decreases), ((λ a m. m), ((λ a m. m), (all 0 first.now (omega arith), (λ k d h. all (suc k) d (omega arith)), c.requires.jobs)))))
 
 pub look_by_all-returns-clause-back : goal.look_by_all-returns-clause-back

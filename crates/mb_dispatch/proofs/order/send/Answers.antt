@@ -31,7 +31,7 @@ returns-in_err-tell-in-Tell-clause-fault g c =
     on-error c.from_residual.result (BreaksSending gates (order_for to what 1 ∷ [])) (of_send error) c.from_residual.ensures.1
     (breaks-one gates to what (of_send error)
     (λ unknown. subst (λ what. IsToNobody gates to what) (sym c.in-Tell.is)
-    (to-nobody _ _ _ c.tell.result c.tell.ensures.refused (λ memory. memory.0) (c.in_err-tell-in-Tell.was ∙ ap Err (nobody-of-send error unknown))))
+    (to-nobody _ _ _ c.tell.result c.tell.ensures.fails.refused (λ memory. memory.0) (c.in_err-tell-in-Tell.was ∙ ap Err (nobody-of-send error unknown))))
     (send-is-not-full error))
 
 pub returns-in_err-stop-in-Stop-clause-fault : goal.returns-in_err-stop-in-Stop-clause-fault
@@ -49,7 +49,7 @@ returns-in_err-tell-in-Tell-clause-reason g c =
     let gates = c.args.system.now.gates in let error = c.in_err-tell-in-Tell.field-0.0 in let to = c.args.to in
     on-error c.from_residual.result (IsRefusedFor gates to c.args.what) (of_send error) c.from_residual.ensures.1
     (subst (λ what. IsRefusedFor gates to what (of_send error)) (sym c.in-Tell.is)
-    (refused-for gates to (Tell c.in-Tell.payload) _ _ c.tell.result c.tell.ensures.refused (λ memory. memory.0) (λ memory. (memory.1, memory.2)) error
+    (refused-for gates to (Tell c.in-Tell.payload) _ _ c.tell.result c.tell.ensures.fails.refused (λ memory. memory.0) (λ memory. (memory.1, memory.2)) error
     c.in_err-tell-in-Tell.was))
 
 pub returns-in_err-stop-in-Stop-clause-reason : goal.returns-in_err-stop-in-Stop-clause-reason
@@ -66,55 +66,63 @@ returns-in_ok-tell-in-Tell-clause-reason g c = tt
 pub returns-in_ok-stop-in-Stop-clause-reason : goal.returns-in_ok-stop-in-Stop-clause-reason
 returns-in_ok-stop-in-Stop-clause-reason g c = tt
 
-pub returns-in_ok-tell-in-Tell-clause-obligations : goal.returns-in_ok-tell-in-Tell-clause-obligations
-returns-in_ok-tell-in-Tell-clause-obligations g c =
-    obligations-told (actors_of c.args.system.now.gates) c.args.to c.args.sender.now c.tell.new.self c.in_ok-tell-in-Tell.ensures.discharged c.tell.ensures.still _ _
-    c.in_ok-tell-in-Tell.ensures.told
+pub returns-in_ok-tell-in-Tell-clause-done : goal.returns-in_ok-tell-in-Tell-clause-done
+returns-in_ok-tell-in-Tell-clause-done g c = record {
+  sent =
+      let to = c.args.to in let old = c.args.sender.now in let new = c.tell.new.self in
+      subst (λ (what : OrderKind). HasSent (order_for to what 1 ∷ []) old new) (sym c.in-Tell.is)
+      (sent-told to c.in-Tell.payload _ old new c.tell.ensures.leaves.same.0 c.tell.ensures.leaves.keeps c.in_ok-tell-in-Tell.ensures.told);
+  obligations =
+      obligations-told (actors_of c.args.system.now.gates) c.args.to c.args.sender.now c.tell.new.self c.in_ok-tell-in-Tell.ensures.discharged c.tell.ensures.leaves.still _ _
+      c.in_ok-tell-in-Tell.ensures.told;
+}
 
-pub returns-in_ok-stop-in-Stop-clause-obligations : goal.returns-in_ok-stop-in-Stop-clause-obligations
-returns-in_ok-stop-in-Stop-clause-obligations g c =
-    obligations-stopped (actors_of c.args.system.now.gates) c.args.to c.args.sender.now c.stop.new.self c.in_ok-stop-in-Stop.ensures.discharged
-    c.stop.ensures.still _ c.in_ok-stop-in-Stop.ensures.stopped
+pub returns-in_ok-stop-in-Stop-clause-done : goal.returns-in_ok-stop-in-Stop-clause-done
+returns-in_ok-stop-in-Stop-clause-done g c = record {
+  sent =
+      let to = c.args.to in let old = c.args.sender.now in let new = c.stop.new.self in
+      subst (λ (what : OrderKind). HasSent (order_for to what 1 ∷ []) old new) (sym c.in-Stop.is)
+      (sent-stopped to _ old new c.stop.ensures.same.0 c.in_ok-stop-in-Stop.ensures.stopped);
+  obligations =
+      obligations-stopped (actors_of c.args.system.now.gates) c.args.to c.args.sender.now c.stop.new.self c.in_ok-stop-in-Stop.ensures.discharged
+      c.stop.ensures.leaves.still _ c.in_ok-stop-in-Stop.ensures.stopped;
+}
 
-pub returns-in_ok-tell-in-Tell-clause-sent : goal.returns-in_ok-tell-in-Tell-clause-sent
-returns-in_ok-tell-in-Tell-clause-sent g c =
-    let to = c.args.to in let old = c.args.sender.now in let new = c.tell.new.self in
-    subst (λ (what : OrderKind). HasSent (order_for to what 1 ∷ []) old new) (sym c.in-Tell.is)
-    (sent-told to c.in-Tell.payload _ old new c.tell.ensures.same.0 c.tell.ensures.keeps c.in_ok-tell-in-Tell.ensures.told)
+pub returns-in_ok-tell-in-Tell-clause-keeps : goal.returns-in_ok-tell-in-Tell-clause-keeps
+returns-in_ok-tell-in-Tell-clause-keeps g c = record {
+  same_gates =
+      sender-still _ _ _ c.requires.same_gates c.tell.ensures.leaves.same_gates.0 c.tell.ensures.leaves.same_gates.1 c.tell.ensures.leaves.same.1 c.tell.ensures.leaves.queues;
+  same_sender = c.tell.ensures.leaves.same.0;
+  owed = account-registered _ _ _ c.tell.ensures.leaves.registered.0 c.tell.ensures.leaves.registered.1;
+  claims = c.tell.ensures.leaves.handed;
+}
 
-pub returns-in_ok-stop-in-Stop-clause-sent : goal.returns-in_ok-stop-in-Stop-clause-sent
-returns-in_ok-stop-in-Stop-clause-sent g c =
-    let to = c.args.to in let old = c.args.sender.now in let new = c.stop.new.self in
-    subst (λ (what : OrderKind). HasSent (order_for to what 1 ∷ []) old new) (sym c.in-Stop.is)
-    (sent-stopped to _ old new c.stop.ensures.same.0 c.in_ok-stop-in-Stop.ensures.stopped)
+pub returns-in_err-tell-in-Tell-clause-keeps : goal.returns-in_err-tell-in-Tell-clause-keeps
+returns-in_err-tell-in-Tell-clause-keeps g c = record {
+  same_gates =
+      sender-still _ _ _ c.requires.same_gates c.tell.ensures.leaves.same_gates.0 c.tell.ensures.leaves.same_gates.1 c.tell.ensures.leaves.same.1 c.tell.ensures.leaves.queues;
+  same_sender = c.tell.ensures.leaves.same.0;
+  owed = account-registered _ _ _ c.tell.ensures.leaves.registered.0 c.tell.ensures.leaves.registered.1;
+  claims = c.tell.ensures.leaves.handed;
+}
 
-pub returns-in_ok-tell-in-Tell-clause-same_gates : goal.returns-in_ok-tell-in-Tell-clause-same_gates
-returns-in_ok-tell-in-Tell-clause-same_gates g c =
-    sender-still _ _ _ c.requires.same_gates c.tell.ensures.same_gates.0 c.tell.ensures.same_gates.1 c.tell.ensures.same.1 c.tell.ensures.queues
+pub returns-in_ok-stop-in-Stop-clause-keeps : goal.returns-in_ok-stop-in-Stop-clause-keeps
+returns-in_ok-stop-in-Stop-clause-keeps g c = record {
+  same_gates =
+      sender-same _ _ _ c.requires.same_gates c.stop.ensures.leaves.same_gates.0 c.stop.ensures.leaves.same_gates.1 c.stop.ensures.same.1;
+  same_sender = ap (λ send_log. send_log.by) c.stop.ensures.same.0;
+  owed = account-registered _ _ _ c.stop.ensures.leaves.registered.0 c.stop.ensures.leaves.registered.1;
+  claims = c.stop.ensures.leaves.handed;
+}
 
-pub returns-in_err-tell-in-Tell-clause-same_gates : goal.returns-in_err-tell-in-Tell-clause-same_gates
-returns-in_err-tell-in-Tell-clause-same_gates g c =
-    sender-still _ _ _ c.requires.same_gates c.tell.ensures.same_gates.0 c.tell.ensures.same_gates.1 c.tell.ensures.same.1 c.tell.ensures.queues
-
-pub returns-in_ok-stop-in-Stop-clause-same_gates : goal.returns-in_ok-stop-in-Stop-clause-same_gates
-returns-in_ok-stop-in-Stop-clause-same_gates g c =
-    sender-same _ _ _ c.requires.same_gates c.stop.ensures.same_gates.0 c.stop.ensures.same_gates.1 c.stop.ensures.same.1
-
-pub returns-in_err-stop-in-Stop-clause-same_gates : goal.returns-in_err-stop-in-Stop-clause-same_gates
-returns-in_err-stop-in-Stop-clause-same_gates g c =
-    sender-same _ _ _ c.requires.same_gates c.stop.ensures.same_gates.0 c.stop.ensures.same_gates.1 c.stop.ensures.same.1
-
-pub returns-in_ok-tell-in-Tell-clause-same_sender : goal.returns-in_ok-tell-in-Tell-clause-same_sender
-returns-in_ok-tell-in-Tell-clause-same_sender g c = c.tell.ensures.same.0
-
-pub returns-in_err-tell-in-Tell-clause-same_sender : goal.returns-in_err-tell-in-Tell-clause-same_sender
-returns-in_err-tell-in-Tell-clause-same_sender g c = c.tell.ensures.same.0
-
-pub returns-in_ok-stop-in-Stop-clause-same_sender : goal.returns-in_ok-stop-in-Stop-clause-same_sender
-returns-in_ok-stop-in-Stop-clause-same_sender g c = ap (λ send_log. send_log.by) c.stop.ensures.same.0
-
-pub returns-in_err-stop-in-Stop-clause-same_sender : goal.returns-in_err-stop-in-Stop-clause-same_sender
-returns-in_err-stop-in-Stop-clause-same_sender g c = ap (λ send_log. send_log.by) c.stop.ensures.same.0
+pub returns-in_err-stop-in-Stop-clause-keeps : goal.returns-in_err-stop-in-Stop-clause-keeps
+returns-in_err-stop-in-Stop-clause-keeps g c = record {
+  same_gates =
+      sender-same _ _ _ c.requires.same_gates c.stop.ensures.leaves.same_gates.0 c.stop.ensures.leaves.same_gates.1 c.stop.ensures.same.1;
+  same_sender = ap (λ send_log. send_log.by) c.stop.ensures.same.0;
+  owed = account-registered _ _ _ c.stop.ensures.leaves.registered.0 c.stop.ensures.leaves.registered.1;
+  claims = c.stop.ensures.leaves.handed;
+}
 
 pub returns-in_ok-tell-in-Tell-clause-fault : goal.returns-in_ok-tell-in-Tell-clause-fault
 returns-in_ok-tell-in-Tell-clause-fault g c = tt
@@ -122,37 +130,13 @@ returns-in_ok-tell-in-Tell-clause-fault g c = tt
 pub returns-in_ok-stop-in-Stop-clause-fault : goal.returns-in_ok-stop-in-Stop-clause-fault
 returns-in_ok-stop-in-Stop-clause-fault g c = tt
 
-pub returns-in_ok-tell-in-Tell-clause-owed : goal.returns-in_ok-tell-in-Tell-clause-owed
-returns-in_ok-tell-in-Tell-clause-owed g c = account-registered _ _ _ c.tell.ensures.registered.0 c.tell.ensures.registered.1
-
-pub returns-in_err-tell-in-Tell-clause-owed : goal.returns-in_err-tell-in-Tell-clause-owed
-returns-in_err-tell-in-Tell-clause-owed g c = account-registered _ _ _ c.tell.ensures.registered.0 c.tell.ensures.registered.1
-
-pub returns-in_ok-stop-in-Stop-clause-owed : goal.returns-in_ok-stop-in-Stop-clause-owed
-returns-in_ok-stop-in-Stop-clause-owed g c = account-registered _ _ _ c.stop.ensures.registered.0 c.stop.ensures.registered.1
-
-pub returns-in_err-stop-in-Stop-clause-owed : goal.returns-in_err-stop-in-Stop-clause-owed
-returns-in_err-stop-in-Stop-clause-owed g c = account-registered _ _ _ c.stop.ensures.registered.0 c.stop.ensures.registered.1
-
 pub returns-in_err-tell-in-Tell-clause-unsent : goal.returns-in_err-tell-in-Tell-clause-unsent
 returns-in_err-tell-in-Tell-clause-unsent g c =
     on_err c.from_residual.result
     (sent-nothing c.args.to c.args.sender.now c.tell.new.self c.tell.result c.in_err-tell-in-Tell.field-0.0 c.in_err-tell-in-Tell.was
-    c.tell.ensures.unknown c.tell.ensures.unsent)
+    c.tell.ensures.fails.unknown c.tell.ensures.fails.unsent)
 
 pub returns-in_err-stop-in-Stop-clause-unsent : goal.returns-in_err-stop-in-Stop-clause-unsent
 returns-in_err-stop-in-Stop-clause-unsent g c =
     let old = c.args.sender.now in
     on_err c.from_residual-in_err-stop-in-Stop.result (subst (λ s. HasSent [] old s) (sym c.in_err-stop-in-Stop.ensures.refused.0) (sent-none old))
-
-pub returns-in_ok-tell-in-Tell-clause-claims : goal.returns-in_ok-tell-in-Tell-clause-claims
-returns-in_ok-tell-in-Tell-clause-claims g c = c.tell.ensures.handed
-
-pub returns-in_err-tell-in-Tell-clause-claims : goal.returns-in_err-tell-in-Tell-clause-claims
-returns-in_err-tell-in-Tell-clause-claims g c = c.tell.ensures.handed
-
-pub returns-in_ok-stop-in-Stop-clause-claims : goal.returns-in_ok-stop-in-Stop-clause-claims
-returns-in_ok-stop-in-Stop-clause-claims g c = c.stop.ensures.handed
-
-pub returns-in_err-stop-in-Stop-clause-claims : goal.returns-in_err-stop-in-Stop-clause-claims
-returns-in_err-stop-in-Stop-clause-claims g c = c.stop.ensures.handed

@@ -27,40 +27,35 @@ loop-order-init g c =
 
 pub loop-order-preserved : goal.loop-order-preserved
 loop-order-preserved g c =
-    let at = c.loop-order in let one = c.in_ok-send_often.ensures in (
-      c.send_often.ensures.same_gates,
+    let at = c.loop-order in let one = c.in_ok-send_often.ensures.done in (
+      c.send_often.ensures.keeps.same_gates,
       subst (λ xs. HasSent xs c.args.sender.now c.send_often.new.sender)
           (sym (take_more c.args.orders.now at.order-index _ c.loop-order-test.true))
           (sent-then _ _ _ _ _ at.invariant.1 one.sent),
       obligations-then (actors_of c.args.system.now.gates) (sender_caller c.args.sender.now.registrar) (sender_caller at.sender.registrar)
           (sender_caller c.send_often.new.sender.registrar) at.invariant.2 one.obligations,
-      account-then _ _ _ at.invariant.3 c.send_often.ensures.owed,
-      loses-then _ _ _ _ _ _ at.invariant.4 c.send_often.ensures.claims,
+      account-then _ _ _ at.invariant.3 c.send_often.ensures.keeps.owed,
+      loses-then _ _ _ _ _ _ at.invariant.4 c.send_often.ensures.keeps.claims,
     )
 
-pub returns-clause-same_gates : goal.returns-clause-same_gates
-returns-clause-same_gates g c = c.loop-order.invariant.0
-
-pub returns-clause-same_sender : goal.returns-clause-same_sender
-returns-clause-same_sender g c = c.loop-order.invariant.1.by
-
-pub returns-clause-obligations : goal.returns-clause-obligations
-returns-clause-obligations g c = c.loop-order.invariant.2
+pub returns-clause-keeps : goal.returns-clause-keeps
+returns-clause-keeps g c = record {
+  same_gates = c.loop-order.invariant.0;
+  same_sender = c.loop-order.invariant.1.by;
+  owed = c.loop-order.invariant.3;
+  claims = c.loop-order.invariant.4;
+}
 
 pub returns-clause-fault : goal.returns-clause-fault
 returns-clause-fault g c = tt
 
-pub returns-in_err-send_often-clause-same_gates : goal.returns-in_err-send_often-clause-same_gates
-returns-in_err-send_often-clause-same_gates g c = c.send_often.ensures.same_gates
-
-pub returns-in_err-send_often-clause-same_sender : goal.returns-in_err-send_often-clause-same_sender
-returns-in_err-send_often-clause-same_sender g c = c.send_often.ensures.same_sender ∙ c.loop-order.invariant.1.by
-
-pub returns-clause-owed : goal.returns-clause-owed
-returns-clause-owed g c = c.loop-order.invariant.3
-
-pub returns-in_err-send_often-clause-owed : goal.returns-in_err-send_often-clause-owed
-returns-in_err-send_often-clause-owed g c = account-then _ _ _ c.loop-order.invariant.3 c.send_often.ensures.owed
+pub returns-in_err-send_often-clause-keeps : goal.returns-in_err-send_often-clause-keeps
+returns-in_err-send_often-clause-keeps g c = record {
+  same_gates = c.send_often.ensures.keeps.same_gates;
+  same_sender = c.send_often.ensures.keeps.same_sender ∙ c.loop-order.invariant.1.by;
+  owed = account-then _ _ _ c.loop-order.invariant.3 c.send_often.ensures.keeps.owed;
+  claims = loses-then _ _ _ _ _ _ c.loop-order.invariant.4 c.send_often.ensures.keeps.claims;
+}
 
 pub returns-in_err-send_often-clause-fault : goal.returns-in_err-send_often-clause-fault
 returns-in_err-send_often-clause-fault g c =
@@ -90,12 +85,9 @@ returns-in_err-send_often-clause-stopped g c =
     (stops-within c.args.orders.now at.order-index _ c.args.sender.now at.sender c.send_often.new.sender c.loop-order-test.true at.invariant.1
     c.in_err-send_often.ensures.stopped)
 
-pub returns-clause-sent : goal.returns-clause-sent
-returns-clause-sent g c =
-    subst (λ xs. HasSent xs c.args.sender.now c.loop-order.sender) (take_all _ _ c.loop-order-test.false) c.loop-order.invariant.1
-
-pub returns-clause-claims : goal.returns-clause-claims
-returns-clause-claims g c = c.loop-order.invariant.4
-
-pub returns-in_err-send_often-clause-claims : goal.returns-in_err-send_often-clause-claims
-returns-in_err-send_often-clause-claims g c = loses-then _ _ _ _ _ _ c.loop-order.invariant.4 c.send_often.ensures.claims
+pub returns-clause-done : goal.returns-clause-done
+returns-clause-done g c = record {
+  sent =
+      subst (λ xs. HasSent xs c.args.sender.now c.loop-order.sender) (take_all _ _ c.loop-order-test.false) c.loop-order.invariant.1;
+  obligations = c.loop-order.invariant.2;
+}

@@ -25,38 +25,42 @@ loop-init g c =
 
 pub loop-preserved : goal.loop-preserved
 loop-preserved g c =
-    let one = c.in_ok-send.ensures in (
-      c.send.ensures.same_gates,
+    let one = c.in_ok-send.ensures.done in (
+      c.send.ensures.keeps.same_gates,
       sent-again c.args.order.to c.args.order.what c.loop.counter c.args.sender.now c.loop.sender c.send.new.sender c.loop.invariant.1 one.sent,
       obligations-then (actors_of c.args.system.now.gates) (sender_caller c.args.sender.now.registrar) (sender_caller c.loop.sender.registrar)
           (sender_caller c.send.new.sender.registrar) c.loop.invariant.2 one.obligations,
-      account-then _ _ _ c.loop.invariant.3 c.send.ensures.owed,
-      loses-then _ _ _ _ _ _ c.loop.invariant.4 c.send.ensures.claims,
+      account-then _ _ _ c.loop.invariant.3 c.send.ensures.keeps.owed,
+      loses-then _ _ _ _ _ _ c.loop.invariant.4 c.send.ensures.keeps.claims,
     )
 
-pub returns-clause-same_gates : goal.returns-clause-same_gates
-returns-clause-same_gates g c = c.loop.invariant.0
+pub returns-clause-keeps : goal.returns-clause-keeps
+returns-clause-keeps g c = record {
+  same_gates = c.loop.invariant.0;
+  same_sender = c.loop.invariant.1.by;
+  owed = c.loop.invariant.3;
+  claims = c.loop.invariant.4;
+}
 
-pub returns-clause-sent : goal.returns-clause-sent
-returns-clause-sent g c =
-    let order = c.args.order in
-    let all : c.loop.counter ≡ order.times = omega (arith, c.loop-test.false, c.loop.auto.counter-end) in
-    subst (λ n. HasSent (order_for order.to order.what n ∷ []) c.args.sender.now c.loop.sender) all c.loop.invariant.1
-
-pub returns-clause-same_sender : goal.returns-clause-same_sender
-returns-clause-same_sender g c = c.loop.invariant.1.by
-
-pub returns-clause-obligations : goal.returns-clause-obligations
-returns-clause-obligations g c = c.loop.invariant.2
+pub returns-clause-done : goal.returns-clause-done
+returns-clause-done g c = record {
+  sent =
+      let order = c.args.order in
+      let all : c.loop.counter ≡ order.times = omega (arith, c.loop-test.false, c.loop.auto.counter-end) in
+      subst (λ n. HasSent (order_for order.to order.what n ∷ []) c.args.sender.now c.loop.sender) all c.loop.invariant.1;
+  obligations = c.loop.invariant.2;
+}
 
 pub returns-clause-fault : goal.returns-clause-fault
 returns-clause-fault g c = tt
 
-pub returns-in_err-send-clause-same_gates : goal.returns-in_err-send-clause-same_gates
-returns-in_err-send-clause-same_gates g c = c.send.ensures.same_gates
-
-pub returns-in_err-send-clause-same_sender : goal.returns-in_err-send-clause-same_sender
-returns-in_err-send-clause-same_sender g c = c.send.ensures.same_sender ∙ c.loop.invariant.1.by
+pub returns-in_err-send-clause-keeps : goal.returns-in_err-send-clause-keeps
+returns-in_err-send-clause-keeps g c = record {
+  same_gates = c.send.ensures.keeps.same_gates;
+  same_sender = c.send.ensures.keeps.same_sender ∙ c.loop.invariant.1.by;
+  owed = account-then _ _ _ c.loop.invariant.3 c.send.ensures.keeps.owed;
+  claims = loses-then _ _ _ _ _ _ c.loop.invariant.4 c.send.ensures.keeps.claims;
+}
 
 pub returns-in_err-send-clause-fault : goal.returns-in_err-send-clause-fault
 returns-in_err-send-clause-fault g c =
@@ -74,12 +78,6 @@ returns-in_err-send-clause-reason g c =
     let p = err_from_is_err_and c.from_residual.result c.from_residual.ensures.1 in
     subst (λ r. IfErr r reason) (sym p.1) (subst reason (sym p.2) c.in_err-send.ensures.reason)
 
-pub returns-clause-owed : goal.returns-clause-owed
-returns-clause-owed g c = c.loop.invariant.3
-
-pub returns-in_err-send-clause-owed : goal.returns-in_err-send-clause-owed
-returns-in_err-send-clause-owed g c = account-then _ _ _ c.loop.invariant.3 c.send.ensures.owed
-
 pub returns-in_err-send-clause-stopped : goal.returns-in_err-send-clause-stopped
 returns-in_err-send-clause-stopped g c =
     let order = c.args.order in let more = c.loop-test.true in
@@ -90,9 +88,3 @@ returns-in_err-send-clause-stopped g c =
           c.in_err-send.ensures.unsent;
     } in
     on_err c.from_residual.result part
-
-pub returns-clause-claims : goal.returns-clause-claims
-returns-clause-claims g c = c.loop.invariant.4
-
-pub returns-in_err-send-clause-claims : goal.returns-in_err-send-clause-claims
-returns-in_err-send-clause-claims g c = loses-then _ _ _ _ _ _ c.loop.invariant.4 c.send.ensures.claims

@@ -14,4 +14,4 @@ each_in_turn-rest-requires g t c κs within =
     let shorter : length c.in-Some.other_tasks.now < length c.args.tasks.now = omega (arith, tasks.1) in
     let same : length c.in-Some.other_tasks.now ≡ length c.in-Some-split_first_mut.other_values.now = omega (arith, tasks.1, values.1, c.requires.same_count) in
     let rest = (first-and-others (g.T.PairedTask.ready c.args.shared.now) _ _ _ _ _ _ tasks.0 values.0 c.requires.ready).1 in
-    (omega (arith, shorter, c.decreases), (within.0, (within.1.0, (within.1.1.0, (within.1.1.1, (same, rest))))))
+    (omega (arith, shorter, c.decreases), (within.0, (within.1.0, (within.1.1.0, (within.1.1.1, record { same_count = same; ready = rest })))))

@@ -4,14 +4,14 @@ use Rattle.mb_gate.specs.Accessors.{actors_of, pass_view}
 use Rattle.mb_gate.specs.Rule.{IsPart}
 use Rattle.mb_gate.specs.Untouched.{origin_of}
 use Rattle.mb_system.specs.Obligations.{AreDischargedOrOwed}
-use Rattle.mb_system.specs.Members.{IsEndOf, end_caller}
+use Rattle.mb_system.specs.Members.{IsHandleOf, handle_caller}
 use Rattle.mb_dispatch.specs.Claims.{RunsEachClaim}
 use Rattle.mb_dispatch.specs.Runs.{MadeRuns}
 use Rattle.mb_dispatch.proofs.quiet.run_quietly.Given as goal
 
 abbrev pub invariant-loop : goal.invariant-loop
 invariant-loop g l =
-    IsEndOf l.system.gates l.end.registrar × (l.end.number ≡ l.fn.end.number)
-    × IsPart (pass_view l.fn.end.registrar.pass).log (pass_view l.end.registrar.pass).log × AreDischargedOrOwed (actors_of l.system.gates) (end_caller l.end.registrar)
-    × MadeRuns g.K.Behaviours.gives (origin_of l.system.gates) l.system.throughput (pass_view l.fn.end.registrar.pass) l.turns.items (pass_view l.end.registrar.pass)
-    × RunsEachClaim l.fn.end l.end × (l.turns.retention ≡ retention_of l.fn.keeps)
+    IsHandleOf l.system.gates l.handle.registrar × (l.handle.number ≡ l.fn.handle.number)
+    × IsPart (pass_view l.fn.handle.registrar.pass).log (pass_view l.handle.registrar.pass).log × AreDischargedOrOwed (actors_of l.system.gates) (handle_caller l.handle.registrar)
+    × MadeRuns g.K.Behaviours.gives (origin_of l.system.gates) l.system.throughput (pass_view l.fn.handle.registrar.pass) l.turns.items (pass_view l.handle.registrar.pass)
+    × RunsEachClaim l.fn.handle l.handle × (l.turns.retention ≡ retention_of l.fn.keeps)

@@ -2,8 +2,8 @@ use Rattle.std.proofs.Common.{◌∙◌, []}
 use Rattle.std.proofs.lemmas.Result.{on_ok_weaker}
 use Rattle.mb_gate.specs.Accessors.{actors_of}
 use Rattle.mb_source.proofs.Crossing.{recorded_send}
-use Rattle.mb_system.specs.Members.{end_caller}
-use Rattle.mb_system.proofs.Crossing.{end_send, passed_send, passed_sync, sender_send, system_sync}
+use Rattle.mb_system.specs.Members.{handle_caller}
+use Rattle.mb_system.proofs.Crossing.{handle_send, passed_send, passed_sync, sender_send, system_sync}
 use Rattle.mb_system.proofs.Obligations.{obligations-then}
 use Rattle.mb_system.proofs.Saw.{saw-then}
 use Rattle.mb_dispatch.specs.Sources.{BreaksPair, IsPairDone}
@@ -26,47 +26,39 @@ pairs_in_parallel-of_senders-requires-send-T g c κs within =
 
 pub pairs_in_parallel-of_senders-requires-send-U : goal.pairs_in_parallel-of_senders-requires-send-U
 pairs_in_parallel-of_senders-requires-send-U g c κs within =
-    passed_send 4 _ _ (end_send _ _ g.A.Actor g.K.Behaviours c.type_bounds.send-A c.type_bounds.send-K)
-
-pub pairs_in_parallel-of_senders-requires-clause-same_count : goal.pairs_in_parallel-of_senders-requires-clause-same_count
-pairs_in_parallel-of_senders-requires-clause-same_count g c κs within = c.requires.same_count
+    passed_send 4 _ _ (handle_send _ _ g.A.Actor g.K.Behaviours c.type_bounds.send-A c.type_bounds.send-K)
 
 pub pairs_in_parallel-of_senders-requires-clause-these_ready : goal.pairs_in_parallel-of_senders-requires-clause-these_ready
-pairs_in_parallel-of_senders-requires-clause-these_ready g c κs within = all-ready _ _ _ c.requires.same_gates
+pairs_in_parallel-of_senders-requires-clause-these_ready g c κs within =
+    record { same_count = c.requires.same_count; ready = all-ready _ _ _ c.requires.same_gates }
 
 pub pairs_in_parallel-of_senders-requires-clause-those_ready : goal.pairs_in_parallel-of_senders-requires-clause-those_ready
-pairs_in_parallel-of_senders-requires-clause-those_ready g c κs within = c.register_by_first.ensures.ends.0
+pairs_in_parallel-of_senders-requires-clause-those_ready g c κs within = c.register_by_first.ensures.handles.0
 
 pub register_by_first-requires : goal.register_by_first-requires
-register_by_first-requires g c = c.requires.ends
+register_by_first-requires g c = c.requires.handles
 
-pub returns-clause-ends : goal.returns-clause-ends
-returns-clause-ends g c =
-    let each = c.pairs_in_parallel-of_senders.ensures.those.keeps in (
-      all_after _ _ (λ old new kept. kept.0) _ _ each,
-      same_after _ _ (λ old new kept. kept.1) _ _ each ∙ c.register_by_first.ensures.ends.1,
-    )
-
-pub returns-clause-log_kept : goal.returns-clause-log_kept
-returns-clause-log_kept g c =
-    zip_then _ _ _ (λ x y z saw kept. saw-then _ _ _ saw kept.2) _ _ _ c.register_by_first.ensures.log_kept
-    c.pairs_in_parallel-of_senders.ensures.those.keeps
-
-pub returns-clause-obligations : goal.returns-clause-obligations
-returns-clause-obligations g c =
-    let actors = actors_of c.args.system.now.gates in
-    zip_then _ _ _ (λ x y z p kept. obligations-then actors (end_caller x.registrar) (end_caller y.registrar) (end_caller z.registrar) p kept.3) _ _ _
-    c.register_by_first.ensures.obligations c.pairs_in_parallel-of_senders.ensures.those.keeps
-
-pub returns-clause-claims : goal.returns-clause-claims
-returns-clause-claims g c =
-    zip_then _ _ _ (λ x y z ran kept. claims-then [] x y z ran kept.5) _ _ _ c.register_by_first.ensures.claims
-    c.pairs_in_parallel-of_senders.ensures.those.keeps
-
-pub returns-clause-runs : goal.returns-clause-runs
-returns-clause-runs g c =
-    zip_then _ _ _ (λ x y z looks kept. runs-or-broke-then g.K.Behaviours.gives c.args.system.now x y z looks kept.4) _ _ _
-    c.register_by_first.ensures.looks c.pairs_in_parallel-of_senders.ensures.those.keeps
+pub returns-clause-keeps_handles : goal.returns-clause-keeps_handles
+returns-clause-keeps_handles g c = record {
+  handles =
+      let each = c.pairs_in_parallel-of_senders.ensures.those.keeps in (
+        all_after _ _ (λ old new kept. kept.of_system) _ _ each,
+        same_after _ _ (λ old new kept. kept.number) _ _ each ∙ c.register_by_first.ensures.handles.1,
+      );
+  log_kept =
+      zip_then _ _ _ (λ x y z saw kept. saw-then _ _ _ saw kept.log_kept) _ _ _ c.register_by_first.ensures.log_kept
+      c.pairs_in_parallel-of_senders.ensures.those.keeps;
+  obligations =
+      let actors = actors_of c.args.system.now.gates in
+      zip_then _ _ _ (λ x y z p kept. obligations-then actors (handle_caller x.registrar) (handle_caller y.registrar) (handle_caller z.registrar) p kept.obligations) _ _ _
+      c.register_by_first.ensures.obligations c.pairs_in_parallel-of_senders.ensures.those.keeps;
+  claims =
+      zip_then _ _ _ (λ x y z ran kept. claims-then [] x y z ran kept.claims) _ _ _ c.register_by_first.ensures.claims
+      c.pairs_in_parallel-of_senders.ensures.those.keeps;
+  runs =
+      zip_then _ _ _ (λ x y z looks kept. runs-or-broke-then g.K.Behaviours.gives c.args.system.now x y z looks kept.runs) _ _ _
+      c.register_by_first.ensures.looks c.pairs_in_parallel-of_senders.ensures.those.keeps;
+}
 
 pub returns-clause-ran : goal.returns-clause-ran
 returns-clause-ran g c =

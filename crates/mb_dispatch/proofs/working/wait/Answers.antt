@@ -11,7 +11,7 @@ use Rattle.mb_dispatch.proofs.Claims.{claims-none, claims-then, claims-took}
 use Rattle.mb_dispatch.proofs.working.wait.Goals as goal
 
 pub loop-init : goal.loop-init
-loop-init g c = (refl, refl, refl, refl, claims-none c.args.end.now)
+loop-init g c = (refl, refl, refl, refl, claims-none c.args.handle.now)
 
 pub loop-preserved : goal.loop-preserved
 loop-preserved g c =
@@ -20,7 +20,7 @@ loop-preserved g c =
       same.1 ∙ at.1,
       same.2 ∙ at.2,
       same.3 ∙ at.3,
-      subst (RunsEachClaim c.args.end.now) (sym c.in_default.ensures.none.0) at.4,
+      subst (RunsEachClaim c.args.handle.now) (sym c.in_default.ensures.none.0) at.4,
     )
 
 pub returns-in-Some-take-clause-untouched : goal.returns-in-Some-take-clause-untouched
@@ -48,8 +48,8 @@ returns-then-is_over-clause-same g c =
 pub returns-in-Some-take-clause-claims : goal.returns-in-Some-take-clause-claims
 returns-in-Some-take-clause-claims g c =
     let took = c.take.ensures in let claim = Some c.in-Some-take.claim in
-    claims-then (c.in-Some-take.claim ∷ []) c.args.end.now c.loop.end c.take.new.self c.loop.invariant.4
-    (claims-took claim c.loop.end c.take.new.self took.same.0 took.account (subst (λ next. claims_taken c.take.new.self ≡ claims_taken c.loop.end ++ option_to_list next) c.in-Some-take.is took.log))
+    claims-then (c.in-Some-take.claim ∷ []) c.args.handle.now c.loop.handle c.take.new.self c.loop.invariant.4
+    (claims-took claim c.loop.handle c.take.new.self took.same.0 took.account (subst (λ next. claims_taken c.take.new.self ≡ claims_taken c.loop.handle ++ option_to_list next) c.in-Some-take.is took.log))
 
 pub returns-then-is_over-clause-claims : goal.returns-then-is_over-clause-claims
-returns-then-is_over-clause-claims g c = subst (RunsEachClaim c.args.end.now) (sym c.in_default.ensures.none.0) c.loop.invariant.4
+returns-then-is_over-clause-claims g c = subst (RunsEachClaim c.args.handle.now) (sym c.in_default.ensures.none.0) c.loop.invariant.4

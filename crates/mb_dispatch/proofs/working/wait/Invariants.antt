@@ -5,6 +5,6 @@ use Rattle.mb_dispatch.proofs.working.wait.Given as goal
 
 abbrev pub invariant-loop : goal.invariant-loop
 invariant-loop g l =
-    (l.end.registrar.pass ≡ l.fn.end.registrar.pass) × (l.end.registrar.owed ≡ l.fn.end.registrar.owed)
-    × (gates_of l.end.registrar.run_queue.end ≡ gates_of l.fn.end.registrar.run_queue.end) × (l.end.number ≡ l.fn.end.number)
-    × RunsEachClaim l.fn.end l.end
+    (l.handle.registrar.pass ≡ l.fn.handle.registrar.pass) × (l.handle.registrar.owed ≡ l.fn.handle.registrar.owed)
+    × (gates_of l.handle.registrar.run_queue.handle ≡ gates_of l.fn.handle.registrar.run_queue.handle) × (l.handle.number ≡ l.fn.handle.number)
+    × RunsEachClaim l.fn.handle l.handle

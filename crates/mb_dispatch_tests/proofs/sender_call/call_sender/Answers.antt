@@ -23,11 +23,11 @@ look-requires-clause-all g c = c.requires.same_gates.all
 
 pub returns-in-Tell-clause-same_gates : goal.returns-in-Tell-clause-same_gates
 returns-in-Tell-clause-same_gates g c =
-    sender-still _ _ _ c.requires.same_gates c.tell.ensures.same_gates.0 c.tell.ensures.same_gates.1 c.tell.ensures.same.1 c.tell.ensures.queues
+    sender-still _ _ _ c.requires.same_gates c.tell.ensures.leaves.same_gates.0 c.tell.ensures.leaves.same_gates.1 c.tell.ensures.leaves.same.1 c.tell.ensures.leaves.queues
 
 pub returns-in-Stop-clause-same_gates : goal.returns-in-Stop-clause-same_gates
 returns-in-Stop-clause-same_gates g c =
-    sender-same _ _ _ c.requires.same_gates c.stop.ensures.same_gates.0 c.stop.ensures.same_gates.1 c.stop.ensures.same.1
+    sender-same _ _ _ c.requires.same_gates c.stop.ensures.leaves.same_gates.0 c.stop.ensures.leaves.same_gates.1 c.stop.ensures.same.1
 
 pub returns-in-Look-clause-same_gates : goal.returns-in-Look-clause-same_gates
 returns-in-Look-clause-same_gates g c =
@@ -35,7 +35,7 @@ returns-in-Look-clause-same_gates g c =
     sender-same _ _ _ c.requires.same_gates same.4 (ap (λ run_queue. gates_of run_queue.feed) same.3) same.1
 
 pub returns-in-Tell-clause-same_sender : goal.returns-in-Tell-clause-same_sender
-returns-in-Tell-clause-same_sender g c = c.tell.ensures.same.0
+returns-in-Tell-clause-same_sender g c = c.tell.ensures.leaves.same.0
 
 pub returns-in-Stop-clause-same_sender : goal.returns-in-Stop-clause-same_sender
 returns-in-Stop-clause-same_sender g c = ap (λ send_log. send_log.by) c.stop.ensures.same.0

@@ -9,7 +9,7 @@ put-requires-clause-all g c = c.requires.same_gates.all
 
 pub returns-clause-same_gates : goal.returns-clause-same_gates
 returns-clause-same_gates g c =
-    sender-still _ _ _ c.requires.same_gates c.put.ensures.same_gates.0 c.put.ensures.same_gates.1 c.put.ensures.same.1 c.put.ensures.queues
+    sender-still _ _ _ c.requires.same_gates c.put.ensures.leaves.same_gates.0 c.put.ensures.leaves.same_gates.1 c.put.ensures.leaves.same.1 c.put.ensures.leaves.queues
 
 pub returns-clause-same_sender : goal.returns-clause-same_sender
-returns-clause-same_sender g c = c.put.ensures.same.0
+returns-clause-same_sender g c = c.put.ensures.leaves.same.0

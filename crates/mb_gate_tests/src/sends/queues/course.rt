@@ -73,7 +73,7 @@ fn goes<R: Wait>(
         QueueStep::Queued(kind, value) => {
             pushed(rt, near, user(NEAR, 0, kind, value), again) == Some(true)
         }
-        QueueStep::AllQueued(end) => are_queued(rt, near, end, again),
+        QueueStep::AllQueued(handle) => are_queued(rt, near, handle, again),
         QueueStep::ControlQueued(value) => {
             pushed(rt, near, control(NEAR, 0, value), again) == Some(true)
         }
@@ -81,26 +81,26 @@ fn goes<R: Wait>(
             pushed(rt, near, user(NEAR, 0, kind, value), again) == Some(false)
         }
         QueueStep::Taken(value) => value_taken(rt, take) == Some(value),
-        QueueStep::AllTaken(from, end) => are_taken(rt, take, from, end),
+        QueueStep::AllTaken(from, handle) => are_taken(rt, take, from, handle),
     }
 }
 
-fn are_queued<R: Wait>(rt: &R, near: &mut SendPass, end: i64, again: bool) -> bool
+fn are_queued<R: Wait>(rt: &R, near: &mut SendPass, handle: i64, again: bool) -> bool
     requires { (near.old.by ≡ 1) × (near.old.queue.to ≡ 2) }
     ensures sender { (near.new.queue ≡ near.old.queue) × (near.new.by ≡ near.old.by) }
 {
     let mut are_so = true;
-    for value in 0..end {
+    for value in 0..handle {
         are_so &= pushed(rt, near, user(NEAR, 0, 1, value), again) == Some(true);
     }
     are_so
 }
 
-fn are_taken<R: Wait>(rt: &R, take: &mut TakePass, from: i64, end: i64) -> bool
+fn are_taken<R: Wait>(rt: &R, take: &mut TakePass, from: i64, handle: i64) -> bool
     ensures { take.new.queue ≡ take.old.queue }
 {
     let mut are_so = true;
-    for value in from..end {
+    for value in from..handle {
         are_so &= value_taken(rt, take) == Some(value);
     }
     are_so

@@ -168,7 +168,7 @@ fn take_all<R: Wait>(rt: &R, mut take: TakePass, parts: Parts) -> (TakePass, boo
         }
         match taken(rt, &mut take) {
             Some(envelope) => {
-                are_due &= is_due(&mut due, envelope, parts);
+                are_due &= is_next(&mut due, envelope, parts);
                 count = count.wrapping_add(1);
             }
             None => thread::yield_now(),
@@ -178,7 +178,7 @@ fn take_all<R: Wait>(rt: &R, mut take: TakePass, parts: Parts) -> (TakePass, boo
 }
 
 /// Whether this envelope's number is the one that is due for its sender and part; then the next one is due.
-fn is_due(due: &mut [u64; 4], envelope: Envelope, parts: Parts) -> bool {
+fn is_next(due: &mut [u64; 4], envelope: Envelope, parts: Parts) -> bool {
     let is_odd = parts.are_two && envelope.number % 2 == 1;
     let place = match (envelope.by == FAR, is_odd) {
         (false, false) => 0,
@@ -189,7 +189,7 @@ fn is_due(due: &mut [u64; 4], envelope: Envelope, parts: Parts) -> bool {
     let Some(next) = due.get_mut(place) else {
         return false;
     };
-    let is_due = envelope.number == *next && envelope.number < EACH;
+    let is_next = envelope.number == *next && envelope.number < EACH;
     *next = next.wrapping_add(if parts.are_two { 2 } else { 1 });
-    is_due
+    is_next
 }

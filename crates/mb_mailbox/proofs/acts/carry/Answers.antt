@@ -21,34 +21,33 @@ use Rattle.mb_mailbox.proofs.acts.carry.Goals as goal
 
 -- ---- a system message
 
-pub send_system-requires-clause-same_gates : goal.send_system-requires-clause-same_gates
-send_system-requires-clause-same_gates g c = c.requires.same_gates
+pub send_system-requires : goal.send_system-requires
+send_system-requires g c = record {
+  in_acts = record {
+    same_gates = c.requires.in_acts.same_gates;
+    running =
+        subst (λ (a : Handed). IsRunning g.K.Behaviours.gives (origin_of c.args.gates.now) (act_of a ∷ c.args.claim.now.home.value.cell.acts)
+        (pass_view c.args.registrar.now.pass).log (run_state c.args.claim.now)) c.in-Sys.is c.requires.in_acts.running;
+    backlog = c.requires.in_acts.backlog;
+  };
+}
 
-pub send_system-requires-clause-running : goal.send_system-requires-clause-running
-send_system-requires-clause-running g c =
-    subst (λ (a : Handed). IsRunning g.K.Behaviours.gives (origin_of c.args.gates.now) (act_of a ∷ c.args.claim.now.home.value.cell.acts)
-    (pass_view c.args.registrar.now.pass).log (run_state c.args.claim.now)) c.in-Sys.is c.requires.running
+pub returns-in-Sys-clause-in_acts : goal.returns-in-Sys-clause-in_acts
+returns-in-Sys-clause-in_acts g c = record {
+  same_gates = c.send_system.ensures.in_acts.same_gates;
+  running = c.send_system.ensures.in_acts.running;
+  backlog = c.send_system.ensures.in_acts.backlog;
+}
 
-pub send_system-requires-clause-backlog : goal.send_system-requires-clause-backlog
-send_system-requires-clause-backlog g c = c.requires.backlog
-
-pub returns-in-Sys-clause-same_gates : goal.returns-in-Sys-clause-same_gates
-returns-in-Sys-clause-same_gates g c = c.send_system.ensures.same_gates
-
-pub returns-in-Sys-clause-running : goal.returns-in-Sys-clause-running
-returns-in-Sys-clause-running g c = c.send_system.ensures.running
-
-pub returns-in-Sys-clause-backlog : goal.returns-in-Sys-clause-backlog
-returns-in-Sys-clause-backlog g c = c.send_system.ensures.backlog
-
-pub returns-in-Sys-clause-same : goal.returns-in-Sys-clause-same
-returns-in-Sys-clause-same g c = c.send_system.ensures.same
+pub returns-in-Sys-clause-advances : goal.returns-in-Sys-clause-advances
+returns-in-Sys-clause-advances g c = record {
+  same = c.send_system.ensures.advances.same;
+  caller_advances = c.send_system.ensures.advances.caller_advances;
+  sends = c.send_system.ensures.advances.sends;
+}
 
 pub returns-in-Sys-clause-ended : goal.returns-in-Sys-clause-ended
 returns-in-Sys-clause-ended g c = tt
-
-pub returns-in-Sys-clause-caller_advances : goal.returns-in-Sys-clause-caller_advances
-returns-in-Sys-clause-caller_advances g c = c.send_system.ensures.caller_advances
 
 pub returns-in-Sys-clause-left : goal.returns-in-Sys-clause-left
 returns-in-Sys-clause-left g c = ap (λ (b : Box Contents). b.value.cell.acts) c.send_system.ensures.left
@@ -59,129 +58,126 @@ returns-in-Sys-clause-cleared g c = c.send_system.ensures.cleared
 -- ---- a suspension
 
 pub suspend-requires-clause-same_gates : goal.suspend-requires-clause-same_gates
-suspend-requires-clause-same_gates g c = c.requires.running.same_gates
+suspend-requires-clause-same_gates g c = c.requires.in_acts.running.same_gates
 
 pub suspend-requires-clause-present : goal.suspend-requires-clause-present
-suspend-requires-clause-present g c = c.requires.running.present
+suspend-requires-clause-present g c = c.requires.in_acts.running.present
 
 pub suspend-requires-clause-within_limit : goal.suspend-requires-clause-within_limit
 suspend-requires-clause-within_limit g c =
     let r = subst (λ (a : Handed). IsRunning g.K.Behaviours.gives (origin_of c.args.gates.now) (act_of a ∷ c.args.claim.now.home.value.cell.acts)
-    (pass_view c.args.registrar.now.pass).log (run_state c.args.claim.now)) c.in-SuspendSelf.is c.requires.running in
+    (pass_view c.args.registrar.now.pass).log (run_state c.args.claim.now)) c.in-SuspendSelf.is c.requires.in_acts.running in
     (running-suspend _ _ _ _ _ r).0
 
-pub returns-in-SuspendSelf-clause-same_gates : goal.returns-in-SuspendSelf-clause-same_gates
-returns-in-SuspendSelf-clause-same_gates g c = c.requires.same_gates
-
-pub returns-in-SuspendSelf-clause-running : goal.returns-in-SuspendSelf-clause-running
-returns-in-SuspendSelf-clause-running g c =
-    let old = c.args.claim.now in let new = c.suspend.new.claim in let did = c.suspend.ensures in
-    let r = subst (λ (a : Handed). IsRunning g.K.Behaviours.gives (origin_of c.args.gates.now) (act_of a ∷ old.home.value.cell.acts)
-    (pass_view c.args.registrar.now.pass).log (run_state old)) c.in-SuspendSelf.is c.requires.running in
-    running-suspended old new (status_of new) (word_of (status_of new)) did.same_gates did.home did.known did.taken refl g.K.Behaviours.gives
-    (origin_of c.args.gates.now) (pass_view c.args.registrar.now.pass).log did.status r
-
-pub returns-in-SuspendSelf-clause-backlog : goal.returns-in-SuspendSelf-clause-backlog
-returns-in-SuspendSelf-clause-backlog g c =
-    let old = c.args.claim.now in let new = c.suspend.new.claim in let did = c.suspend.ensures in
-    backlog-written old new (status_of new) (word_of (status_of new)) did.same_gates did.home did.known did.taken refl
-    (ap (λ (m : Mailbox). m.closed) did.status ∙ suspend-closed (status_of old)) c.requires.backlog
+pub returns-in-SuspendSelf-clause-in_acts : goal.returns-in-SuspendSelf-clause-in_acts
+returns-in-SuspendSelf-clause-in_acts g c = record {
+  same_gates = c.requires.in_acts.same_gates;
+  running =
+      let old = c.args.claim.now in let new = c.suspend.new.claim in let did = c.suspend.ensures.written in
+      let r = subst (λ (a : Handed). IsRunning g.K.Behaviours.gives (origin_of c.args.gates.now) (act_of a ∷ old.home.value.cell.acts)
+      (pass_view c.args.registrar.now.pass).log (run_state old)) c.in-SuspendSelf.is c.requires.in_acts.running in
+      running-suspended old new (status_of new) (word_of (status_of new)) did.same_gates did.home did.known did.taken refl g.K.Behaviours.gives
+      (origin_of c.args.gates.now) (pass_view c.args.registrar.now.pass).log did.status r;
+  backlog =
+      let old = c.args.claim.now in let new = c.suspend.new.claim in let did = c.suspend.ensures.written in
+      backlog-written old new (status_of new) (word_of (status_of new)) did.same_gates did.home did.known did.taken refl
+      (ap (λ (m : Mailbox). m.closed) did.status ∙ suspend-closed (status_of old)) c.requires.in_acts.backlog;
+}
 
 pub returns-in-SuspendSelf-clause-left : goal.returns-in-SuspendSelf-clause-left
-returns-in-SuspendSelf-clause-left g c = ap (λ (b : Box Contents). b.value.cell.acts) c.suspend.ensures.home
+returns-in-SuspendSelf-clause-left g c = ap (λ (b : Box Contents). b.value.cell.acts) c.suspend.ensures.written.home
 
-pub returns-in-SuspendSelf-clause-same : goal.returns-in-SuspendSelf-clause-same
-returns-in-SuspendSelf-clause-same g c =
-    let old = c.args.claim.now in let new = c.suspend.new.claim in let did = c.suspend.ensures in
-    keeps-written old new (status_of new) (word_of (status_of new)) did.same_gates did.home did.known did.taken refl
+pub returns-in-SuspendSelf-clause-advances : goal.returns-in-SuspendSelf-clause-advances
+returns-in-SuspendSelf-clause-advances g c = record {
+  same =
+      let old = c.args.claim.now in let new = c.suspend.new.claim in let did = c.suspend.ensures.written in
+      keeps-written old new (status_of new) (word_of (status_of new)) did.same_gates did.home did.known did.taken refl;
+  caller_advances = further-none _;
+  sends = alike-still _ _ _ _ c.suspend.ensures.written.taken.recorded refl;
+}
 
 pub returns-in-SuspendSelf-clause-cleared : goal.returns-in-SuspendSelf-clause-cleared
 returns-in-SuspendSelf-clause-cleared g c =
-    let old = c.args.claim.now in let did = c.suspend.ensures in
+    let old = c.args.claim.now in let did = c.suspend.ensures.written in
     cleared-same (run_state old) (run_state c.suspend.new.claim) (ap (λ (m : Mailbox). m.closed) did.status ∙ suspend-closed (status_of old))
     (ap (λ (b : Box Contents). b.value.take) did.home)
 
 pub returns-in-SuspendSelf-clause-ended : goal.returns-in-SuspendSelf-clause-ended
 returns-in-SuspendSelf-clause-ended g c = tt
 
-pub returns-in-SuspendSelf-clause-caller_advances : goal.returns-in-SuspendSelf-clause-caller_advances
-returns-in-SuspendSelf-clause-caller_advances g c = further-none _
-
 -- ---- the end of one
 
 pub resume-requires-clause-same_gates : goal.resume-requires-clause-same_gates
-resume-requires-clause-same_gates g c = c.requires.running.same_gates
+resume-requires-clause-same_gates g c = c.requires.in_acts.running.same_gates
 
 pub resume-requires-clause-present : goal.resume-requires-clause-present
-resume-requires-clause-present g c = c.requires.running.present
+resume-requires-clause-present g c = c.requires.in_acts.running.present
 
-pub returns-in-ResumeSelf-clause-same_gates : goal.returns-in-ResumeSelf-clause-same_gates
-returns-in-ResumeSelf-clause-same_gates g c = c.requires.same_gates
-
-pub returns-in-ResumeSelf-clause-running : goal.returns-in-ResumeSelf-clause-running
-returns-in-ResumeSelf-clause-running g c =
-    let old = c.args.claim.now in let new = c.resume.new.claim in let did = c.resume.ensures in
-    let r = subst (λ (a : Handed). IsRunning g.K.Behaviours.gives (origin_of c.args.gates.now) (act_of a ∷ old.home.value.cell.acts)
-    (pass_view c.args.registrar.now.pass).log (run_state old)) c.in-ResumeSelf.is c.requires.running in
-    running-resumed old new (status_of new) (word_of (status_of new)) did.same_gates did.home did.known did.taken refl g.K.Behaviours.gives
-    (origin_of c.args.gates.now) (pass_view c.args.registrar.now.pass).log did.status r
-
-pub returns-in-ResumeSelf-clause-backlog : goal.returns-in-ResumeSelf-clause-backlog
-returns-in-ResumeSelf-clause-backlog g c =
-    let old = c.args.claim.now in let new = c.resume.new.claim in let did = c.resume.ensures in
-    backlog-written old new (status_of new) (word_of (status_of new)) did.same_gates did.home did.known did.taken refl
-    (ap (λ (m : Mailbox). m.closed) did.status) c.requires.backlog
+pub returns-in-ResumeSelf-clause-in_acts : goal.returns-in-ResumeSelf-clause-in_acts
+returns-in-ResumeSelf-clause-in_acts g c = record {
+  same_gates = c.requires.in_acts.same_gates;
+  running =
+      let old = c.args.claim.now in let new = c.resume.new.claim in let did = c.resume.ensures.written in
+      let r = subst (λ (a : Handed). IsRunning g.K.Behaviours.gives (origin_of c.args.gates.now) (act_of a ∷ old.home.value.cell.acts)
+      (pass_view c.args.registrar.now.pass).log (run_state old)) c.in-ResumeSelf.is c.requires.in_acts.running in
+      running-resumed old new (status_of new) (word_of (status_of new)) did.same_gates did.home did.known did.taken refl g.K.Behaviours.gives
+      (origin_of c.args.gates.now) (pass_view c.args.registrar.now.pass).log did.status r;
+  backlog =
+      let old = c.args.claim.now in let new = c.resume.new.claim in let did = c.resume.ensures.written in
+      backlog-written old new (status_of new) (word_of (status_of new)) did.same_gates did.home did.known did.taken refl
+      (ap (λ (m : Mailbox). m.closed) did.status) c.requires.in_acts.backlog;
+}
 
 pub returns-in-ResumeSelf-clause-left : goal.returns-in-ResumeSelf-clause-left
-returns-in-ResumeSelf-clause-left g c = ap (λ (b : Box Contents). b.value.cell.acts) c.resume.ensures.home
+returns-in-ResumeSelf-clause-left g c = ap (λ (b : Box Contents). b.value.cell.acts) c.resume.ensures.written.home
 
-pub returns-in-ResumeSelf-clause-same : goal.returns-in-ResumeSelf-clause-same
-returns-in-ResumeSelf-clause-same g c =
-    let old = c.args.claim.now in let new = c.resume.new.claim in let did = c.resume.ensures in
-    keeps-written old new (status_of new) (word_of (status_of new)) did.same_gates did.home did.known did.taken refl
+pub returns-in-ResumeSelf-clause-advances : goal.returns-in-ResumeSelf-clause-advances
+returns-in-ResumeSelf-clause-advances g c = record {
+  same =
+      let old = c.args.claim.now in let new = c.resume.new.claim in let did = c.resume.ensures.written in
+      keeps-written old new (status_of new) (word_of (status_of new)) did.same_gates did.home did.known did.taken refl;
+  caller_advances = further-none _;
+  sends = alike-still _ _ _ _ c.resume.ensures.written.taken.recorded refl;
+}
 
 pub returns-in-ResumeSelf-clause-cleared : goal.returns-in-ResumeSelf-clause-cleared
 returns-in-ResumeSelf-clause-cleared g c =
-    let did = c.resume.ensures in
+    let did = c.resume.ensures.written in
     cleared-same (run_state c.args.claim.now) (run_state c.resume.new.claim) (ap (λ (m : Mailbox). m.closed) did.status)
     (ap (λ (b : Box Contents). b.value.take) did.home)
 
 pub returns-in-ResumeSelf-clause-ended : goal.returns-in-ResumeSelf-clause-ended
 returns-in-ResumeSelf-clause-ended g c = tt
 
-pub returns-in-ResumeSelf-clause-caller_advances : goal.returns-in-ResumeSelf-clause-caller_advances
-returns-in-ResumeSelf-clause-caller_advances g c = further-none _
-
 -- ---- the end
 
-pub close-requires-clause-same_gates : goal.close-requires-clause-same_gates
-close-requires-clause-same_gates g c = c.requires.same_gates
+pub close-requires : goal.close-requires
+close-requires g c = record {
+  in_acts = record {
+    same_gates = c.requires.in_acts.same_gates;
+    running =
+        subst (λ (a : Handed). IsRunning g.K.Behaviours.gives (origin_of c.args.gates.now) (act_of a ∷ c.args.claim.now.home.value.cell.acts)
+        (pass_view c.args.registrar.now.pass).log (run_state c.args.claim.now)) c.in-CloseSelf.is c.requires.in_acts.running;
+    backlog = c.requires.in_acts.backlog;
+  };
+}
 
-pub close-requires-clause-running : goal.close-requires-clause-running
-close-requires-clause-running g c =
-    subst (λ (a : Handed). IsRunning g.K.Behaviours.gives (origin_of c.args.gates.now) (act_of a ∷ c.args.claim.now.home.value.cell.acts)
-    (pass_view c.args.registrar.now.pass).log (run_state c.args.claim.now)) c.in-CloseSelf.is c.requires.running
-
-pub close-requires-clause-backlog : goal.close-requires-clause-backlog
-close-requires-clause-backlog g c = c.requires.backlog
-
-pub returns-in-CloseSelf-clause-same_gates : goal.returns-in-CloseSelf-clause-same_gates
-returns-in-CloseSelf-clause-same_gates g c = c.close.ensures.same_gates
-
-pub returns-in-CloseSelf-clause-running : goal.returns-in-CloseSelf-clause-running
-returns-in-CloseSelf-clause-running g c = c.close.ensures.running
-
-pub returns-in-CloseSelf-clause-backlog : goal.returns-in-CloseSelf-clause-backlog
-returns-in-CloseSelf-clause-backlog g c = c.close.ensures.backlog
+pub returns-in-CloseSelf-clause-in_acts : goal.returns-in-CloseSelf-clause-in_acts
+returns-in-CloseSelf-clause-in_acts g c = record {
+  same_gates = c.close.ensures.in_acts.same_gates;
+  running = c.close.ensures.in_acts.running;
+  backlog = c.close.ensures.in_acts.backlog;
+}
 
 pub returns-in-CloseSelf-clause-left : goal.returns-in-CloseSelf-clause-left
 returns-in-CloseSelf-clause-left g c = c.close.ensures.left
 
-pub returns-in-CloseSelf-clause-same : goal.returns-in-CloseSelf-clause-same
-returns-in-CloseSelf-clause-same g c = c.close.ensures.same
-
-pub returns-in-CloseSelf-clause-caller_advances : goal.returns-in-CloseSelf-clause-caller_advances
-returns-in-CloseSelf-clause-caller_advances g c = c.close.ensures.caller_advances
+pub returns-in-CloseSelf-clause-advances : goal.returns-in-CloseSelf-clause-advances
+returns-in-CloseSelf-clause-advances g c = record {
+  same = c.close.ensures.advances.same;
+  caller_advances = c.close.ensures.advances.caller_advances;
+  sends = c.close.ensures.advances.sends;
+}
 
 pub returns-in-CloseSelf-clause-cleared : goal.returns-in-CloseSelf-clause-cleared
 returns-in-CloseSelf-clause-cleared g c =
@@ -191,18 +187,6 @@ pub returns-in-CloseSelf-clause-ended : goal.returns-in-CloseSelf-clause-ended
 returns-in-CloseSelf-clause-ended g c = err-always c.close.result c.close.ensures.ended
 
 -- ---- what was sent stands in the record
-
-pub returns-in-Sys-clause-sends : goal.returns-in-Sys-clause-sends
-returns-in-Sys-clause-sends g c = c.send_system.ensures.sends
-
-pub returns-in-SuspendSelf-clause-sends : goal.returns-in-SuspendSelf-clause-sends
-returns-in-SuspendSelf-clause-sends g c = alike-still _ _ _ _ c.suspend.ensures.taken.recorded refl
-
-pub returns-in-ResumeSelf-clause-sends : goal.returns-in-ResumeSelf-clause-sends
-returns-in-ResumeSelf-clause-sends g c = alike-still _ _ _ _ c.resume.ensures.taken.recorded refl
-
-pub returns-in-CloseSelf-clause-sends : goal.returns-in-CloseSelf-clause-sends
-returns-in-CloseSelf-clause-sends g c = c.close.ensures.sends
 
 -- ---- what was due was sent
 
@@ -214,7 +198,7 @@ returns-in-Sys-clause-due g c =
 pub returns-in-SuspendSelf-clause-due : goal.returns-in-SuspendSelf-clause-due
 returns-in-SuspendSelf-clause-due g c =
     let old = run_state c.args.claim.now in
-    let new = run_state c.suspend.new.claim in let did = c.suspend.ensures in
+    let new = run_state c.suspend.new.claim in let did = c.suspend.ensures.written in
     subst (λ (a : Handed). SendsDue (messages_of (act_of a ∷ [])) [] old new) (sym c.in-SuspendSelf.is)
     (due-none old new did.taken.recorded (ap (λ (v : View). v.log) did.known) (ap (λ (b : Box Contents). b.value.rest) did.home)
     (λ shut. ap (λ (m : Mailbox). m.closed) did.status ∙ suspend-closed (status_of c.args.claim.now) ∙ shut))
@@ -222,7 +206,7 @@ returns-in-SuspendSelf-clause-due g c =
 pub returns-in-ResumeSelf-clause-due : goal.returns-in-ResumeSelf-clause-due
 returns-in-ResumeSelf-clause-due g c =
     let old = run_state c.args.claim.now in
-    let new = run_state c.resume.new.claim in let did = c.resume.ensures in
+    let new = run_state c.resume.new.claim in let did = c.resume.ensures.written in
     subst (λ (a : Handed). SendsDue (messages_of (act_of a ∷ [])) [] old new) (sym c.in-ResumeSelf.is)
     (due-none old new did.taken.recorded (ap (λ (v : View). v.log) did.known) (ap (λ (b : Box Contents). b.value.rest) did.home)
     (λ shut. ap (λ (m : Mailbox). m.closed) did.status ∙ shut))

@@ -25,9 +25,9 @@ use Rattle.mb_mailbox.proofs.acts.carry_out.Goals as goal
 
 pub loop-act-init : goal.loop-act-init
 loop-act-init g c = (
-  c.requires.same_gates,
-  c.requires.running,
-  c.requires.backlog,
+  c.requires.in_acts.same_gates,
+  c.requires.in_acts.running,
+  c.requires.in_acts.backlog,
   keeps-same _,
   further-none _,
   λ clean. cleared-same (run_state c.args.claim.now) (run_state c.args.claim.now) refl refl,
@@ -45,29 +45,29 @@ next_act-requires g c = record {
 
 -- ---- a tell is left
 
-pub tell-requires-clause-same_gates : goal.tell-requires-clause-same_gates
-tell-requires-clause-same_gates g c = c.loop-act.invariant.0
-
-pub tell-requires-clause-running : goal.tell-requires-clause-running
-tell-requires-clause-running g c =
-    let new : Contents = c.next_act.new.self in
-    let same = subst (λ (x : Contents). new ≡ record x { cell = record x.cell { acts = new.cell.acts } }) c.deref_mut.ensures.value
-    c.next_act.ensures.same in
-    let taken = sym (ap (λ (x : Contents). x.cell.acts) c.deref_mut.ensures.value) ∙ c.in-Some.ensures.taken in
-    subst (λ (a : Handed). IsRunning g.K.Behaviours.gives (origin_of c.args.gates.now) (act_of a ∷ new.cell.acts) (pass_view c.loop-act.registrar.pass).log
-    (record (run_state c.loop-act.claim) { home = new })) c.in-Tell.is
-    (running-next (run_state c.loop-act.claim) new same g.K.Behaviours.gives (origin_of c.args.gates.now) (pass_view c.loop-act.registrar.pass).log
-    (act_of c.in-Some.act ∷ new.cell.acts) taken c.in-Some.ensures.settled c.loop-act.invariant.1)
-
-pub tell-requires-clause-backlog : goal.tell-requires-clause-backlog
-tell-requires-clause-backlog g c =
-    let new : Contents = c.next_act.new.self in
-    let same = subst (λ (x : Contents). new ≡ record x { cell = record x.cell { acts = new.cell.acts } }) c.deref_mut.ensures.value
-    c.next_act.ensures.same in
-    backlog-next (run_state c.loop-act.claim) new same c.loop-act.invariant.2
+pub tell-requires : goal.tell-requires
+tell-requires g c = record {
+  in_acts = record {
+    same_gates = c.loop-act.invariant.0;
+    running =
+        let new : Contents = c.next_act.new.self in
+        let same = subst (λ (x : Contents). new ≡ record x { cell = record x.cell { acts = new.cell.acts } }) c.deref_mut.ensures.value
+        c.next_act.ensures.same in
+        let taken = sym (ap (λ (x : Contents). x.cell.acts) c.deref_mut.ensures.value) ∙ c.in-Some.ensures.taken in
+        subst (λ (a : Handed). IsRunning g.K.Behaviours.gives (origin_of c.args.gates.now) (act_of a ∷ new.cell.acts) (pass_view c.loop-act.registrar.pass).log
+        (record (run_state c.loop-act.claim) { home = new })) c.in-Tell.is
+        (running-next (run_state c.loop-act.claim) new same g.K.Behaviours.gives (origin_of c.args.gates.now) (pass_view c.loop-act.registrar.pass).log
+        (act_of c.in-Some.act ∷ new.cell.acts) taken c.in-Some.ensures.settled c.loop-act.invariant.1);
+    backlog =
+        let new : Contents = c.next_act.new.self in
+        let same = subst (λ (x : Contents). new ≡ record x { cell = record x.cell { acts = new.cell.acts } }) c.deref_mut.ensures.value
+        c.next_act.ensures.same in
+        backlog-next (run_state c.loop-act.claim) new same c.loop-act.invariant.2;
+  };
+}
 
 pub register_if_awaited-requires : goal.register_if_awaited-requires
-register_if_awaited-requires g c = record { same_gates = c.tell.ensures.same_gates }
+register_if_awaited-requires g c = record { same_gates = c.tell.ensures.in_acts.same_gates }
 
 pub loop-act-preserved-in-Tell : goal.loop-act-preserved-in-Tell
 loop-act-preserved-in-Tell g c =
@@ -76,10 +76,10 @@ loop-act-preserved-in-Tell g c =
     c.next_act.ensures.same in (
       c.register_if_awaited.ensures.same_gates,
       running-caller_advances g.K.Behaviours.gives (origin_of c.args.gates.now) c.tell.new.claim.home.value.cell.acts _ _ (run_state c.tell.new.claim)
-          c.register_if_awaited.ensures.caller_advances c.tell.ensures.running,
-      c.tell.ensures.backlog,
-      keeps-then _ _ _ c.loop-act.invariant.3 (keeps-then _ _ _ (keeps-next (run_state c.loop-act.claim) new same) c.tell.ensures.same),
-      further-then _ _ _ c.loop-act.invariant.4 (further-then _ _ _ c.tell.ensures.caller_advances c.register_if_awaited.ensures.caller_advances),
+          c.register_if_awaited.ensures.caller_advances c.tell.ensures.in_acts.running,
+      c.tell.ensures.in_acts.backlog,
+      keeps-then _ _ _ c.loop-act.invariant.3 (keeps-then _ _ _ (keeps-next (run_state c.loop-act.claim) new same) c.tell.ensures.advances.same),
+      further-then _ _ _ c.loop-act.invariant.4 (further-then _ _ _ c.tell.ensures.advances.caller_advances c.register_if_awaited.ensures.caller_advances),
       λ clean. let before = run_state c.loop-act.claim in
           let next : RunState = record before { home = new } in
           cleared-then (run_state c.args.claim.now) before (run_state c.tell.new.claim) c.loop-act.invariant.3.same.takes (c.loop-act.invariant.5 clean)
@@ -87,9 +87,9 @@ loop-act-preserved-in-Tell g c =
           (cleared-same before next refl (ap (λ (x : Contents). x.take) same)) c.tell.ensures.cleared),
       λ not_clean. let before = run_state c.loop-act.claim in
           ended-keeps before (run_state c.tell.new.claim)
-          (keeps-then before (record before { home = new }) (run_state c.tell.new.claim) (keeps-next before new same) c.tell.ensures.same)
+          (keeps-then before (record before { home = new }) (run_state c.tell.new.claim) (keeps-next before new same) c.tell.ensures.advances.same)
           (c.loop-act.invariant.6 not_clean),
-      alike-then _ _ _ _ _ _ c.loop-act.invariant.7 (alike-then _ _ _ _ _ _ c.tell.ensures.sends (alike-looks _ _ _ c.register_if_awaited.ensures.looks _)),
+      alike-then _ _ _ _ _ _ c.loop-act.invariant.7 (alike-then _ _ _ _ _ _ c.tell.ensures.advances.sends (alike-looks _ _ _ c.register_if_awaited.ensures.looks _)),
       let inv = c.loop-act.invariant in
           let before = run_state c.loop-act.claim in
           let next : RunState = record before { home = new } in
@@ -119,27 +119,28 @@ loop-act-smaller-in-Tell g c =
 
 -- ---- another act is left
 
-pub carry-requires-clause-running : goal.carry-requires-clause-running
-carry-requires-clause-running g c =
-    let new : Contents = c.next_act.new.self in
-    let same = subst (λ (x : Contents). new ≡ record x { cell = record x.cell { acts = new.cell.acts } }) c.deref_mut.ensures.value
-    c.next_act.ensures.same in
-    let taken = sym (ap (λ (x : Contents). x.cell.acts) c.deref_mut.ensures.value) ∙ c.in-Some.ensures.taken in
-    running-next (run_state c.loop-act.claim) new same g.K.Behaviours.gives (origin_of c.args.gates.now) (pass_view c.loop-act.registrar.pass).log
-    (act_of c.in-Some.act ∷ new.cell.acts) taken c.in-Some.ensures.settled c.loop-act.invariant.1
-
-pub carry-requires-clause-backlog : goal.carry-requires-clause-backlog
-carry-requires-clause-backlog g c =
-    let new : Contents = c.next_act.new.self in
-    let same = subst (λ (x : Contents). new ≡ record x { cell = record x.cell { acts = new.cell.acts } }) c.deref_mut.ensures.value
-    c.next_act.ensures.same in
-    backlog-next (run_state c.loop-act.claim) new same c.loop-act.invariant.2
+pub carry-requires-clause-in_acts : goal.carry-requires-clause-in_acts
+carry-requires-clause-in_acts g c = record {
+  same_gates = c.loop-act.invariant.0;
+  running =
+      let new : Contents = c.next_act.new.self in
+      let same = subst (λ (x : Contents). new ≡ record x { cell = record x.cell { acts = new.cell.acts } }) c.deref_mut.ensures.value
+      c.next_act.ensures.same in
+      let taken = sym (ap (λ (x : Contents). x.cell.acts) c.deref_mut.ensures.value) ∙ c.in-Some.ensures.taken in
+      running-next (run_state c.loop-act.claim) new same g.K.Behaviours.gives (origin_of c.args.gates.now) (pass_view c.loop-act.registrar.pass).log
+      (act_of c.in-Some.act ∷ new.cell.acts) taken c.in-Some.ensures.settled c.loop-act.invariant.1;
+  backlog =
+      let new : Contents = c.next_act.new.self in
+      let same = subst (λ (x : Contents). new ≡ record x { cell = record x.cell { acts = new.cell.acts } }) c.deref_mut.ensures.value
+      c.next_act.ensures.same in
+      backlog-next (run_state c.loop-act.claim) new same c.loop-act.invariant.2;
+}
 
 pub carry-requires-clause-no_tell : goal.carry-requires-clause-no_tell
 carry-requires-clause-no_tell g c = c.in_default-act.not-Tell
 
 pub register_if_awaited-requires-in_default-act : goal.register_if_awaited-requires-in_default-act
-register_if_awaited-requires-in_default-act g c = record { same_gates = c.carry.ensures.same_gates }
+register_if_awaited-requires-in_default-act g c = record { same_gates = c.carry.ensures.in_acts.same_gates }
 
 pub loop-act-preserved : goal.loop-act-preserved
 loop-act-preserved g c =
@@ -148,10 +149,10 @@ loop-act-preserved g c =
     c.next_act.ensures.same in (
       c.register_if_awaited-in_default-act.ensures.same_gates,
       running-caller_advances g.K.Behaviours.gives (origin_of c.args.gates.now) c.carry.new.claim.home.value.cell.acts _ _ (run_state c.carry.new.claim)
-          c.register_if_awaited-in_default-act.ensures.caller_advances c.carry.ensures.running,
-      c.carry.ensures.backlog,
-      keeps-then _ _ _ c.loop-act.invariant.3 (keeps-then _ _ _ (keeps-next (run_state c.loop-act.claim) new same) c.carry.ensures.same),
-      further-then _ _ _ c.loop-act.invariant.4 (further-then _ _ _ c.carry.ensures.caller_advances c.register_if_awaited-in_default-act.ensures.caller_advances),
+          c.register_if_awaited-in_default-act.ensures.caller_advances c.carry.ensures.in_acts.running,
+      c.carry.ensures.in_acts.backlog,
+      keeps-then _ _ _ c.loop-act.invariant.3 (keeps-then _ _ _ (keeps-next (run_state c.loop-act.claim) new same) c.carry.ensures.advances.same),
+      further-then _ _ _ c.loop-act.invariant.4 (further-then _ _ _ c.carry.ensures.advances.caller_advances c.register_if_awaited-in_default-act.ensures.caller_advances),
       λ clean. let both = and-both c.loop-act.is_clean c.is_ok-is_clean.result clean in
           let before = run_state c.loop-act.claim in
           let next : RunState = record before { home = new } in
@@ -160,11 +161,11 @@ loop-act-preserved g c =
           (cleared-then before next (run_state c.carry.new.claim) (keeps-next before new same).same.takes
           (cleared-same before next refl (ap (λ (x : Contents). x.take) same)) carried),
       λ not_clean. let before = run_state c.loop-act.claim in
-          let keeps = keeps-then before (record before { home = new }) (run_state c.carry.new.claim) (keeps-next before new same) c.carry.ensures.same in
+          let keeps = keeps-then before (record before { home = new }) (run_state c.carry.new.claim) (keeps-next before new same) c.carry.ensures.advances.same in
           ended-either before (run_state c.carry.new.claim) c.carry.result keeps c.loop-act.invariant.6 c.carry.ensures.ended
           (and-one c.loop-act.is_clean (is_ok c.carry.result)
           (ap (λ b. c.loop-act.is_clean && b) (sym c.is_ok-is_clean.ensures.value) ∙ not_clean)),
-      alike-then _ _ _ _ _ _ c.loop-act.invariant.7 (alike-then _ _ _ _ _ _ c.carry.ensures.sends (alike-looks _ _ _ c.register_if_awaited-in_default-act.ensures.looks _)),
+      alike-then _ _ _ _ _ _ c.loop-act.invariant.7 (alike-then _ _ _ _ _ _ c.carry.ensures.advances.sends (alike-looks _ _ _ c.register_if_awaited-in_default-act.ensures.looks _)),
       let inv = c.loop-act.invariant in
           let before = run_state c.loop-act.claim in
           let next : RunState = record before { home = new } in
@@ -193,34 +194,39 @@ loop-act-smaller g c =
 
 -- ---- none is left, and the run told nobody anything that it has not registered since
 
-pub returns-then-has_looked-clause-running : goal.returns-then-has_looked-clause-running
-returns-then-has_looked-clause-running g c =
-    let new : Contents = c.next_act.new.self in
-    let same = subst (λ (x : Contents). new ≡ record x { cell = record x.cell { acts = new.cell.acts } }) c.deref_mut.ensures.value
-    c.next_act.ensures.same in
-    let taken = sym (ap (λ (x : Contents). x.cell.acts) c.deref_mut.ensures.value) ∙ c.in_default.ensures.taken in
-    let none : new.cell.acts ≡ [] = sym c.in_default.ensures.taken ∙ c.in_default.ensures.none in
-    subst (λ l. IsRunning g.K.Behaviours.gives (origin_of c.args.gates.now) l (pass_view c.loop-act.registrar.pass).log
-    (record (run_state c.loop-act.claim) { home = new })) none
-    (running-next (run_state c.loop-act.claim) new same g.K.Behaviours.gives (origin_of c.args.gates.now) (pass_view c.loop-act.registrar.pass).log
-    new.cell.acts taken c.in_default.ensures.settled c.loop-act.invariant.1)
-
-pub returns-then-has_looked-clause-backlog : goal.returns-then-has_looked-clause-backlog
-returns-then-has_looked-clause-backlog g c =
-    let new : Contents = c.next_act.new.self in
-    let same = subst (λ (x : Contents). new ≡ record x { cell = record x.cell { acts = new.cell.acts } }) c.deref_mut.ensures.value
-    c.next_act.ensures.same in
-    backlog-next (run_state c.loop-act.claim) new same c.loop-act.invariant.2
+pub returns-then-has_looked-clause-in_acts : goal.returns-then-has_looked-clause-in_acts
+returns-then-has_looked-clause-in_acts g c = record {
+  same_gates = c.loop-act.invariant.0;
+  running =
+      let new : Contents = c.next_act.new.self in
+      let same = subst (λ (x : Contents). new ≡ record x { cell = record x.cell { acts = new.cell.acts } }) c.deref_mut.ensures.value
+      c.next_act.ensures.same in
+      let taken = sym (ap (λ (x : Contents). x.cell.acts) c.deref_mut.ensures.value) ∙ c.in_default.ensures.taken in
+      let none : new.cell.acts ≡ [] = sym c.in_default.ensures.taken ∙ c.in_default.ensures.none in
+      subst (λ l. IsRunning g.K.Behaviours.gives (origin_of c.args.gates.now) l (pass_view c.loop-act.registrar.pass).log
+      (record (run_state c.loop-act.claim) { home = new })) none
+      (running-next (run_state c.loop-act.claim) new same g.K.Behaviours.gives (origin_of c.args.gates.now) (pass_view c.loop-act.registrar.pass).log
+      new.cell.acts taken c.in_default.ensures.settled c.loop-act.invariant.1);
+  backlog =
+      let new : Contents = c.next_act.new.self in
+      let same = subst (λ (x : Contents). new ≡ record x { cell = record x.cell { acts = new.cell.acts } }) c.deref_mut.ensures.value
+      c.next_act.ensures.same in
+      backlog-next (run_state c.loop-act.claim) new same c.loop-act.invariant.2;
+}
 
 pub returns-then-has_looked-clause-carried_out : goal.returns-then-has_looked-clause-carried_out
 returns-then-has_looked-clause-carried_out g c = sym c.in_default.ensures.taken ∙ c.in_default.ensures.none
 
-pub returns-then-has_looked-clause-same : goal.returns-then-has_looked-clause-same
-returns-then-has_looked-clause-same g c =
-    let new : Contents = c.next_act.new.self in
-    let same = subst (λ (x : Contents). new ≡ record x { cell = record x.cell { acts = new.cell.acts } }) c.deref_mut.ensures.value
-    c.next_act.ensures.same in
-    keeps-then _ _ _ c.loop-act.invariant.3 (keeps-next (run_state c.loop-act.claim) new same)
+pub returns-then-has_looked-clause-advances : goal.returns-then-has_looked-clause-advances
+returns-then-has_looked-clause-advances g c = record {
+  same =
+      let new : Contents = c.next_act.new.self in
+      let same = subst (λ (x : Contents). new ≡ record x { cell = record x.cell { acts = new.cell.acts } }) c.deref_mut.ensures.value
+      c.next_act.ensures.same in
+      keeps-then _ _ _ c.loop-act.invariant.3 (keeps-next (run_state c.loop-act.claim) new same);
+  caller_advances = c.loop-act.invariant.4;
+  sends = c.loop-act.invariant.7;
+}
 
 pub returns-then-has_looked-clause-cleared : goal.returns-then-has_looked-clause-cleared
 returns-then-has_looked-clause-cleared g c =
@@ -243,9 +249,6 @@ returns-then-has_looked-clause-ended g c =
     (λ not_clean. ended-keeps before (record before { home = new }) (keeps-next before new same) (c.loop-act.invariant.6 not_clean))
     c.answer_of.ensures.not_clean
 
-pub returns-then-has_looked-clause-sends : goal.returns-then-has_looked-clause-sends
-returns-then-has_looked-clause-sends g c = c.loop-act.invariant.7
-
 pub returns-then-has_looked-clause-due : goal.returns-then-has_looked-clause-due
 returns-then-has_looked-clause-due g c =
     let inv = c.loop-act.invariant in
@@ -262,36 +265,19 @@ returns-then-has_looked-clause-due g c =
 
 -- ---- none is left
 
-pub returns-clause-running : goal.returns-clause-running
-returns-clause-running g c =
-    let new : Contents = c.next_act.new.self in
-    let same = subst (λ (x : Contents). new ≡ record x { cell = record x.cell { acts = new.cell.acts } }) c.deref_mut.ensures.value
-    c.next_act.ensures.same in
-    let taken = sym (ap (λ (x : Contents). x.cell.acts) c.deref_mut.ensures.value) ∙ c.in_default.ensures.taken in
-    let none : new.cell.acts ≡ [] = sym c.in_default.ensures.taken ∙ c.in_default.ensures.none in
-    running-caller_advances g.K.Behaviours.gives (origin_of c.args.gates.now) [] _ _ (record (run_state c.loop-act.claim) { home = new })
-    c.register_told.ensures.caller_advances
-    (subst (λ l. IsRunning g.K.Behaviours.gives (origin_of c.args.gates.now) l (pass_view c.loop-act.registrar.pass).log
-    (record (run_state c.loop-act.claim) { home = new })) none
-    (running-next (run_state c.loop-act.claim) new same g.K.Behaviours.gives (origin_of c.args.gates.now) (pass_view c.loop-act.registrar.pass).log
-    new.cell.acts taken c.in_default.ensures.settled c.loop-act.invariant.1))
-
-pub returns-clause-backlog : goal.returns-clause-backlog
-returns-clause-backlog g c =
-    let new : Contents = c.next_act.new.self in
-    let same = subst (λ (x : Contents). new ≡ record x { cell = record x.cell { acts = new.cell.acts } }) c.deref_mut.ensures.value
-    c.next_act.ensures.same in
-    backlog-next (run_state c.loop-act.claim) new same c.loop-act.invariant.2
-
 pub returns-clause-carried_out : goal.returns-clause-carried_out
 returns-clause-carried_out g c = sym c.in_default.ensures.taken ∙ c.in_default.ensures.none
 
-pub returns-clause-same : goal.returns-clause-same
-returns-clause-same g c =
-    let new : Contents = c.next_act.new.self in
-    let same = subst (λ (x : Contents). new ≡ record x { cell = record x.cell { acts = new.cell.acts } }) c.deref_mut.ensures.value
-    c.next_act.ensures.same in
-    keeps-then _ _ _ c.loop-act.invariant.3 (keeps-next (run_state c.loop-act.claim) new same)
+pub returns-clause-advances : goal.returns-clause-advances
+returns-clause-advances g c = record {
+  same =
+      let new : Contents = c.next_act.new.self in
+      let same = subst (λ (x : Contents). new ≡ record x { cell = record x.cell { acts = new.cell.acts } }) c.deref_mut.ensures.value
+      c.next_act.ensures.same in
+      keeps-then _ _ _ c.loop-act.invariant.3 (keeps-next (run_state c.loop-act.claim) new same);
+  caller_advances = further-then _ _ _ c.loop-act.invariant.4 c.register_told.ensures.caller_advances;
+  sends = alike-then _ _ _ _ _ _ c.loop-act.invariant.7 (alike-looks _ _ _ c.register_told.ensures.looks _);
+}
 
 pub returns-clause-cleared : goal.returns-clause-cleared
 returns-clause-cleared g c =
@@ -314,9 +300,6 @@ returns-clause-ended g c =
     (λ not_clean. ended-keeps before (record before { home = new }) (keeps-next before new same) (c.loop-act.invariant.6 not_clean))
     c.answer_of-2.ensures.not_clean
 
-pub returns-clause-sends : goal.returns-clause-sends
-returns-clause-sends g c = alike-then _ _ _ _ _ _ c.loop-act.invariant.7 (alike-looks _ _ _ c.register_told.ensures.looks _)
-
 pub returns-clause-due : goal.returns-clause-due
 returns-clause-due g c =
     let inv = c.loop-act.invariant in
@@ -334,8 +317,24 @@ returns-clause-due g c =
 pub register_told-requires : goal.register_told-requires
 register_told-requires g c = record { same_gates = c.loop-act.invariant.0 }
 
-pub returns-clause-same_gates : goal.returns-clause-same_gates
-returns-clause-same_gates g c = c.register_told.ensures.same_gates
-
-pub returns-clause-caller_advances : goal.returns-clause-caller_advances
-returns-clause-caller_advances g c = further-then _ _ _ c.loop-act.invariant.4 c.register_told.ensures.caller_advances
+pub returns-clause-in_acts : goal.returns-clause-in_acts
+returns-clause-in_acts g c = record {
+  same_gates = c.register_told.ensures.same_gates;
+  running =
+      let new : Contents = c.next_act.new.self in
+      let same = subst (λ (x : Contents). new ≡ record x { cell = record x.cell { acts = new.cell.acts } }) c.deref_mut.ensures.value
+      c.next_act.ensures.same in
+      let taken = sym (ap (λ (x : Contents). x.cell.acts) c.deref_mut.ensures.value) ∙ c.in_default.ensures.taken in
+      let none : new.cell.acts ≡ [] = sym c.in_default.ensures.taken ∙ c.in_default.ensures.none in
+      running-caller_advances g.K.Behaviours.gives (origin_of c.args.gates.now) [] _ _ (record (run_state c.loop-act.claim) { home = new })
+      c.register_told.ensures.caller_advances
+      (subst (λ l. IsRunning g.K.Behaviours.gives (origin_of c.args.gates.now) l (pass_view c.loop-act.registrar.pass).log
+      (record (run_state c.loop-act.claim) { home = new })) none
+      (running-next (run_state c.loop-act.claim) new same g.K.Behaviours.gives (origin_of c.args.gates.now) (pass_view c.loop-act.registrar.pass).log
+      new.cell.acts taken c.in_default.ensures.settled c.loop-act.invariant.1));
+  backlog =
+      let new : Contents = c.next_act.new.self in
+      let same = subst (λ (x : Contents). new ≡ record x { cell = record x.cell { acts = new.cell.acts } }) c.deref_mut.ensures.value
+      c.next_act.ensures.same in
+      backlog-next (run_state c.loop-act.claim) new same c.loop-act.invariant.2;
+}

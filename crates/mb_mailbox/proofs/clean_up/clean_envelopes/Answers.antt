@@ -25,10 +25,10 @@ pub loop-init : goal.loop-init
 loop-init g c = (
   tt,
   tt,
-  c.requires.closed,
+  c.requires.dropped.closed,
   c.requires.ended,
   λ seen r. r,
-  c.requires.none,
+  c.requires.dropped.none,
   refl,
   refl,
   refl,
@@ -56,45 +56,45 @@ note_taken-requires-clause-present g c = (c.loop.invariant.4 c.requires.running.
 
 -- ---- a place was refused
 
-pub returns-in_err-clean_next-clause-running : goal.returns-in_err-clean_next-clause-running
-returns-in_err-clean_next-clause-running g c =
-    λ seen r. subst (λ (x : Contents). IsRunning g.K.Behaviours.gives (origin_of c.args.gates.now) x.cell.acts seen
-    (record (run_state c.loop.claim) { home = x })) (sym (c.in_err-clean_next.ensures.refused ∙ c.deref_mut.ensures.value)) (c.loop.invariant.4 seen r)
-
-pub returns-in_err-clean_next-clause-none : goal.returns-in_err-clean_next-clause-none
-returns-in_err-clean_next-clause-none g c =
-    ap (λ (x : Contents). x.rest) (c.in_err-clean_next.ensures.refused ∙ c.deref_mut.ensures.value) ∙ c.loop.invariant.5
+pub returns-in_err-clean_next-clause-keeps : goal.returns-in_err-clean_next-clause-keeps
+returns-in_err-clean_next-clause-keeps g c = record {
+  running =
+      λ seen r. subst (λ (x : CellView). IsRunning g.K.Behaviours.gives (origin_of c.args.gates.now) x.acts seen
+      (record (run_state c.loop.claim) { home = c.clean_next.new.self }))
+      (ap (λ (x : Contents). x.cell) (c.in_err-clean_next.ensures.refused ∙ c.deref_mut.ensures.value) ∙ c.loop.invariant.8)
+      (subst (λ (x : Contents). IsRunning g.K.Behaviours.gives (origin_of c.args.gates.now) x.cell.acts seen
+      (record (run_state c.loop.claim) { home = x })) (sym (c.in_err-clean_next.ensures.refused ∙ c.deref_mut.ensures.value)) (c.loop.invariant.4 seen r));
+  left = ap (λ (x : Contents). x.cell) (c.in_err-clean_next.ensures.refused ∙ c.deref_mut.ensures.value) ∙ c.loop.invariant.8;
+  same =
+      keeps-then _ _ _ c.loop.invariant.9
+      (keeps-home (run_state c.loop.claim) c.clean_next.new.self
+      (ap (λ (x : Contents). x.cell) (c.in_err-clean_next.ensures.refused ∙ c.deref_mut.ensures.value))
+      (ap (λ (x : Contents). x.take) (c.in_err-clean_next.ensures.refused ∙ c.deref_mut.ensures.value)));
+  recorded = c.loop.invariant.10;
+}
 
 pub returns-in_err-clean_next-clause-given : goal.returns-in_err-clean_next-clause-given
 returns-in_err-clean_next-clause-given g c =
     (ap given_of (c.in_err-clean_next.ensures.refused ∙ c.deref_mut.ensures.value) ∙ c.loop.invariant.6, c.loop.invariant.7)
 
-pub returns-in_err-clean_next-clause-left : goal.returns-in_err-clean_next-clause-left
-returns-in_err-clean_next-clause-left g c =
-    ap (λ (x : Contents). x.cell) (c.in_err-clean_next.ensures.refused ∙ c.deref_mut.ensures.value) ∙ c.loop.invariant.8
-
-pub returns-in_err-clean_next-clause-same : goal.returns-in_err-clean_next-clause-same
-returns-in_err-clean_next-clause-same g c =
-    keeps-then _ _ _ c.loop.invariant.9
-    (keeps-home (run_state c.loop.claim) c.clean_next.new.self
-    (ap (λ (x : Contents). x.cell) (c.in_err-clean_next.ensures.refused ∙ c.deref_mut.ensures.value))
-    (ap (λ (x : Contents). x.take) (c.in_err-clean_next.ensures.refused ∙ c.deref_mut.ensures.value)))
-
-pub returns-in_err-clean_next-clause-closed : goal.returns-in_err-clean_next-clause-closed
-returns-in_err-clean_next-clause-closed g c = c.loop.invariant.2
+pub returns-in_err-clean_next-clause-dropped : goal.returns-in_err-clean_next-clause-dropped
+returns-in_err-clean_next-clause-dropped g c = record {
+  closed = c.loop.invariant.2;
+  none = ap (λ (x : Contents). x.rest) (c.in_err-clean_next.ensures.refused ∙ c.deref_mut.ensures.value) ∙ c.loop.invariant.5;
+}
 
 -- ---- none was there
 
-pub returns-then-not-branch-clause-closed : goal.returns-then-not-branch-clause-closed
-returns-then-not-branch-clause-closed g c = c.loop.invariant.2
-
-pub returns-then-not-branch-clause-none : goal.returns-then-not-branch-clause-none
-returns-then-not-branch-clause-none g c =
-    let at_home = subst (λ (x : Contents). MatchBool c.in_ok-clean_next.field-0 (Cleans x c.clean_next.new.self) (FindsNone x
-    c.clean_next.new.self)) c.deref_mut.ensures.value c.in_ok-clean_next.ensures.cleaned in
-    let found = subst (λ b. MatchBool b (Cleans c.loop.claim.home.value c.clean_next.new.self) (FindsNone c.loop.claim.home.value
-    c.clean_next.new.self)) c.if-not-branch.true at_home in
-    ap (λ (x : Contents). x.rest) found.same ∙ c.loop.invariant.5
+pub returns-then-not-branch-clause-dropped : goal.returns-then-not-branch-clause-dropped
+returns-then-not-branch-clause-dropped g c = record {
+  closed = c.loop.invariant.2;
+  none =
+      let at_home = subst (λ (x : Contents). MatchBool c.in_ok-clean_next.field-0 (Cleans x c.clean_next.new.self) (FindsNone x
+      c.clean_next.new.self)) c.deref_mut.ensures.value c.in_ok-clean_next.ensures.cleaned in
+      let found = subst (λ b. MatchBool b (Cleans c.loop.claim.home.value c.clean_next.new.self) (FindsNone c.loop.claim.home.value
+      c.clean_next.new.self)) c.if-not-branch.true at_home in
+      ap (λ (x : Contents). x.rest) found.same ∙ c.loop.invariant.5;
+}
 
 pub returns-then-not-branch-clause-given : goal.returns-then-not-branch-clause-given
 returns-then-not-branch-clause-given g c =
@@ -104,33 +104,34 @@ returns-then-not-branch-clause-given g c =
     c.clean_next.new.self)) c.if-not-branch.true at_home in
     (ap given_of found.same ∙ c.loop.invariant.6, c.loop.invariant.7)
 
-pub returns-then-not-branch-clause-left : goal.returns-then-not-branch-clause-left
-returns-then-not-branch-clause-left g c =
-    let at_home = subst (λ (x : Contents). MatchBool c.in_ok-clean_next.field-0 (Cleans x c.clean_next.new.self) (FindsNone x
-    c.clean_next.new.self)) c.deref_mut.ensures.value c.in_ok-clean_next.ensures.cleaned in
-    let found = subst (λ b. MatchBool b (Cleans c.loop.claim.home.value c.clean_next.new.self) (FindsNone c.loop.claim.home.value
-    c.clean_next.new.self)) c.if-not-branch.true at_home in
-    ap (λ (x : Contents). x.cell) found.same ∙ c.loop.invariant.8
-
-pub returns-then-not-branch-clause-running : goal.returns-then-not-branch-clause-running
-returns-then-not-branch-clause-running g c =
-    let at_home = subst (λ (x : Contents). MatchBool c.in_ok-clean_next.field-0 (Cleans x c.clean_next.new.self) (FindsNone x
-    c.clean_next.new.self)) c.deref_mut.ensures.value c.in_ok-clean_next.ensures.cleaned in
-    let found = subst (λ b. MatchBool b (Cleans c.loop.claim.home.value c.clean_next.new.self) (FindsNone c.loop.claim.home.value
-    c.clean_next.new.self)) c.if-not-branch.true at_home in
-    λ seen r. running-within g.K.Behaviours.gives (origin_of c.args.gates.now) seen (run_state c.loop.claim) (c.loop.invariant.4 seen r)
-    c.clean_next.new.self (ap (λ (x : Contents). x.cell) found.same) (ap (λ (x : Contents). x.directory) found.same)
-    (ap (λ (x : Contents). x.dead) found.same) c.clean_next.ensures.settled (ap (λ (x : Contents). x.rest) found.same)
-
-pub returns-then-not-branch-clause-same : goal.returns-then-not-branch-clause-same
-returns-then-not-branch-clause-same g c =
-    let at_home = subst (λ (x : Contents). MatchBool c.in_ok-clean_next.field-0 (Cleans x c.clean_next.new.self) (FindsNone x
-    c.clean_next.new.self)) c.deref_mut.ensures.value c.in_ok-clean_next.ensures.cleaned in
-    let found = subst (λ b. MatchBool b (Cleans c.loop.claim.home.value c.clean_next.new.self) (FindsNone c.loop.claim.home.value
-    c.clean_next.new.self)) c.if-not-branch.true at_home in
-    keeps-then _ _ _ c.loop.invariant.9
-    (keeps-asked (run_state c.loop.claim) c.clean_next.new.self (ap (λ (x : Contents). x.cell) found.same) found.took
-    (takes-one _ _ _ (take-none _ _ found)))
+pub returns-then-not-branch-clause-keeps : goal.returns-then-not-branch-clause-keeps
+returns-then-not-branch-clause-keeps g c = record {
+  running =
+      let at_home = subst (λ (x : Contents). MatchBool c.in_ok-clean_next.field-0 (Cleans x c.clean_next.new.self) (FindsNone x
+      c.clean_next.new.self)) c.deref_mut.ensures.value c.in_ok-clean_next.ensures.cleaned in
+      let found = subst (λ b. MatchBool b (Cleans c.loop.claim.home.value c.clean_next.new.self) (FindsNone c.loop.claim.home.value
+      c.clean_next.new.self)) c.if-not-branch.true at_home in
+      λ seen r. subst (λ (x : CellView). IsRunning g.K.Behaviours.gives (origin_of c.args.gates.now) x.acts seen
+      (record (run_state c.loop.claim) { home = c.clean_next.new.self })) (ap (λ (x : Contents). x.cell) found.same ∙ c.loop.invariant.8)
+      (running-within g.K.Behaviours.gives (origin_of c.args.gates.now) seen (run_state c.loop.claim) (c.loop.invariant.4 seen r)
+      c.clean_next.new.self (ap (λ (x : Contents). x.cell) found.same) (ap (λ (x : Contents). x.directory) found.same)
+      (ap (λ (x : Contents). x.dead) found.same) c.clean_next.ensures.settled (ap (λ (x : Contents). x.rest) found.same));
+  left =
+      let at_home = subst (λ (x : Contents). MatchBool c.in_ok-clean_next.field-0 (Cleans x c.clean_next.new.self) (FindsNone x
+      c.clean_next.new.self)) c.deref_mut.ensures.value c.in_ok-clean_next.ensures.cleaned in
+      let found = subst (λ b. MatchBool b (Cleans c.loop.claim.home.value c.clean_next.new.self) (FindsNone c.loop.claim.home.value
+      c.clean_next.new.self)) c.if-not-branch.true at_home in
+      ap (λ (x : Contents). x.cell) found.same ∙ c.loop.invariant.8;
+  same =
+      let at_home = subst (λ (x : Contents). MatchBool c.in_ok-clean_next.field-0 (Cleans x c.clean_next.new.self) (FindsNone x
+      c.clean_next.new.self)) c.deref_mut.ensures.value c.in_ok-clean_next.ensures.cleaned in
+      let found = subst (λ b. MatchBool b (Cleans c.loop.claim.home.value c.clean_next.new.self) (FindsNone c.loop.claim.home.value
+      c.clean_next.new.self)) c.if-not-branch.true at_home in
+      keeps-then _ _ _ c.loop.invariant.9
+      (keeps-asked (run_state c.loop.claim) c.clean_next.new.self (ap (λ (x : Contents). x.cell) found.same) found.took
+      (takes-one _ _ _ (take-none _ _ found)));
+  recorded = c.loop.invariant.10;
+}
 
 pub returns-then-not-branch-clause-emptied : goal.returns-then-not-branch-clause-emptied
 returns-then-not-branch-clause-emptied g c =
@@ -177,12 +178,6 @@ loop-preserved g c =
           (ap (λ (b : Box Contents). b.value.rest) did.same.1 ∙ ap (λ (x : Contents). x.rest) found.same)
           (ap (λ (m : Mailbox). m.closed) did.same.0 ∙ inv.2)),
     )
-
-pub returns-in_err-clean_next-clause-recorded : goal.returns-in_err-clean_next-clause-recorded
-returns-in_err-clean_next-clause-recorded g c = c.loop.invariant.10
-
-pub returns-then-not-branch-clause-recorded : goal.returns-then-not-branch-clause-recorded
-returns-then-not-branch-clause-recorded g c = c.loop.invariant.10
 
 -- ---- nothing came out of the list
 

@@ -26,100 +26,123 @@ use Rattle.mb_mailbox.specs.RunSends.{SendsAndAnswers}
 use Rattle.mb_mailbox.proofs.clean_up.clean_up.Goals as goal
 
 pub sys_close-listed-requires-clause-same_gates : goal.sys_close-listed-requires-clause-same_gates
-sys_close-listed-requires-clause-same_gates g c = c.requires.running.same_gates
+sys_close-listed-requires-clause-same_gates g c = c.requires.in_clean_up.running.same_gates
 
 pub sys_close-listed-requires-clause-present : goal.sys_close-listed-requires-clause-present
-sys_close-listed-requires-clause-present g c = c.requires.running.present
+sys_close-listed-requires-clause-present g c = c.requires.in_clean_up.running.present
 
-pub drop_systems-requires-clause-closed : goal.drop_systems-requires-clause-closed
-drop_systems-requires-clause-closed g c = ap (λ (m : Mailbox). m.closed) c.sys_close-listed.ensures.same.0 ∙ c.requires.closed
-
-pub drop_systems-requires-clause-running : goal.drop_systems-requires-clause-running
-drop_systems-requires-clause-running g c =
-    let did = c.sys_close-listed.ensures in
-    running-end c.args.claim.now c.sys_close-listed.new.claim did.same_gates did.same did.taken did.recorded c.sys_close-listed.result did.given did.known
-    did.gave did.drained g.K.Behaviours.gives (origin_of c.args.gates.now) (pass_view c.args.registrar.now.pass).log c.requires.running
+pub drop_systems-requires : goal.drop_systems-requires
+drop_systems-requires g c = record {
+  in_clean_up = record {
+    same_gates = c.requires.in_clean_up.same_gates;
+    closed = ap (λ (m : Mailbox). m.closed) c.sys_close-listed.ensures.same_claim.same.0 ∙ c.requires.in_clean_up.closed;
+    running =
+        let did = c.sys_close-listed.ensures in
+        running-end c.args.claim.now c.sys_close-listed.new.claim did.same_claim.same_gates did.same_claim.same did.same_claim.taken did.same_claim.recorded c.sys_close-listed.result did.noted.given did.known
+        did.noted.gave did.noted.drained g.K.Behaviours.gives (origin_of c.args.gates.now) (pass_view c.args.registrar.now.pass).log c.requires.in_clean_up.running;
+  };
+}
 
 -- what the home knows that the list gave before it was ended
 pub keep-requires-clause-continues : goal.keep-requires-clause-continues
 keep-requires-clause-continues g c =
     let did = c.sys_close-listed.ensures in
     let given : given_of c.drop_systems.new.claim.home.value ≡ given_to c.args.claim.now =
-    c.drop_systems.ensures.given.0 ∙ ap (λ (b : Box Contents). given_of b.value) did.same.1 ∙ c.requires.count in
+    c.drop_systems.ensures.given.0 ∙ ap (λ (b : Box Contents). given_of b.value) did.same_claim.same.1 ∙ c.requires.count in
     let here : given_of c.deref_mut.result.now ≡ given_to c.args.claim.now = ap given_of c.deref_mut.ensures.value ∙ given in
     subst (λ n. IsNumberedFrom n c.sys_close-listed.result) (sym here) did.numbers
 
 pub keep-requires-clause-settled : goal.keep-requires-clause-settled
 keep-requires-clause-settled g c =
     subst (λ (x : Contents). AgreesWithJournal (g.K.Behaviours.gives x.cell.who.this.0) x.cell.acts x) (sym c.deref_mut.ensures.value)
-    (running-own _ _ _ _ (run_state c.drop_systems.new.claim) c.drop_systems.ensures.running)
+    (running-own _ _ _ _ (run_state c.drop_systems.new.claim) c.drop_systems.ensures.in_clean_up.running)
 
-pub drop_systems-requires-2-clause-running : goal.drop_systems-requires-2-clause-running
-drop_systems-requires-2-clause-running g c =
-    let mid = c.drop_systems.new.claim in
-    let r = c.drop_systems.ensures.running in
-    let new : Contents = c.keep.new.self in
-    let kept = subst (λ (x : Contents). c.keep.new.self ≡ record x { rest = c.sys_close-listed.result }) c.deref_mut.ensures.value
-    c.keep.ensures.kept in
-    let cell = ap (λ (x : Contents). x.cell) kept in
-    subst (λ (x : CellView). IsRunning g.K.Behaviours.gives (origin_of c.args.gates.now) x.acts (pass_view c.drop_systems.new.registrar.pass).log
-    (record (run_state mid) { home = new })) (sym cell)
-    (running-kept g.K.Behaviours.gives (origin_of c.args.gates.now) (pass_view c.drop_systems.new.registrar.pass).log (run_state mid)
-    mid.home.value.cell.acts new c.sys_close-listed.result r kept
-    (settled-here g.K.Behaviours.gives (held_actor mid) mid.home.value new r.number cell c.keep.ensures.settled)
-    (ended-among (drained_by mid) (held_actor c.args.claim.now) c.sys_close-listed.result (claim_view mid).log (claim_view c.args.claim.now).log
-    (c.drop_systems.ensures.log ∙ ap (λ (v : View). v.log) c.sys_close-listed.ensures.known) r.logged)
-    c.sys_close-listed.ensures.named)
+pub drop_systems-requires-2 : goal.drop_systems-requires-2
+drop_systems-requires-2 g c = record {
+  in_clean_up = record {
+    same_gates = c.drop_systems.ensures.in_clean_up.same_gates;
+    closed = c.drop_systems.ensures.in_clean_up.closed;
+    running =
+        let mid = c.drop_systems.new.claim in
+        let r = c.drop_systems.ensures.in_clean_up.running in
+        let new : Contents = c.keep.new.self in
+        let kept = subst (λ (x : Contents). c.keep.new.self ≡ record x { rest = c.sys_close-listed.result }) c.deref_mut.ensures.value
+        c.keep.ensures.kept in
+        let cell = ap (λ (x : Contents). x.cell) kept in
+        subst (λ (x : CellView). IsRunning g.K.Behaviours.gives (origin_of c.args.gates.now) x.acts (pass_view c.drop_systems.new.registrar.pass).log
+        (record (run_state mid) { home = new })) (sym cell)
+        (running-kept g.K.Behaviours.gives (origin_of c.args.gates.now) (pass_view c.drop_systems.new.registrar.pass).log (run_state mid)
+        mid.home.value.cell.acts new c.sys_close-listed.result r kept
+        (settled-here g.K.Behaviours.gives (held_actor mid) mid.home.value new r.number cell c.keep.ensures.settled)
+        (ended-among (drained_by mid) (held_actor c.args.claim.now) c.sys_close-listed.result (claim_view mid).log (claim_view c.args.claim.now).log
+        (c.drop_systems.ensures.log ∙ ap (λ (v : View). v.log) c.sys_close-listed.ensures.known) r.logged)
+        c.sys_close-listed.ensures.named);
+  };
+}
 
 pub clean_envelopes-requires-clause-ended : goal.clean_envelopes-requires-clause-ended
 clean_envelopes-requires-clause-ended g c =
     let did = c.sys_close-listed.ensures in
     let first = c.sys_close-listed.new.claim in
-    let w = was-ended c.args.claim.now first did.same_gates did.same did.taken did.recorded c.sys_close-listed.result did.given did.known did.gave did.drained in
-    let actor = c.drop_systems-2.ensures.same.same.actor ∙ c.drop_systems.ensures.same.same.actor in
+    let w = was-ended c.args.claim.now first did.same_claim.same_gates did.same_claim.same did.same_claim.taken did.same_claim.recorded c.sys_close-listed.result did.noted.given did.known did.noted.gave did.noted.drained in
+    let actor = c.drop_systems-2.ensures.advances.same.same.actor ∙ c.drop_systems.ensures.advances.same.same.actor in
     let log = c.drop_systems-2.ensures.log ∙ c.drop_systems.ensures.log in
     subst (λ (x : ℕ × List Observation). WasEnded x.0 x.1) (λ i. (sym actor i, sym log i)) w
 
+pub clean_envelopes-requires-clause-dropped : goal.clean_envelopes-requires-clause-dropped
+clean_envelopes-requires-clause-dropped g c = record { closed = c.drop_systems-2.ensures.in_clean_up.closed; none = c.drop_systems-2.ensures.none }
+
 pub clean_envelopes-requires-clause-running : goal.clean_envelopes-requires-clause-running
-clean_envelopes-requires-clause-running g c = ((pass_view c.drop_systems-2.new.registrar.pass).log, c.drop_systems-2.ensures.running)
+clean_envelopes-requires-clause-running g c = ((pass_view c.drop_systems-2.new.registrar.pass).log, c.drop_systems-2.ensures.in_clean_up.running)
 
-pub returns-clause-running : goal.returns-clause-running
-returns-clause-running g c = c.clean_envelopes.ensures.running (pass_view c.drop_systems-2.new.registrar.pass).log c.drop_systems-2.ensures.running
-
-pub returns-clause-backlog : goal.returns-clause-backlog
-returns-clause-backlog g c =
-    let did = c.sys_close-listed.ensures in
-    let mid = c.drop_systems.new.claim in
-    let before : given_of mid.home.value ≡ given_to c.args.claim.now =
-    c.drop_systems.ensures.given.0 ∙ ap (λ (b : Box Contents). given_of b.value) did.same.1 ∙ c.requires.count in
-    let backlog = subst (λ (x : Contents). c.keep.new.self ≡ record x { rest = c.sys_close-listed.result }) c.deref_mut.ensures.value
-    c.keep.ensures.kept in
-    let kept : given_of c.keep.new.self ≡ given_after (given_to c.args.claim.now) c.sys_close-listed.result =
-    ap given_of backlog ∙ given-kept mid.home.value c.sys_close-listed.result c.drop_systems.ensures.none
-    ∙ ap (λ n. given_after n c.sys_close-listed.result) before in
-    let last : given_to c.clean_envelopes.new.claim ≡ given_after (given_to c.args.claim.now) c.sys_close-listed.result =
-    c.clean_envelopes.ensures.given.1 ∙ c.drop_systems-2.ensures.given.1 ∙ c.drop_systems.ensures.given.1 ∙ did.given in
-    backlog-closed (run_state c.clean_envelopes.new.claim) c.clean_envelopes.ensures.closed
-    (c.clean_envelopes.ensures.given.0 ∙ c.drop_systems-2.ensures.given.0 ∙ kept ∙ sym last) c.clean_envelopes.ensures.none
+pub returns-clause-in_acts : goal.returns-clause-in_acts
+returns-clause-in_acts g c = record {
+  same_gates = c.drop_systems-2.ensures.in_clean_up.same_gates;
+  running =
+      let seen = (pass_view c.drop_systems-2.new.registrar.pass).log in
+      subst (λ (x : CellView). IsRunning g.K.Behaviours.gives (origin_of c.args.gates.now) x.acts seen (run_state c.clean_envelopes.new.claim))
+      (sym c.clean_envelopes.ensures.keeps.left) (c.clean_envelopes.ensures.keeps.running seen c.drop_systems-2.ensures.in_clean_up.running);
+  backlog =
+      let did = c.sys_close-listed.ensures in
+      let mid = c.drop_systems.new.claim in
+      let before : given_of mid.home.value ≡ given_to c.args.claim.now =
+      c.drop_systems.ensures.given.0 ∙ ap (λ (b : Box Contents). given_of b.value) did.same_claim.same.1 ∙ c.requires.count in
+      let backlog = subst (λ (x : Contents). c.keep.new.self ≡ record x { rest = c.sys_close-listed.result }) c.deref_mut.ensures.value
+      c.keep.ensures.kept in
+      let kept : given_of c.keep.new.self ≡ given_after (given_to c.args.claim.now) c.sys_close-listed.result =
+      ap given_of backlog ∙ given-kept mid.home.value c.sys_close-listed.result c.drop_systems.ensures.none
+      ∙ ap (λ n. given_after n c.sys_close-listed.result) before in
+      let last : given_to c.clean_envelopes.new.claim ≡ given_after (given_to c.args.claim.now) c.sys_close-listed.result =
+      c.clean_envelopes.ensures.given.1 ∙ c.drop_systems-2.ensures.given.1 ∙ c.drop_systems.ensures.given.1 ∙ did.noted.given in
+      backlog-closed (run_state c.clean_envelopes.new.claim) c.clean_envelopes.ensures.dropped.closed
+      (c.clean_envelopes.ensures.given.0 ∙ c.drop_systems-2.ensures.given.0 ∙ kept ∙ sym last) c.clean_envelopes.ensures.dropped.none;
+}
 
 pub returns-clause-left : goal.returns-clause-left
 returns-clause-left g c =
-    c.clean_envelopes.ensures.left ∙ c.drop_systems-2.ensures.left ∙ ap (λ (x : Contents). x.cell) c.keep.ensures.kept
+    c.clean_envelopes.ensures.keeps.left ∙ c.drop_systems-2.ensures.left ∙ ap (λ (x : Contents). x.cell) c.keep.ensures.kept
     ∙ ap (λ (x : Contents). x.cell) c.deref_mut.ensures.value ∙ c.drop_systems.ensures.left
-    ∙ ap (λ (b : Box Contents). b.value.cell) c.sys_close-listed.ensures.same.1
+    ∙ ap (λ (b : Box Contents). b.value.cell) c.sys_close-listed.ensures.same_claim.same.1
 
-pub returns-clause-same : goal.returns-clause-same
-returns-clause-same g c =
-    let did = c.sys_close-listed.ensures in
-    let first = c.sys_close-listed.new.claim in
-    let mid = c.drop_systems.new.claim in
-    let cell = ap (λ (x : Contents). x.cell) c.keep.ensures.kept ∙ ap (λ (x : Contents). x.cell) c.deref_mut.ensures.value in
-    let take = ap (λ (x : Contents). x.take) c.keep.ensures.kept ∙ ap (λ (x : Contents). x.take) c.deref_mut.ensures.value in
-    keeps-then _ _ _
-    (keeps-ended c.args.claim.now first did.same_gates did.same did.taken did.recorded c.sys_close-listed.result did.given did.known did.gave did.drained)
-    (keeps-then _ _ _ c.drop_systems.ensures.same
-    (keeps-then _ _ _ (keeps-home (run_state mid) c.keep.new.self cell take)
-    (keeps-then _ _ _ c.drop_systems-2.ensures.same c.clean_envelopes.ensures.same)))
+pub returns-clause-advances : goal.returns-clause-advances
+returns-clause-advances g c = record {
+  same =
+      let did = c.sys_close-listed.ensures in
+      let first = c.sys_close-listed.new.claim in
+      let mid = c.drop_systems.new.claim in
+      let cell = ap (λ (x : Contents). x.cell) c.keep.ensures.kept ∙ ap (λ (x : Contents). x.cell) c.deref_mut.ensures.value in
+      let take = ap (λ (x : Contents). x.take) c.keep.ensures.kept ∙ ap (λ (x : Contents). x.take) c.deref_mut.ensures.value in
+      keeps-then _ _ _
+      (keeps-ended c.args.claim.now first did.same_claim.same_gates did.same_claim.same did.same_claim.taken did.same_claim.recorded c.sys_close-listed.result did.noted.given did.known did.noted.gave did.noted.drained)
+      (keeps-then _ _ _ c.drop_systems.ensures.advances.same
+      (keeps-then _ _ _ (keeps-home (run_state mid) c.keep.new.self cell take)
+      (keeps-then _ _ _ c.drop_systems-2.ensures.advances.same c.clean_envelopes.ensures.keeps.same)));
+  caller_advances = further-then _ _ _ c.drop_systems.ensures.advances.caller_advances c.drop_systems-2.ensures.advances.caller_advances;
+  sends =
+      alike-then _ _ _ _ _ _ (alike-still _ _ _ _ c.sys_close-listed.ensures.same_claim.recorded refl)
+      (alike-then _ _ _ _ _ _ c.drop_systems.ensures.advances.sends
+      (alike-then _ _ _ _ _ _ c.drop_systems-2.ensures.advances.sends (alike-still _ _ _ _ c.clean_envelopes.ensures.keeps.recorded refl)));
+}
 
 -- ---- the queue is empty
 
@@ -127,19 +150,10 @@ pub returns-clause-emptied : goal.returns-clause-emptied
 returns-clause-emptied g c =
     let kept : c.keep.new.self.take ≡ c.drop_systems.new.claim.home.value.take =
     ap (λ (x : Contents). x.take) c.keep.ensures.kept ∙ ap (λ (x : Contents). x.take) c.deref_mut.ensures.value in
-    let before = takes-then _ _ _ (takes-same _ _ (ap (λ (b : Box Contents). b.value.take) c.sys_close-listed.ensures.same.1))
-    (takes-then _ _ _ c.drop_systems.ensures.same.same.takes
-    (takes-then _ _ _ (takes-same _ _ kept) c.drop_systems-2.ensures.same.same.takes)) in
+    let before = takes-then _ _ _ (takes-same _ _ (ap (λ (b : Box Contents). b.value.take) c.sys_close-listed.ensures.same_claim.same.1))
+    (takes-then _ _ _ c.drop_systems.ensures.advances.same.same.takes
+    (takes-then _ _ _ (takes-same _ _ kept) c.drop_systems-2.ensures.advances.same.same.takes)) in
     ok-so c.clean_envelopes.result (finds-then _ _ _ before) c.clean_envelopes.ensures.emptied
-
-pub returns-clause-caller_advances : goal.returns-clause-caller_advances
-returns-clause-caller_advances g c = further-then _ _ _ c.drop_systems.ensures.caller_advances c.drop_systems-2.ensures.caller_advances
-
-pub returns-clause-sends : goal.returns-clause-sends
-returns-clause-sends g c =
-    alike-then _ _ _ _ _ _ (alike-still _ _ _ _ c.sys_close-listed.ensures.recorded refl)
-    (alike-then _ _ _ _ _ _ c.drop_systems.ensures.sends
-    (alike-then _ _ _ _ _ _ c.drop_systems-2.ensures.sends (alike-still _ _ _ _ c.clean_envelopes.ensures.recorded refl)))
 
 -- ---- all that was left of a drain and in the list was dropped, and who waits was told
 
@@ -154,16 +168,16 @@ returns-clause-due g c =
     let kept = record middle { home = c.keep.new.self } in
     let dropped = run_state c.drop_systems-2.new.claim in
     let last = run_state c.clean_envelopes.new.claim in
-    let same = ap (λ (b : Box Contents). b.value) did.same.1 in
+    let same = ap (λ (b : Box Contents). b.value) did.same_claim.same.1 in
     let before = subst (λ l. SendsAndAnswers [] l a middle) (ap (λ (x : Contents). x.rest) same)
-    (sends-like first middle a middle [] first.home.rest (sym did.recorded) (sym did.same_gates.1)
+    (sends-like first middle a middle [] first.home.rest (sym did.same_claim.recorded) (sym did.same_claim.same_gates.1)
     (sym (ap (λ (x : Contents). x.cell.who) same)) refl refl c.drop_systems.ensures.answers) in
     let next = subst (λ l. SendsAndAnswers [] l middle last) (ap (λ (x : Contents). x.rest) backlog)
     (sends-like kept dropped middle last [] kept.home.rest refl refl (sym (ap (λ (x : Contents). x.cell.who) backlog))
-    c.clean_envelopes.ensures.recorded (c.clean_envelopes.ensures.closed ∙ sym c.drop_systems-2.ensures.closed) c.drop_systems-2.ensures.answers) in
+    c.clean_envelopes.ensures.keeps.recorded (c.clean_envelopes.ensures.dropped.closed ∙ sym c.drop_systems-2.ensures.in_clean_up.closed) c.drop_systems-2.ensures.answers) in
     due-cleaned a middle dropped last listed
-    (c.drop_systems.ensures.same.same.actor ∙ did.same_gates.1)
-    (c.drop_systems.ensures.same.same.who ∙ ap (λ (x : Contents). x.cell.who) same)
-    before next (λ _. c.clean_envelopes.ensures.closed) c.clean_envelopes.ensures.closed
+    (c.drop_systems.ensures.advances.same.same.actor ∙ did.same_claim.same_gates.1)
+    (c.drop_systems.ensures.advances.same.same.who ∙ ap (λ (x : Contents). x.cell.who) same)
+    before next (λ _. c.clean_envelopes.ensures.dropped.closed) c.clean_envelopes.ensures.dropped.closed
     (c.drop_systems-2.ensures.log ∙ c.drop_systems.ensures.log ∙ ap (λ (v : View). v.log) did.known)
     c.drop_systems-2.ensures.none c.clean_envelopes.ensures.takes

@@ -31,9 +31,9 @@ use Rattle.mb_mailbox.proofs.clean_up.drop_systems.Goals as goal
 
 pub loop-node-init : goal.loop-node-init
 loop-node-init g c = (
-  c.requires.same_gates,
-  c.requires.closed,
-  c.requires.running,
+  c.requires.in_clean_up.same_gates,
+  c.requires.in_clean_up.closed,
+  c.requires.in_clean_up.running,
   refl,
   refl,
   refl,
@@ -57,13 +57,13 @@ drop_next-requires-clause-settled g c =
 pub answer-requires-clause-parent : goal.answer-requires-clause-parent
 answer-requires-clause-parent g c =
     let n = actors_of c.args.gates.now in
-    let first = c.requires.running in
+    let first = c.requires.in_clean_up.running in
     let there = subst (λ k. IfSome c.args.claim.now.home.value.cell.who.parent (λ (p : ActorId). p.0 < k)) first.same_count first.named.parent in
     let of_home = c.parent-parent.ensures ∙ ap (λ (x : Contents). x.cell.who.parent) c.deref.ensures in
     subst (λ (o : Option ActorId). IfSome o (λ p. p.0 < n)) (sym of_home) there
 
 pub answer-requires-clause-present : goal.answer-requires-clause-present
-answer-requires-clause-present g c = subst (λ k. k < actors_of c.args.gates.now) (sym c.actor-actor.ensures) c.requires.running.present
+answer-requires-clause-present g c = subst (λ k. k < actors_of c.args.gates.now) (sym c.actor-actor.ensures) c.requires.in_clean_up.running.present
 
 pub answer-requires-clause-named : goal.answer-requires-clause-named
 answer-requires-clause-named g c =
@@ -139,15 +139,19 @@ loop-node-smaller g c =
 
 -- ---- none is left
 
-pub returns-clause-running : goal.returns-clause-running
-returns-clause-running g c =
-    let l = c.loop-node.claim in
-    let mid : Contents = c.drop_next.new.self in
-    let same = subst (λ (x : Contents). mid ≡ record x { rest = mid.rest }) c.deref_mut.ensures.value c.in_default.ensures.same in
-    let rest = sym (ap (λ (x : Contents). x.rest) c.deref_mut.ensures.value) ∙ c.in_default.ensures.dropped in
-    running-within g.K.Behaviours.gives (origin_of c.args.gates.now) (pass_view c.loop-node.registrar.pass).log (run_state l) c.loop-node.invariant.2 mid
-    (ap (λ (x : Contents). x.cell) same) (ap (λ (x : Contents). x.directory) same) (ap (λ (x : Contents). x.dead) same) c.drop_next.ensures.settled
-    (sym rest)
+pub returns-clause-in_clean_up : goal.returns-clause-in_clean_up
+returns-clause-in_clean_up g c = record {
+  same_gates = c.loop-node.invariant.0;
+  closed = c.loop-node.invariant.1;
+  running =
+      let l = c.loop-node.claim in
+      let mid : Contents = c.drop_next.new.self in
+      let same = subst (λ (x : Contents). mid ≡ record x { rest = mid.rest }) c.deref_mut.ensures.value c.in_default.ensures.same in
+      let rest = sym (ap (λ (x : Contents). x.rest) c.deref_mut.ensures.value) ∙ c.in_default.ensures.dropped in
+      running-within g.K.Behaviours.gives (origin_of c.args.gates.now) (pass_view c.loop-node.registrar.pass).log (run_state l) c.loop-node.invariant.2 mid
+      (ap (λ (x : Contents). x.cell) same) (ap (λ (x : Contents). x.directory) same) (ap (λ (x : Contents). x.dead) same) c.drop_next.ensures.settled
+      (sym rest);
+}
 
 pub returns-clause-none : goal.returns-clause-none
 returns-clause-none g c = sym c.in_default.ensures.dropped ∙ c.in_default.ensures.none
@@ -166,14 +170,15 @@ pub returns-clause-left : goal.returns-clause-left
 returns-clause-left g c =
     ap (λ (x : Contents). x.cell) c.in_default.ensures.same ∙ ap (λ (x : Contents). x.cell) c.deref_mut.ensures.value ∙ c.loop-node.invariant.5
 
-pub returns-clause-same : goal.returns-clause-same
-returns-clause-same g c =
-    let cell = ap (λ (x : Contents). x.cell) c.in_default.ensures.same ∙ ap (λ (x : Contents). x.cell) c.deref_mut.ensures.value in
-    let take = ap (λ (x : Contents). x.take) c.in_default.ensures.same ∙ ap (λ (x : Contents). x.take) c.deref_mut.ensures.value in
-    keeps-then _ _ _ c.loop-node.invariant.7 (keeps-home (run_state c.loop-node.claim) c.drop_next.new.self cell take)
-
-pub returns-clause-sends : goal.returns-clause-sends
-returns-clause-sends g c = c.loop-node.invariant.9
+pub returns-clause-advances : goal.returns-clause-advances
+returns-clause-advances g c = record {
+  same =
+      let cell = ap (λ (x : Contents). x.cell) c.in_default.ensures.same ∙ ap (λ (x : Contents). x.cell) c.deref_mut.ensures.value in
+      let take = ap (λ (x : Contents). x.take) c.in_default.ensures.same ∙ ap (λ (x : Contents). x.take) c.deref_mut.ensures.value in
+      keeps-then _ _ _ c.loop-node.invariant.7 (keeps-home (run_state c.loop-node.claim) c.drop_next.new.self cell take);
+  caller_advances = c.loop-node.invariant.8;
+  sends = c.loop-node.invariant.9;
+}
 
 pub returns-clause-answers : goal.returns-clause-answers
 returns-clause-answers g c =

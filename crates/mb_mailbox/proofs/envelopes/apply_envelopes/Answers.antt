@@ -109,7 +109,8 @@ carried-in_run : (g : given.Over) (c : After-carry_out g) →
     (record c.loop-handled.turn { envelopes = c.loop-handled.turn.envelopes + 1 })
 carried-in_run g c =
     let did = c.carry_out.ensures in
-    carried-run c.carry_out.new.registrar c.carry_out.new.claim (begun g (begin_of g c)) did.same_gates did.running did.backlog did.carried_out did.same
+    carried-run c.carry_out.new.registrar c.carry_out.new.claim (begun g (begin_of g c)) did.in_acts.same_gates did.in_acts.running did.in_acts.backlog did.carried_out
+    did.advances.same
 
 -- and went on, where no act was refused
 carried : (g : given.Over) (c : After-carry_out g) →
@@ -119,8 +120,8 @@ carried g c =
     let did = c.carry_out.ensures in
     goes-then c.carry_out.result c.loop-handled.invariant.3
     (advances-carried c.carry_out.result c.loop-handled.registrar c.carry_out.new.registrar c.loop-handled.claim c.carry_out.new.claim
-    (begun g (begin_of g c)) (c.note_taken.ensures.taken.recorded ∙ c.held_status-status.ensures.taken.recorded) did.same did.cleared did.caller_advances
-    did.sends did.due)
+    (begun g (begin_of g c)) (c.note_taken.ensures.taken.recorded ∙ c.held_status-status.ensures.taken.recorded) did.advances.same did.cleared
+    did.advances.caller_advances did.advances.sends did.due)
 
 -- where it looked for system work, the acts had been carried out
 abbrev carry_of : (g : given.Over) → After-has_no_system_work g → After-carry_out g
@@ -131,7 +132,8 @@ looked-in_run : (g : given.Over) (c : After-has_no_system_work g) →
     InRun g.K.Behaviours.gives g.W.RunQueue.origin c.args.gates.now c.carry_out.new.registrar c.has_no_system_work.new.claim
     (record c.loop-handled.turn { envelopes = c.loop-handled.turn.envelopes + 1 })
 looked-in_run g c =
-    let quiet = c.has_no_system_work.ensures in quiet-run (carried-in_run g (carry_of g c)) quiet.running quiet.backlog quiet.left quiet.same
+    let quiet = c.has_no_system_work.ensures in quiet-run (carried-in_run g (carry_of g c)) quiet.keeps.running quiet.backlog quiet.keeps.left
+    quiet.keeps.same
 
 -- and went on
 looked : (g : given.Over) (c : After-has_no_system_work g) →
@@ -139,7 +141,7 @@ looked : (g : given.Over) (c : After-has_no_system_work g) →
 looked g c =
     let quiet = c.has_no_system_work.ensures in
     goes-then (Ok tt) (goes-well c.carry_out.result c.in_ok-carry_out.was (carried g (carry_of g c)))
-    (goes-looking c.carry_out.new.registrar c.carry_out.new.claim c.has_no_system_work.new.claim quiet.recorded quiet.cleared quiet.same quiet.due)
+    (goes-looking c.carry_out.new.registrar c.carry_out.new.claim c.has_no_system_work.new.claim quiet.keeps.recorded quiet.cleared quiet.keeps.same quiet.due)
 
 -- ---- before the first envelope
 
@@ -279,14 +281,14 @@ begin-requires-clause-open g c =
     open-taken (room g at) c.held_status-status.result (reading g (loaded g at)) (processes g at) _ _ c.take_next.new.self c.in-Some.envelope
     c.deref_mut-in-loop-handled.ensures.value c.in-Some.ensures.took (there g c)
 
-pub carry_out-requires-clause-same_gates : goal.carry_out-requires-clause-same_gates
-carry_out-requires-clause-same_gates g c = c.loop-handled.invariant.0.same_gates
-
-pub carry_out-requires-clause-running : goal.carry_out-requires-clause-running
-carry_out-requires-clause-running g c = (begun g (goal.at.carry_out-requires-clause-running g c).After-begin).running
-
-pub carry_out-requires-clause-backlog : goal.carry_out-requires-clause-backlog
-carry_out-requires-clause-backlog g c = (begun g (goal.at.carry_out-requires-clause-backlog g c).After-begin).backlog
+pub carry_out-requires : goal.carry_out-requires
+carry_out-requires g c = record {
+  in_acts = record {
+    same_gates = c.loop-handled.invariant.0.same_gates;
+    running = (begun g (goal.at.carry_out-requires g c).After-begin).running;
+    backlog = (begun g (goal.at.carry_out-requires g c).After-begin).backlog;
+  };
+}
 
 -- ---- its acts stopped the run
 
@@ -309,14 +311,14 @@ returns-in_err-carry_out-clause-within_limit g c = omega (arith, c.loop-handled.
 
 -- ---- they were carried out
 
-pub has_no_system_work-requires-clause-running : goal.has_no_system_work-requires-clause-running
-has_no_system_work-requires-clause-running g c = ((pass_view c.carry_out.new.registrar.pass).log, c.carry_out.ensures.running)
-
-pub has_no_system_work-requires-clause-backlog : goal.has_no_system_work-requires-clause-backlog
-has_no_system_work-requires-clause-backlog g c = c.carry_out.ensures.backlog
-
-pub has_no_system_work-requires-clause-carried_out : goal.has_no_system_work-requires-clause-carried_out
-has_no_system_work-requires-clause-carried_out g c = c.carry_out.ensures.carried_out
+pub has_no_system_work-requires : goal.has_no_system_work-requires
+has_no_system_work-requires g c = record {
+  between = record {
+    running = ((pass_view c.carry_out.new.registrar.pass).log, c.carry_out.ensures.in_acts.running);
+    backlog = c.carry_out.ensures.in_acts.backlog;
+    carried_out = c.carry_out.ensures.carried_out;
+  };
+}
 
 -- ---- no system message came with it
 

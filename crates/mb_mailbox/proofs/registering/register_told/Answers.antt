@@ -13,8 +13,8 @@ register_told-requires g c = record {
 
 pub returns-clause-same_gates : goal.returns-clause-same_gates
 returns-clause-same_gates g c = (
-  c.register_told.ensures.same_gates.0 ∙ c.requires.same_gates.0,
-  c.register_told.ensures.same_gates.1 ∙ c.requires.same_gates.1,
+  c.register_told.ensures.registers.same_gates.0 ∙ c.requires.same_gates.0,
+  c.register_told.ensures.registers.same_gates.1 ∙ c.requires.same_gates.1,
   c.requires.same_gates.2,
   λ id few told. never-both _ told (c.register_told.ensures.none_left id few),
 )
@@ -22,8 +22,11 @@ returns-clause-same_gates g c = (
 pub returns-clause-caller_advances : goal.returns-clause-caller_advances
 returns-clause-caller_advances g c =
     let did = c.register_told.ensures in
-    further-told _ _ did.looks did.beyond did.discharged did.owed did.handed
-    (got-unhinted (pass_view c.args.registrar.now.pass) (pass_view c.register_told.new.self.pass) did.due)
+    further-told _ _ did.registers.looks did.beyond did.discharged did.owed did.registers.handed
+    (got-unhinted (pass_view c.args.registrar.now.pass) (pass_view c.register_told.new.self.pass) did.registers.due)
 
 pub returns-clause-in_order : goal.returns-clause-in_order
 returns-clause-in_order g c = c.register_told.ensures.in_order
+
+pub returns-clause-looks : goal.returns-clause-looks
+returns-clause-looks g c = c.register_told.ensures.registers.looks

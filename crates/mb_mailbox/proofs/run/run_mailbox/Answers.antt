@@ -18,14 +18,8 @@ pub returns-clause-caller_advances : goal.returns-clause-caller_advances
 returns-clause-caller_advances g c =
     leaves-settled _ _ _ refl refl c.run_and_release.ensures.none_left c.run_and_release.ensures.caller_advances
 
-pub returns-clause-claims : goal.returns-clause-claims
-returns-clause-claims g c = c.run_and_release.ensures.claims
+pub returns-clause-back : goal.returns-clause-back
+returns-clause-back g c = let back = c.run_and_release.ensures.back in record { claims = back.claims; discharged = back.discharged }
 
-pub returns-clause-discharged : goal.returns-clause-discharged
-returns-clause-discharged g c = c.run_and_release.ensures.discharged
-
-pub returns-clause-ran : goal.returns-clause-ran
-returns-clause-ran g c = c.run_and_release.ensures.ran
-
-pub returns-clause-out_of_memory : goal.returns-clause-out_of_memory
-returns-clause-out_of_memory g c = c.run_and_release.ensures.out_of_memory
+pub returns-clause-answer : goal.returns-clause-answer
+returns-clause-answer g c = c.run_and_release.ensures.answer

@@ -35,55 +35,59 @@ use Rattle.mb_mailbox.proofs.sending_system.send_system.Goals as goal
 -- ---- the registrar stays one of these gates
 
 pub sys_enqueue_in_run-requires-clause-same_gates : goal.sys_enqueue_in_run-requires-clause-same_gates
-sys_enqueue_in_run-requires-clause-same_gates g c = c.requires.same_gates.0
+sys_enqueue_in_run-requires-clause-same_gates g c = c.requires.in_acts.same_gates.0
 
 pub insert-requires : goal.insert-requires
-insert-requires g c = let below = c.requires.running.sends.0.0 in omega (arith, below, c.requires.same_gates.2)
+insert-requires g c = let below = c.requires.in_acts.running.sends.0.0 in omega (arith, below, c.requires.in_acts.same_gates.2)
 
-pub returns-in-Ok-clause-same_gates : goal.returns-in-Ok-clause-same_gates
-returns-in-Ok-clause-same_gates g c = (
-  c.sys_enqueue_in_run.ensures.same_gates ∙ c.requires.same_gates.0,
-  c.requires.same_gates.1,
-  c.requires.same_gates.2,
-  told-within c.args.to.0 _ _ c.insert.ensures.set _ c.requires.running.sends.0.0 c.requires.same_gates.3,
-)
+pub returns-in-Ok-clause-advances : goal.returns-in-Ok-clause-advances
+returns-in-Ok-clause-advances g c = record {
+  same = keeps-recorded c.args.claim.now c.sys_enqueue_in_run.new.claim _ c.in-Ok.ensures.recorded;
+  caller_advances =
+      let below = c.requires.in_acts.running.sends.0.0 in
+      further-listed c.args.to.0 c.in-Ok.field-0 c.args.node _ _ c.in-Ok.ensures.listed refl
+      (omega (arith, below, c.requires.in_acts.same_gates.2), told-here c.args.to.0 _ _ c.insert.ensures.set)
+      (λ other still. (still.0, told-still c.args.to.0 _ _ c.insert.ensures.set other still.1));
+  sends =
+      let id = c.args.to.0 in
+      let a = pass_view c.args.registrar.now.pass in let b = pass_view c.sys_enqueue_in_run.new.pass in
+      let did = does-enlisting id c.in-Ok.field-0 c.args.node a b c.in-Ok.ensures.listed in
+      alike-one _ _ _ _ _ c.in-Ok.ensures.recorded.record_is did.sent_system (does-list id _ _ a b did) (does-give-none id _ _ a b refl did)
+      (unrefused (record { to = id; message = c.args.node; was_ended = false }) a b refl (does-end-none id _ _ a b (λ to. omega arith) did));
+}
+
+pub returns-in-Ok-clause-in_acts : goal.returns-in-Ok-clause-in_acts
+returns-in-Ok-clause-in_acts g c = record {
+  same_gates = (
+    c.sys_enqueue_in_run.ensures.same_gates ∙ c.requires.in_acts.same_gates.0,
+    c.requires.in_acts.same_gates.1,
+    c.requires.in_acts.same_gates.2,
+    told-within c.args.to.0 _ _ c.insert.ensures.set _ c.requires.in_acts.running.sends.0.0 c.requires.in_acts.same_gates.3,
+  );
+  running =
+      let new = c.sys_enqueue_in_run.new.claim in
+      let gives = g.K.Behaviours.gives in
+      let origin = origin_of c.args.gates.now in
+      let seen = (pass_view c.args.registrar.now.pass).log in
+      let r = running-sent_system gives origin seen c.args.to c.args.node c.args.claim.now c.requires.in_acts.running new c.in-Ok.ensures.recorded in
+      running-caller_advances gives origin new.home.value.cell.acts _ _ (run_state new) (returns-in-Ok-clause-advances g c).caller_advances r;
+  backlog =
+      backlog-sent_system c.args.claim.now c.sys_enqueue_in_run.new.claim _ c.in-Ok.ensures.recorded c.requires.in_acts.backlog;
+}
 
 pub answer-requires-clause-same_gates : goal.answer-requires-clause-same_gates
-answer-requires-clause-same_gates g c = (c.sys_enqueue_in_run.ensures.same_gates ∙ c.requires.same_gates.0, c.requires.same_gates.1, c.requires.same_gates.2, c.requires.same_gates.3)
+answer-requires-clause-same_gates g c = (c.sys_enqueue_in_run.ensures.same_gates ∙ c.requires.in_acts.same_gates.0, c.requires.in_acts.same_gates.1, c.requires.in_acts.same_gates.2, c.requires.in_acts.same_gates.3)
 
 pub sys_enqueue_in_run-requires-clause-present : goal.sys_enqueue_in_run-requires-clause-present
-sys_enqueue_in_run-requires-clause-present g c = c.requires.running.sends.0.0
+sys_enqueue_in_run-requires-clause-present g c = c.requires.in_acts.running.sends.0.0
 
 pub sys_enqueue_in_run-requires-clause-named : goal.sys_enqueue_in_run-requires-clause-named
-sys_enqueue_in_run-requires-clause-named g c = c.requires.running.sends.0.1
+sys_enqueue_in_run-requires-clause-named g c = c.requires.in_acts.running.sends.0.1
 
 -- ---- a list took it
 
-pub returns-in-Ok-clause-caller_advances : goal.returns-in-Ok-clause-caller_advances
-returns-in-Ok-clause-caller_advances g c =
-    let below = c.requires.running.sends.0.0 in
-    further-listed c.args.to.0 c.in-Ok.field-0 c.args.node _ _ c.in-Ok.ensures.listed refl
-    (omega (arith, below, c.requires.same_gates.2), told-here c.args.to.0 _ _ c.insert.ensures.set)
-    (λ other still. (still.0, told-still c.args.to.0 _ _ c.insert.ensures.set other still.1))
-
-pub returns-in-Ok-clause-running : goal.returns-in-Ok-clause-running
-returns-in-Ok-clause-running g c =
-    let new = c.sys_enqueue_in_run.new.claim in
-    let gives = g.K.Behaviours.gives in
-    let origin = origin_of c.args.gates.now in
-    let seen = (pass_view c.args.registrar.now.pass).log in
-    let r = running-sent_system gives origin seen c.args.to c.args.node c.args.claim.now c.requires.running new c.in-Ok.ensures.recorded in
-    running-caller_advances gives origin new.home.value.cell.acts _ _ (run_state new) (returns-in-Ok-clause-caller_advances g c) r
-
-pub returns-in-Ok-clause-backlog : goal.returns-in-Ok-clause-backlog
-returns-in-Ok-clause-backlog g c =
-    backlog-sent_system c.args.claim.now c.sys_enqueue_in_run.new.claim _ c.in-Ok.ensures.recorded c.requires.backlog
-
 pub returns-in-Ok-clause-left : goal.returns-in-Ok-clause-left
 returns-in-Ok-clause-left g c = c.in-Ok.ensures.recorded.home
-
-pub returns-in-Ok-clause-same : goal.returns-in-Ok-clause-same
-returns-in-Ok-clause-same g c = keeps-recorded c.args.claim.now c.sys_enqueue_in_run.new.claim _ c.in-Ok.ensures.recorded
 
 pub returns-in-Ok-clause-cleared : goal.returns-in-Ok-clause-cleared
 returns-in-Ok-clause-cleared g c =
@@ -95,47 +99,53 @@ returns-in-Ok-clause-cleared g c =
 
 pub answer-requires-clause-parent : goal.answer-requires-clause-parent
 answer-requires-clause-parent g c =
-    subst (λ n. n < actors_of c.args.gates.now) (sym (c.actor-parent.ensures ∙ c.in-Err.ensures.recorded.actor)) c.requires.running.present
+    subst (λ n. n < actors_of c.args.gates.now) (sym (c.actor-parent.ensures ∙ c.in-Err.ensures.recorded.actor)) c.requires.in_acts.running.present
 
 pub answer-requires-clause-present : goal.answer-requires-clause-present
-answer-requires-clause-present g c = c.requires.running.sends.0.0
+answer-requires-clause-present g c = c.requires.in_acts.running.sends.0.0
 
 pub answer-requires-clause-named : goal.answer-requires-clause-named
 answer-requires-clause-named g c =
-    subst (NamesBelow (actors_of c.args.gates.now)) (sym c.in-Err.ensures.ended.0) c.requires.running.sends.0.1
+    subst (NamesBelow (actors_of c.args.gates.now)) (sym c.in-Err.ensures.ended.0) c.requires.in_acts.running.sends.0.1
 
-pub returns-in-Err-clause-caller_advances : goal.returns-in-Err-clause-caller_advances
-returns-in-Err-clause-caller_advances g c = further-then _ _ _ (further-refused _ _ _ _ c.in-Err.ensures.ended.1 refl refl) c.answer.ensures.caller_advances
+pub returns-in-Err-clause-advances : goal.returns-in-Err-clause-advances
+returns-in-Err-clause-advances g c = record {
+  same =
+      let mid = c.sys_enqueue_in_run.new.claim in
+      keeps-then _ _ _ (keeps-recorded c.args.claim.now mid _ c.in-Err.ensures.recorded)
+      (keeps-answered c.args.to.0 mid c.answer.new.claim (asker (Some c.actor-parent.result) c.in-Err.field-0.0) c.answer.ensures.answered);
+  caller_advances = further-then _ _ _ (further-refused _ _ _ _ c.in-Err.ensures.ended.1 refl refl) c.answer.ensures.caller_advances;
+  sends =
+      alike-then _ _ _ _ _ _
+      (alike-one _ _ _ _ _ c.in-Err.ensures.recorded.record_is (ap (λ (v : View). v.sent_system) c.in-Err.ensures.ended.1)
+      (ap (λ (v : View). listed_by v.log) c.in-Err.ensures.ended.1) (refused-gives-none _ _ _ _ c.in-Err.ensures.ended.1)
+      (refused-one _ _ _ _ c.in-Err.ensures.ended.1)) c.answer.ensures.sends;
+}
 
-pub returns-in-Err-clause-running : goal.returns-in-Err-clause-running
-returns-in-Err-clause-running g c =
-    let mid = c.sys_enqueue_in_run.new.claim in
-    let new = c.answer.new.claim in
-    let gives = g.K.Behaviours.gives in
-    let origin = origin_of c.args.gates.now in
-    let seen = (pass_view c.args.registrar.now.pass).log in
-    let r = running-refused gives origin seen c.args.to c.args.node c.args.claim.now c.requires.running mid new c.in-Err.field-0.0
-    c.actor-parent.result
-    c.in-Err.ensures.ended.0 c.actor-parent.ensures c.in-Err.ensures.recorded c.answer.ensures.answered in
-    running-caller_advances gives origin new.home.value.cell.acts _ _ (run_state new) (returns-in-Err-clause-caller_advances g c) r
-
-pub returns-in-Err-clause-backlog : goal.returns-in-Err-clause-backlog
-returns-in-Err-clause-backlog g c =
-    let mid = c.sys_enqueue_in_run.new.claim in
-    backlog-answered c.args.to.0 mid c.answer.new.claim (asker (Some c.actor-parent.result) c.in-Err.field-0.0) c.answer.ensures.answered
-    (backlog-sent_system c.args.claim.now mid _ c.in-Err.ensures.recorded c.requires.backlog)
+pub returns-in-Err-clause-in_acts : goal.returns-in-Err-clause-in_acts
+returns-in-Err-clause-in_acts g c = record {
+  same_gates = c.answer.ensures.same_gates;
+  running =
+      let mid = c.sys_enqueue_in_run.new.claim in
+      let new = c.answer.new.claim in
+      let gives = g.K.Behaviours.gives in
+      let origin = origin_of c.args.gates.now in
+      let seen = (pass_view c.args.registrar.now.pass).log in
+      let r = running-refused gives origin seen c.args.to c.args.node c.args.claim.now c.requires.in_acts.running mid new c.in-Err.field-0.0
+      c.actor-parent.result
+      c.in-Err.ensures.ended.0 c.actor-parent.ensures c.in-Err.ensures.recorded c.answer.ensures.answered in
+      running-caller_advances gives origin new.home.value.cell.acts _ _ (run_state new) (returns-in-Err-clause-advances g c).caller_advances r;
+  backlog =
+      let mid = c.sys_enqueue_in_run.new.claim in
+      backlog-answered c.args.to.0 mid c.answer.new.claim (asker (Some c.actor-parent.result) c.in-Err.field-0.0) c.answer.ensures.answered
+      (backlog-sent_system c.args.claim.now mid _ c.in-Err.ensures.recorded c.requires.in_acts.backlog);
+}
 
 pub returns-in-Err-clause-left : goal.returns-in-Err-clause-left
 returns-in-Err-clause-left g c =
     let mid = c.sys_enqueue_in_run.new.claim in
     home-answered c.args.to.0 mid c.answer.new.claim (asker (Some c.actor-parent.result) c.in-Err.field-0.0) c.answer.ensures.answered
     ∙ c.in-Err.ensures.recorded.home
-
-pub returns-in-Err-clause-same : goal.returns-in-Err-clause-same
-returns-in-Err-clause-same g c =
-    let mid = c.sys_enqueue_in_run.new.claim in
-    keeps-then _ _ _ (keeps-recorded c.args.claim.now mid _ c.in-Err.ensures.recorded)
-    (keeps-answered c.args.to.0 mid c.answer.new.claim (asker (Some c.actor-parent.result) c.in-Err.field-0.0) c.answer.ensures.answered)
 
 pub returns-in-Err-clause-cleared : goal.returns-in-Err-clause-cleared
 returns-in-Err-clause-cleared g c =
@@ -149,21 +159,6 @@ returns-in-Err-clause-cleared g c =
     (ap (λ (b : Box Contents). b.value.take) (home-answered c.args.to.0 mid new asked told ∙ sent_system.home))
 
 -- ---- what was sent stands in the record
-
-pub returns-in-Ok-clause-sends : goal.returns-in-Ok-clause-sends
-returns-in-Ok-clause-sends g c =
-    let id = c.args.to.0 in
-    let a = pass_view c.args.registrar.now.pass in let b = pass_view c.sys_enqueue_in_run.new.pass in
-    let did = does-enlisting id c.in-Ok.field-0 c.args.node a b c.in-Ok.ensures.listed in
-    alike-one _ _ _ _ _ c.in-Ok.ensures.recorded.record_is did.sent_system (does-list id _ _ a b did) (does-give-none id _ _ a b refl did)
-    (unrefused (record { to = id; message = c.args.node; was_ended = false }) a b refl (does-end-none id _ _ a b (λ to. omega arith) did))
-
-pub returns-in-Err-clause-sends : goal.returns-in-Err-clause-sends
-returns-in-Err-clause-sends g c =
-    alike-then _ _ _ _ _ _
-    (alike-one _ _ _ _ _ c.in-Err.ensures.recorded.record_is (ap (λ (v : View). v.sent_system) c.in-Err.ensures.ended.1)
-    (ap (λ (v : View). listed_by v.log) c.in-Err.ensures.ended.1) (refused-gives-none _ _ _ _ c.in-Err.ensures.ended.1)
-    (refused-one _ _ _ _ c.in-Err.ensures.ended.1)) c.answer.ensures.sends
 
 -- ---- what was due was sent
 

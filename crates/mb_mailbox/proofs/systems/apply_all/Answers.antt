@@ -1,4 +1,4 @@
-use Rattle.std.proofs.Common.{inl, inr, refl, sym, ap, ◌∙◌, subst}
+use Rattle.std.proofs.Common.{◌≢◌, [], inl, inr, refl, sym, ap, ◌∙◌, subst}
 use Rattle.std.specs.Prelude.{MatchBool}
 use Rattle.mb_status.specs.Mailbox.{Mailbox}
 use Rattle.mb_cell.specs.CellView.{CellView}
@@ -14,6 +14,7 @@ use Rattle.mb_mailbox.proofs.InRunLemmas.{advances-passed, stops-none, stops-pas
 use Rattle.mb_mailbox.proofs.RunCountLemmas.{run_counts-keeps}
 use Rattle.mb_mailbox.proofs.RecordedLemmas.{alike-still, alike-then}
 use Rattle.mb_mailbox.proofs.RunSendsLemmas.{entries-none, entries-same, entries-then}
+use Rattle.mb_mailbox.specs.Ran.{IsDrained}
 use Rattle.mb_mailbox.proofs.systems.apply_all.Goals as goal
 
 pub loop-init : goal.loop-init
@@ -103,37 +104,35 @@ drain-requires-clause-no_backlog g c =
 pub drain-requires-clause-not_closed : goal.drain-requires-clause-not_closed
 drain-requires-clause-not_closed g c = sym (c.closed.ensures ∙ ap (λ (m : Mailbox). m.closed) c.status.ensures) ∙ c.if-closed.false
 
-pub drain-requires-clause-running : goal.drain-requires-clause-running
-drain-requires-clause-running g c = ((pass_view c.loop.registrar.pass).log, c.loop.invariant.2.running)
-
-pub drain-requires-clause-backlog : goal.drain-requires-clause-backlog
-drain-requires-clause-backlog g c = c.loop.invariant.2.backlog
-
-pub drain-requires-clause-carried_out : goal.drain-requires-clause-carried_out
-drain-requires-clause-carried_out g c = c.loop.invariant.2.carried_out
+pub drain-requires-clause-between : goal.drain-requires-clause-between
+drain-requires-clause-between g c = record {
+  running = ((pass_view c.loop.registrar.pass).log, c.loop.invariant.2.running);
+  backlog = c.loop.invariant.2.backlog;
+  carried_out = c.loop.invariant.2.carried_out;
+}
 
 pub returns-then-not-drain-clause-in_run : goal.returns-then-not-drain-clause-in_run
 returns-then-not-drain-clause-in_run g c =
     let before = c.loop.invariant.2 in record {
       same_gates = before.same_gates;
-      running = c.drain.ensures.running (pass_view c.loop.registrar.pass).log before.running;
+      running = c.drain.ensures.keeps.running (pass_view c.loop.registrar.pass).log before.running;
       backlog = c.drain.ensures.backlog;
-      carried_out = ap (λ (x : CellView). x.acts) c.drain.ensures.left ∙ before.carried_out;
-      run_counts = run_counts-keeps _ _ _ c.drain.ensures.same before.run_counts;
+      carried_out = ap (λ (x : CellView). x.acts) c.drain.ensures.keeps.left ∙ before.carried_out;
+      run_counts = run_counts-keeps _ _ _ c.drain.ensures.keeps.same before.run_counts;
     }
 
 pub returns-then-not-drain-clause-advances : goal.returns-then-not-drain-clause-advances
 returns-then-not-drain-clause-advances g c = record {
-  same = same-keeps _ _ _ c.loop.invariant.3 c.drain.ensures.same;
+  same = same-keeps _ _ _ c.loop.invariant.3 c.drain.ensures.keeps.same;
   cleared =
       cleared-then (run_state c.args.claim.now) (run_state c.loop.claim) (run_state c.drain.new.claim) c.loop.invariant.3.takes c.loop.invariant.6
       c.drain.ensures.cleared;
   caller_advances = c.loop.invariant.5;
-  sends = alike-then _ _ _ _ _ _ c.loop.invariant.7 (alike-still _ _ _ _ c.drain.ensures.recorded refl);
+  sends = alike-then _ _ _ _ _ _ c.loop.invariant.7 (alike-still _ _ _ _ c.drain.ensures.keeps.recorded refl);
   entries =
       entries-then (run_state c.args.claim.now) (run_state c.loop.claim) (run_state c.drain.new.claim) c.loop.invariant.3.actor
       c.loop.invariant.3.who c.loop.invariant.8
-      (entries-none (run_state c.loop.claim) (run_state c.drain.new.claim) c.drain.ensures.same.journal c.drain.ensures.due);
+      (entries-none (run_state c.loop.claim) (run_state c.drain.new.claim) c.drain.ensures.keeps.same.journal c.drain.ensures.due);
 }
 
 pub returns-then-not-drain-clause-stops : goal.returns-then-not-drain-clause-stops
@@ -143,7 +142,9 @@ pub returns-then-not-drain-clause-envelopes : goal.returns-then-not-drain-clause
 returns-then-not-drain-clause-envelopes g c = c.loop.invariant.4
 
 pub returns-then-not-drain-clause-whole : goal.returns-then-not-drain-clause-whole
-returns-then-not-drain-clause-whole g c = inr (c.drain.ensures.drained c.if-not-drain.true)
+returns-then-not-drain-clause-whole g c =
+    let l = c.drain.new.claim in
+    inr (subst (λ b. MatchBool b (l.home.value.rest ≢ []) (IsDrained (run_state l))) c.if-not-drain.true c.drain.ensures.gave)
 
 pub loop-preserved : goal.loop-preserved
 loop-preserved g c =
@@ -152,18 +153,18 @@ loop-preserved g c =
       tt,
       record {
         same_gates = before.same_gates;
-        running = c.drain.ensures.running (pass_view c.loop.registrar.pass).log before.running;
+        running = c.drain.ensures.keeps.running (pass_view c.loop.registrar.pass).log before.running;
         backlog = c.drain.ensures.backlog;
-        carried_out = ap (λ (x : CellView). x.acts) c.drain.ensures.left ∙ before.carried_out;
-        run_counts = run_counts-keeps _ _ _ c.drain.ensures.same before.run_counts;
+        carried_out = ap (λ (x : CellView). x.acts) c.drain.ensures.keeps.left ∙ before.carried_out;
+        run_counts = run_counts-keeps _ _ _ c.drain.ensures.keeps.same before.run_counts;
       },
-      same-keeps _ _ _ c.loop.invariant.3 c.drain.ensures.same,
+      same-keeps _ _ _ c.loop.invariant.3 c.drain.ensures.keeps.same,
       c.loop.invariant.4,
       c.loop.invariant.5,
       cleared-then (run_state c.args.claim.now) (run_state c.loop.claim) (run_state c.drain.new.claim) c.loop.invariant.3.takes c.loop.invariant.6
           c.drain.ensures.cleared,
-      alike-then _ _ _ _ _ _ c.loop.invariant.7 (alike-still _ _ _ _ c.drain.ensures.recorded refl),
+      alike-then _ _ _ _ _ _ c.loop.invariant.7 (alike-still _ _ _ _ c.drain.ensures.keeps.recorded refl),
       entries-then (run_state c.args.claim.now) (run_state c.loop.claim) (run_state c.drain.new.claim) c.loop.invariant.3.actor
           c.loop.invariant.3.who c.loop.invariant.8
-          (entries-none (run_state c.loop.claim) (run_state c.drain.new.claim) c.drain.ensures.same.journal c.drain.ensures.due),
+          (entries-none (run_state c.loop.claim) (run_state c.drain.new.claim) c.drain.ensures.keeps.same.journal c.drain.ensures.due),
     )

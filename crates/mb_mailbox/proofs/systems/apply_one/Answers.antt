@@ -102,47 +102,47 @@ pub overflow_add-turn : goal.overflow_add-turn
 overflow_add-turn g c =
     let few = systems-fit _ _ _ (run_state c.args.claim.now) [] c.args.turn.now c.requires.in_run.running c.requires.in_run.run_counts in omega (arith, few)
 
-pub carry_out-requires-clause-same_gates : goal.carry_out-requires-clause-same_gates
-carry_out-requires-clause-same_gates g c = c.requires.in_run.same_gates
-
-pub carry_out-requires-clause-running : goal.carry_out-requires-clause-running
-carry_out-requires-clause-running g c =
-    let same = subst (λ (x : Contents). c.ready.new.self
-    ≡ record x { cell = record x.cell { is_ready = c.ready.new.self.cell.is_ready }; room = c.ready.new.self.room }) c.deref_mut.ensures.value
-    c.ready.ensures.same in
-    let kept = subst (λ (x : Contents). (pending : List Act) → AgreesWithJournal (g.K.Behaviours.gives x.cell.who.this.0) pending x →
-    AgreesWithJournal (g.K.Behaviours.gives c.ready.new.self.cell.who.this.0) pending c.ready.new.self) c.deref_mut.ensures.value c.ready.ensures.settled in
-    let applied = subst (λ (x : Contents). AppliesNext x c.apply_next.new.self) c.deref_mut-2.ensures.value c.apply_next.ensures.applied in
-    let leads = subst (λ (x : Contents). LeadsOn x c.apply_next.new.self) c.deref_mut-2.ensures.value c.apply_next.ensures.leads in
-    let gives = g.K.Behaviours.gives in
-    let origin = origin_of c.args.gates.now in
-    let seen = (pass_view c.args.registrar.now.pass).log in
-    let h : RunState = record (run_state c.args.claim.now) { home = c.ready.new.self } in
-    let new : Contents = c.apply_next.new.self in
-    let a = applied in
-    let r : IsRunning gives origin [] seen h = running-ready (run_state c.args.claim.now) c.ready.new.self _ _ same gives origin seen
-    c.requires.in_run.running kept in
-    let here : new.cell.who.this.0 ≡ h.actor = ap (λ (x : CellView). x.who.this.0) a.taken.adds ∙ r.number in
-    running-applied gives origin seen h new r a leads
-    (subst (λ n. AgreesWithJournal (gives n) new.cell.acts new) here c.apply_next.ensures.settled)
-
-pub carry_out-requires-clause-backlog : goal.carry_out-requires-clause-backlog
-carry_out-requires-clause-backlog g c =
-    let same = subst (λ (x : Contents). c.ready.new.self
-    ≡ record x { cell = record x.cell { is_ready = c.ready.new.self.cell.is_ready }; room = c.ready.new.self.room }) c.deref_mut.ensures.value
-    c.ready.ensures.same in
-    let kept = subst (λ (x : Contents). (pending : List Act) → AgreesWithJournal (g.K.Behaviours.gives x.cell.who.this.0) pending x →
-    AgreesWithJournal (g.K.Behaviours.gives c.ready.new.self.cell.who.this.0) pending c.ready.new.self) c.deref_mut.ensures.value c.ready.ensures.settled in
-    let applied = subst (λ (x : Contents). AppliesNext x c.apply_next.new.self) c.deref_mut-2.ensures.value c.apply_next.ensures.applied in
-    let gives = g.K.Behaviours.gives in
-    let origin = origin_of c.args.gates.now in
-    let seen = (pass_view c.args.registrar.now.pass).log in
-    let h : RunState = record (run_state c.args.claim.now) { home = c.ready.new.self } in
-    let r : IsRunning gives origin [] seen h = running-ready (run_state c.args.claim.now) c.ready.new.self _ _ same gives origin seen
-    c.requires.in_run.running kept in
-    let s = backlog-ready (run_state c.args.claim.now) c.ready.new.self _ _ same c.requires.in_run.backlog in
-    let next = subst (λ (x : Contents). HasNext x) (sym same) c.requires.due in
-    backlog-applied gives origin seen h c.apply_next.new.self r s c.requires.not_closed next applied
+pub carry_out-requires : goal.carry_out-requires
+carry_out-requires g c = record {
+  in_acts = record {
+    same_gates = c.requires.in_run.same_gates;
+    running =
+        let same = subst (λ (x : Contents). c.ready.new.self
+        ≡ record x { cell = record x.cell { is_ready = c.ready.new.self.cell.is_ready }; room = c.ready.new.self.room }) c.deref_mut.ensures.value
+        c.ready.ensures.same in
+        let kept = subst (λ (x : Contents). (pending : List Act) → AgreesWithJournal (g.K.Behaviours.gives x.cell.who.this.0) pending x →
+        AgreesWithJournal (g.K.Behaviours.gives c.ready.new.self.cell.who.this.0) pending c.ready.new.self) c.deref_mut.ensures.value c.ready.ensures.settled in
+        let applied = subst (λ (x : Contents). AppliesNext x c.apply_next.new.self) c.deref_mut-2.ensures.value c.apply_next.ensures.applied in
+        let leads = subst (λ (x : Contents). LeadsOn x c.apply_next.new.self) c.deref_mut-2.ensures.value c.apply_next.ensures.leads in
+        let gives = g.K.Behaviours.gives in
+        let origin = origin_of c.args.gates.now in
+        let seen = (pass_view c.args.registrar.now.pass).log in
+        let h : RunState = record (run_state c.args.claim.now) { home = c.ready.new.self } in
+        let new : Contents = c.apply_next.new.self in
+        let a = applied in
+        let r : IsRunning gives origin [] seen h = running-ready (run_state c.args.claim.now) c.ready.new.self _ _ same gives origin seen
+        c.requires.in_run.running kept in
+        let here : new.cell.who.this.0 ≡ h.actor = ap (λ (x : CellView). x.who.this.0) a.taken.adds ∙ r.number in
+        running-applied gives origin seen h new r a leads
+        (subst (λ n. AgreesWithJournal (gives n) new.cell.acts new) here c.apply_next.ensures.settled);
+    backlog =
+        let same = subst (λ (x : Contents). c.ready.new.self
+        ≡ record x { cell = record x.cell { is_ready = c.ready.new.self.cell.is_ready }; room = c.ready.new.self.room }) c.deref_mut.ensures.value
+        c.ready.ensures.same in
+        let kept = subst (λ (x : Contents). (pending : List Act) → AgreesWithJournal (g.K.Behaviours.gives x.cell.who.this.0) pending x →
+        AgreesWithJournal (g.K.Behaviours.gives c.ready.new.self.cell.who.this.0) pending c.ready.new.self) c.deref_mut.ensures.value c.ready.ensures.settled in
+        let applied = subst (λ (x : Contents). AppliesNext x c.apply_next.new.self) c.deref_mut-2.ensures.value c.apply_next.ensures.applied in
+        let gives = g.K.Behaviours.gives in
+        let origin = origin_of c.args.gates.now in
+        let seen = (pass_view c.args.registrar.now.pass).log in
+        let h : RunState = record (run_state c.args.claim.now) { home = c.ready.new.self } in
+        let r : IsRunning gives origin [] seen h = running-ready (run_state c.args.claim.now) c.ready.new.self _ _ same gives origin seen
+        c.requires.in_run.running kept in
+        let s = backlog-ready (run_state c.args.claim.now) c.ready.new.self _ _ same c.requires.in_run.backlog in
+        let next = subst (λ (x : Contents). HasNext x) (sym same) c.requires.due in
+        backlog-applied gives origin seen h c.apply_next.new.self r s c.requires.not_closed next applied;
+  };
+}
 
 pub returns-clause-in_run : goal.returns-clause-in_run
 returns-clause-in_run g c =
@@ -156,11 +156,11 @@ returns-clause-in_run g c =
     let new : Contents = c.apply_next.new.self in
     let a = applied in
     let t = run_counts-applied h new c.args.turn.now (run_counts-keeps old h c.args.turn.now keeps c.requires.in_run.run_counts) a in record {
-      same_gates = c.carry_out.ensures.same_gates;
-      running = c.carry_out.ensures.running;
-      backlog = c.carry_out.ensures.backlog;
+      same_gates = c.carry_out.ensures.in_acts.same_gates;
+      running = c.carry_out.ensures.in_acts.running;
+      backlog = c.carry_out.ensures.in_acts.backlog;
       carried_out = c.carry_out.ensures.carried_out;
-      run_counts = run_counts-keeps _ _ _ c.carry_out.ensures.same t;
+      run_counts = run_counts-keeps _ _ _ c.carry_out.ensures.advances.same t;
     }
 
 pub returns-clause-advances : goal.returns-clause-advances
@@ -179,15 +179,15 @@ returns-clause-advances g c =
     let until = same-run-then old h applied_hold keeps.same (same-applied h new c.args.turn.now
     (run_counts-keeps old h c.args.turn.now keeps c.requires.in_run.run_counts) a) in
     record {
-      same = same-keeps old applied_hold _ until c.carry_out.ensures.same;
+      same = same-keeps old applied_hold _ until c.carry_out.ensures.advances.same;
       cleared = ok-so c.carry_out.result
           (cleared-then old applied_hold (run_state c.carry_out.new.claim) (takes-same _ _ take)
           (cleared-open old applied_hold c.requires.not_closed)) c.carry_out.ensures.cleared;
-      caller_advances = c.carry_out.ensures.caller_advances;
-      sends = c.carry_out.ensures.sends;
+      caller_advances = c.carry_out.ensures.advances.caller_advances;
+      sends = c.carry_out.ensures.advances.sends;
       entries = ready-then old c.ready.new.self _ _ same (run_state c.carry_out.new.claim)
           (entries-applied h applied_hold (run_state c.carry_out.new.claim) refl c.requires.not_closed refl applied c.carry_out.ensures.due
-          c.carry_out.ensures.same.journal refl);
+          c.carry_out.ensures.advances.same.journal refl);
     }
 
 pub returns-clause-stops : goal.returns-clause-stops

@@ -9,14 +9,14 @@ use Rattle.mb_mailbox.proofs.RunSendsLemmas.{entries-none}
 use Rattle.mb_mailbox.specs.RunState.{run_state}
 use Rattle.mb_mailbox.proofs.systems.apply_systems.Goals as goal
 
-pub has_no_system_work-requires-clause-running : goal.has_no_system_work-requires-clause-running
-has_no_system_work-requires-clause-running g c = ((pass_view c.args.registrar.now.pass).log, c.requires.in_run.running)
-
-pub has_no_system_work-requires-clause-backlog : goal.has_no_system_work-requires-clause-backlog
-has_no_system_work-requires-clause-backlog g c = c.requires.in_run.backlog
-
-pub has_no_system_work-requires-clause-carried_out : goal.has_no_system_work-requires-clause-carried_out
-has_no_system_work-requires-clause-carried_out g c = c.requires.in_run.carried_out
+pub has_no_system_work-requires : goal.has_no_system_work-requires
+has_no_system_work-requires g c = record {
+  between = record {
+    running = ((pass_view c.args.registrar.now.pass).log, c.requires.in_run.running);
+    backlog = c.requires.in_run.backlog;
+    carried_out = c.requires.in_run.carried_out;
+  };
+}
 
 -- ---- no system message is due
 
@@ -24,21 +24,21 @@ pub returns-then-has_no_system_work-clause-in_run : goal.returns-then-has_no_sys
 returns-then-has_no_system_work-clause-in_run g c =
     let before = c.requires.in_run in let quiet = c.has_no_system_work.ensures in record {
       same_gates = before.same_gates;
-      running = quiet.running (pass_view c.args.registrar.now.pass).log before.running;
+      running = quiet.keeps.running (pass_view c.args.registrar.now.pass).log before.running;
       backlog = quiet.backlog;
-      carried_out = ap (λ (x : CellView). x.acts) quiet.left ∙ before.carried_out;
-      run_counts = run_counts-keeps _ _ _ quiet.same before.run_counts;
+      carried_out = ap (λ (x : CellView). x.acts) quiet.keeps.left ∙ before.carried_out;
+      run_counts = run_counts-keeps _ _ _ quiet.keeps.same before.run_counts;
     }
 
 pub returns-then-has_no_system_work-clause-advances : goal.returns-then-has_no_system_work-clause-advances
 returns-then-has_no_system_work-clause-advances g c =
     let quiet = c.has_no_system_work.ensures in
     record {
-      same = quiet.same.same;
+      same = quiet.keeps.same.same;
       cleared = quiet.cleared;
       caller_advances = further-none _;
-      sends = alike-still _ _ _ _ quiet.recorded refl;
-      entries = entries-none (run_state c.args.claim.now) (run_state c.has_no_system_work.new.claim) quiet.same.journal quiet.due;
+      sends = alike-still _ _ _ _ quiet.keeps.recorded refl;
+      entries = entries-none (run_state c.args.claim.now) (run_state c.has_no_system_work.new.claim) quiet.keeps.same.journal quiet.due;
     }
 
 pub returns-then-has_no_system_work-clause-stops : goal.returns-then-has_no_system_work-clause-stops
@@ -54,10 +54,10 @@ apply_all-requires g c =
     let before = c.requires.in_run in let quiet = c.has_no_system_work.ensures in record {
       in_run = record {
         same_gates = before.same_gates;
-        running = quiet.running (pass_view c.args.registrar.now.pass).log before.running;
+        running = quiet.keeps.running (pass_view c.args.registrar.now.pass).log before.running;
         backlog = quiet.backlog;
-        carried_out = ap (λ (x : CellView). x.acts) quiet.left ∙ before.carried_out;
-        run_counts = run_counts-keeps _ _ _ quiet.same before.run_counts;
+        carried_out = ap (λ (x : CellView). x.acts) quiet.keeps.left ∙ before.carried_out;
+        run_counts = run_counts-keeps _ _ _ quiet.keeps.same before.run_counts;
       };
     }
 
@@ -67,9 +67,9 @@ returns-clause-in_run g c = c.apply_all.ensures.in_run
 pub returns-clause-advances : goal.returns-clause-advances
 returns-clause-advances g c =
     advances-then c.apply_all.result c.args.registrar.now c.args.registrar.now c.apply_all.new.registrar c.args.claim.now c.has_no_system_work.new.claim
-    c.apply_all.new.claim c.has_no_system_work.ensures.same.same c.has_no_system_work.ensures.cleared (further-none _)
-    (alike-still _ _ _ _ c.has_no_system_work.ensures.recorded refl)
-    (entries-none (run_state c.args.claim.now) (run_state c.has_no_system_work.new.claim) c.has_no_system_work.ensures.same.journal
+    c.apply_all.new.claim c.has_no_system_work.ensures.keeps.same.same c.has_no_system_work.ensures.cleared (further-none _)
+    (alike-still _ _ _ _ c.has_no_system_work.ensures.keeps.recorded refl)
+    (entries-none (run_state c.args.claim.now) (run_state c.has_no_system_work.new.claim) c.has_no_system_work.ensures.keeps.same.journal
     c.has_no_system_work.ensures.due) c.apply_all.ensures.advances
 
 pub returns-clause-stops : goal.returns-clause-stops

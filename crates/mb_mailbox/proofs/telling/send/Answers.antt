@@ -90,13 +90,16 @@ returns-then-closed-clause-told g c =
     let id = c.args.to.0 in
     let word = word_of c.status-status.result in
     let a = pass_view c.args.pass.now in let b = pass_view c.status-status.new.pass in
-    let shut = sym c.closed.ensures ∙ c.if-closed.true in
-    record {
-      word = word;
-      known_closed = ap (λ w. w == 1) (closed-word c.status-status.result shut);
-      did = does-read id word [] [] a b b c.status-status.ensures.known (looks-none id b);
-      is_dead_letter = is_dead_letter;
-    }
+    let shut = sym c.closed.ensures ∙ c.if-closed.true in (
+      record {
+        word = word;
+        known_closed = ap (λ w. w == 1) (closed-word c.status-status.result shut);
+        did = does-read id word [] [] a b b c.status-status.ensures.known (looks-none id b);
+        is_dead_letter = is_dead_letter;
+      },
+      read-closed c.args.to.0 c.status-status.result (pass_view c.args.pass.now) (pass_view c.status-status.new.pass)
+          (sym c.closed.ensures ∙ c.if-closed.true) c.status-status.ensures.known,
+    )
 
 pub returns-in-Ok-clause-told : goal.returns-in-Ok-clause-told
 returns-in-Ok-clause-told g c =
@@ -130,11 +133,6 @@ returns-in-Err-clause-told g c =
           (does-unsending id b d e c.note_sent.ensures.known c.note_unsent.ensures.known);
       is_dead_letter = is_dead_letter;
     }
-
-pub returns-then-closed-clause-closed : goal.returns-then-closed-clause-closed
-returns-then-closed-clause-closed g c =
-    read-closed c.args.to.0 c.status-status.result (pass_view c.args.pass.now) (pass_view c.status-status.new.pass)
-    (sym c.closed.ensures ∙ c.if-closed.true) c.status-status.ensures.known
 
 -- ---- its pass got no claim
 

@@ -1,6 +1,6 @@
 use Rattle.std.proofs.Common.{◌≡◌, [], ◌∷◌, ◌++◌, ap, append_assoc, length, subst, sym, ◌∙◌}
 use Rattle.std.specs.Vec.Iter.{into_iter_items}
-use Rattle.mb_pool.specs.Ends.{TakesIn, shared_ports_of}
+use Rattle.mb_pool.specs.Handles.{TakesIn, shared_ports_of}
 use Rattle.mb_pool.specs.Parts.{port_view}
 use Rattle.mb_pool.specs.Places.{PoolEndpoint}
 use Rattle.mb_gate.specs.Untouched.{IsUntouched}

@@ -1,6 +1,6 @@
 use Rattle.std.proofs.Common.{◌≡◌, ◌++◌}
 use Rattle.std.specs.Vec.Iter.{into_iter_items}
-use Rattle.mb_pool.specs.Ends.{shared_ports_of, TakesIn}
+use Rattle.mb_pool.specs.Handles.{shared_ports_of, TakesIn}
 use Rattle.mb_pool.specs.Parts.{port_view}
 use Rattle.mb_pool.specs.Endpoints.{HasShare}
 use Rattle.mb_pool.proofs.leaving.join_feeds.Given as goal

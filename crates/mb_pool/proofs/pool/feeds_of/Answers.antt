@@ -37,5 +37,5 @@ invariant_of-push g c =
 pub returns : goal.returns
 returns g c =
     let at = c.loop-feed in
-    let end : at._feed ≡ c.args.count = omega (arith, c.loop-feed-test.false, at.auto._feed-end) in
-    at.invariant.1 ∙ ap (λ n. replicate n (of_feed (new_shared_port c.args.pool.now))) end
+    let handle : at._feed ≡ c.args.count = omega (arith, c.loop-feed-test.false, at.auto._feed-end) in
+    at.invariant.1 ∙ ap (λ n. replicate n (of_feed (new_shared_port c.args.pool.now))) handle

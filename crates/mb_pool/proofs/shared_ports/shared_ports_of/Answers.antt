@@ -15,6 +15,6 @@ pub returns : goal.returns
 returns g c =
     let at = c.loop-lent in
     let most : at._lent ≤ c.args.count = at.auto._lent-end c.requires.not_empty in
-    let end : at._lent ≡ c.args.count = omega (arith, c.loop-lent-test.false, most) in
+    let handle : at._lent ≡ c.args.count = omega (arith, c.loop-lent-test.false, most) in
     shared_port_last port_view at.doors.items c.push-2.new.self.items at.first
-    (port_view c.args.first) at._lent c.args.count at.invariant.1 c.in_ok-push-2.ensures.items end c.requires.not_empty at.invariant.2 c.requires.shares
+    (port_view c.args.first) at._lent c.args.count at.invariant.1 c.in_ok-push-2.ensures.items handle c.requires.not_empty at.invariant.2 c.requires.shares

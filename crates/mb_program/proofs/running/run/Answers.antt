@@ -4,52 +4,44 @@ use Rattle.std.specs.Global.{Global}
 use Rattle.mb_msg.specs.declared.order.Order.{Order}
 use Rattle.heddleorange.specs.NoReport.{IsErrorOfRun}
 use Rattle.heddleorange.specs.Orders.{lists_of}
-use Rattle.heddleorange.specs.RunHeadline.{RunHeadline}
-use Rattle.heddleorange.specs.WholeRun.{IsReportOfRun, after_at, gives_at}
+use Rattle.heddleorange.specs.ReportsRun.{ReportsRun}
+use Rattle.heddleorange.specs.WholeRun.{gives_at}
 use Rattle.heddleorange.proofs.NoReport.{without-memory}
 use Rattle.heddleorange.proofs.Sent.{err-of}
 use Rattle.mb_program.proofs.Runnable.{lists-are}
 use Rattle.mb_program.proofs.running.run.Goals as goal
 
-pub returns-clause-ran : goal.returns-clause-ran
-returns-clause-ran g c =
-    let actors = c.args.actors.items in let plan = c.args.plan in
-    let same = lists-are plan.senders c.args.sends.now _ c.requires.right.1
-    (ap (map (λ (v : Vec Order Global). v.items)) c.deref.ensures.value ∙ c.in-Ok.ensures) in
-    subst (λ orders. IsReportOfRun (after_at actors g.A.Actor.after) (gives_at actors g.A.Actor.gives) plan orders c.in_ok-report-2.report) same
-    c.in_ok-report-2.ensures.story
-
-pub returns-clause-headline : goal.returns-clause-headline
-returns-clause-headline g c =
+pub returns-clause-report : goal.returns-clause-report
+returns-clause-report g c =
     let plan = c.args.plan in
     let same = lists-are plan.senders c.args.sends.now _ c.requires.right.1
     (ap (map (λ (v : Vec Order Global). v.items)) c.deref.ensures.value ∙ c.in-Ok.ensures) in
-    subst (λ orders. RunHeadline plan orders c.in_ok-report-2.report) same c.in_ok-report-2.ensures.headline
+    subst (λ orders. ReportsRun g.A.Actor.after g.A.Actor.gives plan c.args.actors.items orders c.in_ok-report-2.report) same
+    c.in_ok-report-2.ensures.report
 
-pub returns-in_err-report-2-clause-fault : goal.returns-in_err-report-2-clause-fault
-returns-in_err-report-2-clause-fault g c =
-    let actors = c.args.actors.items in let plan = c.args.plan in let error = c.in_err-report-2.field-0.0 in
-    let gives = gives_at actors g.A.Actor.gives in
-    let same = lists-are plan.senders c.args.sends.now _ c.requires.right.1
-    (ap (map (λ (v : Vec Order Global). v.items)) c.deref.ensures.value ∙ c.in-Ok.ensures) in
-    err-of (IsErrorOfRun gives plan (length actors) (lists_of plan.senders c.args.sends.now)) c.from_residual-in_err-report-2.result error
-    c.from_residual-in_err-report-2.ensures.1
-    (subst (λ orders. IsErrorOfRun gives plan (length actors) orders error) same c.in_err-report-2.ensures.refused)
+pub returns-clause-turns : goal.returns-clause-turns
+returns-clause-turns g c = sym c.if-is_quiet.false
 
-pub returns-in_default-clause-fault : goal.returns-in_default-clause-fault
-returns-in_default-clause-fault g c =
-    without-memory (gives_at c.args.actors.items g.A.Actor.gives) c.args.plan (length c.args.actors.items)
-    (lists_of c.args.plan.senders c.args.sends.now) c.without_actors.result c.requires.right
-    (c.without_actors.ensures.error, c.without_actors.ensures.actors)
+pub returns-clause-covers : goal.returns-clause-covers
+returns-clause-covers g c = tt
 
-pub returns-in_err-report-clause-ran : goal.returns-in_err-report-clause-ran
-returns-in_err-report-clause-ran g c = IfOk-from_err c.from_residual.result _ c.from_residual.ensures.0
+pub returns-clause-fault : goal.returns-clause-fault
+returns-clause-fault g c = tt
 
-pub returns-in_err-report-clause-headline : goal.returns-in_err-report-clause-headline
-returns-in_err-report-clause-headline g c = IfOk-from_err c.from_residual.result _ c.from_residual.ensures.0
+pub returns-then-is_quiet-clause-report : goal.returns-then-is_quiet-clause-report
+returns-then-is_quiet-clause-report g c = c.in_ok-report.ensures.report
 
-pub returns-in_err-report-clause-lines : goal.returns-in_err-report-clause-lines
-returns-in_err-report-clause-lines g c = IfOk-from_err c.from_residual.result _ c.from_residual.ensures.0
+pub returns-then-is_quiet-clause-turns : goal.returns-then-is_quiet-clause-turns
+returns-then-is_quiet-clause-turns g c = sym c.if-is_quiet.true
+
+pub returns-then-is_quiet-clause-covers : goal.returns-then-is_quiet-clause-covers
+returns-then-is_quiet-clause-covers g c = c.in_ok-report.ensures.turns.covers
+
+pub returns-then-is_quiet-clause-fault : goal.returns-then-is_quiet-clause-fault
+returns-then-is_quiet-clause-fault g c = tt
+
+pub returns-in_err-report-clause-report : goal.returns-in_err-report-clause-report
+returns-in_err-report-clause-report g c = IfOk-from_err c.from_residual.result _ c.from_residual.ensures.0
 
 pub returns-in_err-report-clause-turns : goal.returns-in_err-report-clause-turns
 returns-in_err-report-clause-turns g c = IfOk-from_err c.from_residual.result _ c.from_residual.ensures.0
@@ -62,49 +54,8 @@ returns-in_err-report-clause-fault g c =
     err-of (IsErrorOfRun (gives_at c.args.actors.items g.A.Actor.gives) c.args.plan (length c.args.actors.items) (lists_of c.args.plan.senders c.args.sends.now))
     c.from_residual.result c.in_err-report.field-0.0 c.from_residual.ensures.1 c.in_err-report.ensures.refused
 
-pub returns-then-is_quiet-clause-ran : goal.returns-then-is_quiet-clause-ran
-returns-then-is_quiet-clause-ran g c = c.in_ok-report.ensures.story
-
-pub returns-then-is_quiet-clause-headline : goal.returns-then-is_quiet-clause-headline
-returns-then-is_quiet-clause-headline g c = c.in_ok-report.ensures.headline
-
-pub returns-then-is_quiet-clause-lines : goal.returns-then-is_quiet-clause-lines
-returns-then-is_quiet-clause-lines g c = c.in_ok-report.ensures.lines
-
-pub returns-then-is_quiet-clause-turns : goal.returns-then-is_quiet-clause-turns
-returns-then-is_quiet-clause-turns g c = sym c.if-is_quiet.true
-
-pub returns-then-is_quiet-clause-covers : goal.returns-then-is_quiet-clause-covers
-returns-then-is_quiet-clause-covers g c = c.in_ok-report.ensures.covers
-
-pub returns-then-is_quiet-clause-fault : goal.returns-then-is_quiet-clause-fault
-returns-then-is_quiet-clause-fault g c = tt
-
-pub returns-in_default-clause-ran : goal.returns-in_default-clause-ran
-returns-in_default-clause-ran g c = tt
-
-pub returns-in_default-clause-headline : goal.returns-in_default-clause-headline
-returns-in_default-clause-headline g c = tt
-
-pub returns-in_default-clause-lines : goal.returns-in_default-clause-lines
-returns-in_default-clause-lines g c = tt
-
-pub returns-in_default-clause-turns : goal.returns-in_default-clause-turns
-returns-in_default-clause-turns g c = tt
-
-pub returns-in_default-clause-covers : goal.returns-in_default-clause-covers
-returns-in_default-clause-covers g c = tt
-
-pub returns-in_err-report-2-clause-ran : goal.returns-in_err-report-2-clause-ran
-returns-in_err-report-2-clause-ran g c =
-    IfOk-from_err c.from_residual-in_err-report-2.result _ c.from_residual-in_err-report-2.ensures.0
-
-pub returns-in_err-report-2-clause-headline : goal.returns-in_err-report-2-clause-headline
-returns-in_err-report-2-clause-headline g c =
-    IfOk-from_err c.from_residual-in_err-report-2.result _ c.from_residual-in_err-report-2.ensures.0
-
-pub returns-in_err-report-2-clause-lines : goal.returns-in_err-report-2-clause-lines
-returns-in_err-report-2-clause-lines g c =
+pub returns-in_err-report-2-clause-report : goal.returns-in_err-report-2-clause-report
+returns-in_err-report-2-clause-report g c =
     IfOk-from_err c.from_residual-in_err-report-2.result _ c.from_residual-in_err-report-2.ensures.0
 
 pub returns-in_err-report-2-clause-turns : goal.returns-in_err-report-2-clause-turns
@@ -115,30 +66,27 @@ pub returns-in_err-report-2-clause-covers : goal.returns-in_err-report-2-clause-
 returns-in_err-report-2-clause-covers g c =
     IfOk-from_err c.from_residual-in_err-report-2.result _ c.from_residual-in_err-report-2.ensures.0
 
-pub returns-clause-lines : goal.returns-clause-lines
-returns-clause-lines g c = c.in_ok-report-2.ensures.lines
+pub returns-in_err-report-2-clause-fault : goal.returns-in_err-report-2-clause-fault
+returns-in_err-report-2-clause-fault g c =
+    let actors = c.args.actors.items in let plan = c.args.plan in let error = c.in_err-report-2.field-0.0 in
+    let gives = gives_at actors g.A.Actor.gives in
+    let same = lists-are plan.senders c.args.sends.now _ c.requires.right.1
+    (ap (map (λ (v : Vec Order Global). v.items)) c.deref.ensures.value ∙ c.in-Ok.ensures) in
+    err-of (IsErrorOfRun gives plan (length actors) (lists_of plan.senders c.args.sends.now)) c.from_residual-in_err-report-2.result error
+    c.from_residual-in_err-report-2.ensures.1
+    (subst (λ orders. IsErrorOfRun gives plan (length actors) orders error) same c.in_err-report-2.ensures.failure.refused)
 
-pub returns-clause-turns : goal.returns-clause-turns
-returns-clause-turns g c = sym c.if-is_quiet.false
+pub returns-in_default-clause-report : goal.returns-in_default-clause-report
+returns-in_default-clause-report g c = tt
 
-pub returns-clause-covers : goal.returns-clause-covers
-returns-clause-covers g c = tt
+pub returns-in_default-clause-turns : goal.returns-in_default-clause-turns
+returns-in_default-clause-turns g c = tt
 
-pub returns-clause-fault : goal.returns-clause-fault
-returns-clause-fault g c = tt
+pub returns-in_default-clause-covers : goal.returns-in_default-clause-covers
+returns-in_default-clause-covers g c = tt
 
-pub returns-then-is_quiet-clause-kept : goal.returns-then-is_quiet-clause-kept
-returns-then-is_quiet-clause-kept g c = c.in_ok-report.ensures.kept
-
-pub returns-in_err-report-clause-kept : goal.returns-in_err-report-clause-kept
-returns-in_err-report-clause-kept g c = IfOk-from_err c.from_residual.result _ c.from_residual.ensures.0
-
-pub returns-in_default-clause-kept : goal.returns-in_default-clause-kept
-returns-in_default-clause-kept g c = tt
-
-pub returns-in_err-report-2-clause-kept : goal.returns-in_err-report-2-clause-kept
-returns-in_err-report-2-clause-kept g c =
-    IfOk-from_err c.from_residual-in_err-report-2.result _ c.from_residual-in_err-report-2.ensures.0
-
-pub returns-clause-kept : goal.returns-clause-kept
-returns-clause-kept g c = c.in_ok-report-2.ensures.kept
+pub returns-in_default-clause-fault : goal.returns-in_default-clause-fault
+returns-in_default-clause-fault g c =
+    without-memory (gives_at c.args.actors.items g.A.Actor.gives) c.args.plan (length c.args.actors.items)
+    (lists_of c.args.plan.senders c.args.sends.now) c.without_actors.result c.requires.right
+    (c.without_actors.ensures.error, c.without_actors.ensures.actors)

@@ -48,14 +48,14 @@ returns-in-Ok-clause-run_of g c =
     let scenario = scenario_data read in
     let run = c.in-Ok.run' in
     let names = map string_bytes read.names.items in
-    let many = c.in-Ok.ensures.lines in
+    let told = c.in-Ok.ensures.report in let many = told.lines in
     let same = as-many-names c.args.text.now scenario names c.in_ok-plan.ensures.read refl in
     let ran : IsReportOfRun (after_by_scripts scenario.scripts) (gives_by_scripts scenario.scripts) plan
     (lists_of plan.senders scenario.sends) run.report =
     subst (λ (l : List SenderOrder). IsReportOfRun (after_by_scripts scenario.scripts) (gives_by_scripts scenario.scripts) plan
-    (lists_of plan.senders l) run.report) c.deref.ensures.value c.in-Ok.ensures.ran in
+    (lists_of plan.senders l) run.report) c.deref.ensures.value told.story in
     let headline : RunHeadline plan (lists_of plan.senders scenario.sends) run.report =
-    subst (λ (l : List SenderOrder). RunHeadline plan (lists_of plan.senders l) run.report) c.deref.ensures.value c.in-Ok.ensures.headline in
+    subst (λ (l : List SenderOrder). RunHeadline plan (lists_of plan.senders l) run.report) c.deref.ensures.value told.headline in
     record {
       scenario = scenario;
       read = c.in_ok-plan.ensures.read;
@@ -65,3 +65,6 @@ returns-in-Ok-clause-run_of g c =
       quiet = c.in-Ok.ensures.turns;
       covers = c.in-Ok.ensures.covers;
     }
+
+pub returns-in-Ok-clause-kept : goal.returns-in-Ok-clause-kept
+returns-in-Ok-clause-kept g c = c.in-Ok.ensures.report.kept

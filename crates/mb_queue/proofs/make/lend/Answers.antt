@@ -5,7 +5,7 @@ use Rattle.mb_queue.specs.declared.ledger.Account.{Account}
 use Rattle.mb_queue.specs.Ledger.{account, lent}
 use Rattle.mb_queue.specs.Port.{FifoPort}
 use Rattle.mb_queue.specs.declared.take_order.TakeOrder.{TakeOrder}
-use Rattle.mb_queue.specs.Representation.{IsSending, IsTakePass, sending, taking_of}
+use Rattle.mb_queue.specs.Representation.{IsSending, IsTakePass, sending_of, taking_of}
 use Rattle.mb_queue.specs.Lent.{order_lent}
 use Rattle.mb_queue.specs.Made.{unused}
 use Rattle.mb_queue.specs.Passes.{TakePassView}
@@ -42,7 +42,7 @@ returns c = let i = c.take.inside in let s = c.args.by.0 in (
   (λ k. taking_of (c.in_ok-own.ensures.0 k) (c.in_ok-control.ensures.0 k) i.taken (c.add.ensures k))
       ∙ take_is s i.main i.order i.taken i.accounts c.take.invariant.0
       ∙ ap (λ (t : TakePassView). record t { accounts = t.accounts ++ lent s ∷ [] }) c.take.view_is,
-  (λ k. sending s (c.in_ok-own.ensures.1 k) (c.in_ok-control.ensures.1 k) (c.new.ensures k))
+  (λ k. sending_of s (c.in_ok-own.ensures.1 k) (c.in_ok-control.ensures.1 k) (c.new.ensures k))
       ∙ send_is s i.main i.order i.taken i.accounts c.take.invariant.0
       ∙ ap (λ (t : TakePassView). unused t.queue s) c.take.view_is,
 )

@@ -9,36 +9,32 @@ use Rattle.mb_register.proofs.Views.{looks-back}
 use Rattle.mb_register.proofs.ClaimCounts.{claims-back}
 use Rattle.mb_register.proofs.untouched.give_home.Goals as goal
 
-pub release-requires-clause-extends : goal.release-requires-clause-extends
-release-requires-clause-extends g c =
-    let claim = c.args.claim in
-    extends-same (g.H.MailboxState.facts claim.home).journal (taken_with claim) (ap (λ (v : View). (held_in v).journal) c.requires.untouched.known)
-
-pub release-requires-clause-count : goal.release-requires-clause-count
-release-requires-clause-count g c = sym (ap (λ (v : View). (held_in v).given) c.requires.untouched.known)
-
-pub release-requires-clause-known_closed : goal.release-requires-clause-known_closed
-release-requires-clause-known_closed g c =
-    let claim = c.args.claim in
-    shut-same (g.H.MailboxState.facts claim.home).closed_to (closed_with claim) (taking_in (claim_view claim) (pass_view c.args.pass.now))
-    (ap (λ (v : View). (held_in v).closed_to) c.requires.untouched.known)
-
-pub release-requires-clause-drained : goal.release-requires-clause-drained
-release-requires-clause-drained g c =
-    let claim = c.args.claim in
-    drained-same (g.H.MailboxState.facts claim.home).drained (drained_by claim) (ap (λ (v : View). (held_in v).drained) c.requires.untouched.known)
+pub release-requires-clause-may_go_home : goal.release-requires-clause-may_go_home
+release-requires-clause-may_go_home g c = record {
+  home_of_actor = c.requires.untouched.same_gates.of_actor;
+  extends =
+      let claim = c.args.claim in
+      extends-same (g.H.MailboxState.facts claim.home).journal (taken_with claim) (ap (λ (v : View). (held_in v).journal) c.requires.untouched.known);
+  fold = c.requires.untouched.word;
+  count = sym (ap (λ (v : View). (held_in v).given) c.requires.untouched.known);
+  known_closed =
+      let claim = c.args.claim in
+      shut-same (g.H.MailboxState.facts claim.home).closed_to (closed_with claim) (taking_in (claim_view claim) (pass_view c.args.pass.now))
+      (ap (λ (v : View). (held_in v).closed_to) c.requires.untouched.known);
+  drained =
+      let claim = c.args.claim in
+      drained-same (g.H.MailboxState.facts claim.home).drained (drained_by claim) (ap (λ (v : View). (held_in v).drained) c.requires.untouched.known);
+  rest =
+      let claim = c.args.claim in
+      rest-open (status_of claim).closed (gave_last claim) (g.H.MailboxState.facts claim.home).no_backlog c.requires.untouched.open_yet
+      c.requires.untouched.rest;
+}
 
 pub release-requires-clause-told : goal.release-requires-clause-told
 release-requires-clause-told g c =
     let claim = c.args.claim in
     told-nothing (g.H.MailboxState.who claim.home) (held_actor claim) (status_of claim).closed (g.H.MailboxState.facts claim.home).journal (taken_with claim)
     (recorded_by claim) (ap (λ (v : View). (held_in v).journal) c.requires.untouched.known) c.requires.untouched.recorded
-
-pub release-requires-clause-rest : goal.release-requires-clause-rest
-release-requires-clause-rest g c =
-    let claim = c.args.claim in
-    rest-open (status_of claim).closed (gave_last claim) (g.H.MailboxState.facts claim.home).no_backlog c.requires.untouched.open_yet
-    c.requires.untouched.rest
 
 pub returns-clause-looks : goal.returns-clause-looks
 returns-clause-looks g c =

@@ -27,8 +27,8 @@ returns-in_default-clause-rest g c = λ fits.
     let came = subst (ControlsCame c.loop.take) (ap (λ l. items ++ l) none ∙ append-nil items) at.0.3 in
     is-rest c.args.take c.take.new.self items (controls-left c.args.take c.loop.take items at.1 at.2 came)
     (e.taken ∙ append-nil c.loop.take.taken ∙ at.0.1 ∙ ap (λ l. c.args.take.taken ++ (items ++ l)) none
-    ∙ ap (λ l. c.args.take.taken ++ l) (append-nil items)) (e.same.0 ∙ at.1.0, e.same.1 ∙ at.1.1) (e.same.2 ∙ at.2) e.each_once
-    (λ discipline. e.in_order (sym e.same.1 ∙ discipline))
+    ∙ ap (λ l. c.args.take.taken ++ l) (append-nil items)) (e.same.0 ∙ at.1.0, e.same.1 ∙ at.1.1) (e.same.2 ∙ at.2) e.given_all.each_once
+    (λ discipline. e.given_all.in_order (sym e.same.1 ∙ discipline))
     (parts-out c.loop.take c.take.new.self e.follows_discipline e.taken e.same.1 e.same.2) e.known
 
 pub returns-in_default-clause-overfull : goal.returns-in_default-clause-overfull
@@ -38,7 +38,7 @@ returns-in_default-clause-overfull g c = λ over.
       left = items ++ more;
       rest = is-rest c.args.take c.take.new.self (items ++ more)
           (controls-left c.args.take c.loop.take (items ++ more) at.1 at.2 at.0.3) (e.taken ∙ append-nil c.loop.take.taken ∙ at.0.1)
-          (e.same.0 ∙ at.1.0, e.same.1 ∙ at.1.1) (e.same.2 ∙ at.2) e.each_once (λ discipline. e.in_order (sym e.same.1 ∙ discipline))
+          (e.same.0 ∙ at.1.0, e.same.1 ∙ at.1.1) (e.same.2 ∙ at.2) e.given_all.each_once (λ discipline. e.given_all.in_order (sym e.same.1 ∙ discipline))
           (parts-out c.loop.take c.take.new.self e.follows_discipline e.taken e.same.1 e.same.2) e.known;
       over = ⊎_elim (λ all. absurd (cc (sym over ∙ all.0)))
           (λ some.
@@ -62,7 +62,7 @@ loop-preserved-then-len-capacity g c =
             (ap (λ l. (items ++ l) ++ one) all.1 ∙ ap (λ l. l ++ one) (append-nil items) ∙ sym c.push_reserved.ensures.items
             ∙ sym (append-nil c.push_reserved.new.self.items))
             (one-came c.loop.take c.take.new.self (items ++ at.0.0) c.in-Some-take.envelope e.taken e.same.2 (e.same.0, e.same.1) e.follows_discipline
-            e.sender at.0.3),
+            e.of_queue.0 at.0.3),
       )) (λ some. absurd (let full = some.2 in omega (arith, full, place))) at.0.2,
       (e.same.0 ∙ at.1.0, e.same.1 ∙ at.1.1),
       e.same.2 ∙ at.2,
@@ -81,7 +81,7 @@ loop-preserved g c =
         inr (refl, longer-none more c.in-Some-take.envelope, full),
         subst (ControlsCame c.take.new.self) (append_assoc items more one)
             (one-came c.loop.take c.take.new.self (items ++ more) c.in-Some-take.envelope e.taken e.same.2 (e.same.0, e.same.1) e.follows_discipline
-            e.sender at.0.3),
+            e.of_queue.0 at.0.3),
       ),
       (e.same.0 ∙ at.1.0, e.same.1 ∙ at.1.1),
       e.same.2 ∙ at.2,

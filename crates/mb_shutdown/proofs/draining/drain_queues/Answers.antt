@@ -4,7 +4,7 @@ use Rattle.std.specs.Prelude.{All, get_or, slice_get, vec_capacity, vec_len}
 use Rattle.std.proofs.Math.ListN.{drop_of_length-le}
 use Rattle.std.proofs.lemmas.List.{append-nil, length-append, length-set, take_all}
 use Rattle.std.proofs.lemmas.Option.{slice_get-get_or}
-use Rattle.mb_shutdown.specs.Rest.{AreRests}
+use Rattle.mb_shutdown.specs.LeftInQueues.{AreRests}
 use Rattle.mb_shutdown.proofs.RestLemmas.{all-fewer, in-place, last-in, place-there, rests-more, same-last, same-set, take-fewer, take-set}
 use Rattle.mb_shutdown.proofs.draining.drain_queues.Goals as goal
 

@@ -2,7 +2,7 @@ use Rattle.std.proofs.Common.{◌≡◌, ◌++◌, length, map, take, drop, vec_
 use Rattle.std.specs.Prelude.{All, []}
 use Rattle.mb_queue.specs.Passes.{TakePassView}
 use Rattle.std.proofs.Common.{List}
-use Rattle.mb_shutdown.specs.Rest.{AreRests}
+use Rattle.mb_shutdown.specs.LeftInQueues.{AreRests}
 use Rattle.mb_shutdown.proofs.draining.drain_queues.Given as goal
 
 abbrev pub invariant-loop-take : goal.invariant-loop-take

@@ -1,5 +1,5 @@
 use Rattle.mb_gate.specs.Accessors.{actors_of, pass_view}
-use Rattle.mb_shutdown.proofs.Back.{first-ours, match-read, read-again, read_by}
+use Rattle.mb_shutdown.proofs.ComingBack.{first-ours, match-read, read-again, read_by}
 use Rattle.mb_shutdown.proofs.ending.first_busy_of.Goals as goal
 
 pub first_busy-requires-clause-same_gates : goal.first_busy-requires-clause-same_gates

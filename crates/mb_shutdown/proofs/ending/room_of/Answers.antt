@@ -2,7 +2,7 @@ use Rattle.std.proofs.Common.{◌≡◌, ◌≤◌, ◌∙◌, ℕ, length, subs
 use Rattle.std.specs.Prelude.{vec_capacity}
 use Rattle.mb_gate.specs.Accessors.{actors_of, pass_view}
 use Rattle.mb_shutdown.specs.Rooms.{AreCounted, IsRoom, counted_in}
-use Rattle.mb_shutdown.proofs.Back.{first-ours, ok-at, read-again}
+use Rattle.mb_shutdown.proofs.ComingBack.{first-ours, ok-at, read-again}
 use Rattle.mb_shutdown.proofs.ending.room_of.Goals as goal
 
 pub make_room-room-requires-clause-same_gates : goal.make_room-room-requires-clause-same_gates

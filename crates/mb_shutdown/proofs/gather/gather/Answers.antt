@@ -10,8 +10,8 @@ use Rattle.mb_gate.specs.Accessors.{pass_view}
 use Rattle.mb_gate.specs.Rule.{IsPart}
 use Rattle.mb_system.specs.Members.{IsSenderOf}
 use Rattle.mb_shutdown.specs.Belonging.{HasAllSeen, brings}
-use Rattle.mb_shutdown.proofs.Back.{some-end}
-use Rattle.mb_shutdown.proofs.Gathered.{end-ours, ends-all, ends-first, ends-more, seen_by_sender, sender-ours, senders-all, senders-first, senders-more, view_of_end, view_of_sender}
+use Rattle.mb_shutdown.proofs.ComingBack.{some-handle}
+use Rattle.mb_shutdown.proofs.Gathered.{handle-ours, handles-all, handles-first, handles-more, seen_by_sender, sender-ours, senders-all, senders-first, senders-more, view_of_handle, view_of_sender}
 use Rattle.mb_shutdown.proofs.OfAll.{of-all}
 use Rattle.mb_shutdown.proofs.Places.{all-there, as-many-senders}
 use Rattle.mb_shutdown.proofs.Sums.{HasAll}
@@ -31,40 +31,40 @@ sort_by_number-requires g c =
 pub unreachable-requires : goal.unreachable-requires
 unreachable-requires g c =
     let built = c.args.built in
-    let some = some-end built.ends.items built.system.workers built.system.not_empty c.requires.complete.0 in
+    let some = some-handle built.handles.items built.system.workers built.system.not_empty c.requires.complete.0 in
     let none = c.in_default.ensures.cases.0 in
-    let len = c.into_iter-ends.ensures.len in
-    let many = built.ends.ok.0 in
+    let len = c.into_iter-handles.ensures.len in
+    let many = built.handles.ok.0 in
     omega (arith, some, none, len, many)
 
-pub loop-end-init : goal.loop-end-init
-loop-end-init g c =
+pub loop-handle-init : goal.loop-handle-init
+loop-handle-init g c =
     let built = c.args.built in
-    ends-first built.system.gates built.ends.items (into_iter_items c.into_iter-end-iterator.result) c.in-Some.first c.into_pass-pass.result
-    ((λ i. c.in-Some.first ∷ into_iter_items (c.into_iter-end-iterator.ensures.into_iter_gives i)) ∙ sym c.in-Some.ensures.cases.0
-    ∙ c.into_iter-ends.ensures.rest)
-    c.into_pass-pass.ensures c.requires.together.ends
+    handles-first built.system.gates built.handles.items (into_iter_items c.into_iter-handle-iterator.result) c.in-Some.first c.into_pass-pass.result
+    ((λ i. c.in-Some.first ∷ into_iter_items (c.into_iter-handle-iterator.ensures.into_iter_gives i)) ∙ sym c.in-Some.ensures.cases.0
+    ∙ c.into_iter-handles.ensures.rest)
+    c.into_pass-pass.ensures c.requires.together.handles
 
 pub absorb-requires : goal.absorb-requires
 absorb-requires g c =
-    let built = c.args.built in let at = c.loop-end in record {
+    let built = c.args.built in let at = c.loop-handle in record {
       same_gates = (
         at.invariant.knows.same_gates,
-        end-ours built.system.gates built.ends.items at.yielded (into_iter_items at.end-iterator) (into_iter_items c.next-in-loop-end.new.self)
-            c.in-Some-end.end at.pass c.into_pass.result at.invariant c.in-Some-end.ensures.steps.0 c.into_pass.ensures c.requires.together.ends,
+        handle-ours built.system.gates built.handles.items at.yielded (into_iter_items at.handle-iterator) (into_iter_items c.next-in-loop-handle.new.self)
+            c.in-Some-handle.handle at.pass c.into_pass.result at.invariant c.in-Some-handle.ensures.steps.0 c.into_pass.ensures c.requires.together.handles,
       );
     }
 
-pub loop-end-preserved : goal.loop-end-preserved
-loop-end-preserved g c =
-    let built = c.args.built in let at = c.loop-end in
-    ends-more built.system.gates built.ends.items at.yielded (into_iter_items at.end-iterator) (into_iter_items c.next-in-loop-end.new.self)
-    c.in-Some-end.end at.pass c.absorb.new.pass c.into_pass.result at.invariant c.in-Some-end.ensures.steps.0 c.into_pass.ensures
+pub loop-handle-preserved : goal.loop-handle-preserved
+loop-handle-preserved g c =
+    let built = c.args.built in let at = c.loop-handle in
+    handles-more built.system.gates built.handles.items at.yielded (into_iter_items at.handle-iterator) (into_iter_items c.next-in-loop-handle.new.self)
+    c.in-Some-handle.handle at.pass c.absorb.new.pass c.into_pass.result at.invariant c.in-Some-handle.ensures.steps.0 c.into_pass.ensures
     c.absorb.ensures.same_gates c.absorb.ensures.known
 
 pub loop-sender-init : goal.loop-sender-init
 loop-sender-init g c =
-    let built = c.args.built in let at = c.loop-end in let together = c.requires.together in let now = c.sort_by_number.new.all in
+    let built = c.args.built in let at = c.loop-handle in let together = c.requires.together in let now = c.sort_by_number.new.all in
     let many = as-many-senders built.system.senders built.senders.items c.requires.complete.1 together.numbered together.once in
     let is = c.deref_mut.ensures.value in
     let same : IsPermutation now built.senders.items = subst (λ l. IsPermutation now l) is c.sort_by_number.ensures.same in
@@ -77,10 +77,10 @@ loop-sender-init g c =
       now,
       same,
       c.sort_by_number.ensures.numbers ∙ ap (numbers 0) (ap length is ∙ many),
-      senders-first built.system.gates built.ends.items now (into_iter_items c.into_iter-sender-iterator.result) at.pass c.args.outside.now.items
+      senders-first built.system.gates built.handles.items now (into_iter_items c.into_iter-sender-iterator.result) at.pass c.args.outside.now.items
           at.invariant.knows.same_gates
-          (ends-all built.system.gates built.ends.items at.yielded (into_iter_items at.end-iterator) at.pass at.invariant
-          (nil_from_length (into_iter_items at.end-iterator) (sym at.end-iterator.rest.ok.0 ∙ c.in-None.ensures.steps.0)))
+          (handles-all built.system.gates built.handles.items at.yielded (into_iter_items at.handle-iterator) at.pass at.invariant
+          (nil_from_length (into_iter_items at.handle-iterator) (sym at.handle-iterator.rest.ok.0 ∙ c.in-None.ensures.steps.0)))
           rest c.requires.room.0,
       (omega (arith, left, long, none, room)),
     )
@@ -92,7 +92,7 @@ absorb-requires-in-loop-sender g c =
     (IsPermutation-sym now built.senders.items at.invariant.1) c.requires.together.senders in record {
       same_gates = (
         at.invariant.3.same_gates,
-        sender-ours built.system.gates built.ends.items now at.yielded (into_iter_items at.sender-iterator)
+        sender-ours built.system.gates built.handles.items now at.yielded (into_iter_items at.sender-iterator)
             (into_iter_items c.next-in-loop-sender.new.self) c.in-Some-sender.sender at.pass c.into_parts-other.result.0 at.outside.items
             at.invariant.3 c.in-Some-sender.ensures.steps.0 c.into_parts-other.ensures.0 all,
       );
@@ -116,7 +116,7 @@ loop-sender-preserved g c =
       now,
       at.invariant.1,
       at.invariant.2,
-      senders-more built.system.gates built.ends.items now at.yielded (into_iter_items at.sender-iterator) rest c.in-Some-sender.sender at.pass
+      senders-more built.system.gates built.handles.items now at.yielded (into_iter_items at.sender-iterator) rest c.in-Some-sender.sender at.pass
           c.absorb-in-loop-sender.new.pass c.into_parts-other.result.0 at.outside.items c.push_reserved.new.self.items _ at.invariant.3
           c.in-Some-sender.ensures.steps.0 c.into_parts-other.ensures.0 c.absorb-in-loop-sender.ensures.same_gates c.absorb-in-loop-sender.ensures.known
           c.push_reserved.ensures.items c.into_parts-other.ensures.1 c.into_parts-other.ensures.2,
@@ -128,15 +128,15 @@ returns g c =
     let built = c.args.built in let at = c.loop-sender in let has = at.invariant.3 in let now = at.invariant.0 in
     let none = nil_from_length (into_iter_items at.sender-iterator) (sym at.sender-iterator.rest.ok.0 ∙ c.in-None-sender.ensures.steps.0) in
     let all : at.yielded ≡ now =
-    senders-all built.system.gates built.ends.items now at.yielded (into_iter_items at.sender-iterator) at.pass at.outside.items has none in
+    senders-all built.system.gates built.handles.items now at.yielded (into_iter_items at.sender-iterator) at.pass at.outside.items has none in
     let seen : HasAllSeen built (pass_view at.pass).log = (
-      has.ends_seen,
+      has.handles_seen,
       All-permutation (λ s. IsPart (seen_by_sender s) (pass_view at.pass).log) now built.senders.items at.invariant.1
           (All-same (λ s. IsPart (seen_by_sender s) (pass_view at.pass).log) now at.yielded (sym all) has.seen),
     ) in
     record {
       gates = (refl, has.same_gates);
       of_all = of-all built (pass_view at.pass) now seen at.invariant.1
-          (subst (λ l. HasAll (map view_of_end built.ends.items ++ map view_of_sender l) (pass_view at.pass)) all has.all);
+          (subst (λ l. HasAll (map view_of_handle built.handles.items ++ map view_of_sender l) (pass_view at.pass)) all has.all);
       outside = (now, at.invariant.1, at.invariant.2, has.shown ∙ ap (map brings) all);
     }

@@ -5,7 +5,7 @@ use Rattle.std.proofs.lemmas.List.Elements.{All-push}
 use Rattle.std.specs.Vec.Iter.{into_iter_items}
 use Rattle.mb_msg.specs.JournalMode.{Retention}
 use Rattle.mb_msg.specs.declared.dead_letter.DeadLetter.{DeadLetter}
-use Rattle.mb_shutdown.specs.Apart.{sent_of}
+use Rattle.mb_shutdown.specs.HomeParts.{sent_of}
 use Rattle.mb_shutdown.specs.declared.finished_sender.FinishedSender.{FinishedSender}
 use Rattle.mb_shutdown.proofs.Steps.{added}
 use Rattle.mb_shutdown.proofs.home_parts.add_outside.Goals as goal

@@ -1,7 +1,7 @@
 use Rattle.std.proofs.Common.{◌≡◌, ◌+◌, ◌<◌, ◌≤◌, ◌^◌, ◌++◌, length, map, vec_capacity}
 use Rattle.std.specs.Prelude.{All}
 use Rattle.std.specs.Vec.Iter.{into_iter_items}
-use Rattle.mb_shutdown.specs.Apart.{sent_of}
+use Rattle.mb_shutdown.specs.HomeParts.{sent_of}
 use Rattle.mb_shutdown.proofs.home_parts.add_outside.Given as goal
 
 abbrev pub invariant-loop-outsider : goal.invariant-loop-outsider

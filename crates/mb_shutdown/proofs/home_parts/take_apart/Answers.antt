@@ -1,7 +1,7 @@
 use Rattle.std.proofs.Common.{rules, ◌≡◌, ◌++◌, ◌∷◌, [], length, map, refl, sym, ap, subst, ◌∙◌, append-nil, append_assoc, length-append, arith}
 use Rattle.std.specs.Vec.Iter.{into_iter_items}
 use Rattle.std.proofs.lemmas.List.{map-append, nil_from_length}
-use Rattle.mb_shutdown.specs.Apart.{AreApart}
+use Rattle.mb_shutdown.specs.HomeParts.{AreApart}
 use Rattle.mb_shutdown.specs.Mismatched.{IsNotReturned, IsUnopened}
 use Rattle.mb_shutdown.proofs.Answered.{err-of, ok-none}
 use Rattle.mb_shutdown.proofs.Lists.{length-mapped}

@@ -1,6 +1,6 @@
 use Rattle.std.proofs.Common.{◌≡◌, ◌++◌, map, vec_capacity}
 use Rattle.std.specs.Vec.Iter.{into_iter_items}
-use Rattle.mb_shutdown.specs.Apart.{AreApart}
+use Rattle.mb_shutdown.specs.HomeParts.{AreApart}
 use Rattle.mb_shutdown.proofs.home_parts.take_apart.Given as goal
 
 abbrev pub invariant-loop-left : goal.invariant-loop-left

@@ -26,8 +26,8 @@ returns-clause-taken g c =
     (are-taken c.args.takes.items rest guardian last rows (map (λ room. room.items) (take 1 c.args.lefts.now.items ++ rooms))
     (map (λ room. room.items) rooms) [] takes_are c.take.ensures.same.0 none c.take.ensures.known
     (rooms-of (λ room. room.items) c.args.lefts.now.items rooms (omega (arith, some, many_lefts)) c.requires.empty) refl
-    (length-mapped (λ room. room.items) rooms ∙ omega (arith, many_rooms, many_now, many_takes)) c.in_default.ensures.came
-    c.in_default.ensures.known c.in_default.ensures.ordered)
+    (length-mapped (λ room. room.items) rooms ∙ omega (arith, many_rooms, many_now, many_takes)) c.in_default.ensures.collected.came
+    c.in_default.ensures.collected.known c.in_default.ensures.collected.ordered)
 
 pub returns-then-is_some-clause-overfull : goal.returns-then-is_some-clause-overfull
 returns-then-is_some-clause-overfull g c =
@@ -55,4 +55,4 @@ returns-in-Err-clause-overfull g c =
     let base : now ≡ rooms = search rules in
     subst (λ n. IsTooMuchFor c.args.takes.items rows rooms n) (let e : suc place ≡ place + 1 = omega arith in e)
     (rest-over c.args.takes.items rest guardian rows rooms (take (length now - 1) (drop 1 now)) place takes_are
-    (lent-rooms now ∙ ap (drop 1) base) c.in-Err.ensures.overfull)
+    (lent-rooms now ∙ ap (drop 1) base) c.in-Err.ensures.too_many.overfull)

@@ -6,13 +6,12 @@ use Rattle.mb_gate.specs.Accessors.{actors_of, first_home, pass_view}
 use Rattle.mb_msg.specs.declared.dead_letter.DeadLetter.{DeadLetter}
 use Rattle.mb_shutdown.specs.declared.finished_sender.FinishedSender.{FinishedSender}
 use Rattle.mb_report.specs.declared.report.SenderReport.{SenderReport}
-use Rattle.mb_shutdown.specs.Apart.{sent_of}
+use Rattle.mb_shutdown.specs.HomeParts.{sent_of}
 use Rattle.mb_shutdown.specs.Homes.{HomesReturned, Disagrees}
 use Rattle.mb_shutdown.specs.Mismatched.{DiffersFromCount, of_whom}
+use Rattle.mb_shutdown.specs.Reported.{IsReportOnAll}
 use Rattle.mb_shutdown.specs.Rooms.{IsEmptyWithRoom}
-use Rattle.mb_shutdown.specs.Seen.{ReportExtendsAll}
 use Rattle.mb_shutdown.specs.Shown.{ShowsAll}
-use Rattle.mb_shutdown.specs.CompleteReport.{IsCompleteReport}
 use Rattle.mb_shutdown.proofs.Answered.{err-each, err-of, if-none, ok-each}
 use Rattle.mb_shutdown.proofs.EndLaw.{report-counted, report-home, report-letters, report-seen, report-whole, rows-different, rows-queues}
 use Rattle.mb_shutdown.proofs.Lists.{length-mapped}
@@ -25,19 +24,19 @@ take_rests-requires-clause-queues g c =
     let room = c.args.room in let apart = c.in_ok-take_apart.ensures.apart in let ended = c.take_apart.new.ended.items in
     let takes = c.take_apart.new.takes.items in let before = map (λ r. r.items) c.take_apart.new.rows.items in
     rows-queues g.K.Behaviours.gives (first_home c.args.gates).value (actors_of c.args.gates) (pass_view c.args.pass) c.finish-all.result.items
-    c.finish-all.ensures.left ended takes before c.take_apart.new.senders.items apart c.args.outside.items c.requires.within_limit.0 c.requires.directory
-    c.requires.outside c.add_outside.ensures.below_bound (λ r. r.items) c.add_outside.new.rows.items c.add_outside.ensures.rows
+    c.finish-all.ensures.left ended takes before c.take_apart.new.senders.items apart c.args.outside.items c.requires.gathered.within_limit.0 c.requires.gathered.directory
+    c.requires.gathered.outside c.add_outside.ensures.below_bound (λ r. r.items) c.add_outside.new.rows.items c.add_outside.ensures.rows
 
 pub take_rests-requires-clause-different : goal.take_rests-requires-clause-different
 take_rests-requires-clause-different g c =
     let room = c.args.room in let apart = c.in_ok-take_apart.ensures.apart in let ended = c.take_apart.new.ended.items in
     let takes = c.take_apart.new.takes.items in let before = map (λ r. r.items) c.take_apart.new.rows.items in
     rows-different g.K.Behaviours.gives (first_home c.args.gates).value (actors_of c.args.gates) (pass_view c.args.pass) c.finish-all.result.items
-    c.finish-all.ensures.left ended takes before c.take_apart.new.senders.items apart c.args.outside.items c.requires.within_limit.0 c.requires.directory
-    c.requires.outside c.add_outside.ensures.below_bound (λ r. r.items) c.add_outside.new.rows.items c.add_outside.ensures.rows
+    c.finish-all.ensures.left ended takes before c.take_apart.new.senders.items apart c.args.outside.items c.requires.gathered.within_limit.0 c.requires.gathered.directory
+    c.requires.gathered.outside c.add_outside.ensures.below_bound (λ r. r.items) c.add_outside.new.rows.items c.add_outside.ensures.rows
 
-pub returns-in-Ok-clause-whole : goal.returns-in-Ok-clause-whole
-returns-in-Ok-clause-whole g c =
+pub returns-in-Ok-clause-report : goal.returns-in-Ok-clause-report
+returns-in-Ok-clause-report g c =
     let apart = c.in_ok-take_apart.ensures.apart in let ended = c.take_apart.new.ended.items in
     let takes = c.take_apart.new.takes.items in let before = map (λ r. r.items) c.take_apart.new.rows.items in
     let lefts = map (λ l. l.items) c.take_rests.new.lefts.items in
@@ -46,50 +45,24 @@ returns-in-Ok-clause-whole g c =
     let waits : length c.deref.result.now ≡ actors_of c.args.gates = ap length same ∙ c.requires.room.counted in
     ok-each c.report_on.result
     (λ report. ShowsAll g.K.Behaviours.after ended lefts c.deref.result.now report.actors.items × (report.senders ≡ c.add_outside.new.senders))
-    (λ report. IsCompleteReport g.K.Behaviours.after g.K.Behaviours.gives first.directory v.log (map (λ o. o.send_log.posted) c.args.outside.items) report)
-    (λ report s.
-    report-whole g.K.Behaviours.gives first (actors_of c.args.gates) v c.finish-all.result.items
-    c.finish-all.ensures.left ended takes before c.take_apart.new.senders.items apart c.args.outside.items c.requires.within_limit.0 c.requires.directory
-    c.requires.outside c.add_outside.ensures.below_bound (λ r. r.items) c.add_outside.new.rows.items c.add_outside.ensures.rows g.K.Behaviours.after
-    c.requires.senders lefts c.in-Ok.ensures.taken c.deref.result.now waits report s.0
-    (ap (λ (w : Vec SenderReport Global). map sent_of w.items) s.1 ∙ c.add_outside.ensures.senders)) c.report_on.ensures.shows
-
-pub returns-in-Ok-clause-letters : goal.returns-in-Ok-clause-letters
-returns-in-Ok-clause-letters g c =
-    let apart = c.in_ok-take_apart.ensures.apart in let ended = c.take_apart.new.ended.items in
-    let takes = c.take_apart.new.takes.items in let before = map (λ r. r.items) c.take_apart.new.rows.items in
-    let lefts = map (λ l. l.items) c.take_rests.new.lefts.items in
-    let first = (first_home c.args.gates).value in let v = pass_view c.args.pass in
-    let same : c.deref.result.now ≡ c.args.room.waiting.items = search rules in
-    let waits : length c.deref.result.now ≡ actors_of c.args.gates = ap length same ∙ c.requires.room.counted in
-    ok-each c.report_on.result
-    (λ report. ShowsAll g.K.Behaviours.after ended lefts c.deref.result.now report.actors.items × (report.senders ≡ c.add_outside.new.senders))
-    (λ report. map (λ s. s.dead.retention) report.senders.items
-    ≡ map (λ e. e.who.retention) first.directory ++ map (λ o. o.send_log.dead.retention) c.args.outside.items)
-    (λ report s.
-    report-letters g.K.Behaviours.gives first (actors_of c.args.gates) v c.finish-all.result.items
-    c.finish-all.ensures.left ended takes before c.take_apart.new.senders.items apart c.args.outside.items c.requires.within_limit.0 c.requires.directory
-    c.requires.outside c.add_outside.ensures.below_bound (λ r. r.items) c.add_outside.new.rows.items c.add_outside.ensures.rows g.K.Behaviours.after
-    c.requires.senders lefts c.in-Ok.ensures.taken c.deref.result.now waits report s.0
-    (ap (λ (w : Vec SenderReport Global). map sent_of w.items) s.1 ∙ c.add_outside.ensures.senders)) c.report_on.ensures.shows
-
-pub returns-in-Ok-clause-seen : goal.returns-in-Ok-clause-seen
-returns-in-Ok-clause-seen g c =
-    let apart = c.in_ok-take_apart.ensures.apart in let ended = c.take_apart.new.ended.items in
-    let takes = c.take_apart.new.takes.items in let before = map (λ r. r.items) c.take_apart.new.rows.items in
-    let lefts = map (λ l. l.items) c.take_rests.new.lefts.items in
-    let first = (first_home c.args.gates).value in let v = pass_view c.args.pass in
-    let same : c.deref.result.now ≡ c.args.room.waiting.items = search rules in
-    let waits : length c.deref.result.now ≡ actors_of c.args.gates = ap length same ∙ c.requires.room.counted in
-    ok-each c.report_on.result
-    (λ report. ShowsAll g.K.Behaviours.after ended lefts c.deref.result.now report.actors.items × (report.senders ≡ c.add_outside.new.senders))
-    (λ report. ReportExtendsAll report v)
-    (λ report s.
-    report-seen g.K.Behaviours.gives first (actors_of c.args.gates) v c.finish-all.result.items
-    c.finish-all.ensures.left ended takes before c.take_apart.new.senders.items apart c.args.outside.items c.requires.within_limit.0 c.requires.directory
-    c.requires.outside c.add_outside.ensures.below_bound (λ r. r.items) c.add_outside.new.rows.items c.add_outside.ensures.rows g.K.Behaviours.after
-    c.requires.senders lefts c.in-Ok.ensures.taken c.deref.result.now waits report s.0
-    (ap (λ (w : Vec SenderReport Global). map sent_of w.items) s.1 ∙ c.add_outside.ensures.senders)) c.report_on.ensures.shows
+    (IsReportOnAll g.K.Behaviours.after g.K.Behaviours.gives first.directory v c.args.outside.items)
+    (λ report s. record {
+      whole = report-whole g.K.Behaviours.gives first (actors_of c.args.gates) v c.finish-all.result.items
+          c.finish-all.ensures.left ended takes before c.take_apart.new.senders.items apart c.args.outside.items c.requires.gathered.within_limit.0
+          c.requires.gathered.directory c.requires.gathered.outside c.add_outside.ensures.below_bound (λ r. r.items) c.add_outside.new.rows.items
+          c.add_outside.ensures.rows g.K.Behaviours.after c.requires.gathered.senders lefts c.in-Ok.ensures.taken c.deref.result.now waits report s.0
+          (ap (λ (w : Vec SenderReport Global). map sent_of w.items) s.1 ∙ c.add_outside.ensures.senders);
+      letters = report-letters g.K.Behaviours.gives first (actors_of c.args.gates) v c.finish-all.result.items
+          c.finish-all.ensures.left ended takes before c.take_apart.new.senders.items apart c.args.outside.items c.requires.gathered.within_limit.0
+          c.requires.gathered.directory c.requires.gathered.outside c.add_outside.ensures.below_bound (λ r. r.items) c.add_outside.new.rows.items
+          c.add_outside.ensures.rows g.K.Behaviours.after c.requires.gathered.senders lefts c.in-Ok.ensures.taken c.deref.result.now waits report s.0
+          (ap (λ (w : Vec SenderReport Global). map sent_of w.items) s.1 ∙ c.add_outside.ensures.senders);
+      seen = report-seen g.K.Behaviours.gives first (actors_of c.args.gates) v c.finish-all.result.items
+          c.finish-all.ensures.left ended takes before c.take_apart.new.senders.items apart c.args.outside.items c.requires.gathered.within_limit.0
+          c.requires.gathered.directory c.requires.gathered.outside c.add_outside.ensures.below_bound (λ r. r.items) c.add_outside.new.rows.items
+          c.add_outside.ensures.rows g.K.Behaviours.after c.requires.gathered.senders lefts c.in-Ok.ensures.taken c.deref.result.now waits report s.0
+          (ap (λ (w : Vec SenderReport Global). map sent_of w.items) s.1 ∙ c.add_outside.ensures.senders);
+    }) c.report_on.ensures.shows
 
 pub add_outside-requires : goal.add_outside-requires
 add_outside-requires g c =
@@ -108,7 +81,7 @@ take_rests-requires-clause-not_empty g c =
     let n = c.finish-all.ensures.left.same_count in
     let many = as-many c.finish-all.result.items c.take_apart.new.ended.items c.take_apart.new.takes.items
     (map (λ r. r.items) c.take_apart.new.rows.items) c.take_apart.new.senders.items apart in
-    let takes = many.of_takes in let some = c.args.gates.not_empty.0 in let few = c.requires.within_limit.0 in
+    let takes = many.of_takes in let some = c.args.gates.not_empty.0 in let few = c.requires.gathered.within_limit.0 in
     ((omega (arith, takes, n, some)), (omega (arith, takes, n, few)))
 
 pub take_rests-requires-clause-same_count : goal.take_rests-requires-clause-same_count
@@ -131,7 +104,7 @@ report_on-requires-clause-same_count g c =
     (map (λ r. r.items) c.take_apart.new.rows.items) c.take_apart.new.senders.items apart in
     let taken = c.in-Ok.ensures.taken.same_count in let of = length-mapped (λ l. l.items) c.take_rests.new.lefts.items in
     let ended = many.of_ended in let takes = many.of_takes in let same : c.deref.result.now ≡ c.args.room.waiting.items = search rules in
-    let waits = ap length same ∙ c.requires.room.counted in let few = c.requires.within_limit.0 in
+    let waits = ap length same ∙ c.requires.room.counted in let few = c.requires.gathered.within_limit.0 in
     ((omega (arith, taken, of, ended, takes)), (omega (arith, waits, ended, n)), (omega (arith, ended, n, few)))
 
 pub report_on-requires-clause-room : goal.report_on-requires-clause-room
@@ -153,7 +126,7 @@ report_on-requires-clause-senders g c =
     let outs = length-mapped {X = FinishedSender} {Y = ℕ × List DeadLetter × Retention} (λ o. (o.send_log.sent, o.send_log.dead.items, o.send_log.dead.retention)) c.args.outside.items in
     let all = ap length c.add_outside.ensures.senders
     ∙ length-append (map sent_of c.take_apart.new.senders.items) (map {A = FinishedSender} {B = ℕ × List DeadLetter × Retention} (λ o. (o.send_log.sent, o.send_log.dead.items, o.send_log.dead.retention)) c.args.outside.items) in
-    let few = c.requires.within_limit in let a = few.0 in let b = few.1 in omega (arith, senders, of, before, outs, all, n, a, b)
+    let few = c.requires.gathered.within_limit in let a = few.0 in let b = few.1 in omega (arith, senders, of, before, outs, all, n, a, b)
 
 pub returns-in_err-take_apart-clause-in_plan : goal.returns-in_err-take_apart-clause-in_plan
 returns-in_err-take_apart-clause-in_plan g c =
@@ -240,9 +213,9 @@ returns-in-Ok-clause-home g c =
     (HomesReturned g.K.Behaviours.gives first (actors_of c.args.gates) v)
     (λ report s.
     report-home g.K.Behaviours.gives first (actors_of c.args.gates) v c.finish-all.result.items
-    c.finish-all.ensures.left ended takes before c.take_apart.new.senders.items apart c.args.outside.items c.requires.within_limit.0 c.requires.directory
-    c.requires.outside c.add_outside.ensures.below_bound (λ r. r.items) c.add_outside.new.rows.items c.add_outside.ensures.rows g.K.Behaviours.after
-    c.requires.senders lefts c.in-Ok.ensures.taken c.deref.result.now waits report s.0
+    c.finish-all.ensures.left ended takes before c.take_apart.new.senders.items apart c.args.outside.items c.requires.gathered.within_limit.0 c.requires.gathered.directory
+    c.requires.gathered.outside c.add_outside.ensures.below_bound (λ r. r.items) c.add_outside.new.rows.items c.add_outside.ensures.rows g.K.Behaviours.after
+    c.requires.gathered.senders lefts c.in-Ok.ensures.taken c.deref.result.now waits report s.0
     (ap (λ (w : Vec SenderReport Global). map sent_of w.items) s.1 ∙ c.add_outside.ensures.senders)) c.report_on.ensures.shows
 
 pub returns-in-Ok-clause-counted : goal.returns-in-Ok-clause-counted
@@ -258,28 +231,16 @@ returns-in-Ok-clause-counted g c =
     (λ report. map (λ a. length a.left.items) report.actors.items ≡ c.args.room.waiting.items)
     (λ report s.
     report-counted g.K.Behaviours.gives first (actors_of c.args.gates) v c.finish-all.result.items
-    c.finish-all.ensures.left ended takes before c.take_apart.new.senders.items apart c.args.outside.items c.requires.within_limit.0 c.requires.directory
-    c.requires.outside c.add_outside.ensures.below_bound (λ r. r.items) c.add_outside.new.rows.items c.add_outside.ensures.rows g.K.Behaviours.after
-    c.requires.senders lefts c.in-Ok.ensures.taken c.deref.result.now waits report s.0
+    c.finish-all.ensures.left ended takes before c.take_apart.new.senders.items apart c.args.outside.items c.requires.gathered.within_limit.0 c.requires.gathered.directory
+    c.requires.gathered.outside c.add_outside.ensures.below_bound (λ r. r.items) c.add_outside.new.rows.items c.add_outside.ensures.rows g.K.Behaviours.after
+    c.requires.gathered.senders lefts c.in-Ok.ensures.taken c.deref.result.now waits report s.0
     (ap (λ (w : Vec SenderReport Global). map sent_of w.items) s.1 ∙ c.add_outside.ensures.senders) ∙ same) c.report_on.ensures.shows
 
-pub returns-in_err-take_apart-clause-whole : goal.returns-in_err-take_apart-clause-whole
-returns-in_err-take_apart-clause-whole g c = if-none _ c.from_residual.result c.in_err-take_apart.field-0.0 c.from_residual.ensures.1
+pub returns-in_err-take_apart-clause-report : goal.returns-in_err-take_apart-clause-report
+returns-in_err-take_apart-clause-report g c = if-none _ c.from_residual.result c.in_err-take_apart.field-0.0 c.from_residual.ensures.1
 
-pub returns-clause-whole : goal.returns-clause-whole
-returns-clause-whole g c = tt
-
-pub returns-in_err-take_apart-clause-letters : goal.returns-in_err-take_apart-clause-letters
-returns-in_err-take_apart-clause-letters g c = if-none _ c.from_residual.result c.in_err-take_apart.field-0.0 c.from_residual.ensures.1
-
-pub returns-clause-letters : goal.returns-clause-letters
-returns-clause-letters g c = tt
-
-pub returns-in_err-take_apart-clause-seen : goal.returns-in_err-take_apart-clause-seen
-returns-in_err-take_apart-clause-seen g c = if-none _ c.from_residual.result c.in_err-take_apart.field-0.0 c.from_residual.ensures.1
-
-pub returns-clause-seen : goal.returns-clause-seen
-returns-clause-seen g c = tt
+pub returns-clause-report : goal.returns-clause-report
+returns-clause-report g c = tt
 
 pub returns-in_err-take_apart-clause-home : goal.returns-in_err-take_apart-clause-home
 returns-in_err-take_apart-clause-home g c = if-none _ c.from_residual.result c.in_err-take_apart.field-0.0 c.from_residual.ensures.1

@@ -2,7 +2,8 @@ use Rattle.std.proofs.Common.{◌≡◌, ◌+◌, ◌∷◌, get_or, drop, lengt
 use Rattle.std.proofs.lemmas.List.{drop_all}
 use Rattle.mb_actor.specs.declared.effect.Effect.{Effect}
 use Rattle.mb_actor.specs.declared.effect.Effect.TheVariants as effect
-use Rattle.mb_supervision.proofs.EffectLemmas.{acts-step, children-step, watching-step, due-step, acts-done, from-next, act-fits, place-fits}
+use Rattle.mb_supervision.proofs.EffectLemmas.{acts-step, children-step, watching-step, due-step}
+use Rattle.mb_supervision.proofs.EffectLemmas.{acts-done, children-done, watching-done, due-done, from-next, act-fits, place-fits}
 use Rattle.mb_supervision.proofs.effects.carry_out.Goals as goal
 
 -- the effect that is carried out
@@ -16,11 +17,11 @@ next c = from-next c.args.effects.now c.loop-effect.effect-index _ c.loop-effect
 pub loop-effect-preserved : goal.loop-effect-preserved
 loop-effect-preserved c = record {
   acts =
-      acts-step c.args.this _ _ _ _ _ (the_effect c) _ _ c.carry_out_one.ensures.acts c.carry_out_one.ensures.watching (next c)
+      acts-step c.args.this _ _ _ _ _ (the_effect c) _ _ c.carry_out_one.ensures.carried_out.acts c.carry_out_one.ensures.carried_out.watching (next c)
       c.loop-effect.invariant.acts;
-  children = children-step _ _ _ (the_effect c) _ _ c.carry_out_one.ensures.children (next c) c.loop-effect.invariant.children;
-  watching = watching-step c.args.this _ _ _ (the_effect c) _ _ c.carry_out_one.ensures.watching (next c) c.loop-effect.invariant.watching;
-  due = due-step _ _ _ (the_effect c) _ _ c.carry_out_one.ensures.due (next c) c.loop-effect.invariant.due;
+  children = children-step _ _ _ (the_effect c) _ _ c.carry_out_one.ensures.carried_out.children (next c) c.loop-effect.invariant.children;
+  watching = watching-step c.args.this _ _ _ (the_effect c) _ _ c.carry_out_one.ensures.carried_out.watching (next c) c.loop-effect.invariant.watching;
+  due = due-step _ _ _ (the_effect c) _ _ c.carry_out_one.ensures.carried_out.due (next c) c.loop-effect.invariant.due;
   few_acts = omega arith;
   few_children = omega arith;
   few_watched = omega arith;
@@ -28,8 +29,14 @@ loop-effect-preserved c = record {
   watching_capacity = omega arith;
 }
 
-pub returns-clause-acts : goal.returns-clause-acts
-returns-clause-acts c = acts-done c.args.this _ _ _ _ (drop_all _ _ c.loop-effect-test.false) c.loop-effect.invariant.acts
+pub returns-clause-carried_out : goal.returns-clause-carried_out
+returns-clause-carried_out c =
+    let none = drop_all _ _ c.loop-effect-test.false in record {
+      acts = acts-done c.args.this _ _ _ _ none c.loop-effect.invariant.acts;
+      children = children-done _ _ _ none c.loop-effect.invariant.children;
+      watching = watching-done c.args.this _ _ _ none c.loop-effect.invariant.watching;
+      due = due-done _ _ _ none c.loop-effect.invariant.due;
+    }
 
 pub carry_out_one-requires-clause-room : goal.carry_out_one-requires-clause-room
 carry_out_one-requires-clause-room c =

@@ -1,11 +1,11 @@
 use Rattle.std.proofs.Common.{◌≡◌, ℕ, ◌++◌, ◌<◌, ◌≤◌, ◌∙◌, List, [], None, Some, ap, arith, drop, false, get_or, length, map, refl, reverse, slice_get, string_bytes, sym, take, true}
 use Rattle.std.specs.Prelude.{codes, if◌then◌else◌}
-use Rattle.mb_causal_order.specs.Places.{standing}
+use Rattle.mb_causal_order.specs.Places.{entries_placed}
 use Rattle.mb_causal_order.specs.declared.place.Place.{Place}
 use Rattle.mb_trace.specs.Steps.{Step, step_data, steps_in}
 use Rattle.mb_trace.specs.Text.{is_above, is_shown, step_text, title_text}
 use Rattle.mb_trace.proofs.Left.{steps-past}
-use Rattle.mb_trace.proofs.OrderLines.{grown, next-found, next-full, next-left_out, next-none, next-shown, order-end, standing-left, standing-none}
+use Rattle.mb_trace.proofs.OrderLines.{grown, next-found, next-full, next-left_out, next-none, next-shown, order-end, placed-left, placed-none}
 use Rattle.mb_trace.proofs.Written.{appends-both, appends-same, begins-first, begins-same, begins-whole, begins-within, err-written}
 use Rattle.mb_trace.proofs.on_threads.write_in_order.Goals as goal
 
@@ -47,12 +47,12 @@ loop-place-preserved-then-place-len g c =
     let nobody = steps-past trace p.actor past in
     record {
       steps = λ a.
-          standing-none a p before (steps_in trace) _ nobody (inv.steps a)
-          ∙ ap (λ b. drop (standing a b) (steps_in trace a)) (sym (grown order i none c.loop-place-test.true));
+          placed-none a p before (steps_in trace) _ nobody (inv.steps a)
+          ∙ ap (λ b. drop (entries_placed a b) (steps_in trace a)) (sym (grown order i none c.loop-place-test.true));
       so_far = inv.so_far;
       written = inv.written;
       whole = next-none names f (steps_in trace) order i none c.loop-place-test.true c.loop-place.above c.loop-place.left inv.so_far _ inv.whole
-          (ap (λ (l : List Step). slice_get l (standing p.actor before)) nobody);
+          (ap (λ (l : List Step). slice_get l (entries_placed p.actor before)) nobody);
     }
 
 pub returns-in_err-step : goal.returns-in_err-step
@@ -71,12 +71,12 @@ loop-place-preserved-in_default g c =
     let inv = c.loop-place.invariant in
     let p : Place = get_or order i none in
     let before = reverse (take i order) in
-    let found = next-found _ (steps_in trace p.actor) (standing p.actor before) _ None (inv.steps p.actor) c.in_default.is
+    let found = next-found _ (steps_in trace p.actor) (entries_placed p.actor before) _ None (inv.steps p.actor) c.in_default.is
     c.in_ok-step.ensures.found in
     record {
       steps = λ a.
-          standing-left a p before (steps_in trace a) _ _ (inv.steps a) (c.in_ok-step.ensures.left a)
-          ∙ ap (λ b. drop (standing a b) (steps_in trace a)) (sym (grown order i none c.loop-place-test.true));
+          placed-left a p before (steps_in trace a) _ _ (inv.steps a) (c.in_ok-step.ensures.left a)
+          ∙ ap (λ b. drop (entries_placed a b) (steps_in trace a)) (sym (grown order i none c.loop-place-test.true));
       so_far = inv.so_far;
       written = inv.written;
       whole = next-none names f (steps_in trace) order i none c.loop-place-test.true c.loop-place.above c.loop-place.left inv.so_far _ inv.whole found;
@@ -94,8 +94,8 @@ loop-place-preserved-then-left-eq0 g c =
     let before = reverse (take i order) in
     record {
       steps = λ a.
-          standing-left a p before (steps_in trace a) _ _ (inv.steps a) (c.in_ok-step.ensures.left a)
-          ∙ ap (λ b. drop (standing a b) (steps_in trace a)) (sym (grown order i none c.loop-place-test.true));
+          placed-left a p before (steps_in trace a) _ _ (inv.steps a) (c.in_ok-step.ensures.left a)
+          ∙ ap (λ b. drop (entries_placed a b) (steps_in trace a)) (sym (grown order i none c.loop-place-test.true));
       so_far = inv.so_far;
       written = inv.written;
       whole = next-full names f (steps_in trace) order i none c.loop-place-test.true c.loop-place.above c.loop-place.left inv.so_far _ inv.whole c.if-left-eq0.true;
@@ -111,13 +111,13 @@ loop-place-preserved-then-not-passes g c =
     let inv = c.loop-place.invariant in
     let p : Place = get_or order i none in
     let before = reverse (take i order) in
-    let found = next-found _ (steps_in trace p.actor) (standing p.actor before) _ (Some c.in-Some.step) (inv.steps p.actor) c.in-Some.is
+    let found = next-found _ (steps_in trace p.actor) (entries_placed p.actor before) _ (Some c.in-Some.step) (inv.steps p.actor) c.in-Some.is
     c.in_ok-step.ensures.found in
     let out : is_shown f (step_data c.in-Some.step) ≡ false = sym c.passes.ensures ∙ c.if-not-passes.true in
     record {
       steps = λ a.
-          standing-left a p before (steps_in trace a) _ _ (inv.steps a) (c.in_ok-step.ensures.left a)
-          ∙ ap (λ b. drop (standing a b) (steps_in trace a)) (sym (grown order i none c.loop-place-test.true));
+          placed-left a p before (steps_in trace a) _ _ (inv.steps a) (c.in_ok-step.ensures.left a)
+          ∙ ap (λ b. drop (entries_placed a b) (steps_in trace a)) (sym (grown order i none c.loop-place-test.true));
       so_far = inv.so_far;
       written = inv.written;
       whole = next-left_out names f (steps_in trace) order i none c.loop-place-test.true c.loop-place.above c.loop-place.left inv.so_far _ inv.whole (step_data c.in-Some.step) found out;
@@ -133,7 +133,7 @@ loop-place-preserved g c =
     let inv = c.loop-place.invariant in
     let p : Place = get_or order i none in
     let before = reverse (take i order) in
-    let found = next-found _ (steps_in trace p.actor) (standing p.actor before) _ (Some c.in-Some.step) (inv.steps p.actor) c.in-Some.is
+    let found = next-found _ (steps_in trace p.actor) (entries_placed p.actor before) _ (Some c.in-Some.step) (inv.steps p.actor) c.in-Some.is
     c.in_ok-step.ensures.found in
     let s = step_data c.in-Some.step in
     let passes : is_shown f s ≡ true = sym c.passes.ensures ∙ c.if-not-passes.false in
@@ -141,8 +141,8 @@ loop-place-preserved g c =
     let piece = (if is_above c.loop-place.above s.actor then [] else title_text names (codes "actor") s.actor) ++ step_text names s in
     record {
       steps = λ a.
-          standing-left a p before (steps_in trace a) _ _ (inv.steps a) (c.in_ok-step.ensures.left a)
-          ∙ ap (λ b. drop (standing a b) (steps_in trace a)) (sym (grown order i none c.loop-place-test.true));
+          placed-left a p before (steps_in trace a) _ _ (inv.steps a) (c.in_ok-step.ensures.left a)
+          ∙ ap (λ b. drop (entries_placed a b) (steps_in trace a)) (sym (grown order i none c.loop-place-test.true));
       so_far = inv.so_far ++ piece;
       written = appends-both _ _ _ inv.so_far piece inv.written c.in_ok-write_next.ensures;
       whole = next-shown names f (steps_in trace) order i none c.loop-place-test.true c.loop-place.above c.loop-place.left inv.so_far _ inv.whole s found passes some;
@@ -158,7 +158,7 @@ returns-in_err-write_next g c =
     let inv = c.loop-place.invariant in
     let p : Place = get_or order i none in
     let before = reverse (take i order) in
-    let found = next-found _ (steps_in trace p.actor) (standing p.actor before) _ (Some c.in-Some.step) (inv.steps p.actor) c.in-Some.is
+    let found = next-found _ (steps_in trace p.actor) (entries_placed p.actor before) _ (Some c.in-Some.step) (inv.steps p.actor) c.in-Some.is
     c.in_ok-step.ensures.found in
     let s = step_data c.in-Some.step in
     let passes : is_shown f s ≡ true = sym c.passes.ensures ∙ c.if-not-passes.false in

@@ -1,5 +1,5 @@
 use Rattle.std.proofs.Common.{◌++◌, refl}
-use Rattle.mb_trace.specs.Rest.{rest_text}
+use Rattle.mb_trace.specs.Undelivered.{rest_text}
 use Rattle.mb_trace.specs.Whole.{names_in}
 use Rattle.mb_trace.proofs.Readable.{rest-readable}
 use Rattle.mb_trace.proofs.Written.{begins-first, err-written, written-same, written-second}

@@ -1,6 +1,6 @@
 use Rattle.std.proofs.Common.{◌+◌, ◌++◌, ◌∙◌, [], ap, append_assoc, drop, map, refl, string_bytes, sym}
 use Rattle.std.proofs.lemmas.List.{append-nil, drop_all}
-use Rattle.mb_trace.specs.Rest.{all_aside_text, set_aside_text}
+use Rattle.mb_trace.specs.Undelivered.{all_aside_text, set_aside_text}
 use Rattle.mb_trace.proofs.Written.{appends-both, appends-none, appends-same, begins-within, err-written}
 use Rattle.mb_trace.proofs.AsideLines.{aside-next}
 use Rattle.mb_trace.proofs.undelivered.write_all_aside.Goals as goal

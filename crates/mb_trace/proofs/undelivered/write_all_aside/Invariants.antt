@@ -1,6 +1,6 @@
 use Rattle.std.proofs.Common.{◌≡◌, ℕ, ◌++◌, List, drop, map, string_bytes}
 use Rattle.std.specs.Io.KnownBytes.{Appends}
-use Rattle.mb_trace.specs.Rest.{all_aside_text}
+use Rattle.mb_trace.specs.Undelivered.{all_aside_text}
 use Rattle.mb_trace.proofs.undelivered.write_all_aside.Given as goal
 
 -- the lines so far are written, and those of the actors that are left follow

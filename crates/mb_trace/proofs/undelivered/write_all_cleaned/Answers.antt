@@ -1,6 +1,6 @@
 use Rattle.std.proofs.Common.{map, string_bytes}
 use Rattle.mb_report.specs.declared.report.ActorReport.{ActorReport}
-use Rattle.mb_trace.specs.Rest.{cleaned_text, readable_cleaned}
+use Rattle.mb_trace.specs.Undelivered.{cleaned_text, readable_cleaned}
 use Rattle.mb_trace.proofs.Written.{appends-none, each-all, each-cut, each-more, err-written}
 use Rattle.mb_trace.proofs.undelivered.write_all_cleaned.Goals as goal
 

@@ -2,7 +2,7 @@ use Rattle.std.proofs.Common.{map, string_bytes, take}
 use Rattle.std.specs.Io.KnownBytes.{Appends}
 use Rattle.std.specs.List.{flat_map}
 use Rattle.mb_report.specs.declared.report.ActorReport.{ActorReport}
-use Rattle.mb_trace.specs.Rest.{cleaned_text, readable_cleaned}
+use Rattle.mb_trace.specs.Undelivered.{cleaned_text, readable_cleaned}
 use Rattle.mb_trace.proofs.undelivered.write_all_cleaned.Given as goal
 
 -- the lines so far are written

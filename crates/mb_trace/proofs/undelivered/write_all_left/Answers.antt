@@ -1,5 +1,5 @@
 use Rattle.std.proofs.Common.{map, string_bytes}
-use Rattle.mb_trace.specs.Rest.{queued_text}
+use Rattle.mb_trace.specs.Undelivered.{queued_text}
 use Rattle.mb_trace.proofs.Written.{appends-none, each-all, each-cut, each-more, err-written}
 use Rattle.mb_trace.proofs.undelivered.write_all_left.Goals as goal
 

@@ -1,7 +1,7 @@
 use Rattle.std.proofs.Common.{map, string_bytes, take}
 use Rattle.std.specs.Io.KnownBytes.{Appends}
 use Rattle.std.specs.List.{flat_map}
-use Rattle.mb_trace.specs.Rest.{queued_text}
+use Rattle.mb_trace.specs.Undelivered.{queued_text}
 use Rattle.mb_trace.proofs.undelivered.write_all_left.Given as goal
 
 -- the lines so far are written

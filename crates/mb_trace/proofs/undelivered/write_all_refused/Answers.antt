@@ -1,6 +1,6 @@
 use Rattle.std.proofs.Common.{map, string_bytes}
 use Rattle.mb_report.specs.declared.report.SenderReport.{SenderReport}
-use Rattle.mb_trace.specs.Rest.{letters_text, readable_letters}
+use Rattle.mb_trace.specs.Undelivered.{letters_text, readable_letters}
 use Rattle.mb_trace.proofs.Written.{appends-none, each-all, each-cut, each-more, err-written}
 use Rattle.mb_trace.proofs.undelivered.write_all_refused.Goals as goal
 

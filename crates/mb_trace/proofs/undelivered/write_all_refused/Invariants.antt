@@ -2,7 +2,7 @@ use Rattle.std.proofs.Common.{map, string_bytes, take}
 use Rattle.std.specs.Io.KnownBytes.{Appends}
 use Rattle.std.specs.List.{flat_map}
 use Rattle.mb_report.specs.declared.report.SenderReport.{SenderReport}
-use Rattle.mb_trace.specs.Rest.{letters_text, readable_letters}
+use Rattle.mb_trace.specs.Undelivered.{letters_text, readable_letters}
 use Rattle.mb_trace.proofs.undelivered.write_all_refused.Given as goal
 
 -- the lines so far are written

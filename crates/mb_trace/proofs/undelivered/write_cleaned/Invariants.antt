@@ -4,7 +4,7 @@ use Rattle.std.specs.List.{flat_map}
 use Rattle.mb_msg.specs.declared.dead_letter.DeadLetterReason.TheVariants as why
 use Rattle.mb_msg.specs.declared.envelope.Envelope.{Envelope}
 use Rattle.mb_trace.specs.Ends.{letter_text}
-use Rattle.mb_trace.specs.Rest.{where_shown}
+use Rattle.mb_trace.specs.Undelivered.{where_shown}
 use Rattle.mb_trace.proofs.undelivered.write_cleaned.Given as goal
 
 -- the lines so far are written

@@ -2,7 +2,7 @@ use Rattle.std.proofs.Common.{ap, map, string_bytes}
 use Rattle.std.specs.List.{flat_map}
 use Rattle.mb_report.specs.declared.report.ActorReport.{ActorReport}
 use Rattle.mb_report.specs.declared.report.SenderReport.{SenderReport}
-use Rattle.mb_trace.specs.Rest.{cleaned_text, letters_text, queued_text, readable_cleaned, readable_letters}
+use Rattle.mb_trace.specs.Undelivered.{cleaned_text, letters_text, queued_text, readable_cleaned, readable_letters}
 use Rattle.mb_trace.proofs.Written.{appends-both, appends-same, begins-first, begins-same, begins-second, err-written, written-same, written-second}
 use Rattle.mb_trace.proofs.undelivered.write_envelopes.Goals as goal
 

@@ -3,7 +3,7 @@ use Rattle.std.specs.Io.KnownBytes.{Appends}
 use Rattle.std.specs.List.{flat_map}
 use Rattle.mb_msg.specs.declared.envelope.Envelope.{Envelope}
 use Rattle.mb_trace.specs.Ends.{left_text}
-use Rattle.mb_trace.specs.Rest.{where_shown}
+use Rattle.mb_trace.specs.Undelivered.{where_shown}
 use Rattle.mb_trace.proofs.undelivered.write_left.Given as goal
 
 -- the lines so far are written

@@ -3,7 +3,7 @@ use Rattle.std.specs.Io.KnownBytes.{Appends}
 use Rattle.std.specs.List.{flat_map}
 use Rattle.mb_msg.specs.declared.dead_letter.DeadLetter.{DeadLetter}
 use Rattle.mb_trace.specs.Ends.{letter_text}
-use Rattle.mb_trace.specs.Rest.{where_shown}
+use Rattle.mb_trace.specs.Undelivered.{where_shown}
 use Rattle.mb_trace.proofs.undelivered.write_refused.Given as goal
 
 -- the lines so far are written

@@ -1,7 +1,7 @@
 use Rattle.std.proofs.Common.{◌≡◌, ◌++◌, ◌∙◌, List, [], ap, map, string_bytes, sym, true}
 use Rattle.std.specs.Prelude.{if◌then◌else◌}
 use Rattle.mb_report.specs.declared.report.ActorReport.{ActorReport}
-use Rattle.mb_trace.specs.Rest.{all_aside_text, envelopes_text, readable_cleaned, readable_letters, shows_envelopes, shows_system_messages}
+use Rattle.mb_trace.specs.Undelivered.{all_aside_text, envelopes_text, readable_cleaned, readable_letters, shows_envelopes, shows_system_messages}
 use Rattle.mb_trace.proofs.Written.{begins-first, begins-same, err-written, written-same, written-second}
 use Rattle.mb_trace.proofs.undelivered.write_rest.Goals as goal
 

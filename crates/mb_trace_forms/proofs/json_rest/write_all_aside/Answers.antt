@@ -2,7 +2,7 @@ use Rattle.std.proofs.Common.{ℕ, ◌+◌, ◌++◌, ◌∙◌, List, [], ap, a
 use Rattle.std.specs.List.{flat_map}
 use Rattle.std.proofs.lemmas.List.{append-nil, drop_all}
 use Rattle.mb_msg.specs.declared.system.SysMsg.{SysMsg}
-use Rattle.mb_trace.specs.Rest.{where_shown}
+use Rattle.mb_trace.specs.Undelivered.{where_shown}
 use Rattle.mb_trace.proofs.Written.{appends-both, appends-none, appends-same, begins-same, begins-within, err-written}
 use Rattle.mb_trace_forms.specs.JsonRest.{all_aside_json, aside_json}
 use Rattle.mb_trace_forms.proofs.AsideLines.{aside-next}

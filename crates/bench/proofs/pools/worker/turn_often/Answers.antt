@@ -11,7 +11,7 @@ push-requires g c =
 
 pub loop-preserved : goal.loop-preserved
 loop-preserved g c =
-    let pushed = same_gates c.loop.end c.push.new.self c.push.ensures.same ∙ c.loop.invariant.1 in (
+    let pushed = same_gates c.loop.handle c.push.new.self c.push.ensures.same ∙ c.loop.invariant.1 in (
       c.loop.invariant.0,
       same_gates c.push.new.self c.take.new.self c.take.ensures.same ∙ pushed,
       subst (λ o. IsUntouched g.H.MailboxState.is_of g.H.MailboxState.facts o c.in-Some-take.next) pushed c.in-Some-take.ensures.untouched,

@@ -6,6 +6,6 @@ use Rattle.bench.proofs.pools.worker.turn_often.Given as goal
 
 abbrev pub invariant-loop : goal.invariant-loop
 invariant-loop g l = (pass_id l.pass ≡ gates_id l.gates)
-    × (gates_of l.end ≡ Some (origin_of l.gates))
+    × (gates_of l.handle ≡ Some (origin_of l.gates))
     × IsUntouched g.H.MailboxState.is_of g.H.MailboxState.facts
     (Some (origin_of l.gates)) l.claim

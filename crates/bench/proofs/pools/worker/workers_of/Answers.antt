@@ -16,13 +16,13 @@ loop-number-init c = (
 pub worker_of-worker-requires-clause-same_origin : goal.worker_of-worker-requires-clause-same_origin
 worker_of-worker-requires-clause-same_origin c =
     let ours = λ (w : PoolEndpoint _). gates_of w ≡ Some (origin_of c.args.gates.now) in
-    all_last ours c.pop.new.self.items c.in-Some.end (subst (All ours) c.in-Some.ensures.items c.loop-number.invariant.1)
+    all_last ours c.pop.new.self.items c.in-Some.handle (subst (All ours) c.in-Some.ensures.items c.loop-number.invariant.1)
 
 pub loop-number-preserved : goal.loop-number-preserved
 loop-number-preserved c =
     let ours = λ (w : PoolEndpoint _). gates_of w ≡ Some (origin_of c.args.gates.now) in let ready = IsReadyWorker c.args.gates.now in (
       c.worker_of-worker.ensures.same_gates,
-      all_front ours c.pop.new.self.items (c.in-Some.end ∷ []) (subst (All ours) c.in-Some.ensures.items c.loop-number.invariant.1),
+      all_front ours c.pop.new.self.items (c.in-Some.handle ∷ []) (subst (All ours) c.in-Some.ensures.items c.loop-number.invariant.1),
       subst (All ready) (sym c.in-Ok-push.ensures.items)
           (All-push ready c.loop-number.workers.items c.worker_of-worker.result c.loop-number.invariant.2 c.worker_of-worker.ensures.ready),
     )

@@ -8,5 +8,5 @@ use Rattle.bench.proofs.pools.worker.workers_of.Given as goal
 
 abbrev pub invariant-loop-number : goal.invariant-loop-number
 invariant-loop-number l = (pass_id l.pass ≡ gates_id l.gates)
-    × All (λ (w : PoolEndpoint StubHome). gates_of w ≡ Some (origin_of l.gates)) l.ends.items
+    × All (λ (w : PoolEndpoint StubHome). gates_of w ≡ Some (origin_of l.gates)) l.handles.items
     × All (IsReadyWorker l.gates) l.workers.items

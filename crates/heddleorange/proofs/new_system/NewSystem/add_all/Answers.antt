@@ -29,7 +29,7 @@ loop-plan-preserved g c =
     c.in_default.field-0
     (subst (λ (l : List Given). SoFar old (plans_of all) (actors_of all) names (plans_of l) (actors_of l) (names_behind (length now.actors.items) (plans_of l)) now)
     c.in-Some.ensures.steps.0 c.loop-plan.invariant)
-    c.in_default.ensures.added
+    c.in_default.ensures.added c.in_default.ensures.settings c.in_default.ensures.refused
 
 pub returns-in-Err-clause-added : goal.returns-in-Err-clause-added
 returns-in-Err-clause-added g c =
@@ -42,11 +42,11 @@ returns-in-Err-clause-added g c =
     let all = c.args.actors.items in
     let names = names_behind (length old.actors.items) (plans_of all) in
     let before : c.len-there.result ≡ length old.actors.items = c.len-there.ensures ∙ old.actors.ok.0 in
-    none-added old (plans_of all) (actors_of all) names now c.add.new.self.system c.keep_first.new.self c.in-Some.plan c.in-Some.actor.actor _ (plans_of left)
+    none-added old (plans_of all) (actors_of all) names now c.add.new.self.system c.keep_first.new.self c.in-Some.plan c.in-Some.actor.actor (plans_of left)
     (actors_of left) _ c.in-Err.error
     (subst (λ (l : List Given). SoFar old (plans_of all) (actors_of all) names (plans_of l) (actors_of l) (names_behind (length now.actors.items) (plans_of l)) now)
     c.in-Some.ensures.steps.0 c.loop-plan.invariant)
-    c.in-Err.ensures.added
+    c.in-Err.ensures.unchanged c.in-Err.ensures.settings c.in-Err.ensures.refused
     (c.keep_first.ensures.actors ∙ ap (λ n. take n c.add.new.self.system.actors.items) before)
     (c.keep_first.ensures.planned ∙ ap (λ n. take n c.add.new.self.system.plan.actors.items) before)
     (c.keep_first.ensures.named ∙ ap (λ n. take n c.add.new.self.system.names.texts.items) before)

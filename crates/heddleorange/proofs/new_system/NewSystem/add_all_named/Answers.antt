@@ -21,9 +21,10 @@ loop-name-preserved g c =
       one-added old (plans_of all) (actors_of all) (names_of all) now c.add_named.new.self.system c.in-Some.plan c.in-Some.actor.actor c.in-Some.name.now
           (plans_of left) (actors_of left) (names_of left) c.in_default.field-0
           (subst (λ (l : List Given). SoFar old (plans_of all) (actors_of all) (names_of all) (plans_of l) (actors_of l) (names_of l) now) steps before.0)
-          c.in_default.ensures.added,
+          c.in_default.ensures.added c.in_default.ensures.settings c.in_default.ensures.refused,
       one-free old now c.add_named.new.self.system c.in-Some.plan c.in-Some.actor.actor c.in-Some.name.now (names_of all) (names_of left) c.in_default.field-0
-          (subst (λ (l : List Given). Untaken old (names_of all) (names_of l) now) steps before.1) c.in_default.ensures.added c.in_default.ensures.taken,
+          (subst (λ (l : List Given). Untaken old (names_of all) (names_of l) now) steps before.1) c.in_default.ensures.added c.in_default.ensures.refused
+          c.in_default.ensures.taken,
     )
 
 pub returns-in-Err-clause-added : goal.returns-in-Err-clause-added
@@ -38,10 +39,10 @@ returns-in-Err-clause-added g c =
     let left = into_iter_items c.next.new.self in
     let before : c.len-before.result ≡ length old.actors.items = c.len-before.ensures ∙ old.actors.ok.0 in
     none-added old (plans_of all) (actors_of all) (names_of all) now c.add_named.new.self.system c.keep_first.new.self c.in-Some.plan c.in-Some.actor.actor
-    c.in-Some.name.now (plans_of left) (actors_of left) _ c.in-Err.error
+    (plans_of left) (actors_of left) _ c.in-Err.error
     (subst (λ (l : List Given). SoFar old (plans_of all) (actors_of all) (names_of all) (plans_of l) (actors_of l) (names_of l) now) c.in-Some.ensures.steps.0
     c.loop-name.invariant.0)
-    c.in-Err.ensures.added
+    c.in-Err.ensures.unchanged c.in-Err.ensures.settings c.in-Err.ensures.refused
     (c.keep_first.ensures.actors ∙ ap (λ n. take n c.add_named.new.self.system.actors.items) before)
     (c.keep_first.ensures.planned ∙ ap (λ n. take n c.add_named.new.self.system.plan.actors.items) before)
     (c.keep_first.ensures.named ∙ ap (λ n. take n c.add_named.new.self.system.names.texts.items) before)

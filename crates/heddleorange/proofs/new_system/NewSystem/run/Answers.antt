@@ -1,40 +1,10 @@
 use Rattle.heddleorange.proofs.new_system.NewSystem.run.Goals as goal
 
-pub returns-clause-story : goal.returns-clause-story
-returns-clause-story g c = c.run.ensures.story
+pub returns-clause-report : goal.returns-clause-report
+returns-clause-report g c = c.run.ensures.report
 
-pub returns-clause-right : goal.returns-clause-right
-returns-clause-right g c = c.run.ensures.right
-
-pub returns-clause-refused : goal.returns-clause-refused
-returns-clause-refused g c = c.run.ensures.refused
-
-pub returns-clause-which : goal.returns-clause-which
-returns-clause-which g c = c.run.ensures.which
-
-pub returns-clause-at_rest : goal.returns-clause-at_rest
-returns-clause-at_rest g c = c.run.ensures.at_rest
-
-pub returns-clause-back : goal.returns-clause-back
-returns-clause-back g c = c.run.ensures.back
-
-pub returns-clause-states : goal.returns-clause-states
-returns-clause-states g c = c.run.ensures.states
-
-pub returns-clause-lines : goal.returns-clause-lines
-returns-clause-lines g c = c.run.ensures.lines
-
-pub returns-clause-headline : goal.returns-clause-headline
-returns-clause-headline g c = c.run.ensures.headline
-
-pub returns-clause-ledger : goal.returns-clause-ledger
-returns-clause-ledger g c = c.run.ensures.ledger
-
-pub returns-clause-counts : goal.returns-clause-counts
-returns-clause-counts g c = c.run.ensures.counts
-
-pub returns-clause-kept : goal.returns-clause-kept
-returns-clause-kept g c = c.run.ensures.kept
+pub returns-clause-failure : goal.returns-clause-failure
+returns-clause-failure g c = c.run.ensures.failure
 
 pub returns-clause-names : goal.returns-clause-names
 returns-clause-names g c = c.run.ensures.names

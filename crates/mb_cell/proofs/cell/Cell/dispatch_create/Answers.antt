@@ -1,5 +1,5 @@
 use Rattle.std.proofs.Common.{sym, ◌∙◌, rules}
-use Rattle.mb_cell.specs.Nothing.DoesNothing.{started_already}
+use Rattle.mb_cell.specs.WithoutEffect.DoesNothing.{started_already}
 use Rattle.mb_cell.proofs.cell.Cell.dispatch_create.Goals as goal
 
 pub apply_nothing-requires-clause-nothing : goal.apply_nothing-requires-clause-nothing

@@ -1,5 +1,5 @@
 use Rattle.std.proofs.Common.{sym, ◌∙◌, rules}
-use Rattle.mb_cell.specs.Nothing.DoesNothing.{fresh_died}
+use Rattle.mb_cell.specs.WithoutEffect.DoesNothing.{fresh_died}
 use Rattle.mb_cell.proofs.DispatchLemmas.{is_fresh}
 use Rattle.mb_cell.proofs.cell.Cell.dispatch_died.Goals as goal
 

@@ -1,5 +1,5 @@
 use Rattle.std.proofs.Common.{sym, ◌∙◌, rules}
-use Rattle.mb_cell.specs.Nothing.DoesNothing.{fresh_failed, of_no_child}
+use Rattle.mb_cell.specs.WithoutEffect.DoesNothing.{fresh_failed, of_no_child}
 use Rattle.mb_cell.proofs.DispatchLemmas.{is_fresh, not-true}
 use Rattle.mb_cell.proofs.cell.Cell.dispatch_failed.Goals as goal
 use Rattle.mb_cell.proofs.cell.Cell.dispatch_failed.Goals.{then-is_fresh, else-is_fresh}

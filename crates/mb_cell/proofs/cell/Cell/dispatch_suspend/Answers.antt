@@ -1,5 +1,5 @@
 use Rattle.std.proofs.Common.{sym, ◌∙◌, rules}
-use Rattle.mb_cell.specs.Nothing.DoesNothing.{fresh_suspend}
+use Rattle.mb_cell.specs.WithoutEffect.DoesNothing.{fresh_suspend}
 use Rattle.mb_cell.proofs.DispatchLemmas.{is_fresh}
 use Rattle.mb_cell.proofs.cell.Cell.dispatch_suspend.Goals as goal
 

@@ -1,5 +1,5 @@
 use Rattle.std.proofs.Common.{sym, ◌∙◌, rules}
-use Rattle.mb_cell.specs.Nothing.DoesNothing.{ends_already}
+use Rattle.mb_cell.specs.WithoutEffect.DoesNothing.{ends_already}
 use Rattle.mb_cell.proofs.DispatchLemmas.{ends}
 use Rattle.mb_cell.proofs.cell.Cell.dispatch_terminate.Goals as goal
 

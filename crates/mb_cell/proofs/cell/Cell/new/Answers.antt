@@ -3,6 +3,7 @@ use Rattle.std.specs.Prelude.{Option, Some, None, is_some, is_none, IfSome}
 use Rattle.mb_actor.specs.Behaviour.{AllowsSame}
 use Rattle.mb_actor.specs.RecordedActor.{RecordedActor}
 use Rattle.mb_supervision.specs.CellStateRecord.{CellState}
+use Rattle.mb_cell.specs.NewActor.{IsNewActor}
 use Rattle.mb_cell.proofs.NewLaw.{first_cell_state, agrees-new, plays-new}
 use Rattle.mb_cell.proofs.UnsentLaws.{is-unsent-none}
 use Rattle.mb_cell.proofs.cell.Cell.new.Given as given
@@ -42,6 +43,13 @@ returns-in_default-clause-lawful g c = (invariant_of-result g c).0.lawful
 handed : (g : given.Over) (c : goal.After-new-2 g) → c.new-2.result.actor ≡ c.in-Some.actor
 handed g c = ap (λ (a : RecordedActor (g.row.A.Denot)). a.actor) c.new-2.ensures
 
+is_new : (g : given.Over) (c : goal.After-new-2 g) →
+    IsNewActor g.A.Actor.content g.A.Actor.after g.A.Actor.gives (g.K.Behaviours.after c.args.this.0) (g.K.Behaviours.gives c.args.this.0) c.in-Some.actor
+is_new g c =
+    of_it c.args.actor c.in-Some.actor
+    (IsNewActor g.A.Actor.content g.A.Actor.after g.A.Actor.gives (g.K.Behaviours.after c.args.this.0) (g.K.Behaviours.gives c.args.this.0)) c.in-Some.is
+    c.requires.new_actor
+
 pub invariant_of-result-2 : goal.invariant_of-result-2
 invariant_of-result-2 g c = (
   agrees-new
@@ -54,12 +62,9 @@ invariant_of-result-2 g c = (
       (record { this = c.args.this; parent = c.args.parent; actors = c.args.actors; prepared = c.args.prepared; strategy = c.args.strategy })
       c.in_ok-journal.journal c.args.journal_limit _ _ _ _ _ _ _ c.in_ok-journal.ensures.made
       (a_parent c.args.actor c.in-Some.actor c.args.parent c.in-Some.is c.requires.guardian)
-      (ap g.A.Actor.after (handed g c)
-      ∙ of_it c.args.actor c.in-Some.actor (λ a. g.A.Actor.after a ≡ g.K.Behaviours.after c.args.this.0) c.in-Some.is c.requires.behaves)
-      (subst (λ a. AllowsSame (g.A.Actor.gives a) (g.K.Behaviours.gives c.args.this.0)) (sym (handed g c))
-      (of_it c.args.actor c.in-Some.actor (λ a. AllowsSame (g.A.Actor.gives a) (g.K.Behaviours.gives c.args.this.0)) c.in-Some.is c.requires.allows))
-      (subst (λ a. g.A.Actor.content a ≡ g.A.Actor.after a []) (sym (handed g c))
-      (of_it c.args.actor c.in-Some.actor (λ a. g.A.Actor.content a ≡ g.A.Actor.after a []) c.in-Some.is c.requires.unused))
+      (ap g.A.Actor.after (handed g c) ∙ (is_new g c).behaves)
+      (subst (λ a. AllowsSame (g.A.Actor.gives a) (g.K.Behaviours.gives c.args.this.0)) (sym (handed g c)) (is_new g c).allows)
+      (subst (λ a. g.A.Actor.content a ≡ g.A.Actor.after a []) (sym (handed g c)) (is_new g c).unused)
       (ap (λ (a : RecordedActor (g.row.A.Denot)). a.calls) c.new-2.ensures),
   is-unsent-none 0 _ refl,
 )

@@ -8,5 +8,5 @@ pub refusal_of-requires : goal.refusal_of-requires
 refusal_of-requires g c =
     let was = c.self.inside in
     record {
-      back = of-refusal (record { system = was.system; ends = was.ends; senders = was.senders }) c.in-Err.error c.in-Err.ensures.refused c.self.invariant;
+      back = of-refusal (record { system = was.system; handles = was.handles; senders = was.senders }) c.in-Err.error c.in-Err.ensures.refused c.self.invariant;
     }

@@ -6,10 +6,10 @@ pub call_sender-requires : goal.call_sender-requires
 call_sender-requires g c =
     let was = c.self.inside in
     let some : 0 < length was.senders.items = omega (arith, was.senders.ok.0) in
-    record { same_gates = first-sender was.system was.ends was.senders c.index_mut.result.now c.index_mut.ensures.value some c.self.invariant }
+    record { same_gates = first-sender was.system was.handles was.senders c.index_mut.result.now c.index_mut.ensures.value some c.self.invariant }
 
 pub invariant_of-self : goal.invariant_of-self
 invariant_of-self g c =
     let was = c.self.inside in
-    with-sender was.system was.ends was.senders _ c.index_mut.result.now c.call_sender.new.sender refl c.call_sender.ensures.same_gates
+    with-sender was.system was.handles was.senders _ c.index_mut.result.now c.call_sender.new.sender refl c.call_sender.ensures.same_gates
     c.call_sender.ensures.same_sender c.index_mut.ensures.value c.self.invariant

@@ -1,7 +1,7 @@
 use Rattle.std.proofs.Common.{rules, ap, ◌∙◌}
 use Rattle.mb_gate.specs.Accessors.{first_home}
 use Rattle.mb_gate.proofs.Allowed.{joins_allowed}
-use Rattle.mb_gate.proofs.Parting.{some_left}
+use Rattle.mb_gate.proofs.SplitsAndJoins.{some_left}
 use Rattle.mb_gate.specs.Rule.{is_some_item}
 use Rattle.mb_gate.proofs.gates.Gates.absorb.Goals as goal
 

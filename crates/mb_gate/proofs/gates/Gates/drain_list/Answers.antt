@@ -15,7 +15,7 @@ use Rattle.mb_gate.proofs.gates.Gates.drain_list.Goals as goal
 
 pub store-requires : goal.store-requires
 store-requires g c =
-    let lent = c.requires.lent in
+    let lent = c.requires.holds_list.lent in
     let l : Lent = record { actor = c.args.id.0; listed = lent.listed; gave = lent.gave } in
     let same = list_taken c.args.id.0 _ lent.listed c.in-List.list c.slot_mut.result.now c.args.seat.now.me lent.carried c.slot_mut.ensures.value c.in-List.is in
     let some = ap is_some_item (c.drain-chain.ensures.chain ∙ ap listed same) ∙ some_listed lent.listed in
@@ -25,7 +25,7 @@ store-requires g c =
       drains_allowed (g.H.MailboxState.is_of (first_home c.args.self.now)) g.H.MailboxState.facts _ _ _ _ c.args.id.0 _ (let k =
           c.args.self.now.keyed in let t = c.requires.present in omega arith) _ l _ c.word_index-gate.ensures
           (let k = c.args.self.now.keyed in let d = c.args.self.now.slot_count in omega arith)
-          c.requires.holder.has c.requires.holder.of lent.has refl
+          c.requires.holds_list.holder.has c.requires.holds_list.holder.of lent.has refl
           (λ i. (c.slot_index.ensures i, Listing (list i)) ∷ rest c.args.seat.now.me.1)
           (c.with_drained-new.ensures ∙ (ap (with_drained c.args.word.bits) (empty_is c.is_empty.result c.drain-chain.result c.is_empty.ensures ∙
           ap not some) ∙ word_drained c.args.word.bits lent.listed lent.gave _ lent.found)),
@@ -33,29 +33,29 @@ store-requires g c =
 
 pub returns-clause-drained : goal.returns-clause-drained
 returns-clause-drained g c =
-    let lent = c.requires.lent in
+    let lent = c.requires.holds_list.lent in
     let l : Lent = record { actor = c.args.id.0; listed = lent.listed; gave = lent.gave } in
     let same = list_taken c.args.id.0 _ lent.listed c.in-List.list c.slot_mut.result.now c.args.seat.now.me lent.carried c.slot_mut.ensures.value c.in-List.is in
-    let told = c.store.ensures.2 l (held_in c.args.seat.now.me.0) lent.has c.requires.holder.has in
+    let told = c.store.ensures.2 l (held_in c.args.seat.now.me.0) lent.has c.requires.holds_list.holder.has in
     let chain = c.drain-chain.ensures.chain ∙ ap listed same in
     let some = ap is_some_item chain ∙ some_listed lent.listed in
     told.0 ∙ (λ i. (draining c.args.id.0 (sym chain i) (sym some i) c.args.seat.now.me.0, rest c.args.seat.now.me.1))
 
 pub returns-clause-numbers : goal.returns-clause-numbers
 returns-clause-numbers g c =
-    let lent = c.requires.lent in
+    let lent = c.requires.holds_list.lent in
     let l : Lent = record { actor = c.args.id.0; listed = lent.listed; gave = lent.gave } in
     let same = list_taken c.args.id.0 _ lent.listed c.in-List.list c.slot_mut.result.now c.args.seat.now.me lent.carried c.slot_mut.ensures.value c.in-List.is in
-    let told = c.store.ensures.2 l (held_in c.args.seat.now.me.0) lent.has c.requires.holder.has in
+    let told = c.store.ensures.2 l (held_in c.args.seat.now.me.0) lent.has c.requires.holds_list.holder.has in
     let chain = c.drain-chain.ensures.chain ∙ ap listed same in
     record { messages = lent.listed.messages; each = chain ∙ ap (λ n. numbered n lent.listed.messages) told.1 }
 
 pub returns-clause-named : goal.returns-clause-named
 returns-clause-named g c =
-    let lent = c.requires.lent in
+    let lent = c.requires.holds_list.lent in
     let l : Lent = record { actor = c.args.id.0; listed = lent.listed; gave = lent.gave } in
     let same = list_taken c.args.id.0 _ lent.listed c.in-List.list c.slot_mut.result.now c.args.seat.now.me lent.carried c.slot_mut.ensures.value c.in-List.is in
-    let told = c.store.ensures.2 l (held_in c.args.seat.now.me.0) lent.has c.requires.holder.has in
+    let told = c.store.ensures.2 l (held_in c.args.seat.now.me.0) lent.has c.requires.holds_list.holder.has in
     let chain = c.drain-chain.ensures.chain ∙ ap listed same in
     let actors = actors_of c.args.self.now in
     subst (EachNamesBelow actors) (sym chain) (all_with_numbers (NamesBelow actors) lent.listed.given lent.listed.messages

@@ -10,7 +10,7 @@ pub claim-requires-clause-won : goal.claim-requires-clause-won
 claim-requires-clause-won g c =
     let found = c.if-found-old.true ∙ c.word-old.ensures.word in
     taken (g.H.MailboxState.is_of (first_home c.args.self.now)) g.H.MailboxState.facts _ _ _ _ (c.exchange_word-found.ensures.won found) c.args.status
-    (scheduled_word c.args.seen c.args.status c.requires.free c.requires.scheduled ∙ ap (λ n. n + 2) (sym found))
+    (scheduled_word c.args.seen c.args.status c.requires.scheduled.free c.requires.scheduled.scheduled ∙ ap (λ n. n + 2) (sym found))
     c.args.pass.now.holds_nothing.0 c.args.pass.now.holds_nothing.2 c.args.pass.now.shares
 
 pub invariant_of-pass : goal.invariant_of-pass
@@ -31,8 +31,8 @@ pub returns-then-found-old-clause-answer : goal.returns-then-found-old-clause-an
 returns-then-found-old-clause-answer g c =
     let found = c.if-found-old.true ∙ c.word-old.ensures.word in
     got (g.H.MailboxState.is_of (first_home c.args.self.now)) g.H.MailboxState.facts _ _ _ _ (c.exchange_word-found.ensures.won found)
-    c.args.seen c.claim.result _ c.requires.free found c.args.pass.now.holds_nothing.1 (c.claim.ensures.claim.2 ∙ c.requires.scheduled)
-    c.claim.ensures.claim.1 c.claim.ensures.recorded c.claim.ensures.claim.0 c.claim.ensures.home (ap (λ m. m.0) c.claim.ensures.rest)
+    c.args.seen c.claim.result _ c.requires.scheduled.free found c.args.pass.now.holds_nothing.1 (c.claim.ensures.split_off.claim.2 ∙ c.requires.scheduled.scheduled)
+    c.claim.ensures.split_off.claim.1 c.claim.ensures.split_off.recorded c.claim.ensures.split_off.claim.0 c.claim.ensures.split_off.home (ap (λ m. m.0) c.claim.ensures.rest)
 
 pub invariant_of-pass-else-found-old : goal.invariant_of-pass-else-found-old
 invariant_of-pass-else-found-old g c =
@@ -55,7 +55,7 @@ pub returns-clause-answer : goal.returns-clause-answer
 returns-clause-answer g c =
     let lost = c.exchange_word-found.ensures.lost (λ e. c.if-found-old.false (e ∙ sym c.word-old.ensures.word)) in
     let same = c.in-Some.ensures.same_word in (
-      c.requires.free,
+      c.requires.scheduled.free,
       (λ e. c.if-found-old.false (sym same ∙ (e ∙ sym c.word-old.ensures.word))),
       ap (λ m. m.0) lost.0 ∙ ap (λ w. reading c.args.id.0 w (pass_view c.args.pass.now)) (sym same),
       subst (λ w. StaysClosed c.args.id.0 w (pass_view c.args.pass.now)) (sym same) lost.2,

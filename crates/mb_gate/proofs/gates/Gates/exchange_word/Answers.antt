@@ -23,8 +23,8 @@ compare_exchange_with-requires g c =
       search rules,
       schedules_allowed g.H.MailboxState.is_of (memory note.0 key) g.H.MailboxState.facts _ _ _ _ c.args.id.0 _
           (let k = c.args.self.now.keyed in let t = c.requires.present in omega arith) _ _ _ (noted _ note.0 key note.1 note.2)
-          c.word_index-index.ensures (ap (λ n. n % 4) c.word-before.ensures.word ∙ free_mod c.args.old c.requires.free)
-          (c.word-after.ensures.word ∙ (scheduled_word c.args.old c.args.new c.requires.free c.requires.scheduled
+          c.word_index-index.ensures (ap (λ n. n % 4) c.word-before.ensures.word ∙ free_mod c.args.old c.requires.scheduled.free)
+          (c.word-after.ensures.word ∙ (scheduled_word c.args.old c.args.new c.requires.scheduled.free c.requires.scheduled.scheduled
           ∙ ap (λ n. n + 2) (sym c.word-before.ensures.word))) c.requires.no_claim c.requires.share,
     )
 

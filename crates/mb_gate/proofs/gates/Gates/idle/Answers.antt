@@ -8,30 +8,30 @@ use Rattle.mb_gate.proofs.gates.Gates.idle.Goals as goal
 
 pub store-requires : goal.store-requires
 store-requires g c =
-    let r = c.requires.ready in
+    let r = c.requires.ready in let may = r.may_go_home in
     let closed : c.args.status.closed ≡ true = sym c.closed.ensures ∙ c.if-closed.true in (
       search rules,
       search rules,
       idles_closed_allowed (g.H.MailboxState.is_of (first_home c.args.self.now)) g.H.MailboxState.facts _ _ _ _ c.args.actor.0 _ (let k =
-          c.args.self.now.keyed in let t = c.requires.present in omega arith) _ r.home c.word_index-flag.ensures r.has r.of r.carried r.of_actor r.extends
-          r.count r.known_closed r.drained
-          (r.word ∙ closed_word c.args.status closed) (sym (r.fold ∙ closed_word (idle c.args.status) closed)) (r.rest (inl closed)) r.share,
+          c.args.self.now.keyed in let t = c.requires.present in omega arith) _ r.home c.word_index-flag.ensures r.has r.of r.carried may.home_of_actor may.extends
+          may.count may.known_closed may.drained
+          (r.word ∙ closed_word c.args.status closed) (sym (may.fold ∙ closed_word (idle c.args.status) closed)) (may.rest (inl closed)) r.share,
     )
 
 pub store-requires-2 : goal.store-requires-2
 store-requires-2 g c =
-    let r = c.requires.ready in
+    let r = c.requires.ready in let may = r.may_go_home in
     let unshut : c.args.status.closed ≡ false = sym c.closed.ensures ∙ c.if-closed.false in
     let is = sym (c.word.ensures.word ∙ ap word_of c.idle.ensures) in (
       search rules,
       search rules,
       idles_allowed (g.H.MailboxState.is_of (first_home c.args.self.now)) g.H.MailboxState.facts _ _ _ _ c.args.actor.0 _ (let k =
-          c.args.self.now.keyed in let t = c.requires.present in omega arith) _ r.home _ c.word_index-index.ensures r.has r.of r.carried r.of_actor
-          r.extends r.count r.known_closed r.drained
+          c.args.self.now.keyed in let t = c.requires.present in omega arith) _ r.home _ c.word_index-index.ensures r.has r.of r.carried may.home_of_actor
+          may.extends may.count may.known_closed may.drained
           (λ two. r.word ∙ (idle_two c.args.status unshut (ap (λ k. k % 4) (sym r.word) ∙ two) ∙ ap (λ k. k + 2) is))
           (λ one. let no = one_closed c.args.status (sym r.word ∙ one) in absurd (cc)) (subst (λ n. IsTrue (is_valid n)) (sym
           c.word.ensures.word) (valid_word c.idle.result c.word.ensures.possible))
-          (subst (λ n. n % 4 ≡ 0) is (idle_free c.args.status unshut)) (sym is ∙ sym r.fold) (λ no. r.rest (inr no)) r.share,
+          (subst (λ n. n % 4 ≡ 0) is (idle_free c.args.status unshut)) (sym is ∙ sym may.fold) (λ no. may.rest (inr no)) r.share,
     )
 
 pub returns-then-closed-clause-idle : goal.returns-then-closed-clause-idle

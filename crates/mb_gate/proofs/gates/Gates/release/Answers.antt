@@ -7,7 +7,7 @@ use Rattle.mb_gate.specs.Returned.{GoesOn}
 use Rattle.mb_gate.specs.Claims.{ClaimGoesOn, IsReadyToRelease}
 use Rattle.mb_gate.specs.Accessors.{first_home, pass_view, claim_view, taken_with}
 use Rattle.mb_gate.proofs.Numbers.{each_left}
-use Rattle.mb_gate.proofs.Parting.{some_left}
+use Rattle.mb_gate.proofs.SplitsAndJoins.{some_left}
 use Rattle.mb_gate.proofs.gates.Gates.release.Goals as goal
 
 pub idle-requires-clause-ready : goal.idle-requires-clause-ready
@@ -20,13 +20,7 @@ idle-requires-clause-ready g c =
       has = claim.has;
       of = claim.of;
       word = claim.word;
-      of_actor = c.requires.home_of_actor;
-      extends = c.requires.extends;
-      fold = c.requires.fold;
-      count = c.requires.count;
-      known_closed = c.requires.known_closed;
-      drained = c.requires.drained;
-      rest = c.requires.rest;
+      may_go_home = c.requires.may_go_home;
       share = some_left _ _ c.args.pass.now.shares;
     }
 

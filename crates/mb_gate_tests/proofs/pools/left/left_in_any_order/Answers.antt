@@ -1,17 +1,17 @@
 use Rattle.std.proofs.Common.{◌≡◌, List, All, Some, ap, subst, sym}
 use Rattle.mb_gate.specs.Untouched.{IsUntouched}
-use Rattle.mb_pool.specs.Places.{AreAllEnds, AreFeeds, PoolEndpoint, PoolView}
+use Rattle.mb_pool.specs.Places.{AreAllHandles, AreFeeds, PoolEndpoint, PoolView}
 use Rattle.mb_gate_tests.proofs.pools.left.left_in_any_order.Goals as goal
 
--- the same pool and ends under other names
-same_ends : {H : Type 0} (p q : PoolView H) (es fs : List (PoolEndpoint H)) → p ≡ q → es ≡ fs → AreAllEnds q fs → AreAllEnds p es
-same_ends p q es fs pool ends are = subst (λ x. AreAllEnds x es) (sym pool) (subst (λ x. AreAllEnds q x) (sym ends) are)
+-- the same pool and handles under other names
+same_handles : {H : Type 0} (p q : PoolView H) (es fs : List (PoolEndpoint H)) → p ≡ q → es ≡ fs → AreAllHandles q fs → AreAllHandles p es
+same_handles p q es fs pool handles are = subst (λ x. AreAllHandles x es) (sym pool) (subst (λ x. AreAllHandles q x) (sym handles) are)
 
 same_feeds : {H : Type 0} (p q : PoolView H) (es fs : List (PoolEndpoint H)) → p ≡ q → es ≡ fs → AreFeeds q fs → AreFeeds p es
 same_feeds p q es fs pool feeds are = subst (λ x. AreFeeds x es) (sym pool) (subst (λ x. AreFeeds q x) (sym feeds) are)
 
-pub remaining-requires-clause-ends : goal.remaining-requires-clause-ends
-remaining-requires-clause-ends g c = c.requires.ends
+pub remaining-requires-clause-handles : goal.remaining-requires-clause-handles
+remaining-requires-clause-handles g c = c.requires.handles
 
 pub remaining-requires-clause-feeds : goal.remaining-requires-clause-feeds
 remaining-requires-clause-feeds g c = c.requires.feeds
@@ -19,9 +19,9 @@ remaining-requires-clause-feeds g c = c.requires.feeds
 pub returns-in-Ok : goal.returns-in-Ok
 returns-in-Ok g c = c.in-Ok.ensures.untouched
 
-pub remaining-requires-2-clause-ends : goal.remaining-requires-2-clause-ends
-remaining-requires-2-clause-ends g c =
-    let same = c.in-Err.ensures.left in same_ends _ _ _ _ same.0 same.1 c.requires.ends
+pub remaining-requires-2-clause-handles : goal.remaining-requires-2-clause-handles
+remaining-requires-2-clause-handles g c =
+    let same = c.in-Err.ensures.left in same_handles _ _ _ _ same.0 same.1 c.requires.handles
 
 pub remaining-requires-2-clause-feeds : goal.remaining-requires-2-clause-feeds
 remaining-requires-2-clause-feeds g c =

@@ -1,6 +1,6 @@
 use Rattle.std.proofs.Common.{◌≡◌, ◌∙◌, ◌-◌, ap, length, sym, subst, arith}
 use Rattle.mb_msg.specs.declared.envelope.Envelope.{Envelope}
-use Rattle.mb_queue.specs.Pushes.{IsReason}
+use Rattle.mb_queue.specs.Pushes.{IsReasonToRefuse}
 use Rattle.mb_queue.proofs.RefusedLemmas.{refusal-of}
 use Rattle.mb_home.specs.Contents.{Contents}
 use Rattle.mb_home.specs.Steps.{next_envelope, with_pushed}
@@ -53,7 +53,7 @@ returns-in-Err-clause-refused g c = record {
   pass = c.index_mut.result.now;
   was = pass-next _ _ _ _ _ c.requires.settled _ c.index_mut.result.now c.self.view_is c.index_mut.ensures.value;
   refusal = refusal-of c.index_mut.result.now c.of-refused.result
-      (subst (IsReason c.index_mut.result.now) (sym c.of-refused.ensures.1) c.in-Err.ensures.refused);
+      (subst (IsReasonToRefuse c.index_mut.result.now) (sym c.of-refused.ensures.1) c.in-Err.ensures.refused);
 }
 
 pub returns-in-Err-clause-settled : goal.returns-in-Err-clause-settled

@@ -1,6 +1,6 @@
 use Rattle.std.proofs.Common.{◌≡◌, ◌++◌, sym, ap, subst, ◌∙◌}
-use Rattle.std.specs.Prelude.{Contains, IfSome, IfNone, option_to_list}
-use Rattle.mb_msg.specs.declared.envelope.Envelope.{Envelope}
+use Rattle.std.specs.Prelude.{IfSome, IfNone, option_to_list}
+use Rattle.mb_queue.specs.Passes.{IsOfQueue}
 use Rattle.mb_queue.specs.Takes.{IsTake}
 use Rattle.mb_home.specs.Contents.{Contents}
 use Rattle.mb_home.specs.AgreesWithJournal.{AgreesWithJournal}
@@ -20,8 +20,7 @@ returns-clause-took g c =
       c.take.ensures.same.1 ∙ ap (λ (x : Contents). x.take.discipline) c.self.view_is,
       c.take.ensures.same.2 ∙ ap (λ (x : Contents). x.take.accounts) c.self.view_is,
     )
-    (subst (λ (x : Contents). IfSome r (λ (e : Envelope). Contains x.take.queue.senders e.by.0)) c.self.view_is c.take.ensures.sender)
-    (subst (λ (x : Contents). IfSome r (λ (e : Envelope). e.to.0 ≡ x.take.queue.to)) c.self.view_is c.take.ensures.addressed)
+    (subst (λ (x : Contents). IfSome r (IsOfQueue x.take.queue)) c.self.view_is c.take.ensures.of_queue)
     (subst (λ (x : Contents). IsTake x.take.discipline x.take r new) c.self.view_is c.take.ensures.follows_discipline))
 
 pub returns-clause-none : goal.returns-clause-none

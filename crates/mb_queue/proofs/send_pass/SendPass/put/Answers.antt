@@ -1,6 +1,6 @@
 use Rattle.std.proofs.Common.{ap, sym, subst, ◌∙◌}
 use Rattle.mb_queue.specs.Passes.{SendPassView}
-use Rattle.mb_queue.specs.Representation.{IsSending, sending}
+use Rattle.mb_queue.specs.Representation.{IsSending, sending_of}
 use Rattle.mb_queue.proofs.Sendings.{control-after, control-may, control-refused, control-seen, is-control, is-pushed, main-after, main-may, main-refused, main-seen}
 use Rattle.mb_queue.proofs.send_pass.SendPass.put.Goals as goal
 
@@ -25,7 +25,7 @@ invariant_of-self g c =
 pub returns-then-is_for_control-clause-pushed : goal.returns-then-is_for_control-clause-pushed
 returns-then-is_for_control-clause-pushed g c =
     let i = c.self.inside in
-    let view = ap (λ k. sending i.by.0 i.main k i.pushed) (sym c.in-Some.is) ∙ c.self.view_is in
+    let view = ap (λ k. sending_of i.by.0 i.main k i.pushed) (sym c.in-Some.is) ∙ c.self.view_is in
     control-seen i.by.0 i.main i.pushed c.args.envelope.now c.put_to.new.pushed c.put_to.new.port c.args.self.now c.in-Some.control c.put_to.result view
     c.put_to.ensures.pushed
 
@@ -33,7 +33,7 @@ pub returns-then-is_for_control-clause-refused : goal.returns-then-is_for_contro
 returns-then-is_for_control-clause-refused g c =
     let i = c.self.inside in
     let kept = subst (λ k. IsSending i.by.0 i.main k i.pushed) c.in-Some.is c.self.invariant in
-    let view = ap (λ k. sending i.by.0 i.main k i.pushed) (sym c.in-Some.is) ∙ c.self.view_is in
+    let view = ap (λ k. sending_of i.by.0 i.main k i.pushed) (sym c.in-Some.is) ∙ c.self.view_is in
     control-refused i.by.0 i.main i.pushed c.args.envelope.now c.put_to.new.pushed c.put_to.new.port c.args.self.now c.in-Some.control c.put_to.result kept
     view c.put_to.ensures.refused
 

@@ -11,10 +11,13 @@ use Rattle.mb_register.proofs.registrar.Registrar.register_due.Goals as goal
 
 -- ---- the exchange won, and the run queue took the claim
 
-pub returns-in-Ok-clause-looks : goal.returns-in-Ok-clause-looks
-returns-in-Ok-clause-looks g c =
-    let tried = c.in-Got.ensures.answer in
-    looks-read-won c.args.id.0 (word_of tried.0) (pass_view c.args.self.now.pass) (pass_view c.try_schedule.new.pass) tried.1.pass
+pub returns-in-Ok-clause-registers : goal.returns-in-Ok-clause-registers
+returns-in-Ok-clause-registers g c =
+    let tried = c.in-Got.ensures.answer in record {
+      same_gates = (c.in-Got.ensures.same_gates.0, c.push.ensures.same);
+      looks = looks-read-won c.args.id.0 (word_of tried.0) (pass_view c.args.self.now.pass) (pass_view c.try_schedule.new.pass) tried.1.pass;
+      told = refl;
+    }
 
 pub returns-in-Ok-clause-registered : goal.returns-in-Ok-clause-registered
 returns-in-Ok-clause-registered g c = record {
@@ -43,13 +46,17 @@ returns-in-Ok-clause-owes g c = joins-none _ _ (pass_view c.try_schedule.new.pas
 
 -- ---- the run queue refused it
 
-pub returns-in-Err-clause-looks : goal.returns-in-Err-clause-looks
-returns-in-Err-clause-looks g c =
+pub returns-in-Err-clause-registers : goal.returns-in-Err-clause-registers
+returns-in-Err-clause-registers g c =
     let id = c.args.id.0 in let tried = c.in-Got.ensures.answer in
     let a = pass_view c.args.self.now.pass in let b = pass_view c.try_schedule.new.pass in let d = pass_view c.give_home.new.pass in
     let here = ap (λ (k : Claim _). held_actor k) c.in-Err.ensures.pushed.0 ∙ tried.1.of in
-    looks-then id a b d (looks-read-won id (word_of tried.0) a b tried.1.pass)
-    (subst (λ (n : ℕ). LooksAfter n b d) here c.give_home.ensures.looks)
+    record {
+      same_gates = (c.give_home.ensures.same_gates ∙ c.in-Got.ensures.same_gates.0, c.push.ensures.same);
+      looks = looks-then id a b d (looks-read-won id (word_of tried.0) a b tried.1.pass)
+          (subst (λ (n : ℕ). LooksAfter n b d) here c.give_home.ensures.looks);
+      told = refl;
+    }
 
 pub returns-in-Err-clause-registered : goal.returns-in-Err-clause-registered
 returns-in-Err-clause-registered g c = inr (record {
@@ -85,10 +92,13 @@ returns-in-Err-clause-owes g c =
 
 -- ---- a worker holds it already
 
-pub returns-in-Already-clause-looks : goal.returns-in-Already-clause-looks
-returns-in-Already-clause-looks g c =
-    let tried = c.in-Already.ensures.answer in
-    looks-read c.args.id.0 (word_of tried.0) (pass_view c.args.self.now.pass) (pass_view c.try_schedule.new.pass) tried.1.2
+pub returns-in-Already-clause-registers : goal.returns-in-Already-clause-registers
+returns-in-Already-clause-registers g c =
+    let tried = c.in-Already.ensures.answer in record {
+      same_gates = (c.in-Already.ensures.same_gates.0, refl);
+      looks = looks-read c.args.id.0 (word_of tried.0) (pass_view c.args.self.now.pass) (pass_view c.try_schedule.new.pass) tried.1.2;
+      told = refl;
+    }
 
 pub returns-in-Already-clause-handed : goal.returns-in-Already-clause-handed
 returns-in-Already-clause-handed g c =
@@ -100,10 +110,13 @@ returns-in-Already-clause-owes g c = joins-none _ _ (pass_view c.try_schedule.ne
 
 -- ---- it is closed
 
-pub returns-in-Closed-clause-looks : goal.returns-in-Closed-clause-looks
-returns-in-Closed-clause-looks g c =
-    let tried = c.in-Closed.ensures.answer in
-    looks-read c.args.id.0 (word_of tried.0) (pass_view c.args.self.now.pass) (pass_view c.try_schedule.new.pass) tried.1.1
+pub returns-in-Closed-clause-registers : goal.returns-in-Closed-clause-registers
+returns-in-Closed-clause-registers g c =
+    let tried = c.in-Closed.ensures.answer in record {
+      same_gates = (c.in-Closed.ensures.same_gates.0, refl);
+      looks = looks-read c.args.id.0 (word_of tried.0) (pass_view c.args.self.now.pass) (pass_view c.try_schedule.new.pass) tried.1.1;
+      told = refl;
+    }
 
 pub returns-in-Closed-clause-handed : goal.returns-in-Closed-clause-handed
 returns-in-Closed-clause-handed g c =
@@ -115,11 +128,15 @@ returns-in-Closed-clause-owes g c = joins-none _ _ (pass_view c.try_schedule.new
 
 -- ---- another step came between
 
-pub returns-in-Lost-clause-looks : goal.returns-in-Lost-clause-looks
-returns-in-Lost-clause-looks g c =
-    let id = c.args.id.0 in let tried = c.in-Lost.ensures.answer in
+pub returns-in-Lost-clause-registers : goal.returns-in-Lost-clause-registers
+returns-in-Lost-clause-registers g c =
+    let id = c.args.id.0 in let tried = c.in-Lost.ensures.answer in let then = c.register_due_again.ensures.registers in
     let a = pass_view c.args.self.now.pass in let b = pass_view c.try_schedule.new.pass in let d = pass_view c.register_due_again.new.self.pass in
-    looks-then id a b d (looks-read-twice id (word_of tried.0) (word_of c.in-Lost.field-0) a b tried.1.2) c.register_due_again.ensures.looks
+    record {
+      same_gates = (then.same_gates.0 ∙ c.in-Lost.ensures.same_gates.0, then.same_gates.1);
+      looks = looks-then id a b d (looks-read-twice id (word_of tried.0) (word_of c.in-Lost.field-0) a b tried.1.2) then.looks;
+      told = then.told;
+    }
 
 pub returns-in-Lost-clause-handed : goal.returns-in-Lost-clause-handed
 returns-in-Lost-clause-handed g c =

@@ -17,12 +17,30 @@ returns-in-Ok-clause-registered g c = record {
   owed = refl;
 }
 
-pub returns-in-Err-clause-looks : goal.returns-in-Err-clause-looks
-returns-in-Err-clause-looks g c =
+pub returns-in_default-clause-registers : goal.returns-in_default-clause-registers
+returns-in_default-clause-registers g c = record {
+  same_gates = (c.take_due_again.ensures.same_gates, refl);
+  looks = c.take_due_again.ensures.looks;
+  told = refl;
+}
+
+pub returns-in-Ok-clause-registers : goal.returns-in-Ok-clause-registers
+returns-in-Ok-clause-registers g c = record {
+  same_gates = (c.take_due_again.ensures.same_gates, c.push.ensures.same);
+  looks = c.take_due_again.ensures.looks;
+  told = refl;
+}
+
+pub returns-in-Err-clause-registers : goal.returns-in-Err-clause-registers
+returns-in-Err-clause-registers g c =
     let id = c.args.id.0 in
     let a = pass_view c.args.self.now.pass in let b = pass_view c.take_due_again.new.pass in let d = pass_view c.give_home.new.pass in
     let here = ap (λ (k : Claim _). held_actor k) c.in-Err.ensures.pushed.0 ∙ c.in-Some.ensures.claim.0 in
-    looks-then id a b d c.take_due_again.ensures.looks (subst (λ (n : ℕ). LooksAfter n b d) here c.give_home.ensures.looks)
+    record {
+      same_gates = (c.give_home.ensures.same_gates ∙ c.take_due_again.ensures.same_gates, c.push.ensures.same);
+      looks = looks-then id a b d c.take_due_again.ensures.looks (subst (λ (n : ℕ). LooksAfter n b d) here c.give_home.ensures.looks);
+      told = refl;
+    }
 
 pub returns-in-Err-clause-registered : goal.returns-in-Err-clause-registered
 returns-in-Err-clause-registered g c = inr (record {

@@ -7,7 +7,7 @@ use Rattle.mb_gate.specs.Accessors.{actors_of, pass_view}
 use Rattle.mb_gate.specs.View.{obligation_to}
 use Rattle.mb_msg.specs.declared.id.ActorId.{ActorId}
 use Rattle.mb_register.specs.declared.hint.Hint.TheVariants as hint
-use Rattle.mb_register.specs.Owed.{is_owed}
+use Rattle.mb_register.specs.ActorSet.{has_actor}
 use Rattle.mb_register.specs.Told.{ToldView, is_among}
 use Rattle.mb_register.proofs.CallerLemmas.{account-registered}
 use Rattle.mb_register.proofs.ClaimCounts.{loses-none, loses-handed, loses-then}
@@ -55,19 +55,19 @@ loop-index-preserved g c =
     let id = get_or c.as_slice.result.now index nobody in
     let few = subst (λ (l : List ActorId). (get_or l index nobody).0 < 64) (sym same)
     (All-get_or (λ (a : ActorId). a.0 < 64) told.order index nobody less all.within_limit) in
-    let there = subst (λ (l : List ActorId). is_owed told.set (get_or l index nobody).0 ≡ true) (sym same)
+    let there = subst (λ (l : List ActorId). has_actor told.set (get_or l index nobody).0 ≡ true) (sym same)
     (all.same _ ∙ All-get_or (λ (a : ActorId). is_among told.order a.0 ≡ true) told.order index nobody less (all-among told.order)) in
     let whole : take (index + 1) told.order ≡ take index told.order ++ id ∷ []
     = take_more told.order index nobody less ∙ ap (λ (l : List ActorId). take index told.order ++ get_or l index nobody ∷ []) (sym same) in
     let did = c.register.ensures in
     let account = account-registered id.0 _ _ c.register.result did.registered in (
-      did.same_gates.0 ∙ at.0,
-      did.same_gates.1 ∙ at.1,
+      did.registers.same_gates.0 ∙ at.0,
+      did.registers.same_gates.1 ∙ at.1,
       loses-then _ _ _ _ _ _ at.2 (loses-handed id.0 _ _ _ _ c.register.result did.handed),
-      got-then hint.None (pass_view old.pass) (pass_view mid.pass) (pass_view now.pass) _ _ at.4.looks.log did.looks.log at.3 did.due,
-      registered-as _ _ told _ _ _ _ whole (registered-next id _ told _ _ _ _ _ _ few there at.4 did.looks account did.discharged),
+      got-then hint.None (pass_view old.pass) (pass_view mid.pass) (pass_view now.pass) _ _ at.4.looks.log did.registers.looks.log at.3 did.due,
+      registered-as _ _ told _ _ _ _ whole (registered-next id _ told _ _ _ _ _ _ few there at.4 did.registers.looks account did.discharged),
       order-as _ _ _ _ whole (order-next id _ _ _ _ c.register.result at.5 did.registered),
-      did.told ∙ at.6,
+      did.registers.told ∙ at.6,
     )
 
 pub returns-clause-discharged : goal.returns-clause-discharged
@@ -76,7 +76,11 @@ returns-clause-discharged g c id few there =
     let told = c.args.self.now.told in
     let now = c.loop-index.self in
     let all = c.as_slice-index-end.ensures.all in
-    let Settled : ℕ → Type 0 = λ i. (obligation_to i (pass_view now.pass) ≡ nothing) ⊎ (is_owed now.owed i ≡ true) in
+    let Settled : ℕ → Type 0 = λ i. (obligation_to i (pass_view now.pass) ≡ nothing) ⊎ (has_actor now.owed i ≡ true) in
     let whole : take c.loop-index.index told.order ≡ told.order
     = subst (λ (l : List ActorId). take c.loop-index.index l ≡ l) c.as_slice-index-end.ensures.value (take_all _ _ c.loop-index-test.false) in
     holds-among Settled told.order id (subst (All (λ (a : ActorId). Settled a.0)) whole at.4.settled) (sym (all.same id) ∙ there)
+
+pub returns-clause-registers : goal.returns-clause-registers
+returns-clause-registers g c =
+    let at = c.loop-index.invariant in record { same_gates = (at.0, at.1); looks = at.4.looks; handed = at.2; due = at.3 }

@@ -14,17 +14,12 @@ returns-then-not-contains g c =
     let v = pass_view c.args.self.now.pass in
     let out = sym c.contains.ensures ∙ c.if-not-contains.true in
     record {
-      same_gates = (refl, refl);
-      looks = looks-none c.args.id.0 v;
+      registers = record { same_gates = (refl, refl); looks = looks-none c.args.id.0 v; handed = loses-none _ v; due = got-none _ _ _ refl };
       discharged = λ has. never-both _ has out;
       done = out;
-      left = tt;
-      owes = tt;
+      still = tt;
       refused = refl;
-      none = λ _. refl;
-      others = λ other below ne. refl;
-      handed = loses-none _ v;
-      due = got-none _ _ _ refl;
+      alone = record { none = λ _. refl; others = λ other below ne. refl };
     }
 
 -- ---- the run queue refused its claim again
@@ -37,18 +32,21 @@ returns-then-contains g c =
     let has = sym c.contains-2.ensures ∙ c.if-contains.true in
     let out = taken-out id _ _ (c.remove.ensures id c.requires.present.1) in
     record {
-      same_gates = did.same_gates;
-      looks = did.looks;
+      registers = record {
+        same_gates = did.registers.same_gates;
+        looks = did.registers.looks;
+        handed = loses-aside _ _ _ _ _ _ _ (loses-handed id _ _ _ _ c.register.result did.handed);
+        due = did.due;
+      };
       discharged = λ _. did.discharged;
       done = tt;
-      left = (had, has);
-      owes = joined-owed _ _ (pass_view c.register.new.self.pass) id did.owes out has;
+      still = record { left = (had, has); owes = joined-owed _ _ (pass_view c.register.new.self.pass) id did.owes out has };
       refused = refused-one id _ _ c.register.result did.registered out has;
-      none = λ none. never-both _ had none;
-      others = λ other below ne. others-kept id _ _ c.register.result did.registered other ne
-          ∙ others-out id other _ _ ne (c.remove.ensures other below);
-      handed = loses-aside _ _ _ _ _ _ _ (loses-handed id _ _ _ _ c.register.result did.handed);
-      due = did.due;
+      alone = record {
+        none = λ none. never-both _ had none;
+        others = λ other below ne. others-kept id _ _ c.register.result did.registered other ne
+            ∙ others-out id other _ _ ne (c.remove.ensures other below);
+      };
     }
 
 -- ---- it did not
@@ -60,16 +58,19 @@ returns g c =
     let had = sym c.contains.ensures ∙ c.if-not-contains.false in
     let out = sym c.contains-2.ensures ∙ c.if-contains.false in
     record {
-      same_gates = did.same_gates;
-      looks = did.looks;
+      registers = record {
+        same_gates = did.registers.same_gates;
+        looks = did.registers.looks;
+        handed = loses-aside _ _ _ _ _ _ _ (loses-handed id _ _ _ _ c.register.result did.handed);
+        due = did.due;
+      };
       discharged = λ _. did.discharged;
       done = out;
-      left = tt;
-      owes = tt;
+      still = tt;
       refused = refused-none id _ _ c.register.result did.registered out;
-      none = λ none. never-both _ had none;
-      others = λ other below ne. others-kept id _ _ c.register.result did.registered other ne
-          ∙ others-out id other _ _ ne (c.remove.ensures other below);
-      handed = loses-aside _ _ _ _ _ _ _ (loses-handed id _ _ _ _ c.register.result did.handed);
-      due = did.due;
+      alone = record {
+        none = λ none. never-both _ had none;
+        others = λ other below ne. others-kept id _ _ c.register.result did.registered other ne
+            ∙ others-out id other _ _ ne (c.remove.ensures other below);
+      };
     }

@@ -3,6 +3,7 @@ use Rattle.mb_gate.specs.Accessors.{pass_id, pass_view}
 use Rattle.mb_register.specs.declared.hint.Hint.TheVariants as hint
 use Rattle.mb_register.specs.Due.{GotOnlyDue}
 use Rattle.mb_register.specs.Registering.{LosesNoClaim}
+use Rattle.mb_register.specs.Registers.{account_of}
 use Rattle.mb_register.proofs.Retries.{IsPaidBelow}
 use Rattle.mb_register.proofs.registrar.Registrar.retry_refused.Given as goal
 
@@ -12,7 +13,6 @@ invariant-loop-number g l =
     × IsPaidBelow l.number l.initial.self.owed l.self.owed (pass_view l.initial.self.pass) (pass_view l.self.pass)
     × (g.W.RunQueue.refused l.self.run_queue ≡ g.W.RunQueue.refused l.initial.self.run_queue)
     × LosesNoClaim
-    (record { pushed = g.W.RunQueue.pushed l.initial.self.run_queue; refused = g.W.RunQueue.refused l.initial.self.run_queue; owed = l.initial.self.owed })
-    (record { pushed = g.W.RunQueue.pushed l.self.run_queue; refused = g.W.RunQueue.refused l.self.run_queue; owed = l.self.owed })
+    (account_of g.W.RunQueue.pushed g.W.RunQueue.refused l.initial.self) (account_of g.W.RunQueue.pushed g.W.RunQueue.refused l.self)
     (pass_view l.initial.self.pass) (pass_view l.self.pass)
     × GotOnlyDue hint.None (pass_view l.initial.self.pass) (pass_view l.self.pass)

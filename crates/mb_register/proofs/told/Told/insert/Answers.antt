@@ -1,14 +1,14 @@
 use Rattle.std.proofs.Common.{◌≡◌, ◌<◌, ◌≤◌, ◌++◌, [], ◌∷◌, ℕ, false, List, length, if◌then◌else◌, arith, sym, ap, ◌∙◌, subst, take}
 use Rattle.std.proofs.lemmas.List.{length-set, length-take-le, take_more_set}
 use Rattle.mb_msg.specs.declared.id.ActorId.{ActorId}
-use Rattle.mb_register.specs.declared.owed.Owed.{Owed}
-use Rattle.mb_register.specs.Owed.{is_owed}
+use Rattle.mb_register.specs.declared.actor_set.ActorSet.{ActorSet}
+use Rattle.mb_register.specs.ActorSet.{has_actor}
 use Rattle.mb_register.specs.Told.{IsSetOf, ToldView, with_told}
 use Rattle.mb_register.proofs.ToldLemmas.{has-place, set-last}
 use Rattle.mb_register.proofs.told.Told.insert.Goals as goal
 
-counts : (set : Owed) (places : List ActorId) (count : ℕ) (id : ActorId) → id.0 < 64 →
-    (count ≤ 64) × (length places ≡ 64) × IsSetOf set (take count places) → is_owed set id.0 ≡ false → count < 64
+counts : (set : ActorSet) (places : List ActorId) (count : ℕ) (id : ActorId) → id.0 < 64 →
+    (count ≤ 64) × (length places ≡ 64) × IsSetOf set (take count places) → has_actor set id.0 ≡ false → count < 64
 counts set places count id few is out =
     let place = has-place set (take count places) id few is.2 out in
     let below = is.0 in let many = is.1 in

@@ -1,4 +1,4 @@
-use Rattle.std.proofs.Common.{◌≡◌, ◌∙◌, ◌+◌, ◌-◌, ◌<◌, ◌++◌, [], ◌∷◌, ℕ, suc, List}
+use Rattle.std.proofs.Common.{rules, ◌≡◌, ◌∙◌, ◌+◌, ◌-◌, ◌<◌, ◌++◌, [], ◌∷◌, ℕ, suc, List}
 use Rattle.std.proofs.Common.{length, true, Some, None, refl, subst, sym, ap, slice_set, arith}
 use Rattle.mb_msg.specs.Payload.{body_of}
 use Rattle.mb_msg.specs.declared.id.SenderId.{SenderId}
@@ -41,7 +41,7 @@ returns-in-Ok-clause-sent g c =
       why = tt;
       answer = ap (λ n. put_of n None) c.ready.ensures.same.1;
       posted_is = c.record_queued.ensures.posted ∙ (λ i. c.ready.ensures.same.3 i ++ posting (made i) None ∷ []);
-      counted = does-then id (counts id None) [] a b d (does-sending id a b c.note_sent.ensures.known) c.register.ensures.looks;
+      counted = does-then id (counts id None) [] a b d (does-sending id a b c.note_sent.ensures.known) c.register.ensures.registers.looks;
     }
 
 pub returns-in-Err-clause-sent : goal.returns-in-Err-clause-sent
@@ -63,26 +63,8 @@ returns-in-Err-clause-sent g c =
       answer = ap (λ n. put_of n (Some why)) c.ready.ensures.same.1;
       posted_is = c.record_dead.ensures.posted ∙ (λ i. c.ready.ensures.same.3 i ++ posting (made i) (Some why) ∷ []);
       counted = does-then id (counts id (Some why)) [] a d e (does-unsending id a b d c.note_sent.ensures.known c.note_unsent.ensures.known)
-          c.register-in-Err.ensures.looks;
+          c.register-in-Err.ensures.registers.looks;
     }
-
-pub returns-in-Ok-clause-queues : goal.returns-in-Ok-clause-queues
-returns-in-Ok-clause-queues g c =
-    let id = c.args.ticket.to.0 in
-    let items = c.args.self.now.sends.items in
-    let old = c.index_mut.result.now in
-    let lt : id - 1 < length items = omega (arith, c.requires.all, c.requires.present.0, c.requires.present.1) in
-    queues-set items (id - 1) old c.put.new.self (slice_get_read items (length items) (id - 1) old refl lt c.index_mut.ensures.value)
-    (ap (λ (s : SendPassView). s.queue) c.in-Ok.ensures.pushed)
-
-pub returns-in-Err-clause-queues : goal.returns-in-Err-clause-queues
-returns-in-Err-clause-queues g c =
-    let id = c.args.ticket.to.0 in
-    let items = c.args.self.now.sends.items in
-    let old = c.index_mut.result.now in
-    let lt : id - 1 < length items = omega (arith, c.requires.all, c.requires.present.0, c.requires.present.1) in
-    queues-set items (id - 1) old c.put.new.self (slice_get_read items (length items) (id - 1) old refl lt c.index_mut.ensures.value)
-    (ap (λ (s : SendPassView). s.queue) c.in-Err.ensures.pushed)
 
 pub invariant_of-self-in-Ok : goal.invariant_of-self-in-Ok
 invariant_of-self-in-Ok g c =
@@ -110,7 +92,7 @@ invariant_of-self-in-Ok g c =
           (was_seen_closed-queued (pass_view after).log send_log.posted e
           (was_seen_closed-does to (counts to None) [] (pass_view before) (pass_view after) (dead_letters send_log.posted)
           (does-then to (counts to None) [] (pass_view before) (pass_view counted) (pass_view after)
-          (does-sending to (pass_view before) (pass_view counted) c.note_sent.ensures.known) c.register.ensures.looks)
+          (does-sending to (pass_view before) (pass_view counted) c.note_sent.ensures.known) c.register.ensures.registers.looks)
           c.args.self.now.was_seen_closed));
       bounded = subst (λ (y : List Queue × List SentEnvelope). are_of_bounded y.0 (dead_letters y.1) ≡ true) (λ i. (sym queues i, ps i))
           (bounded-queued (receiving_queues items) send_log.posted e c.args.self.now.bounded);
@@ -147,7 +129,7 @@ invariant_of-self-in-Err g c =
           (was_seen_closed-does to (counts to (Some why)) [] (pass_view before) (pass_view after) (dead_letters send_log.posted)
           (does-then to (counts to (Some why)) [] (pass_view before) (pass_view back) (pass_view after)
           (does-unsending to (pass_view before) (pass_view counted) (pass_view back) c.note_sent.ensures.known c.note_unsent.ensures.known)
-          c.register-in-Err.ensures.looks) c.args.self.now.was_seen_closed));
+          c.register-in-Err.ensures.registers.looks) c.args.self.now.was_seen_closed));
       bounded = subst (λ (y : List Queue × List SentEnvelope). are_of_bounded y.0 (dead_letters y.1) ≡ true) (λ i. (sym queues i, ps i))
           (bounded-dead (receiving_queues items) send_log.posted e why
           (subst (λ (n : ℕ). may_be_refused (queue_to (receiving_queues items) n) why ≡ true) above
@@ -155,27 +137,17 @@ invariant_of-self-in-Err g c =
           c.why_of-why.ensures)) c.args.self.now.bounded);
     }
 
-pub returns-in-Ok-clause-still : goal.returns-in-Ok-clause-still
-returns-in-Ok-clause-still g c = still-registered _ _ _ _ c.register.ensures.registered
-
-pub returns-in-Err-clause-still : goal.returns-in-Err-clause-still
-returns-in-Err-clause-still g c = still-registered _ _ _ _ c.register-in-Err.ensures.registered
-
-pub returns-in_err-ready-clause-unsent : goal.returns-in_err-ready-clause-unsent
-returns-in_err-ready-clause-unsent g c =
+pub returns-in_err-ready-clause-refused : goal.returns-in_err-ready-clause-refused
+returns-in_err-ready-clause-refused g c =
     let same = c.ready.ensures.same in
-    after-any c.from_residual.result (record { by = same.0; sent = same.1; dead = same.2; keeps_is = c.ready.ensures.keeps; posted = same.3 }, refl)
-
-pub returns-in-Ok-clause-registered : goal.returns-in-Ok-clause-registered
-returns-in-Ok-clause-registered g c = (c.register.result, c.register.ensures.registered)
-
-pub returns-in-Err-clause-registered : goal.returns-in-Err-clause-registered
-returns-in-Err-clause-registered g c = (c.register-in-Err.result, c.register-in-Err.ensures.registered)
-
-pub returns-in_err-ready-clause-registered : goal.returns-in_err-ready-clause-registered
-returns-in_err-ready-clause-registered g c =
-    let registrar = c.args.self.now.registrar in
-    registers-nobody g.W.RunQueue.pushed g.W.RunQueue.refused c.args.ticket.to.0 registrar registrar refl refl
+    after-any c.from_residual.result (
+      search rules,
+      record {
+        send_log = record { by = same.0; sent = same.1; dead = same.2; keeps_is = c.ready.ensures.keeps; posted = same.3 };
+        sends = refl;
+        registrar = refl;
+      },
+    )
 
 -- the pass is the sender's, and pushes to the receiver's queue
 pub put-requires-clause-sender : goal.put-requires-clause-sender
@@ -215,17 +187,20 @@ returns-in_err-ready-clause-sent g c = no-answer _ c.from_residual.result c.from
 pub returns-in_err-ready-clause-discharged : goal.returns-in_err-ready-clause-discharged
 returns-in_err-ready-clause-discharged g c = no-answer _ c.from_residual.result c.from_residual.ensures.0
 
-pub returns-in_err-ready-clause-still : goal.returns-in_err-ready-clause-still
-returns-in_err-ready-clause-still g c = λ id owed. owed
-
-pub returns-in_err-ready-clause-same_gates : goal.returns-in_err-ready-clause-same_gates
-returns-in_err-ready-clause-same_gates g c = (refl, refl)
-
-pub returns-in_err-ready-clause-same : goal.returns-in_err-ready-clause-same
-returns-in_err-ready-clause-same g c = (c.ready.ensures.same.0, refl)
-
-pub returns-in_err-ready-clause-queues : goal.returns-in_err-ready-clause-queues
-returns-in_err-ready-clause-queues g c = refl
+pub returns-in_err-ready-clause-leaves : goal.returns-in_err-ready-clause-leaves
+returns-in_err-ready-clause-leaves g c = record {
+  same_gates = (refl, refl);
+  still = λ id owed. owed;
+  registered =
+      let registrar = c.args.self.now.registrar in
+      registers-nobody g.W.RunQueue.pushed g.W.RunQueue.refused c.args.ticket.to.0 registrar registrar refl refl;
+  handed =
+      let registrar = c.args.self.now.registrar in
+      loses-looked g.W.RunQueue.pushed g.W.RunQueue.refused registrar registrar refl refl refl refl;
+  same = (c.ready.ensures.same.0, refl);
+  keeps = c.ready.ensures.keeps;
+  queues = refl;
+}
 
 -- ---- what the steps ask for
 
@@ -284,59 +259,55 @@ register-requires-in-Err-clause-present g c = (c.requires.present.1, c.requires.
 pub returns-in-Ok-clause-refused : goal.returns-in-Ok-clause-refused
 returns-in-Ok-clause-refused g c = tt
 
-pub returns-in-Ok-clause-unsent : goal.returns-in-Ok-clause-unsent
-returns-in-Ok-clause-unsent g c = tt
-
 pub returns-in-Ok-clause-discharged : goal.returns-in-Ok-clause-discharged
 returns-in-Ok-clause-discharged g c = c.register.ensures.discharged
 
-pub returns-in-Ok-clause-same_gates : goal.returns-in-Ok-clause-same_gates
-returns-in-Ok-clause-same_gates g c = (c.register.ensures.same_gates.0 ∙ c.note_sent.ensures.same_gates, c.register.ensures.same_gates.1)
-
-pub returns-in-Ok-clause-same : goal.returns-in-Ok-clause-same
-returns-in-Ok-clause-same g c = (c.record_queued.ensures.same_sender ∙ c.ready.ensures.same.0, refl)
+pub returns-in-Ok-clause-leaves : goal.returns-in-Ok-clause-leaves
+returns-in-Ok-clause-leaves g c = record {
+  same_gates = (c.register.ensures.registers.same_gates.0 ∙ c.note_sent.ensures.same_gates, c.register.ensures.registers.same_gates.1);
+  still = still-registered _ _ _ _ c.register.ensures.registered;
+  registered = (c.register.result, c.register.ensures.registered);
+  handed =
+      let known = c.note_sent.ensures.known in
+      hands-later c.args.ticket.to.0 _ _ _ (pass_view c.note_sent.new.pass) _ c.register.result (ap (λ (v : View). v.got) known)
+      (ap (λ (v : View). v.returned) known) c.register.ensures.handed;
+  same = (c.record_queued.ensures.same_sender ∙ c.ready.ensures.same.0, refl);
+  keeps = c.record_queued.ensures.keeps ∙ c.ready.ensures.keeps;
+  queues =
+      let id = c.args.ticket.to.0 in
+      let items = c.args.self.now.sends.items in
+      let old = c.index_mut.result.now in
+      let lt : id - 1 < length items = omega (arith, c.requires.all, c.requires.present.0, c.requires.present.1) in
+      queues-set items (id - 1) old c.put.new.self (slice_get_read items (length items) (id - 1) old refl lt c.index_mut.ensures.value)
+      (ap (λ (s : SendPassView). s.queue) c.in-Ok.ensures.pushed);
+}
 
 pub returns-in-Err-clause-refused : goal.returns-in-Err-clause-refused
 returns-in-Err-clause-refused g c = tt
 
-pub returns-in-Err-clause-unsent : goal.returns-in-Err-clause-unsent
-returns-in-Err-clause-unsent g c = tt
-
 pub returns-in-Err-clause-discharged : goal.returns-in-Err-clause-discharged
 returns-in-Err-clause-discharged g c = c.register-in-Err.ensures.discharged
 
-pub returns-in-Err-clause-same_gates : goal.returns-in-Err-clause-same_gates
-returns-in-Err-clause-same_gates g c = (
-  c.register-in-Err.ensures.same_gates.0 ∙ (c.note_unsent.ensures.same_gates ∙ c.note_sent.ensures.same_gates),
-  c.register-in-Err.ensures.same_gates.1,
-)
-
-pub returns-in-Err-clause-same : goal.returns-in-Err-clause-same
-returns-in-Err-clause-same g c = (c.record_dead.ensures.same_sender ∙ c.ready.ensures.same.0, refl)
-
-pub returns-in-Ok-clause-handed : goal.returns-in-Ok-clause-handed
-returns-in-Ok-clause-handed g c =
-    let known = c.note_sent.ensures.known in
-    hands-later c.args.ticket.to.0 _ _ _ (pass_view c.note_sent.new.pass) _ c.register.result (ap (λ (v : View). v.got) known)
-    (ap (λ (v : View). v.returned) known) c.register.ensures.handed
-
-pub returns-in-Err-clause-handed : goal.returns-in-Err-clause-handed
-returns-in-Err-clause-handed g c =
-    let known = c.note_sent.ensures.known in let back = c.note_unsent.ensures.known in
-    hands-later c.args.ticket.to.0 _ _ _ (pass_view c.note_unsent.new.pass) _ c.register-in-Err.result
-    (ap (λ (v : View). v.got) back ∙ ap (λ (v : View). v.got) known) (ap (λ (v : View). v.returned) back ∙ ap (λ (v : View). v.returned) known)
-    c.register-in-Err.ensures.handed
-
-pub returns-in_err-ready-clause-handed : goal.returns-in_err-ready-clause-handed
-returns-in_err-ready-clause-handed g c =
-    let registrar = c.args.self.now.registrar in
-    loses-looked g.W.RunQueue.pushed g.W.RunQueue.refused registrar registrar refl refl refl refl
-
-pub returns-in-Ok-clause-keeps : goal.returns-in-Ok-clause-keeps
-returns-in-Ok-clause-keeps g c = c.record_queued.ensures.keeps ∙ c.ready.ensures.keeps
-
-pub returns-in-Err-clause-keeps : goal.returns-in-Err-clause-keeps
-returns-in-Err-clause-keeps g c = c.record_dead.ensures.keeps ∙ c.ready.ensures.keeps
-
-pub returns-in_err-ready-clause-keeps : goal.returns-in_err-ready-clause-keeps
-returns-in_err-ready-clause-keeps g c = c.ready.ensures.keeps
+pub returns-in-Err-clause-leaves : goal.returns-in-Err-clause-leaves
+returns-in-Err-clause-leaves g c = record {
+  same_gates = (
+    c.register-in-Err.ensures.registers.same_gates.0 ∙ (c.note_unsent.ensures.same_gates ∙ c.note_sent.ensures.same_gates),
+    c.register-in-Err.ensures.registers.same_gates.1,
+  );
+  still = still-registered _ _ _ _ c.register-in-Err.ensures.registered;
+  registered = (c.register-in-Err.result, c.register-in-Err.ensures.registered);
+  handed =
+      let known = c.note_sent.ensures.known in let back = c.note_unsent.ensures.known in
+      hands-later c.args.ticket.to.0 _ _ _ (pass_view c.note_unsent.new.pass) _ c.register-in-Err.result
+      (ap (λ (v : View). v.got) back ∙ ap (λ (v : View). v.got) known) (ap (λ (v : View). v.returned) back ∙ ap (λ (v : View). v.returned) known)
+      c.register-in-Err.ensures.handed;
+  same = (c.record_dead.ensures.same_sender ∙ c.ready.ensures.same.0, refl);
+  keeps = c.record_dead.ensures.keeps ∙ c.ready.ensures.keeps;
+  queues =
+      let id = c.args.ticket.to.0 in
+      let items = c.args.self.now.sends.items in
+      let old = c.index_mut.result.now in
+      let lt : id - 1 < length items = omega (arith, c.requires.all, c.requires.present.0, c.requires.present.1) in
+      queues-set items (id - 1) old c.put.new.self (slice_get_read items (length items) (id - 1) old refl lt c.index_mut.ensures.value)
+      (ap (λ (s : SendPassView). s.queue) c.in-Err.ensures.pushed);
+}

@@ -43,14 +43,14 @@ pub slice_bounds-push_each-end : goal.slice_bounds-push_each-end
 slice_bounds-push_each-end c =
     let b = c.self.inside in
     let kept = first-ones c.len-survivors.result c.deref.result.now b.children.items (spawns_of c.args.effects.now)
-    (c.deref.ensures.value ∙ c.carry_out.ensures.children) (c.len-survivors.ensures ∙ b.children.ok.0) in
+    (c.deref.ensures.value ∙ c.carry_out.ensures.carried_out.children) (c.len-survivors.ensures ∙ b.children.ok.0) in
     c.len-survivors.ensures ∙ b.children.ok.0 ∙ sym (ap length kept)
 
 pub slice_bounds-fail-end : goal.slice_bounds-fail-end
 slice_bounds-fail-end c =
     let b = c.self.inside in
     let kept = first-ones c.len-survivors.result c.deref-3.result.now b.children.items (spawns_of c.args.effects.now)
-    (c.deref-3.ensures.value ∙ c.carry_out.ensures.children) (c.len-survivors.ensures ∙ b.children.ok.0) in
+    (c.deref-3.ensures.value ∙ c.carry_out.ensures.carried_out.children) (c.len-survivors.ensures ∙ b.children.ok.0) in
     c.len-survivors.ensures ∙ b.children.ok.0 ∙ sym (ap length kept)
 
 pub push_each-requires : goal.push_each-requires
@@ -58,7 +58,7 @@ push_each-requires c =
     let b = c.self.inside in
     let room = c.self.invariant.room (ap (λ (s : CellState). s.is_ready) c.self.view_is ∙ c.requires.ready) in
     let kept = first-ones c.len-survivors.result c.deref.result.now b.children.items (spawns_of c.args.effects.now)
-    (c.deref.ensures.value ∙ c.carry_out.ensures.children) (c.len-survivors.ensures ∙ b.children.ok.0) in
+    (c.deref.ensures.value ∙ c.carry_out.ensures.carried_out.children) (c.len-survivors.ensures ∙ b.children.ok.0) in
     two-less _ _ (restart-fits _ (length c.args.effects.now) (vec_len b.children) (vec_len b.watchers) (vec_len b.watching) b.fanout b.acts.room
     c.push.new.self.room _
     (no-more _ _ _ (ap length kept ∙ sym b.children.ok.0)) c.requires.within_limit room.acts (ap (λ (q : ActQueueView). q.room) c.push.ensures)
@@ -92,10 +92,10 @@ returns-in_default c =
     let who = identity_at c.args.place.now in
     let none = ap (λ (s : CellState). s.acts) c.self.view_is ∙ c.requires.carried_out in
     let kept = first-ones c.len-survivors.result c.deref.result.now b.children.items (spawns_of c.args.effects.now)
-    (c.deref.ensures.value ∙ c.carry_out.ensures.children) (c.len-survivors.ensures ∙ b.children.ok.0) in
+    (c.deref.ensures.value ∙ c.carry_out.ensures.carried_out.children) (c.len-survivors.ensures ∙ b.children.ok.0) in
     recreated-live who c.args.cause c.args.answer c.args.effects.now c.args.number (cell_state_of_fields b) _ _ _ _ _ _ _ _
     c.saturating_sub-self-inside.ensures c.forget.ensures.items none (ap (λ (q : ActQueueView). q.acts) c.push.ensures)
-    c.carry_out.ensures.acts c.carry_out.ensures.children c.carry_out.ensures.watching c.carry_out.ensures.due
+    c.carry_out.ensures.carried_out.acts c.carry_out.ensures.carried_out.children c.carry_out.ensures.carried_out.watching c.carry_out.ensures.carried_out.due
     _ _ (not-failed c.args.answer c.in_default.not-Failed) kept (ap (λ (q : ActQueueView). q.acts) c.push_each.ensures)
     ∙ ap (λ (s : CellState). recreated who c.args.cause (Some c.args.answer) c.args.effects.now c.args.number s) c.self.view_is
 
@@ -105,10 +105,10 @@ returns c =
     let who = identity_at c.args.place.now in
     let none = ap (λ (s : CellState). s.acts) c.self.view_is ∙ c.requires.carried_out in
     let kept = first-ones c.len-survivors.result c.deref-3.result.now b.children.items (spawns_of c.args.effects.now)
-    (c.deref-3.ensures.value ∙ c.carry_out.ensures.children) (c.len-survivors.ensures ∙ b.children.ok.0) in
+    (c.deref-3.ensures.value ∙ c.carry_out.ensures.carried_out.children) (c.len-survivors.ensures ∙ b.children.ok.0) in
     recreated-broken who c.args.cause c.args.answer c.args.effects.now c.args.number (cell_state_of_fields b) _ _ _ _ _ _ _ _
     c.saturating_sub-self-inside.ensures c.forget.ensures.items none (ap (λ (q : ActQueueView). q.acts) c.push.ensures)
-    c.carry_out.ensures.acts c.carry_out.ensures.children c.carry_out.ensures.watching c.carry_out.ensures.due
+    c.carry_out.ensures.carried_out.acts c.carry_out.ensures.carried_out.children c.carry_out.ensures.carried_out.watching c.carry_out.ensures.carried_out.due
     _ _ _ _ _ (ap (λ (a : Answer). is_failed (Some a)) c.in-Failed.is) kept c.deref-2.ensures.value c.fail.ensures.count c.fail.ensures.failed
     c.fail.ensures.acts
     ∙ ap (λ (s : CellState). recreated who c.args.cause (Some c.args.answer) c.args.effects.now c.args.number s) c.self.view_is

@@ -11,7 +11,7 @@ pub returns-clause-found : goal.returns-clause-found
 returns-clause-found c = λ who are at.
     found-step c.args.actor.0 who _ _ c.args.self.now _ c.make_room.new.self c.apply.new.self _ _ at c.get-entry.ensures
     c.in_ok-make_room.ensures.kept c.in_ok-make_room.ensures.children (λ before f. c.apply.ensures.follows who before are f)
-    c.standing-before.ensures c.standing-after.ensures
+    c.snapshot-before.ensures c.snapshot-after.ensures
 
 pub returns-then-index-len-clause-found : goal.returns-then-index-len-clause-found
 returns-then-index-len-clause-found c = λ who are at.

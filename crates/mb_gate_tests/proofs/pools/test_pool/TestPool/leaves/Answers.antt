@@ -2,8 +2,8 @@ use Rattle.std.proofs.Common.{All, Some, subst}
 use Rattle.mb_gate.specs.Untouched.{IsUntouched}
 use Rattle.mb_gate_tests.proofs.pools.test_pool.TestPool.leaves.Goals as goal
 
-pub left-requires-clause-ends : goal.left-requires-clause-ends
-left-requires-clause-ends g c = c.args.self.are_ends
+pub left-requires-clause-handles : goal.left-requires-clause-handles
+left-requires-clause-handles g c = c.args.self.are_handles
 
 pub left-requires-clause-feeds : goal.left-requires-clause-feeds
 left-requires-clause-feeds g c = c.args.self.are_feeds

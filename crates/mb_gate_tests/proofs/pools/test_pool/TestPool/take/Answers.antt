@@ -1,23 +1,23 @@
 use Rattle.std.proofs.Common.{◌≡◌, ◌<◌, Some, ap, arith, length, subst, ◌∙◌}
 use Rattle.mb_gate.specs.Untouched.{origin_of, IsUntouched}
 use Rattle.mb_pool.specs.Places.{PoolEndpoint, gates_of, parts_of}
-use Rattle.mb_pool.proofs.Alike.{end_gates, still_ends}
+use Rattle.mb_pool.proofs.Alike.{handle_gates, still_handles}
 use Rattle.mb_gate_tests.proofs.pools.test_pool.TestPool.take.Goals as goal
 
 pub give-requires-clause-untouched : goal.give-requires-clause-untouched
 give-requires-clause-untouched g c =
-    let s = c.args.self.now in let end = c.index_mut.result.now in
-    let lt : c.args.end < length s.ends.items = omega (arith, c.if-end-len.false, c.len.ensures, s.ends.ok.0) in
-    let its : gates_of end ≡ Some (origin_of s.gates) = ap (λ (w : PoolEndpoint _). gates_of w) c.index_mut.ensures.value
-    ∙ end_gates s.pool s.ends.items c.args.end end s.are_ends lt ∙ ap (λ o. Some o) s.same_origin in
+    let s = c.args.self.now in let handle = c.index_mut.result.now in
+    let lt : c.args.handle < length s.handles.items = omega (arith, c.if-handle-len.false, c.len.ensures, s.handles.ok.0) in
+    let its : gates_of handle ≡ Some (origin_of s.gates) = ap (λ (w : PoolEndpoint _). gates_of w) c.index_mut.ensures.value
+    ∙ handle_gates s.pool s.handles.items c.args.handle handle s.are_handles lt ∙ ap (λ o. Some o) s.same_origin in
     subst (λ o. IsUntouched g.H.MailboxState.is_of g.H.MailboxState.facts o c.in_ok-claim.claim) its c.in_ok-claim.ensures.untouched
 
 pub invariant_of-self-2 : goal.invariant_of-self-2
 invariant_of-self-2 g c =
-    let s = c.args.self.now in let end = c.index_mut.result.now in record {
+    let s = c.args.self.now in let handle = c.index_mut.result.now in record {
       same_gates = c.give.ensures.same_gates ∙ s.same_gates;
       same_origin = s.same_origin;
-      are_ends = still_ends s.pool s.ends.items c.args.end end c.take.new.self
-          (c.take.ensures.same ∙ ap (λ (w : PoolEndpoint _). parts_of w) c.index_mut.ensures.value) s.are_ends;
+      are_handles = still_handles s.pool s.handles.items c.args.handle handle c.take.new.self
+          (c.take.ensures.same ∙ ap (λ (w : PoolEndpoint _). parts_of w) c.index_mut.ensures.value) s.are_handles;
       are_feeds = s.are_feeds;
     }

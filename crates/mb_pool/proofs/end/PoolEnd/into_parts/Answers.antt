@@ -1,7 +1,0 @@
-use Rattle.mb_pool.proofs.end.PoolEnd.into_parts.Goals as goal
-
-pub returns-clause-same : goal.returns-clause-same
-returns-clause-same g c = c.self.view_is
-
-pub returns-clause-open : goal.returns-clause-open
-returns-clause-open g c = c.self.invariant

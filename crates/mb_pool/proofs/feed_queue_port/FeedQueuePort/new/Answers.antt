@@ -1,5 +1,0 @@
-use Rattle.mb_pool.proofs.Moves.{begins}
-use Rattle.mb_pool.proofs.feed_queue_port.FeedQueuePort.new.Goals as goal
-
-pub new_as-requires : goal.new_as-requires
-new_as-requires g c = begins _

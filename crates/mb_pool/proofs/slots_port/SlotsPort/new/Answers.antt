@@ -1,5 +1,0 @@
-use Rattle.mb_pool.proofs.Moves.{begins}
-use Rattle.mb_pool.proofs.slots_port.SlotsPort.new.Goals as goal
-
-pub ruled-requires-clause-rule : goal.ruled-requires-clause-rule
-ruled-requires-clause-rule g c = begins _

@@ -1,5 +1,0 @@
-use Rattle.mb_register.proofs.Bits.{with_bit}
-use Rattle.mb_register.proofs.owed.Owed.insert.Goals as goal
-
-pub returns : goal.returns
-returns c other = with_bit c.args.self.now.bits c.args.id.0 other c.requires

@@ -1,5 +1,0 @@
-use Rattle.mb_register.proofs.Bits.{no_bits}
-use Rattle.mb_register.proofs.owed.Owed.none.Goals as goal
-
-pub returns : goal.returns
-returns c id = no_bits id
