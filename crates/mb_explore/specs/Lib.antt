@@ -1,3 +1,4 @@
 pub mod Added
+pub mod Errors
 pub mod Orders
 pub mod Outcomes

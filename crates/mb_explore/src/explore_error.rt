@@ -1,4 +1,8 @@
 //! Why there is no list of outcomes.
+ghost use Rattle.std.specs.Prelude.{◌≡◌};
+ghost use Rattle.mb_explore.specs.Errors.{error_of};
+ghost use Rattle.mb_explore.specs.declared.explore_error.ExploreError.TheVariants.{NoMemory};
+
 use mb_world::StepError;
 use std::alloc::{AllocError, AllocFailed};
 
@@ -19,6 +23,8 @@ pub enum ExploreError {
 }
 
 impl From<StepError> for ExploreError {
+    ghost from_gives = { λ refused error. error ≡ error_of refused };
+
     fn from(error: StepError) -> ExploreError {
         match error {
             StepError::NotPossible => ExploreError::NotRepeated,
@@ -29,12 +35,16 @@ impl From<StepError> for ExploreError {
 }
 
 impl From<AllocError> for ExploreError {
+    ghost from_gives = { λ _ error. error ≡ NoMemory };
+
     fn from(_: AllocError) -> ExploreError {
         ExploreError::NoMemory
     }
 }
 
 impl<T: Drop> From<AllocFailed<T>> for ExploreError {
+    ghost from_gives = { λ _ error. error ≡ NoMemory };
+
     fn from(_: AllocFailed<T>) -> ExploreError {
         ExploreError::NoMemory
     }
