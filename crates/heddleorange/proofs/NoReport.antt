@@ -164,19 +164,17 @@ module _ {A K : Type 0} (gives : ℕ → Moment → Reply → Type 0) (plan : Pl
       → IsFailureFor gives why failed → IsErrorOfRun gives plan actors orders failed
   untold actors orders (handle.MissingHandle number back) failed right handles refused cause told = absurd told
   untold actors orders (handle.MissingSender number back) failed right handles refused cause told = absurd told
-  untold actors orders (handle.NotQuiet id back) failed right handles refused cause (is, shows) =
-      subst (HasFailedFor gives plan actors orders failed.actors.items) (sym is) (right, subst (λ n. id.0 < n) many refused.1, by shows)
-    where
-      by : AreUnfinished gives back failed.actors.items ⊎ (failed.actors.items ≡ [])
-          → HasWorkAmong gives plan failed.actors.items id.0 ⊎ (HasWorkLeft plan id.0 × (failed.actors.items ≡ []))
-      by (inl are) = inl (work-among back id.0 failed.actors.items handles refused.1 refused.2 are)
-      by (inr none) = inr (work-left back id.0 handles refused.1 refused.2, none)
-  untold actors orders (handle.NoMemory back) failed right handles refused cause (is, shows) =
-      subst (HasFailedFor gives plan actors orders failed.actors.items) (sym is) (right, by shows)
-    where
-      by : AreUnfinished gives back failed.actors.items ⊎ (failed.actors.items ≡ []) → (failed.actors.items ≡ []) ⊎ AreRemains gives plan failed.actors.items
-      by (inl are) = inr (idle-left back failed.actors.items refused.1 are)
-      by (inr none) = inl none
+  untold actors orders (handle.NotQuiet id back) failed right handles refused cause (inr told) = without-memory gives plan actors orders failed right told
+  untold actors orders (handle.NotQuiet id back) failed right handles refused cause (inl (is, are)) =
+      subst (HasFailedFor gives plan actors orders failed.actors.items) (sym is) (
+        right,
+        subst (λ n. id.0 < n) many refused.1,
+        work-among back id.0 failed.actors.items handles refused.1 refused.2 are,
+      )
+  untold actors orders (handle.NoMemory back) failed right handles refused cause (inr told) = without-memory gives plan actors orders failed right told
+  untold actors orders (handle.NoMemory back) failed right handles refused cause (inl (is, are)) =
+      subst (HasFailedFor gives plan actors orders failed.actors.items) (sym is)
+      (right, inr (idle-left back failed.actors.items refused.1 are))
   untold actors orders (handle.Mismatch what) failed right handles refused cause (is, none) =
       subst (HasFailedFor gives plan actors orders failed.actors.items) (sym is) (
         right,

@@ -9,7 +9,7 @@ use Rattle.mb_shutdown.specs.Mismatched.{of_whom}
 use Rattle.mb_build.specs.Planned.{actors_in}
 use Rattle.mb_msg.specs.declared.order.Order.{Order}
 pub use Rattle.mb_source.specs.Receivers.{has_nobody, is_for_nobody}
-use Rattle.mb_shutdown.specs.NotFinished.{DoesNotAgree, HasWorkLeft}
+use Rattle.mb_shutdown.specs.NotFinished.{DoesNotAgree}
 use Rattle.mb_shutdown.specs.declared.unfinished.UnfinishedActor.{UnfinishedActor}
 use Rattle.heddleorange.specs.Remains.{AreRemains, HasWorkAmong, IsFirstFull, IsLackOf}
 use Rattle.heddleorange.specs.declared.error.Error.{Error}
@@ -43,8 +43,8 @@ IsUnfit plan actors orders (NameTaken id) = ⊥
 
 -- Why the run gave no report, and what is left of its actors. Nothing is done, as above, and nothing is left. Or the plan and the orders are right, and
 -- one of these holds: memory was refused; the first journal of those left that is at its limit is that of this actor; this actor was found to have
--- something to run still, and what is shown is left of the system of which that was read, or nothing is shown; this very mismatch was found, and nothing
--- is left; or nothing came back of this actor.
+-- something to run still, and what is shown is left of the system of which that was read; this very mismatch was found, and nothing is left; or nothing
+-- came back of this actor.
 abbrev pub HasFailedFor : (ℕ → Moment → Reply → Type 0) → Plan → ℕ → List (List Order) → List (Option UnfinishedActor) → Error → Type 0
 HasFailedFor gives plan actors orders shown (BadPlan reason) = ((rest : List PlanError) × (reasons plan actors ≡ reason ∷ rest)) × (shown ≡ [])
 HasFailedFor gives plan actors orders shown (OrderLists lists senders) =
@@ -57,7 +57,7 @@ HasFailedFor gives plan actors orders shown (JournalFull id) =
     IsRight plan actors orders × AreRemains gives plan shown × IsFirstFull plan.journal_limit shown id
 HasFailedFor gives plan actors orders shown NoMemory = IsRight plan actors orders × ((shown ≡ []) ⊎ AreRemains gives plan shown)
 HasFailedFor gives plan actors orders shown (NotQuiet id) =
-    IsRight plan actors orders × (id.0 < length (actors_in plan)) × (HasWorkAmong gives plan shown id.0 ⊎ (HasWorkLeft plan id.0 × (shown ≡ [])))
+    IsRight plan actors orders × (id.0 < length (actors_in plan)) × HasWorkAmong gives plan shown id.0
 HasFailedFor gives plan actors orders shown (Mismatch what) = IsRight plan actors orders × (of_whom what < length (actors_in plan))
     × ((DoesNotAgree gives plan what × (shown ≡ [])) ⊎ (AreRemains gives plan shown × IsLackOf shown what))
 HasFailedFor gives plan actors orders shown (NameTaken id) = ⊥

@@ -124,9 +124,9 @@ module _ {A K : Type 0} where
   IsBrokenOff gives built fault limit failed = (AreUnfinished gives built failed.actors.items × IsToldAs fault limit failed.actors.items failed.error)
       ⊎ IsWithoutMemory failed
 
-  -- The system has no report for this reason. What is left of its actors is shown; or nothing is, if memory was refused for that.
+  -- The system has no report for this reason; what is left of its actors is shown, unless memory was refused.
   abbrev pub IsLeftFor : (ℕ → Moment → Reply → Type 0) → Built A K → Error → FailedRun A → Type 0
-  IsLeftFor gives built error failed = (failed.error ≡ error) × (AreUnfinished gives built failed.actors.items ⊎ (failed.actors.items ≡ []))
+  IsLeftFor gives built error failed = ((failed.error ≡ error) × AreUnfinished gives built failed.actors.items) ⊎ IsWithoutMemory failed
 
   -- All handles of the system are its own, and there is one.
   abbrev pub HasOwnHandles : Built A K → Type 0

@@ -34,8 +34,7 @@ pub enum Error {
         place: usize,
         to: ActorId,
     },
-    /// Memory was refused as the system was built or was to end; or the run was broken off, and memory was refused as what is left of
-    /// its actors was to be shown.
+    /// Memory was refused as the system was built, as it was to end, or as what is left of its actors was to be shown.
     NoMemory,
     /// The run was broken off, since memory was refused.
     NoMemoryInRun,

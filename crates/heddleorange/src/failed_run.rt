@@ -17,7 +17,7 @@ pub struct FailedRun<A: Drop> {
     /// Why there is no report.
     pub error: Error,
     /// What is left of each actor, the guardian first; `None` for one of which a claim is out. There is nothing where nothing was
-    /// run, where the end found a mismatch, or where memory was refused for this too: with the errors `NoMemory` and `NotQuiet`.
+    /// run, where the end found a mismatch, or where memory was refused for this too: the error is `NoMemory` then.
     pub actors: Vec<Option<UnfinishedActor>>,
     /// The plan and the actors as they were handed in, where nothing was done: at `BadPlan`, `OrderLists`, `NoSuchSender` and
     /// `NoSuchActor`.

@@ -66,8 +66,8 @@ fn without_report<A: Actor, K: Behaviours, R: Wait>(
     }
 }
 
-/// What is left of the actors of a system that has no report for this reason, which is told in any case. Nothing is shown if memory was refused for
-/// that.
+/// What is left of the actors of a system that has no report for this reason. Where memory was refused for that too, nothing is shown, and
+/// it is the reason that is told.
 pub(crate) fn left_for<A: Actor, K: Behaviours, R: Wait>(
     rt: &R,
     built: Built<A, K>,
@@ -86,6 +86,6 @@ pub(crate) fn left_for<A: Actor, K: Behaviours, R: Wait>(
             untouched: None,
             names: Names::new(alloc),
         },
-        Err(_) => FailedRun::without_actors(alloc, error),
+        Err(_) => FailedRun::without_actors(alloc, Error::NoMemory),
     }
 }

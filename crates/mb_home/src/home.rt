@@ -16,7 +16,6 @@ use std::marker::Model;
 use std::snapshot::Snapshot;
 
 mod clean_up;
-mod envelopes;
 mod mailbox_state;
 mod status;
 mod systems;
@@ -26,10 +25,12 @@ mod tells;
 // What most messages use comes first, so that it lies in few cache lines.
 pub struct Home<A: Actor, K: Behaviours> {
     id: ActorId,
-    cell: Cell<A, K>,
+    /// The cell.
+    pub cell: Cell<A, K>,
     rest: Chain,
     sent: u64,
-    take: TakePass,
+    /// The pass of the actor's queue.
+    pub take: TakePass,
     sends: Vec<SendPass>,
     aside_dead: u64,
     dropped: u64,

@@ -26,7 +26,7 @@ use Rattle.mb_queue.specs.Passes.{SendPassView, TakePassView}
 use Rattle.mb_home.specs.Contents.{Contents}
 use Rattle.mb_home.specs.AgreesWithJournal.{AgreesWithJournal}
 use Rattle.mb_home.specs.Steps.{Pushes, RecordsDeadLetter, next_envelope, reason_of}
-use Rattle.mb_home.proofs.AgreesLemmas.{many-sends}
+use Rattle.mb_home.proofs.AgreesLemmas.{many-sends, settled-acts}
 use Rattle.mb_home.proofs.TellSteps.{told-there}
 use Rattle.mb_register.specs.Views.{LooksAfter}
 use Rattle.mb_register.specs.declared.hint.Hint.{Hint}
@@ -164,6 +164,30 @@ module _ (h : RunState) (new : Contents) (same : new ≡ record h.home { cell = 
       running-same gives origin seen h pending new (subst (λ p. IsRunning gives origin p seen h) is r) (ap (λ (x : Contents). x.cell.who) same)
       (ap (λ (x : Contents). x.cell.journal) same) (ap (λ (x : Contents). x.directory) same) (ap (λ (x : Contents). x.dead) same)
       (ap (λ (x : Contents). x.rest) same) (subst (λ n. AgreesWithJournal (gives n) pending new) here settled)
+
+-- where an equation begins
+abbrev pub start_of : {x y : Contents} → x ≡ y → Contents
+start_of {x} here = x
+
+-- the cell gave its next act, where the home is as it was at this place
+module _ (h : RunState) (x : Contents) (here : x ≡ h.home) (cell : CellView) (same : cell ≡ record x.cell { acts = cell.acts }) where
+  pub home-next : record x { cell = cell } ≡ record h.home { cell = record h.home.cell { acts = cell.acts } }
+  home-next =
+      ap (λ (c : CellView). record x { cell = c }) same
+      ∙ ap (λ (y : Contents). record y { cell = record y.cell { acts = cell.acts } }) here
+
+  pub acts-next : (pending : List Act) → x.cell.acts ≡ pending → h.home.cell.acts ≡ pending
+  acts-next pending is = sym (ap (λ (y : Contents). y.cell.acts) here) ∙ is
+
+  pub running-gave : (gives : ℕ → Moment → Reply → Type 0) (origin : Origin (Box Contents)) (seen : List Observation) (pending : List Act) →
+      x.cell.acts ≡ pending → IsRunning gives origin h.home.cell.acts seen h →
+      IsRunning gives origin pending seen (record h { home = record x { cell = cell } })
+  running-gave gives origin seen pending is r =
+      let own = running-own gives origin h.home.cell.acts seen h r in
+      let left = subst (λ p. AgreesWithJournal (gives h.home.cell.who.this.0) p (record h.home { cell = record h.home.cell { acts = cell.acts } }))
+      (acts-next pending is) (settled-acts h.home (gives h.home.cell.who.this.0) h.home.cell.acts cell.acts own) in
+      running-next h (record x { cell = cell }) home-next gives origin seen pending (acts-next pending is)
+      (subst (λ (y : Contents). AgreesWithJournal (gives y.cell.who.this.0) pending y) (sym home-next) left) r
 
 -- ---- a tell
 

@@ -46,7 +46,7 @@ pub(crate) fn carry_out<A: Actor, K: Behaviours, W: RunQueue<BoxedHome<A, K>>, R
 {
     let mut is_clean = true;
     let mut has_looked = false;
-    while let Some(act) = claim.home.next_act() {
+    while let Some(act) = claim.home.cell.next_act() {
         has_looked = true;
         match act {
             Act::Tell(to, body) => {

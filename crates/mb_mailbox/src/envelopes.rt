@@ -40,12 +40,12 @@ pub(crate) fn apply_envelopes<A: Actor, K: Behaviours, W: RunQueue<BoxedHome<A, 
             return Ok(());
         }
         claim.home.ready()?;
-        let Some(envelope) = claim.home.take_next(rt) else {
+        let Some(envelope) = claim.home.take.take(rt) else {
             return Ok(());
         };
         // Counted before the actor is called, since a locked step waits until all that was written before it is out.
         gates.note_taken(claim);
-        claim.home.begin(status, envelope);
+        claim.home.cell.apply_envelope(status, envelope);
         turn.envelopes += 1;
         carry_out(rt, gates, registrar, claim)?;
         if has_no_system_work(gates, claim) {

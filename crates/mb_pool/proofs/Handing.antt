@@ -25,26 +25,26 @@ module _ {A B : Type 0} (f : A → B) where
   paired_one g done new m x old rest all n e o h = made_one (map g done) (map g new) (g m) x old rest all (ap (map g) n ∙ map_push g done m) e o h
 
   -- there is one more of these ports
-  module _ {X : Type 0} (d : B) (doors : List A) (xs rest : List X) (x : X) (more : ℕ) (ports : map f doors ≡ replicate (length xs + more) d)
+  module _ {X : Type 0} (d : B) (shared_ports : List A) (xs rest : List X) (x : X) (more : ℕ) (ports : map f shared_ports ≡ replicate (length xs + more) d)
       (next : xs ≡ x ∷ rest) where
-    pub port_there : length doors ≡ 0 → ⊥
+    pub port_there : length shared_ports ≡ 0 → ⊥
     port_there none = let l = ap (length {A = X}) next in let some : 0 < length xs + more = omega (arith, l) in
-        not_none f d doors (length xs + more) none some ports
+        not_none f d shared_ports (length xs + more) none some ports
 
-    pub port_one : (left : List A) (shared_port : A) → doors ≡ left ++ shared_port ∷ [] → (map f left ≡ replicate (length rest + more) d) × (f shared_port ≡ d)
+    pub port_one : (left : List A) (shared_port : A) → shared_ports ≡ left ++ shared_port ∷ [] → (map f left ≡ replicate (length rest + more) d) × (f shared_port ≡ d)
     port_one left shared_port e =
         let l = ap (length {A = X}) next in let fewer : length xs + more ≡ length rest + more + 1 = omega (arith, l) in
-        popped f d doors left shared_port (length xs + more) (length rest + more) e fewer ports
+        popped f d shared_ports left shared_port (length xs + more) (length rest + more) e fewer ports
 
   -- this many of these ports
-  module _ (d : B) (doors : List A) (k count : ℕ) (ports : map f doors ≡ replicate (count - k) d) (lt : k < count) where
-    pub port_left : length doors ≡ 0 → ⊥
-    port_left none = let some : 0 < count - k = omega (arith, lt) in not_none f d doors (count - k) none some ports
+  module _ (d : B) (shared_ports : List A) (k count : ℕ) (ports : map f shared_ports ≡ replicate (count - k) d) (lt : k < count) where
+    pub port_left : length shared_ports ≡ 0 → ⊥
+    port_left none = let some : 0 < count - k = omega (arith, lt) in not_none f d shared_ports (count - k) none some ports
 
-    pub port_next : (left : List A) (shared_port : A) → doors ≡ left ++ shared_port ∷ [] → (map f left ≡ replicate (count - (k + 1)) d) × (f shared_port ≡ d)
+    pub port_next : (left : List A) (shared_port : A) → shared_ports ≡ left ++ shared_port ∷ [] → (map f left ≡ replicate (count - (k + 1)) d) × (f shared_port ≡ d)
     port_next left shared_port e =
         let fewer : count - k ≡ count - (k + 1) + 1 = omega (arith, lt) in
-        popped f d doors left shared_port (count - k) (count - (k + 1)) e fewer ports
+        popped f d shared_ports left shared_port (count - k) (count - (k + 1)) e fewer ports
 
     pub fed_one : {W : Type 0} (done new : List W) (w feed : W) → done ≡ replicate k w → feed ≡ w → new ≡ done ++ feed ∷ []
         → new ≡ replicate (k + 1) w

@@ -55,8 +55,8 @@ module _ {H : Type 0} where
       → with_shares 1 first ≡ borrowed first
   last_one first count e = ap (λ (a : ClaimAccount H). let l : PoolPort H = record { queue = first.queue; ledger = record a { shares = 1 } } in l) e
 
-  module _ {V : Type 0} (f : V → PoolPort H) (doors new : List V) (last : V) (first : PoolPort H) (k count : ℕ)
-      (before : map f doors ≡ replicate (k - 1) (borrowed first)) (more : new ≡ doors ++ last ∷ []) where
+  module _ {V : Type 0} (f : V → PoolPort H) (shared_ports new : List V) (last : V) (first : PoolPort H) (k count : ℕ)
+      (before : map f shared_ports ≡ replicate (k - 1) (borrowed first)) (more : new ≡ shared_ports ++ last ∷ []) where
     -- one port more of the queue
     pub shared_port_more : (l l' : PoolPort H) → 1 ≤ k → l ≡ with_shares (count - (k - 1)) first → l' ≡ lent l → f last ≡ borrowed l
         → (map f new ≡ replicate (k + 1 - 1) (borrowed first)) × (l' ≡ with_shares (count - (k + 1 - 1)) first)
@@ -65,7 +65,7 @@ module _ {H : Type 0} where
         let shared_port : f last ≡ borrowed first = got ∙ one.1 in
         let next : k - 1 + 1 ≡ k + 1 - 1 = omega (arith, low) in
         let fewer : count - (k - 1) - 1 ≡ count - (k + 1 - 1) = omega (arith, low) in (
-          ap (map f) more ∙ map_push f doors last ∙ (λ i. before i ++ shared_port i ∷ []) ∙ replicate_more (k - 1) (borrowed first)
+          ap (map f) more ∙ map_push f shared_ports last ∙ (λ i. before i ++ shared_port i ∷ []) ∙ replicate_more (k - 1) (borrowed first)
               ∙ ap (λ n. replicate n (borrowed first)) next,
           left ∙ one.0 ∙ ap (λ n. with_shares n first) fewer,
         )
@@ -77,7 +77,7 @@ module _ {H : Type 0} where
         let one : count - (k - 1) ≡ 1 = omega (arith, handle, low) in
         let next : k - 1 + 1 ≡ count = omega (arith, handle, low) in
         let shared_port : f last ≡ borrowed first = here ∙ ap (λ n. with_shares n first) one ∙ last_one first count whole in
-        ap (map f) more ∙ map_push f doors last ∙ (λ i. before i ++ shared_port i ∷ []) ∙ replicate_more (k - 1) (borrowed first)
+        ap (map f) more ∙ map_push f shared_ports last ∙ (λ i. before i ++ shared_port i ∷ []) ∙ replicate_more (k - 1) (borrowed first)
         ∙ ap (λ n. replicate n (borrowed first)) next
 
   -- each of the next handles' deques lends a share

@@ -98,10 +98,10 @@ impl<H: MailboxState> Pool<H> {
         let mut shared_port = first_shared_port(alloc, kind)?;
         shared_port.open(gates, ports);
         let pool = pool_of(gates, &shared_port, &deques, workers, feeds);
-        let mut doors = shared_ports_of(alloc, shared_port, ports)?;
+        let mut shared_ports = shared_ports_of(alloc, shared_port, ports)?;
         let members = worker_deques_of(alloc, deques, workers)?;
-        let handles = handles_of(alloc, &pool, &mut doors, members)?;
-        let feeds = feeds_of(alloc, &pool, &mut doors, feeds)?;
+        let handles = handles_of(alloc, &pool, &mut shared_ports, members)?;
+        let feeds = feeds_of(alloc, &pool, &mut shared_ports, feeds)?;
         Ok((pool, handles, feeds))
     }
 }
@@ -131,19 +131,19 @@ fn pool_of<H: MailboxState>(
 fn handles_of<H: MailboxState>(
     alloc: Global,
     pool: &Pool<H>,
-    doors: &mut Vec<SharedPort<H>>,
+    shared_ports: &mut Vec<SharedPort<H>>,
     members: Vec<Option<WorkerDeques<H>>>,
 ) -> Result<Vec<PoolHandle<H>>, AllocError>
-    requires ports { map port_view doors.old.items ≡ replicate (length members.items + pool.now.feeds) (new_shared_port pool.now) }
+    requires ports { map port_view shared_ports.old.items ≡ replicate (length members.items + pool.now.feeds) (new_shared_port pool.now) }
     requires open { All (λ m. AreOpen (endpoint_of (new_shared_port pool.now) m)) members.items }
-    ensures ports { IfOk result (λ _. map port_view doors.new.items ≡ replicate pool.now.feeds (new_shared_port pool.now)) }
+    ensures ports { IfOk result (λ _. map port_view shared_ports.new.items ≡ replicate pool.now.feeds (new_shared_port pool.now)) }
     ensures handles { IfOk result (λ handles. handles.items ≡ map (endpoint_of (new_shared_port pool.now)) members.items) }
 {
     // Only the contract uses it: how many feeds the pool has, and its ports.
     let _ = pool;
     let mut handles = Vec::with_capacity(alloc, members.len())?;
     for member in members {
-        let Some(shared_port) = doors.pop() else {
+        let Some(shared_port) = shared_ports.pop() else {
             unreachable!()
         };
         handles.push(PoolHandle {
@@ -160,17 +160,17 @@ fn handles_of<H: MailboxState>(
 fn feeds_of<H: MailboxState>(
     alloc: Global,
     pool: &Pool<H>,
-    doors: &mut Vec<SharedPort<H>>,
+    shared_ports: &mut Vec<SharedPort<H>>,
     count: usize,
 ) -> Result<Vec<Feed<H>>, AllocError>
-    requires { map port_view doors.old.items ≡ replicate count (new_shared_port pool.now) }
+    requires { map port_view shared_ports.old.items ≡ replicate count (new_shared_port pool.now) }
     ensures { IfOk result (λ feeds. feeds.items ≡ replicate count (of_feed (new_shared_port pool.now))) }
 {
     // Only the contract uses it: how many feeds the pool has, and its ports.
     let _ = pool;
     let mut feeds = Vec::with_capacity(alloc, count)?;
     for _feed in 0..count {
-        let Some(shared_port) = doors.pop() else {
+        let Some(shared_port) = shared_ports.pop() else {
             unreachable!()
         };
         feeds.push(Feed { shared_port })?;

@@ -39,14 +39,14 @@ pub fn shared_ports_of<H: MailboxState>(
 ) -> Result<Vec<SharedPort<H>>, AllocError>
     requires not_empty { 0 < count }
     requires shares { (port_view first).ledger ≡ opened (port_view first).ledger.gates (port_view first).ledger.members count }
-    ensures { IfOk result (λ doors. map port_view doors.items ≡ replicate count (borrowed (port_view first))) }
+    ensures { IfOk result (λ shared_ports. map port_view shared_ports.items ≡ replicate count (borrowed (port_view first))) }
 {
     let mut first = first;
-    let mut doors = Vec::with_capacity(alloc, count)?;
+    let mut shared_ports = Vec::with_capacity(alloc, count)?;
     for _lent in 1..count {
         let shared_port = first.lend()?;
-        doors.push(shared_port)?;
+        shared_ports.push(shared_port)?;
     }
-    doors.push(first)?;
-    Ok(doors)
+    shared_ports.push(first)?;
+    Ok(shared_ports)
 }

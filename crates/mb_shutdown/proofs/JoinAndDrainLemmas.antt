@@ -26,11 +26,6 @@ pub ok-then : {T E A B : Type 0} (r : Result T E) → (A → B) → IfOk r (λ _
 ok-then (Ok x) f h = f h
 ok-then (Err e) f h = tt
 
--- what a fault tells tells more
-pub err-each : {T E : Type 0} (r : Result T E) (P Q : E → Type 0) → ((e : E) → P e → Q e) → IfErr r P → IfErr r Q
-err-each (Ok x) P Q f h = h
-err-each (Err e) P Q f h = f e h
-
 pub err-both : {T E : Type 0} (r : Result T E) (P Q R : E → Type 0) → ((e : E) → P e → Q e → R e) → IfErr r P → IfErr r Q → IfErr r R
 err-both (Ok x) P Q R f p q = p
 err-both (Err e) P Q R f p q = f e p q

@@ -59,14 +59,14 @@ pub fn are_of<H: MailboxState>(
     pass: &mut Pass<H>,
     mut claims: Vec<Claim<H>>,
     first: u16,
-    handle: u16,
+    end: u16,
 ) -> bool
     requires same_gates { pass_id pass.old ≡ gates_id gates.now }
     requires untouched { All (IsUntouched H.is_of H.facts (Some (origin_of gates.now))) claims.items }
     ensures same_gates { pass_id pass.new ≡ gates_id gates.now }
 {
     let mut are_those = true;
-    let mut next = handle;
+    let mut next = end;
     while let Some(claim) = claims.pop() {
         next = next.wrapping_sub(1);
         are_those &= claim.actor().0 == next;

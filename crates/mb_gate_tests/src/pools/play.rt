@@ -46,11 +46,11 @@ pub fn leaves<R: Abort + Wait>(
     actors: u16,
     steps: &[PoolStep],
     first: u16,
-    handle: u16,
+    end: u16,
 ) -> Result<(), AllocError>
     requires { 0 < actors }
 {
-    let are_left = played(rt, alloc, kind, actors, steps)?.leaves(rt, alloc, first, handle)?;
+    let are_left = played(rt, alloc, kind, actors, steps)?.leaves(rt, alloc, first, end)?;
     assert!(rt; are_left);
     Ok(())
 }

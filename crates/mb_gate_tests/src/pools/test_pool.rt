@@ -87,7 +87,7 @@ impl<H: MailboxState> TestPool<H> {
         rt: &R,
         alloc: Global,
         first: u16,
-        handle: u16,
+        end: u16,
     ) -> Result<bool, AllocError> {
         let TestPool {
             gates,
@@ -97,7 +97,7 @@ impl<H: MailboxState> TestPool<H> {
             feeds,
         } = self;
         let claims = left(rt, alloc, pool, handles, feeds)?;
-        Ok(are_of(&gates, &mut pass, claims, first, handle))
+        Ok(are_of(&gates, &mut pass, claims, first, end))
     }
 }
 

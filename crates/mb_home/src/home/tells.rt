@@ -1,34 +1,19 @@
-//! The acts of a message, and the envelopes that an actor tells.
+//! The envelopes that an actor tells.
 
-ghost use Rattle.std.specs.Prelude.{◌≡◌, ◌+◌, ◌-◌, ◌%◌, ◌^◌, ◌<◌, [], ◌∷◌, ◌++◌, false, map, option_to_list, IfErr, IfNone, MatchResult};
+ghost use Rattle.std.specs.Prelude.{◌≡◌, ◌+◌, ◌-◌, ◌%◌, ◌^◌, ◌<◌, [], ◌∷◌, ◌++◌, false, IfErr, MatchResult};
 ghost use Rattle.mb_msg.specs.declared.dead_letter.DeadLetterReason.TheVariants.{Closed};
 ghost use Rattle.mb_journal.specs.Acts.Act.{Tell};
-ghost use Rattle.mb_supervision.specs.ActQueue.{act_of};
 ghost use Rattle.mb_queue.specs.Rule.{given_back};
 ghost use Rattle.mb_home.specs.AgreesWithJournal.{AgreesWithJournal};
 ghost use Rattle.mb_home.specs.Steps.{Pushes, RecordsDeadLetter, RefusesPush, next_envelope, reason_of};
 
 use super::Home;
 use mb_actor::{Actor, Behaviours};
-use mb_cell::Act;
 use mb_msg::{ActorId, Body, DeadLetter, DeadLetterReason, Envelope, SenderId};
 use mb_queue::PushError;
 use std::sync::Wait;
 
 impl<A: Actor, K: Behaviours> Home<A, K> {
-    /// Takes out the next act that is to be carried out, the earliest first; `None` if none is left. The envelope of a `Tell`
-    /// has to be pushed then, or to become a dead letter. It takes no memory.
-    #[inline(always)]
-    pub fn next_act(&mut self) -> Option<Act>
-        requires settled { AgreesWithJournal (K.gives self.old.cell.who.this.0) self.old.cell.acts self.old }
-        ensures taken { self.old.cell.acts ≡ map act_of (option_to_list result) ++ self.new.cell.acts }
-        ensures none { IfNone result (self.old.cell.acts ≡ []) }
-        ensures same { self.new ≡ record self.old { cell = record self.old.cell { acts = self.new.cell.acts } } }
-        ensures settled { AgreesWithJournal (K.gives self.new.cell.who.this.0) (map act_of (option_to_list result) ++ self.new.cell.acts) self.new }
-    {
-        self.cell.next_act()
-    }
-
     /// The envelope of what the actor tells next. It is made before it is counted as waiting, so that it is in memory when its queue
     /// copies it.
     #[inline(always)]

@@ -8,14 +8,13 @@ use Rattle.mb_gate.specs.Accessors.{pass_view}
 use Rattle.mb_gate.specs.SentSystem.{messages_of}
 use Rattle.mb_gate.specs.Untouched.{origin_of}
 use Rattle.mb_home.specs.Contents.{Contents}
-use Rattle.mb_home.specs.AgreesWithJournal.{AgreesWithJournal}
 use Rattle.mb_mailbox.specs.RunState.{RunState, run_state}
 use Rattle.mb_mailbox.specs.Running.{IsRunning}
 use Rattle.mb_mailbox.proofs.AppliedLemmas.{ended-either, ended-keeps}
 use Rattle.mb_mailbox.proofs.BacklogLemmas.{keeps-same, keeps-then}
 use Rattle.mb_register.proofs.CallerLemmas.{further-none, further-then}
 use Rattle.mb_mailbox.proofs.EmptiedLemmas.{and-both, and-one, cleared-same, cleared-then, err-so, ok-so, ok-then}
-use Rattle.mb_mailbox.proofs.TellingLemmas.{running-own, running-next, backlog-next, keeps-next}
+use Rattle.mb_mailbox.proofs.TellingLemmas.{start_of, home-next, running-gave, backlog-next, keeps-next}
 use Rattle.mb_mailbox.proofs.RecordedLemmas.{alike-looks, alike-still, alike-then}
 use Rattle.mb_mailbox.proofs.SendSystemLemmas.{running-caller_advances}
 use Rattle.mb_mailbox.proofs.RunSendsLemmas.{due-none, due-then, one-first}
@@ -36,13 +35,6 @@ loop-act-init g c = (
   record { due = []; left = refl; sends = due-none (run_state c.args.claim.now) (run_state c.args.claim.now) refl refl refl (λ shut. shut) },
 )
 
-pub next_act-requires : goal.next_act-requires
-next_act-requires g c = record {
-  settled =
-      subst (λ (x : Contents). AgreesWithJournal (g.K.Behaviours.gives x.cell.who.this.0) x.cell.acts x) (sym c.deref_mut.ensures.value)
-      (running-own _ _ _ _ (run_state c.loop-act.claim) c.loop-act.invariant.1);
-}
-
 -- ---- a tell is left
 
 pub tell-requires : goal.tell-requires
@@ -50,18 +42,16 @@ tell-requires g c = record {
   in_acts = record {
     same_gates = c.loop-act.invariant.0;
     running =
-        let new : Contents = c.next_act.new.self in
-        let same = subst (λ (x : Contents). new ≡ record x { cell = record x.cell { acts = new.cell.acts } }) c.deref_mut.ensures.value
-        c.next_act.ensures.same in
-        let taken = sym (ap (λ (x : Contents). x.cell.acts) c.deref_mut.ensures.value) ∙ c.in-Some.ensures.taken in
+        let here = c.behind-claim.view_is ∙ c.deref_mut.ensures.value in
+        let new : Contents = record (start_of here) { cell = c.next_act.new.self } in
         subst (λ (a : Handed). IsRunning g.K.Behaviours.gives (origin_of c.args.gates.now) (act_of a ∷ new.cell.acts) (pass_view c.loop-act.registrar.pass).log
         (record (run_state c.loop-act.claim) { home = new })) c.in-Tell.is
-        (running-next (run_state c.loop-act.claim) new same g.K.Behaviours.gives (origin_of c.args.gates.now) (pass_view c.loop-act.registrar.pass).log
-        (act_of c.in-Some.act ∷ new.cell.acts) taken c.in-Some.ensures.settled c.loop-act.invariant.1);
+        (running-gave (run_state c.loop-act.claim) _ here c.next_act.new.self c.next_act.ensures.rest g.K.Behaviours.gives (origin_of c.args.gates.now)
+        (pass_view c.loop-act.registrar.pass).log (act_of c.in-Some.act ∷ new.cell.acts) c.in-Some.ensures.taken c.loop-act.invariant.1);
     backlog =
-        let new : Contents = c.next_act.new.self in
-        let same = subst (λ (x : Contents). new ≡ record x { cell = record x.cell { acts = new.cell.acts } }) c.deref_mut.ensures.value
-        c.next_act.ensures.same in
+        let here = c.behind-claim.view_is ∙ c.deref_mut.ensures.value in
+        let new : Contents = record (start_of here) { cell = c.next_act.new.self } in
+        let same = home-next (run_state c.loop-act.claim) _ here c.next_act.new.self c.next_act.ensures.rest in
         backlog-next (run_state c.loop-act.claim) new same c.loop-act.invariant.2;
   };
 }
@@ -71,9 +61,9 @@ register_if_awaited-requires g c = record { same_gates = c.tell.ensures.in_acts.
 
 pub loop-act-preserved-in-Tell : goal.loop-act-preserved-in-Tell
 loop-act-preserved-in-Tell g c =
-    let new : Contents = c.next_act.new.self in
-    let same = subst (λ (x : Contents). new ≡ record x { cell = record x.cell { acts = new.cell.acts } }) c.deref_mut.ensures.value
-    c.next_act.ensures.same in (
+    let here = c.behind-claim.view_is ∙ c.deref_mut.ensures.value in
+    let new : Contents = record (start_of here) { cell = c.next_act.new.self } in
+    let same = home-next (run_state c.loop-act.claim) _ here c.next_act.new.self c.next_act.ensures.rest in (
       c.register_if_awaited.ensures.same_gates,
       running-caller_advances g.K.Behaviours.gives (origin_of c.args.gates.now) c.tell.new.claim.home.value.cell.acts _ _ (run_state c.tell.new.claim)
           c.register_if_awaited.ensures.caller_advances c.tell.ensures.in_acts.running,
@@ -95,7 +85,7 @@ loop-act-preserved-in-Tell g c =
           let next : RunState = record before { home = new } in
           let last = run_state c.tell.new.claim in
           let sent = messages_of (act_of c.in-Some.act ∷ []) in
-          let taken = sym (ap (λ (x : Contents). x.cell.acts) c.deref_mut.ensures.value) ∙ c.in-Some.ensures.taken in
+          let taken = sym (ap (λ (x : Contents). x.cell.acts) here) ∙ c.in-Some.ensures.taken in
           let rest = ap (λ (x : Contents). x.rest) same in
           let keeps = (keeps-next before new same).same in
           let step = due-then before next last keeps.actor keeps.who [] [] sent [] (due-none before next refl refl rest (λ shut. shut))
@@ -113,7 +103,8 @@ loop-act-preserved-in-Tell g c =
 pub loop-act-smaller-in-Tell : goal.loop-act-smaller-in-Tell
 loop-act-smaller-in-Tell g c =
     let left = ap (λ (x : CellView). length x.acts) c.tell.ensures.left in
-    let taken = sym (ap (λ (x : Contents). x.cell.acts) c.deref_mut.ensures.value) ∙ c.in-Some.ensures.taken in
+    let here = c.behind-claim.view_is ∙ c.deref_mut.ensures.value in
+    let taken = sym (ap (λ (x : Contents). x.cell.acts) here) ∙ c.in-Some.ensures.taken in
     let before = ap (λ (l : List Act). length l) taken in
     omega (arith, left, before)
 
@@ -123,16 +114,14 @@ pub carry-requires-clause-in_acts : goal.carry-requires-clause-in_acts
 carry-requires-clause-in_acts g c = record {
   same_gates = c.loop-act.invariant.0;
   running =
-      let new : Contents = c.next_act.new.self in
-      let same = subst (λ (x : Contents). new ≡ record x { cell = record x.cell { acts = new.cell.acts } }) c.deref_mut.ensures.value
-      c.next_act.ensures.same in
-      let taken = sym (ap (λ (x : Contents). x.cell.acts) c.deref_mut.ensures.value) ∙ c.in-Some.ensures.taken in
-      running-next (run_state c.loop-act.claim) new same g.K.Behaviours.gives (origin_of c.args.gates.now) (pass_view c.loop-act.registrar.pass).log
-      (act_of c.in-Some.act ∷ new.cell.acts) taken c.in-Some.ensures.settled c.loop-act.invariant.1;
+      let here = c.behind-claim.view_is ∙ c.deref_mut.ensures.value in
+      let new : Contents = record (start_of here) { cell = c.next_act.new.self } in
+      running-gave (run_state c.loop-act.claim) _ here c.next_act.new.self c.next_act.ensures.rest g.K.Behaviours.gives (origin_of c.args.gates.now)
+      (pass_view c.loop-act.registrar.pass).log (act_of c.in-Some.act ∷ new.cell.acts) c.in-Some.ensures.taken c.loop-act.invariant.1;
   backlog =
-      let new : Contents = c.next_act.new.self in
-      let same = subst (λ (x : Contents). new ≡ record x { cell = record x.cell { acts = new.cell.acts } }) c.deref_mut.ensures.value
-      c.next_act.ensures.same in
+      let here = c.behind-claim.view_is ∙ c.deref_mut.ensures.value in
+      let new : Contents = record (start_of here) { cell = c.next_act.new.self } in
+      let same = home-next (run_state c.loop-act.claim) _ here c.next_act.new.self c.next_act.ensures.rest in
       backlog-next (run_state c.loop-act.claim) new same c.loop-act.invariant.2;
 }
 
@@ -144,9 +133,9 @@ register_if_awaited-requires-in_default-act g c = record { same_gates = c.carry.
 
 pub loop-act-preserved : goal.loop-act-preserved
 loop-act-preserved g c =
-    let new : Contents = c.next_act.new.self in
-    let same = subst (λ (x : Contents). new ≡ record x { cell = record x.cell { acts = new.cell.acts } }) c.deref_mut.ensures.value
-    c.next_act.ensures.same in (
+    let here = c.behind-claim.view_is ∙ c.deref_mut.ensures.value in
+    let new : Contents = record (start_of here) { cell = c.next_act.new.self } in
+    let same = home-next (run_state c.loop-act.claim) _ here c.next_act.new.self c.next_act.ensures.rest in (
       c.register_if_awaited-in_default-act.ensures.same_gates,
       running-caller_advances g.K.Behaviours.gives (origin_of c.args.gates.now) c.carry.new.claim.home.value.cell.acts _ _ (run_state c.carry.new.claim)
           c.register_if_awaited-in_default-act.ensures.caller_advances c.carry.ensures.in_acts.running,
@@ -171,7 +160,7 @@ loop-act-preserved g c =
           let next : RunState = record before { home = new } in
           let last = run_state c.carry.new.claim in
           let sent = messages_of (act_of c.in-Some.act ∷ []) in
-          let taken = sym (ap (λ (x : Contents). x.cell.acts) c.deref_mut.ensures.value) ∙ c.in-Some.ensures.taken in
+          let taken = sym (ap (λ (x : Contents). x.cell.acts) here) ∙ c.in-Some.ensures.taken in
           let rest = ap (λ (x : Contents). x.rest) same in
           let keeps = (keeps-next before new same).same in
           let step = due-then before next last keeps.actor keeps.who [] [] sent [] (due-none before next refl refl rest (λ shut. shut)) c.carry.ensures.due in
@@ -188,7 +177,8 @@ loop-act-preserved g c =
 pub loop-act-smaller : goal.loop-act-smaller
 loop-act-smaller g c =
     let left = ap (λ (l : List Act). length l) c.carry.ensures.left in
-    let taken = sym (ap (λ (x : Contents). x.cell.acts) c.deref_mut.ensures.value) ∙ c.in-Some.ensures.taken in
+    let here = c.behind-claim.view_is ∙ c.deref_mut.ensures.value in
+    let taken = sym (ap (λ (x : Contents). x.cell.acts) here) ∙ c.in-Some.ensures.taken in
     let before = ap (λ (l : List Act). length l) taken in
     omega (arith, left, before)
 
@@ -198,19 +188,17 @@ pub returns-then-has_looked-clause-in_acts : goal.returns-then-has_looked-clause
 returns-then-has_looked-clause-in_acts g c = record {
   same_gates = c.loop-act.invariant.0;
   running =
-      let new : Contents = c.next_act.new.self in
-      let same = subst (λ (x : Contents). new ≡ record x { cell = record x.cell { acts = new.cell.acts } }) c.deref_mut.ensures.value
-      c.next_act.ensures.same in
-      let taken = sym (ap (λ (x : Contents). x.cell.acts) c.deref_mut.ensures.value) ∙ c.in_default.ensures.taken in
+      let here = c.behind-claim.view_is ∙ c.deref_mut.ensures.value in
+      let new : Contents = record (start_of here) { cell = c.next_act.new.self } in
       let none : new.cell.acts ≡ [] = sym c.in_default.ensures.taken ∙ c.in_default.ensures.none in
       subst (λ l. IsRunning g.K.Behaviours.gives (origin_of c.args.gates.now) l (pass_view c.loop-act.registrar.pass).log
       (record (run_state c.loop-act.claim) { home = new })) none
-      (running-next (run_state c.loop-act.claim) new same g.K.Behaviours.gives (origin_of c.args.gates.now) (pass_view c.loop-act.registrar.pass).log
-      new.cell.acts taken c.in_default.ensures.settled c.loop-act.invariant.1);
+      (running-gave (run_state c.loop-act.claim) _ here c.next_act.new.self c.next_act.ensures.rest g.K.Behaviours.gives (origin_of c.args.gates.now)
+      (pass_view c.loop-act.registrar.pass).log new.cell.acts c.in_default.ensures.taken c.loop-act.invariant.1);
   backlog =
-      let new : Contents = c.next_act.new.self in
-      let same = subst (λ (x : Contents). new ≡ record x { cell = record x.cell { acts = new.cell.acts } }) c.deref_mut.ensures.value
-      c.next_act.ensures.same in
+      let here = c.behind-claim.view_is ∙ c.deref_mut.ensures.value in
+      let new : Contents = record (start_of here) { cell = c.next_act.new.self } in
+      let same = home-next (run_state c.loop-act.claim) _ here c.next_act.new.self c.next_act.ensures.rest in
       backlog-next (run_state c.loop-act.claim) new same c.loop-act.invariant.2;
 }
 
@@ -220,9 +208,9 @@ returns-then-has_looked-clause-carried_out g c = sym c.in_default.ensures.taken 
 pub returns-then-has_looked-clause-advances : goal.returns-then-has_looked-clause-advances
 returns-then-has_looked-clause-advances g c = record {
   same =
-      let new : Contents = c.next_act.new.self in
-      let same = subst (λ (x : Contents). new ≡ record x { cell = record x.cell { acts = new.cell.acts } }) c.deref_mut.ensures.value
-      c.next_act.ensures.same in
+      let here = c.behind-claim.view_is ∙ c.deref_mut.ensures.value in
+      let new : Contents = record (start_of here) { cell = c.next_act.new.self } in
+      let same = home-next (run_state c.loop-act.claim) _ here c.next_act.new.self c.next_act.ensures.rest in
       keeps-then _ _ _ c.loop-act.invariant.3 (keeps-next (run_state c.loop-act.claim) new same);
   caller_advances = c.loop-act.invariant.4;
   sends = c.loop-act.invariant.7;
@@ -230,9 +218,9 @@ returns-then-has_looked-clause-advances g c = record {
 
 pub returns-then-has_looked-clause-cleared : goal.returns-then-has_looked-clause-cleared
 returns-then-has_looked-clause-cleared g c =
-    let new : Contents = c.next_act.new.self in
-    let same = subst (λ (x : Contents). new ≡ record x { cell = record x.cell { acts = new.cell.acts } }) c.deref_mut.ensures.value
-    c.next_act.ensures.same in
+    let here = c.behind-claim.view_is ∙ c.deref_mut.ensures.value in
+    let new : Contents = record (start_of here) { cell = c.next_act.new.self } in
+    let same = home-next (run_state c.loop-act.claim) _ here c.next_act.new.self c.next_act.ensures.rest in
     let before = run_state c.loop-act.claim in
     ok-so c.answer_of.result
     (λ clean. cleared-then (run_state c.args.claim.now) before (record before { home = new }) c.loop-act.invariant.3.same.takes
@@ -241,9 +229,9 @@ returns-then-has_looked-clause-cleared g c =
 
 pub returns-then-has_looked-clause-ended : goal.returns-then-has_looked-clause-ended
 returns-then-has_looked-clause-ended g c =
-    let new : Contents = c.next_act.new.self in
-    let same = subst (λ (x : Contents). new ≡ record x { cell = record x.cell { acts = new.cell.acts } }) c.deref_mut.ensures.value
-    c.next_act.ensures.same in
+    let here = c.behind-claim.view_is ∙ c.deref_mut.ensures.value in
+    let new : Contents = record (start_of here) { cell = c.next_act.new.self } in
+    let same = home-next (run_state c.loop-act.claim) _ here c.next_act.new.self c.next_act.ensures.rest in
     let before = run_state c.loop-act.claim in
     err-so c.answer_of.result
     (λ not_clean. ended-keeps before (record before { home = new }) (keeps-next before new same) (c.loop-act.invariant.6 not_clean))
@@ -252,12 +240,12 @@ returns-then-has_looked-clause-ended g c =
 pub returns-then-has_looked-clause-due : goal.returns-then-has_looked-clause-due
 returns-then-has_looked-clause-due g c =
     let inv = c.loop-act.invariant in
-    let new : Contents = c.next_act.new.self in
-    let same = subst (λ (x : Contents). new ≡ record x { cell = record x.cell { acts = new.cell.acts } }) c.deref_mut.ensures.value
-    c.next_act.ensures.same in
+    let here = c.behind-claim.view_is ∙ c.deref_mut.ensures.value in
+    let new : Contents = record (start_of here) { cell = c.next_act.new.self } in
+    let same = home-next (run_state c.loop-act.claim) _ here c.next_act.new.self c.next_act.ensures.rest in
     let before = run_state c.loop-act.claim in
     let next : RunState = record before { home = new } in
-    let none = sym (ap (λ (x : Contents). x.cell.acts) c.deref_mut.ensures.value) ∙ c.in_default.ensures.none in
+    let none = sym (ap (λ (x : Contents). x.cell.acts) here) ∙ c.in_default.ensures.none in
     let all = inv.8.left ∙ ap (λ l. inv.8.due ++ messages_of l) none ∙ append-nil inv.8.due in
     let last = due-none before next refl refl (ap (λ (x : Contents). x.rest) same) (λ shut. shut) in
     subst (λ (x : List (ℕ × SysMsg)). SendsDue x [] (run_state c.args.claim.now) next) (append-nil inv.8.due ∙ sym all)
@@ -271,9 +259,9 @@ returns-clause-carried_out g c = sym c.in_default.ensures.taken ∙ c.in_default
 pub returns-clause-advances : goal.returns-clause-advances
 returns-clause-advances g c = record {
   same =
-      let new : Contents = c.next_act.new.self in
-      let same = subst (λ (x : Contents). new ≡ record x { cell = record x.cell { acts = new.cell.acts } }) c.deref_mut.ensures.value
-      c.next_act.ensures.same in
+      let here = c.behind-claim.view_is ∙ c.deref_mut.ensures.value in
+      let new : Contents = record (start_of here) { cell = c.next_act.new.self } in
+      let same = home-next (run_state c.loop-act.claim) _ here c.next_act.new.self c.next_act.ensures.rest in
       keeps-then _ _ _ c.loop-act.invariant.3 (keeps-next (run_state c.loop-act.claim) new same);
   caller_advances = further-then _ _ _ c.loop-act.invariant.4 c.register_told.ensures.caller_advances;
   sends = alike-then _ _ _ _ _ _ c.loop-act.invariant.7 (alike-looks _ _ _ c.register_told.ensures.looks _);
@@ -281,9 +269,9 @@ returns-clause-advances g c = record {
 
 pub returns-clause-cleared : goal.returns-clause-cleared
 returns-clause-cleared g c =
-    let new : Contents = c.next_act.new.self in
-    let same = subst (λ (x : Contents). new ≡ record x { cell = record x.cell { acts = new.cell.acts } }) c.deref_mut.ensures.value
-    c.next_act.ensures.same in
+    let here = c.behind-claim.view_is ∙ c.deref_mut.ensures.value in
+    let new : Contents = record (start_of here) { cell = c.next_act.new.self } in
+    let same = home-next (run_state c.loop-act.claim) _ here c.next_act.new.self c.next_act.ensures.rest in
     let before = run_state c.loop-act.claim in
     ok-so c.answer_of-2.result
     (λ clean. cleared-then (run_state c.args.claim.now) before (record before { home = new }) c.loop-act.invariant.3.same.takes
@@ -292,9 +280,9 @@ returns-clause-cleared g c =
 
 pub returns-clause-ended : goal.returns-clause-ended
 returns-clause-ended g c =
-    let new : Contents = c.next_act.new.self in
-    let same = subst (λ (x : Contents). new ≡ record x { cell = record x.cell { acts = new.cell.acts } }) c.deref_mut.ensures.value
-    c.next_act.ensures.same in
+    let here = c.behind-claim.view_is ∙ c.deref_mut.ensures.value in
+    let new : Contents = record (start_of here) { cell = c.next_act.new.self } in
+    let same = home-next (run_state c.loop-act.claim) _ here c.next_act.new.self c.next_act.ensures.rest in
     let before = run_state c.loop-act.claim in
     err-so c.answer_of-2.result
     (λ not_clean. ended-keeps before (record before { home = new }) (keeps-next before new same) (c.loop-act.invariant.6 not_clean))
@@ -303,12 +291,12 @@ returns-clause-ended g c =
 pub returns-clause-due : goal.returns-clause-due
 returns-clause-due g c =
     let inv = c.loop-act.invariant in
-    let new : Contents = c.next_act.new.self in
-    let same = subst (λ (x : Contents). new ≡ record x { cell = record x.cell { acts = new.cell.acts } }) c.deref_mut.ensures.value
-    c.next_act.ensures.same in
+    let here = c.behind-claim.view_is ∙ c.deref_mut.ensures.value in
+    let new : Contents = record (start_of here) { cell = c.next_act.new.self } in
+    let same = home-next (run_state c.loop-act.claim) _ here c.next_act.new.self c.next_act.ensures.rest in
     let before = run_state c.loop-act.claim in
     let next : RunState = record before { home = new } in
-    let none = sym (ap (λ (x : Contents). x.cell.acts) c.deref_mut.ensures.value) ∙ c.in_default.ensures.none in
+    let none = sym (ap (λ (x : Contents). x.cell.acts) here) ∙ c.in_default.ensures.none in
     let all = inv.8.left ∙ ap (λ l. inv.8.due ++ messages_of l) none ∙ append-nil inv.8.due in
     let last = due-none before next refl refl (ap (λ (x : Contents). x.rest) same) (λ shut. shut) in
     subst (λ (x : List (ℕ × SysMsg)). SendsDue x [] (run_state c.args.claim.now) next) (append-nil inv.8.due ∙ sym all)
@@ -321,20 +309,18 @@ pub returns-clause-in_acts : goal.returns-clause-in_acts
 returns-clause-in_acts g c = record {
   same_gates = c.register_told.ensures.same_gates;
   running =
-      let new : Contents = c.next_act.new.self in
-      let same = subst (λ (x : Contents). new ≡ record x { cell = record x.cell { acts = new.cell.acts } }) c.deref_mut.ensures.value
-      c.next_act.ensures.same in
-      let taken = sym (ap (λ (x : Contents). x.cell.acts) c.deref_mut.ensures.value) ∙ c.in_default.ensures.taken in
+      let here = c.behind-claim.view_is ∙ c.deref_mut.ensures.value in
+      let new : Contents = record (start_of here) { cell = c.next_act.new.self } in
       let none : new.cell.acts ≡ [] = sym c.in_default.ensures.taken ∙ c.in_default.ensures.none in
       running-caller_advances g.K.Behaviours.gives (origin_of c.args.gates.now) [] _ _ (record (run_state c.loop-act.claim) { home = new })
       c.register_told.ensures.caller_advances
       (subst (λ l. IsRunning g.K.Behaviours.gives (origin_of c.args.gates.now) l (pass_view c.loop-act.registrar.pass).log
       (record (run_state c.loop-act.claim) { home = new })) none
-      (running-next (run_state c.loop-act.claim) new same g.K.Behaviours.gives (origin_of c.args.gates.now) (pass_view c.loop-act.registrar.pass).log
-      new.cell.acts taken c.in_default.ensures.settled c.loop-act.invariant.1));
+      (running-gave (run_state c.loop-act.claim) _ here c.next_act.new.self c.next_act.ensures.rest g.K.Behaviours.gives (origin_of c.args.gates.now)
+      (pass_view c.loop-act.registrar.pass).log new.cell.acts c.in_default.ensures.taken c.loop-act.invariant.1));
   backlog =
-      let new : Contents = c.next_act.new.self in
-      let same = subst (λ (x : Contents). new ≡ record x { cell = record x.cell { acts = new.cell.acts } }) c.deref_mut.ensures.value
-      c.next_act.ensures.same in
+      let here = c.behind-claim.view_is ∙ c.deref_mut.ensures.value in
+      let new : Contents = record (start_of here) { cell = c.next_act.new.self } in
+      let same = home-next (run_state c.loop-act.claim) _ here c.next_act.new.self c.next_act.ensures.rest in
       backlog-next (run_state c.loop-act.claim) new same c.loop-act.invariant.2;
 }

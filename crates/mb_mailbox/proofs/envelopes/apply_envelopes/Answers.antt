@@ -1,8 +1,12 @@
-use Rattle.std.proofs.Common.{◌≡◌, ◌<◌, ◌≤◌, ◌+◌, inr, true, sym, ap, ◌∙◌, subst, arith}
-use Rattle.std.specs.Prelude.{[], Ok, IsTrue}
+use Rattle.std.proofs.Common.{◌≡◌, ◌<◌, ◌≤◌, ◌+◌, inr, true, refl, sym, ap, ◌∙◌, subst, arith}
+use Rattle.std.specs.Prelude.{[], Ok, None, Some, IsTrue}
 use Rattle.std.specs.Global.{Box}
+use Rattle.mb_home.specs.AgreesWithJournal.{AgreesWithJournal}
 use Rattle.mb_home.specs.Contents.{Contents}
-use Rattle.mb_home.specs.Steps.{most_tells}
+use Rattle.mb_home.specs.Steps.{FindsNone, most_tells}
+use Rattle.mb_home.specs.Taken.{TakesOut}
+use Rattle.mb_home.proofs.TakenLemmas.{begins-taken, finds-none, leads-begun, may-begin, settled-begins, takes-out}
+use Rattle.mb_journal.specs.Reading.{IsOpen}
 use Rattle.mb_journal.specs.Run.{most_envelopes}
 use Rattle.mb_status.specs.Mailbox.{Mailbox, should_process, word_of}
 use Rattle.mb_gate.specs.Accessors.{pass_view, status_of}
@@ -16,13 +20,14 @@ use Rattle.mb_mailbox.proofs.EmptiedLemmas.{cleared-open, cleared-same, takes-th
 use Rattle.mb_mailbox.proofs.EnvelopeLemmas.{why-not-open, reason-why, reason-used}
 use Rattle.mb_mailbox.proofs.EnvelopeRun.{GoesOn, kept-run, carried-run, quiet-run, goes-well, goes-then, goes-kept, goes-looking, goes-nowhere, advances-carried}
 use Rattle.mb_mailbox.proofs.EnvelopeSteps.{KeepsRun, BeginsOne, keeps-loaded, whole-loaded, keeps-room, drained-room, room-left}
-use Rattle.mb_mailbox.proofs.EnvelopeSteps.{settled-here, settled-at, keeps-found, why-found, open-yet, out-at, taken-at, open-taken, begins-after}
+use Rattle.mb_mailbox.proofs.EnvelopeSteps.{settled-here, settled-at, keeps-found, why-found, open-yet, out-at, open-taken, begins-after}
 use Rattle.mb_mailbox.proofs.InRunLemmas.{advances-failed, stops-carried, stops-none, stops-passed, stops-ready}
 use Rattle.mb_mailbox.proofs.LoadLemmas.{LoadsAfterBlock}
+use Rattle.mb_mailbox.proofs.TellingLemmas.{start_of}
 use Rattle.mb_mailbox.proofs.envelopes.apply_envelopes.Given as given
 use Rattle.mb_mailbox.proofs.envelopes.apply_envelopes.Goals as goal
-use Rattle.mb_mailbox.proofs.envelopes.apply_envelopes.Goals.{After-held_status-status, After-ready, In_default, After-deref_mut-in-loop-handled-2}
-use Rattle.mb_mailbox.proofs.envelopes.apply_envelopes.Goals.{After-begin, After-carry_out, After-has_no_system_work}
+use Rattle.mb_mailbox.proofs.envelopes.apply_envelopes.Goals.{After-held_status-status, After-ready, In_default, In-Some, After-apply_envelope-arg-1}
+use Rattle.mb_mailbox.proofs.envelopes.apply_envelopes.Goals.{After-carry_out-arg-in-loop-handled-1, After-carry_out, After-has_no_system_work}
 
 -- ---- what holds after each step, once for all that follows it
 
@@ -68,40 +73,93 @@ opens g c new =
     cleared-open (run_state c.loop-handled.claim) (record (run_state c.held_status-status.new.claim) { home = new })
     (open-yet (load g (loaded g c)) (processes g c))
 
--- no envelope was there
+-- what is known where no envelope was there
+none-there : (g : given.Over) (c : In_default g) →
+    FindsNone (start_of c.behind-claim.view_is) (record (start_of c.behind-claim.view_is) { take = c.take.new.self })
+    × AgreesWithJournal (g.K.Behaviours.gives (start_of c.behind-claim.view_is).cell.who.this.0) (start_of c.behind-claim.view_is).cell.acts
+    (record (start_of c.behind-claim.view_is) { take = c.take.new.self })
+none-there g c =
+    let here = c.behind-claim.view_is ∙ c.deref_mut-in-loop-handled.ensures.value in
+    finds-none (start_of here) (g.K.Behaviours.gives (start_of here).cell.who.this.0) c.take.new.self None c.in_default.ensures.taken c.take.ensures.same
+    c.in_default.ensures.follows_discipline (settled-at (room g (goal.at.returns-in_default-clause-in_run g c).After-ready) _ here)
+
+-- the run goes on then
 found : (g : given.Over) (c : In_default g) →
     KeepsRun g.K.Behaviours.gives (origin_of c.args.gates.now) (pass_view c.loop-handled.registrar.pass).log c.loop-handled.turn
-    (run_state c.loop-handled.claim) (record (run_state c.held_status-status.new.claim) { home = c.take_next.new.self })
+    (run_state c.loop-handled.claim)
+    (record (run_state c.held_status-status.new.claim) { home = record (start_of c.behind-claim.view_is) { take = c.take.new.self } })
 found g c =
-    keeps-found (room g (goal.at.returns-in_default-clause-in_run g c).After-ready) _ c.take_next.new.self c.deref_mut-in-loop-handled.ensures.value
-    c.in_default.ensures.none c.in_default.ensures.settled
+    let here = c.behind-claim.view_is ∙ c.deref_mut-in-loop-handled.ensures.value in
+    let none = none-there g c in
+    keeps-found (room g (goal.at.returns-in_default-clause-in_run g c).After-ready) (start_of here) _ here none.0 none.1
 
--- one was, and lies where it is begun
-there : (g : given.Over) (c : After-deref_mut-in-loop-handled-2 g) → c.deref_mut-in-loop-handled-2.result.now ≡ c.take_next.new.self
-there g c = c.deref_mut-in-loop-handled-2.ensures.value ∙ ap (λ (x : Box Contents). x.value) c.note_taken.ensures.same.1
+-- one was
+took : (g : given.Over) (c : In-Some g) →
+    TakesOut (start_of c.behind-claim.view_is) (record (start_of c.behind-claim.view_is) { take = c.take.new.self }) c.in-Some.envelope
+took g c =
+    takes-out (start_of c.behind-claim.view_is) c.take.new.self (Some c.in-Some.envelope) c.in-Some.ensures.taken c.take.ensures.same
+    c.in-Some.ensures.of_queue c.in-Some.ensures.follows_discipline
 
-taken : (g : given.Over) (c : After-deref_mut-in-loop-handled-2 g) →
-    c.deref_mut-in-loop-handled-2.result.now ≡ record c.ready.new.self { take = c.take_next.new.self.take }
-taken g c =
-    taken-at _ c.ready.new.self _ c.take_next.new.self c.in-Some.envelope c.deref_mut-in-loop-handled.ensures.value c.in-Some.ensures.took (there g c)
+-- it lies where it is begun
+there : (g : given.Over) (c : After-apply_envelope-arg-1 g) →
+    start_of c.behind-claim-in-loop-handled.view_is ≡ record (start_of c.behind-claim.view_is) { take = c.take.new.self }
+there g c =
+    c.behind-claim-in-loop-handled.view_is ∙ c.deref_mut-in-loop-handled-2.ensures.value ∙ ap (λ (x : Box Contents). x.value) c.note_taken.ensures.same.1
+
+-- the home in which room was made
+made_room : (g : given.Over) (c : After-apply_envelope-arg-1 g) →
+    KeepsRun g.K.Behaviours.gives (origin_of c.args.gates.now) (pass_view c.loop-handled.registrar.pass).log c.loop-handled.turn
+    (run_state c.loop-handled.claim) (record (run_state c.held_status-status.new.claim) { home = c.ready.new.self })
+made_room g c = room g (goal.at.apply_envelope-requires g c).After-ready
+
+out : (g : given.Over) (c : After-apply_envelope-arg-1 g) → TakesOut c.ready.new.self (start_of c.behind-claim-in-loop-handled.view_is) c.in-Some.envelope
+out g c =
+    let here = c.behind-claim.view_is ∙ c.deref_mut-in-loop-handled.ensures.value in
+    out-at (start_of here) c.ready.new.self _ _ c.in-Some.envelope here (took g (goal.at.apply_envelope-requires g c).In-Some) (there g c)
+
+-- the status is open
+open_there : (g : given.Over) (c : After-apply_envelope-arg-1 g) →
+    IsOpen (start_of c.behind-claim-in-loop-handled.view_is).cell.who (start_of c.behind-claim-in-loop-handled.view_is).cell.journal
+    (word_of c.held_status-status.result)
+open_there g c =
+    let at = (goal.at.apply_envelope-requires g c).After-ready in
+    let here = c.behind-claim.view_is ∙ c.deref_mut-in-loop-handled.ensures.value in
+    open-taken (room g at) c.held_status-status.result (reading g (loaded g at)) (processes g at) (start_of here) _ _ c.in-Some.envelope here
+    (took g (goal.at.apply_envelope-requires g c).In-Some) (there g c)
+
+-- there is room for what the actor tells
+room_there : (g : given.Over) (c : After-apply_envelope-arg-1 g) → most_tells ≤ (start_of c.behind-claim-in-loop-handled.view_is).room
+room_there g c = subst (λ (x : Contents). most_tells ≤ x.room) (sym (out g c).same) c.in_ok-ready.ensures.ok.1
 
 -- it was begun
-begun : (g : given.Over) (c : After-begin g) →
+begun : (g : given.Over) (c : After-carry_out-arg-in-loop-handled-1 g) →
     BeginsOne g.K.Behaviours.gives (origin_of c.args.gates.now) (pass_view c.loop-handled.registrar.pass).log c.loop-handled.turn
-    (run_state c.loop-handled.claim) (record (run_state c.note_taken.new.claim) { home = c.begin.new.self })
+    (run_state c.loop-handled.claim)
+    (record (run_state c.note_taken.new.claim) { home = record (start_of c.behind-claim-in-loop-handled.view_is) { cell = c.apply_envelope.new.self } })
 begun g c =
+    let at = (goal.at.carry_out-requires g c).After-apply_envelope-arg-1 in
     let inv = c.loop-handled.invariant in
     let did = c.held_status-status.ensures in
     let note = c.note_taken.ensures in
+    let here = c.behind-claim.view_is ∙ c.deref_mut-in-loop-handled.ensures.value in
+    let z = start_of c.behind-claim-in-loop-handled.view_is in
+    let new : Contents = record z { cell = c.apply_envelope.new.self } in
+    let reading = word_of c.held_status-status.result in
+    let settled = settled-here (made_room g at) in
+    let mid = c.ready.new.self in
     begins-after c.loop-handled.claim c.held_status-status.new.claim inv.0 inv.2 did.same_gates did.same c.held_status-status.result did.status
-    did.known did.taken (sym c.should_process.ensures ∙ c.if-not-should_process.false) _ c.ready.new.self c.deref_mut.ensures.value c.ready.ensures.same
-    c.ready.ensures.settled _ c.take_next.new.self c.in-Some.envelope c.deref_mut-in-loop-handled.ensures.value c.in-Some.ensures.took c.note_taken.new.claim
-    (hold-one _ c.note_taken.new.claim (note.same_gates, note.actor) note.same.1 note.same.0 note.known note.taken) _ c.begin.new.self (there g c.before)
-    c.begin.ensures.begun c.begin.ensures.leads c.begin.ensures.settled
+    did.known did.taken (sym c.should_process.ensures ∙ c.if-not-should_process.false) _ mid c.deref_mut.ensures.value c.ready.ensures.same
+    c.ready.ensures.settled (start_of here) _ c.in-Some.envelope here (took g (goal.at.carry_out-requires g c).In-Some) c.note_taken.new.claim
+    (hold-one _ c.note_taken.new.claim (note.same_gates, note.actor) note.same.1 note.same.0 note.known note.taken) z new (there g at)
+    (λ b t. begins-taken b z c.in-Some.envelope reading t new c.apply_envelope.ensures.taken refl)
+    (leads-begun mid z c.in-Some.envelope reading (out g at) new (g.K.Behaviours.gives mid.cell.who.this.0) (g.K.Behaviours.gives new.cell.who.this.0)
+    settled c.apply_envelope.ensures.taken c.apply_envelope.ensures.lawful)
+    (settled-begins mid z c.in-Some.envelope reading (out g at) g.K.Behaviours.gives c.apply_envelope.new.self settled (open_there g at) (room_there g at)
+    c.apply_envelope.ensures.taken c.apply_envelope.ensures.lawful)
 
 -- where its acts were carried out, it had been begun
-abbrev begin_of : (g : given.Over) → After-carry_out g → After-begin g
-begin_of g c = c.before.before.before.before.before.before
+abbrev begin_of : (g : given.Over) → After-carry_out g → After-carry_out-arg-in-loop-handled-1 g
+begin_of g c = c.before
 
 -- the run is between two messages again
 carried-in_run : (g : given.Over) (c : After-carry_out g) →
@@ -206,13 +264,6 @@ returns-in_err-ready-clause-stops g c =
 pub returns-in_err-ready-clause-within_limit : goal.returns-in_err-ready-clause-within_limit
 returns-in_err-ready-clause-within_limit g c = omega (arith, c.loop-handled.invariant.1, c.loop-handled-test.true)
 
--- ---- there was
-
-pub take_next-requires : goal.take_next-requires
-take_next-requires g c = record {
-  settled = settled-at (room g (goal.at.take_next-requires g c).After-ready) _ c.deref_mut-in-loop-handled.ensures.value;
-}
-
 -- ---- none was there
 
 pub returns-in_default-clause-in_run : goal.returns-in_default-clause-in_run
@@ -220,7 +271,7 @@ returns-in_default-clause-in_run g c = kept-run c.loop-handled.invariant.0.same_
 
 pub returns-in_default-clause-advances : goal.returns-in_default-clause-advances
 returns-in_default-clause-advances g c =
-    let open_yet = opens g (goal.at.returns-in_default-clause-advances g c).After-ready c.take_next.new.self in
+    let open_yet = opens g (goal.at.returns-in_default-clause-advances g c).After-ready (record (start_of c.behind-claim.view_is) { take = c.take.new.self }) in
     goes-then (Ok tt) c.loop-handled.invariant.3
     (goes-kept c.loop-handled.registrar c.loop-handled.claim _ c.held_status-status.ensures.taken.recorded open_yet (found g c))
 
@@ -239,11 +290,13 @@ returns-in_default-clause-ended g c =
     let made = c.ready.ensures.same in
     let drained = drained-room held _ mid c.deref_mut.ensures.value made (whole g (loaded g at)) (processes g at) in
     let left = room-left held _ mid c.deref_mut.ensures.value made c.ready.result _ c.in_ok-ready.was c.ready.ensures.full in
-    let last : RunState = record (run_state c.held_status-status.new.claim) { home = c.take_next.new.self } in
+    let here = c.behind-claim.view_is ∙ c.deref_mut-in-loop-handled.ensures.value in
+    let home : Contents = record (start_of here) { take = c.take.new.self } in
+    let last : RunState = record (run_state c.held_status-status.new.claim) { home = home } in
     let less : c.loop-handled.turn.envelopes < most_envelopes c.args.throughput = omega (arith, c.loop-handled.invariant.1, c.loop-handled-test.true) in
     reason-why c.args.claim.now.home.value.take mid.take last c.args.throughput c.loop-handled.turn.envelopes less
     (takes-then _ _ _ c.loop-handled.invariant.3.same.takes ready.keeps.same.takes)
-    (why-found ready _ c.take_next.new.self c.deref_mut-in-loop-handled.ensures.value c.in_default.ensures.none drained (processes g at) left)
+    (why-found ready (start_of here) home here (none-there g c).0 drained (processes g at) left)
 
 -- ---- one was
 
@@ -258,35 +311,24 @@ note_taken-requires-clause-same_gates g c = c.held_status-status.ensures.same_ga
 pub note_taken-requires-clause-present : goal.note_taken-requires-clause-present
 note_taken-requires-clause-present g c = (load g (goal.at.note_taken-requires-clause-present g c).After-held_status-status).running.present
 
-pub begin-requires-clause-took : goal.begin-requires-clause-took
-begin-requires-clause-took g c = (
-  c.ready.new.self,
-  out-at _ c.ready.new.self _ c.take_next.new.self c.in-Some.envelope c.deref_mut-in-loop-handled.ensures.value c.in-Some.ensures.took (there g c),
-  settled-here (room g (goal.at.begin-requires-clause-took g c).After-ready),
-)
-
-pub begin-requires-clause-ready : goal.begin-requires-clause-ready
-begin-requires-clause-ready g c = subst (λ (x : Contents). IsTrue x.cell.is_ready) (sym (taken g c)) c.in_ok-ready.ensures.ok.0
-
-pub begin-requires-clause-room : goal.begin-requires-clause-room
-begin-requires-clause-room g c = subst (λ (x : Contents). most_tells ≤ x.room) (sym (taken g c)) c.in_ok-ready.ensures.ok.1
-
-pub begin-requires-clause-carried_out : goal.begin-requires-clause-carried_out
-begin-requires-clause-carried_out g c =
-    subst (λ (x : Contents). x.cell.acts ≡ []) (sym (taken g c)) (room g (goal.at.begin-requires-clause-carried_out g c).After-ready).carried_out
-
-pub begin-requires-clause-open : goal.begin-requires-clause-open
-begin-requires-clause-open g c =
-    let at = (goal.at.begin-requires-clause-open g c).After-ready in
-    open-taken (room g at) c.held_status-status.result (reading g (loaded g at)) (processes g at) _ _ c.take_next.new.self c.in-Some.envelope
-    c.deref_mut-in-loop-handled.ensures.value c.in-Some.ensures.took (there g c)
+pub apply_envelope-requires : goal.apply_envelope-requires
+apply_envelope-requires g c =
+    let z = start_of c.behind-claim-in-loop-handled.view_is in
+    let mid = c.ready.new.self in
+    record {
+      may_handle =
+          may-begin mid z c.in-Some.envelope (word_of c.held_status-status.result) (out g c) (g.K.Behaviours.gives mid.cell.who.this.0)
+          (settled-here (made_room g c)) (open_there g c)
+          (subst (λ (x : Contents). IsTrue x.cell.is_ready) (sym (out g c).same) c.in_ok-ready.ensures.ok.0)
+          (subst (λ (x : Contents). x.cell.acts ≡ []) (sym (out g c).same) (made_room g c).carried_out);
+    }
 
 pub carry_out-requires : goal.carry_out-requires
 carry_out-requires g c = record {
   in_acts = record {
     same_gates = c.loop-handled.invariant.0.same_gates;
-    running = (begun g (goal.at.carry_out-requires g c).After-begin).running;
-    backlog = (begun g (goal.at.carry_out-requires g c).After-begin).backlog;
+    running = (begun g c).running;
+    backlog = (begun g c).backlog;
   };
 }
 

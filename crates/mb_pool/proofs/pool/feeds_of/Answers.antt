@@ -13,16 +13,16 @@ loop-feed-init g c =
 pub unreachable-requires : goal.unreachable-requires
 unreachable-requires g c =
     let at = c.loop-feed in
-    port_left port_view (new_shared_port c.args.pool.now) at.doors.items at._feed c.args.count at.invariant.0 c.loop-feed-test.true
-    (sym at.doors.ok.0 ∙ c.in_default.ensures.cases.0)
+    port_left port_view (new_shared_port c.args.pool.now) at.shared_ports.items at._feed c.args.count at.invariant.0 c.loop-feed-test.true
+    (sym at.shared_ports.ok.0 ∙ c.in_default.ensures.cases.0)
 
 pub loop-feed-preserved : goal.loop-feed-preserved
 loop-feed-preserved g c =
     let at = c.loop-feed in let shared_port = new_shared_port c.args.pool.now in
-    let one = port_next port_view shared_port at.doors.items at._feed c.args.count at.invariant.0 c.loop-feed-test.true c.pop.new.self.items c.in-Some.shared_port
+    let one = port_next port_view shared_port at.shared_ports.items at._feed c.args.count at.invariant.0 c.loop-feed-test.true c.pop.new.self.items c.in-Some.shared_port
     c.in-Some.ensures.items in (
       one.0,
-      fed_one port_view shared_port at.doors.items at._feed c.args.count at.invariant.0 c.loop-feed-test.true at.feeds.items c.push.new.self.items
+      fed_one port_view shared_port at.shared_ports.items at._feed c.args.count at.invariant.0 c.loop-feed-test.true at.feeds.items c.push.new.self.items
           (of_feed shared_port) (of_feed (port_view c.in-Some.shared_port))
           at.invariant.1 (ap of_feed one.1) c.in_ok-push.ensures.items,
     )
@@ -30,7 +30,7 @@ loop-feed-preserved g c =
 pub invariant_of-push : goal.invariant_of-push
 invariant_of-push g c =
     let at = c.loop-feed in let shared_port = new_shared_port c.args.pool.now in
-    let one = port_next port_view shared_port at.doors.items at._feed c.args.count at.invariant.0 c.loop-feed-test.true c.pop.new.self.items c.in-Some.shared_port
+    let one = port_next port_view shared_port at.shared_ports.items at._feed c.args.count at.invariant.0 c.loop-feed-test.true c.pop.new.self.items c.in-Some.shared_port
     c.in-Some.ensures.items in
     share_with shared_port (port_view c.in-Some.shared_port) one.1 (omega arith)
 

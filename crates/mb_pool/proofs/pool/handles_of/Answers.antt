@@ -11,15 +11,15 @@ use Rattle.mb_pool.proofs.pool.handles_of.Goals as goal
 pub unreachable-requires : goal.unreachable-requires
 unreachable-requires g c =
     let at = c.loop-member in
-    port_there port_view (new_shared_port c.args.pool.now) at.doors.items (into_iter_items at.member-iterator) (into_iter_items c.next.new.self)
-    c.in-Some.member c.args.pool.now.feeds at.invariant.0 c.in-Some.ensures.steps.0 (sym at.doors.ok.0 ∙ c.in_default.ensures.cases.0)
+    port_there port_view (new_shared_port c.args.pool.now) at.shared_ports.items (into_iter_items at.member-iterator) (into_iter_items c.next.new.self)
+    c.in-Some.member c.args.pool.now.feeds at.invariant.0 c.in-Some.ensures.steps.0 (sym at.shared_ports.ok.0 ∙ c.in_default.ensures.cases.0)
 
 pub loop-member-preserved : goal.loop-member-preserved
 loop-member-preserved g c =
     let at = c.loop-member in let shared_port = new_shared_port c.args.pool.now in let member = c.in-Some.member in
     let xs = into_iter_items at.member-iterator in let rest = into_iter_items c.next.new.self in
     let next : xs ≡ member ∷ rest = c.in-Some.ensures.steps.0 in
-    let one = port_one port_view shared_port at.doors.items xs rest member c.args.pool.now.feeds at.invariant.0 next c.pop.new.self.items c.in-Some-pop.shared_port
+    let one = port_one port_view shared_port at.shared_ports.items xs rest member c.args.pool.now.feeds at.invariant.0 next c.pop.new.self.items c.in-Some-pop.shared_port
     c.in-Some-pop.ensures.items in (
       one.0,
       made_one (endpoint_of shared_port) at.handles.items c.push.new.self.items (endpoint_of
@@ -32,7 +32,7 @@ invariant_of-push g c =
     let at = c.loop-member in let shared_port = new_shared_port c.args.pool.now in let member = c.in-Some.member in
     let xs = into_iter_items at.member-iterator in let rest = into_iter_items c.next.new.self in
     let next : xs ≡ member ∷ rest = c.in-Some.ensures.steps.0 in
-    let one = port_one port_view shared_port at.doors.items xs rest member c.args.pool.now.feeds at.invariant.0 next c.pop.new.self.items c.in-Some-pop.shared_port
+    let one = port_one port_view shared_port at.shared_ports.items xs rest member c.args.pool.now.feeds at.invariant.0 next c.pop.new.self.items c.in-Some-pop.shared_port
     c.in-Some-pop.ensures.items in
     (open_with shared_port (port_view c.in-Some-pop.shared_port) one.1 xs rest member next at.invariant.2).0
 

@@ -30,11 +30,11 @@ shared_ports_of-requires-clause-shares g c =
 
 pub handles_of-requires-clause-ports : goal.handles_of-requires-clause-ports
 handles_of-requires-clause-ports g c =
-    let ms = c.in_ok-members.members.items in let ds = map port_view c.in_ok-doors.doors.items in
+    let ms = c.in_ok-members.members.items in let ds = map port_view c.in_ok-shared_ports.shared_ports.items in
     subst (λ (p : PoolView _). ds ≡ replicate (length ms + p.feeds) (new_shared_port p)) (sym c.pool_of-pool.ensures)
     (ports_there (origin_of c.args.gates.now) c.args.kind c.args.workers c.args.feeds c.in-Some.ports c.in_ok-deques.deques.items
     (port_view c.in_ok-shared_port.shared_port) (port_view c.open.new.self) c.requires c.in_ok-deques.ensures c.in_ok-shared_port.ensures.0 c.open.ensures
-    c.in-Some.ensures.1 ms c.in_ok-members.ensures.none c.in_ok-members.ensures.owners c.in_ok-members.ensures.next ds c.in_ok-doors.ensures)
+    c.in-Some.ensures.1 ms c.in_ok-members.ensures.none c.in_ok-members.ensures.owners c.in_ok-members.ensures.next ds c.in_ok-shared_ports.ensures)
 
 pub handles_of-requires-clause-open : goal.handles_of-requires-clause-open
 handles_of-requires-clause-open g c =
