@@ -18,3 +18,4 @@ pub mod Continuing
 pub mod SameSender
 pub mod Pairs
 pub mod FromSource
+pub mod Discharged

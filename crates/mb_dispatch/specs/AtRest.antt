@@ -1,5 +1,6 @@
 -- When a system is at rest (this project's own profile: Akka's dispatchers do not say when they have nothing to do).
-use Rattle.std.specs.Prelude.{◌≡◌, ℕ, ◌<◌, List, [], ◌∷◌, ◌++◌, length, map}
+use Rattle.std.specs.Prelude.{◌≡◌, ℕ, ◌<◌, All, List, [], ◌∷◌, ◌++◌, length, map}
+use Rattle.std.specs.Global.{Box}
 use Rattle.mb_ghost.specs.Shares.{IsWhole}
 use Rattle.mb_ghost.specs.Summed.{total}
 use Rattle.mb_gate.specs.Accessors.{actors_of, pass_view}
@@ -7,6 +8,10 @@ use Rattle.mb_gate.specs.ClaimCounts.{claims_got, claims_returned}
 use Rattle.mb_gate.specs.NotRun.{shares_in}
 use Rattle.mb_gate.specs.Together.{together}
 use Rattle.mb_gate.specs.View.{View}
+use Rattle.mb_gate.specs.declared.gates.Gates.{Gates}
+use Rattle.mb_home.specs.Contents.{Contents}
+use Rattle.mb_system.specs.Members.{handle_caller, sender_caller}
+use Rattle.mb_system.specs.Obligations.{AreDischargedOrOwed, HasNoObligationTo}
 use Rattle.mb_system.specs.declared.handle.WorkerHandle.{WorkerHandle}
 use Rattle.mb_system.specs.declared.system.System.{System}
 use Rattle.mb_dispatch.specs.declared.job.Job.{Job}
@@ -35,3 +40,23 @@ module _ {A K : Type 0} where
   abbrev pub IsAtRest : System A K → List (WorkerHandle A K) → List (Job A K) → Type 0
   IsAtRest system handles jobs =
       length handles ≡ system.workers → length jobs ≡ system.senders → NoClaimIsLeft (actors_of system.gates) (views_of handles jobs)
+
+  -- To each actor each of these handles, and the sender of each of these jobs, owes nothing, or it has the actor in its set of owed looks. So it is in a
+  -- new system, in which nobody owes anything.
+  abbrev pub AllDischargedOrOwed : Gates (Box Contents) → List (WorkerHandle A K) → List (Job A K) → Type 0
+  AllDischargedOrOwed gates handles jobs =
+      All (λ (e : WorkerHandle A K). AreDischargedOrOwed (actors_of gates) (handle_caller e.registrar)) handles
+      × All (λ (j : Job A K). AreDischargedOrOwed (actors_of gates) (sender_caller j.sender.registrar)) jobs
+
+  -- None of these handles, and none of the senders of these jobs, owes an actor anything.
+  abbrev pub NobodyOwes : Gates (Box Contents) → List (WorkerHandle A K) → List (Job A K) → Type 0
+  NobodyOwes gates handles jobs =
+      All (λ (e : WorkerHandle A K). HasNoObligationTo (actors_of gates) (handle_caller e.registrar)) handles
+      × All (λ (j : Job A K). HasNoObligationTo (actors_of gates) (sender_caller j.sender.registrar)) jobs
+
+  -- A run with these handles and jobs, as they were before and as they are now, came to rest: no claim is out; and nobody owes an actor anything, where
+  -- before each party had in its set all to which it owed something.
+  pub record ComesToRest (system : System A K) (handles_before : List (WorkerHandle A K)) (jobs_before : List (Job A K)) (handles : List (WorkerHandle A K))
+      (jobs : List (Job A K)) : Type 0 where
+    pub no_claim : IsAtRest system handles jobs
+    pub no_obligation : AllDischargedOrOwed system.gates handles_before jobs_before → NobodyOwes system.gates handles jobs

@@ -5,7 +5,7 @@ ghost use Rattle.mb_gate.specs.Accessors.{pass_view};
 ghost use Rattle.mb_system.specs.OnlyLooks.{OnlyLooks};
 ghost use Rattle.mb_system.specs.Obligations.{FirstDischargedOrOwed, KeepAllObligations};
 ghost use Rattle.mb_system.specs.Members.{AreHandlesOf, StillSee, handle_numbers};
-ghost use Rattle.mb_dispatch.specs.AtRest.{IsAtRest};
+ghost use Rattle.mb_dispatch.specs.AtRest.{ComesToRest};
 ghost use Rattle.mb_dispatch.specs.Claims.{RunEachClaim};
 ghost use Rattle.mb_dispatch.specs.Faults.{BreaksRun};
 ghost use Rattle.mb_dispatch.specs.Jobs.{AreDone, AreJobsOf, KeepJobs};
@@ -26,8 +26,9 @@ use std::thread::Threads;
 ///
 /// When the threads are joined, the run looks once more, by all that handles and jobs know together. What a worker left that went too early, the
 /// first handle runs on the calling thread. So a run that succeeds leaves the system at rest: no claim is out, if there are as many handles as the
-/// system has workers, as many jobs as it has senders, and nobody else has a pass. A claim that the caller has taken by hand, and keeps, makes the
-/// run wait for ever.
+/// system has workers, as many jobs as it has senders, and nobody else has a pass. And no handle and no sender owes an actor anything, unless one did
+/// before to an actor that is not in its set of owed looks, as nobody does in a new system. A claim that the caller has taken by hand, and keeps,
+/// makes the run wait for ever.
 ///
 /// It answers the first error in the order of the handles, then of the jobs. Whatever is answered, no handle forgets anything that it
 /// owes; no claim is lost, and each handle has run each claim that it took. And each job sent what it is to send in order, all of it or up to where it stopped.
@@ -44,7 +45,7 @@ pub fn run<A: Actor + Send, K: Behaviours + Send, R: Threads + Wait + Sync>(
     ensures worked { OnOk result (AllHaveWorked K.gives system.now handles.old handles.new) }
     ensures done { OnOk result (AreDone system.now.gates jobs.old jobs.new) }
     ensures fault { IfErr result (BreaksRun K.gives system.now handles.old handles.new jobs.old jobs.new) }
-    ensures at_rest { OnOk result (IsAtRest system.now handles.new jobs.new) }
+    ensures at_rest { OnOk result (ComesToRest system.now handles.old jobs.old handles.new jobs.new) }
 {
     run_once(rt, system, handles, jobs)?;
     settle(rt, system, handles, jobs)

@@ -1,12 +1,13 @@
 use Rattle.std.proofs.Common.{◌∙◌, [], sym, subst}
 use Rattle.std.proofs.lemmas.Result.{on_ok_weaker}
 use Rattle.mb_gate.specs.Accessors.{actors_of}
-use Rattle.mb_system.specs.Members.{handle_caller}
+use Rattle.mb_system.specs.Members.{handle_caller, sender_caller}
 use Rattle.mb_system.proofs.Obligations.{obligations-then}
 use Rattle.mb_system.proofs.Saw.{saw-then}
 use Rattle.mb_dispatch.specs.Jobs.{AreDone, KeepJobs}
 use Rattle.mb_dispatch.proofs.Claims.{claims-then}
 use Rattle.mb_dispatch.proofs.Continuing.{done-after, first-still, ours-after, ran-of, ran-then, run-breaks, worked-then}
+use Rattle.mb_dispatch.proofs.Discharged.{all-by, all-done, both-ok, none-owed}
 use Rattle.mb_dispatch.proofs.Sides.{on_ok, same_after, zip_then}
 use Rattle.mb_dispatch.proofs.running.run.Goals as goal
 
@@ -67,3 +68,23 @@ returns-clause-worked g c =
     }
     ))
     ended.done
+
+pub returns-clause-at_rest : goal.returns-clause-at_rest
+returns-clause-at_rest g c =
+    let gives = g.K.Behaviours.gives in let system = c.args.system.now in
+    let actors = actors_of system.gates in
+    let ended = c.settle.ensures.ended in
+    let kept = zip_then _ _ _ (λ x y z p kept. obligations-then actors (handle_caller x.registrar) (handle_caller y.registrar) (handle_caller z.registrar) p kept.obligations)
+    _ _ _ c.run_once.ensures.keeps_handles.obligations ended.keeps in
+    let jobs_done = subst (λ l. AreDone system.gates c.args.jobs.now l) (sym c.settle.ensures.jobs) c.in_ok-run_once.ensures.done in
+    both-ok c.settle.result
+    (λ worked rests. record {
+      no_claim = rests;
+      no_obligation = λ before. (
+        all-by _ _ _ _ (λ x y p owed none. none-owed actors (handle_caller x.registrar) (handle_caller y.registrar) p owed none) _ _ kept before.0
+            (done-after gives system _ _ worked).0,
+        all-done _ _ _ (λ x y done owed. none-owed actors (sender_caller x.sender.registrar) (sender_caller y.sender.registrar) done.obligations owed done.nobody)
+            _ _ jobs_done before.1,
+      );
+    })
+    ended.done c.settle.ensures.at_rest
