@@ -29,6 +29,8 @@ mod limited;
 #[cfg(test)]
 mod meeting;
 #[cfg(test)]
+mod million;
+#[cfg(test)]
 mod new_system;
 #[cfg(test)]
 mod numbers;
