@@ -1,6 +1,6 @@
 -- The turns of a quiet run have all entries of the journals.
-use Rattle.std.proofs.Common.{◌≡◌, ◌≢◌, ◌+◌, ◌==◌, ℕ, Bool, true, false, cond, if◌then◌else◌, List, [], ◌∷◌, ◌++◌, Some, ap, arith, get_or, length, map, refl, subst, sym, ◌∙◌}
-use Rattle.std.specs.Prelude.{All, slice_get, slice_set}
+use Rattle.std.proofs.Common.{◌≡◌, ◌+◌, ◌==◌, ℕ, Bool, true, false, cond, if◌then◌else◌, List, [], ◌∷◌, ◌++◌, Some, ap, arith, length, map, refl, subst, sym, ◌∙◌}
+use Rattle.std.specs.Prelude.{All, slice_get}
 use Rattle.std.specs.Global.{Box}
 use Rattle.std.proofs.lemmas.Bool.{eqb-true}
 use Rattle.std.proofs.lemmas.List.{append-nil, length-append}
@@ -31,12 +31,12 @@ use Rattle.mb_system.specs.OnlyLooks.{OnlyLooks}
 use Rattle.mb_system.specs.Shares.{share_of_handle, shares_of_handles, shares_of_senders}
 use Rattle.mb_system.specs.declared.handle.WorkerHandle.{WorkerHandle}
 use Rattle.mb_system.specs.Members.{OutsideSender}
-use Rattle.heddleorange.specs.Covering.{ChangedNoJournal}
+use Rattle.heddleorange.specs.RanQuietly.{OnlyFirstMade}
 use Rattle.heddleorange.specs.Sent.{HaveSent}
 use Rattle.heddleorange.specs.Turns.{HaveTheirTurns, entry_count, turns_of}
 use Rattle.heddleorange.proofs.Covered.{WereAdded, of-all-added}
 use Rattle.heddleorange.proofs.Stretches.{each-among, each-before-run, each-right, run-adds}
-use Rattle.heddleorange.proofs.Unchanged.{changed-none-more, of-handle, of-sender, shares-kept}
+use Rattle.heddleorange.proofs.Unchanged.{ChangedNoJournal, changed-none-more, of-handle, of-sender, shares-kept}
 
 -- ---- how many entries came back beside those that were taken
 
@@ -145,28 +145,42 @@ module _ (report : Report) (actor : ℕ) (a : ActorReport) (at : slice_get repor
 
 module _ {A K : Type 0} (gives : ℕ → Moment → Reply → Type 0) (origin : Origin (Box Contents)) (throughput : ℕ) where
   -- the first handle made all turns, and the others and the senders did nothing
-  pub all-turns : (old new : WorkerHandle A K) (handles : List (WorkerHandle A K)) (senders : List OutsideSender) (turns : List Turn) → handles ≢ []
-      → old ≡ get_or handles 0 old → MadeRuns gives origin throughput (of-handle old) turns (of-handle new)
-      → IsWhole (shares_of_handles handles ++ shares_of_senders senders) → All ChangedNoJournal (map of-handle handles ++ map of-sender senders)
-      → (report : Report) → All (λ (e : WorkerHandle A K). ReportExtendsAll report (of-handle e)) (slice_set handles 0 new)
-      → (IsWhole (shares_of_handles (slice_set handles 0 new) ++ shares_of_senders senders) → (id : ℕ) (a : ActorReport)
-      → slice_get report.actors.items id ≡ Some a → ReleasesAddUp id a.journal.entries (map of-handle (slice_set handles 0 new) ++ map of-sender senders))
+  one-made-all : (old new : WorkerHandle A K) (handles : List (WorkerHandle A K)) (senders : List OutsideSender) (turns : List Turn)
+      → MadeRuns gives origin throughput (of-handle old) turns (of-handle new)
+      → IsWhole (shares_of_handles (old ∷ handles) ++ shares_of_senders senders)
+      → All ChangedNoJournal (map of-handle (old ∷ handles) ++ map of-sender senders)
+      → (report : Report) → All (λ (e : WorkerHandle A K). ReportExtendsAll report (of-handle e)) (new ∷ handles)
+      → (IsWhole (shares_of_handles (new ∷ handles) ++ shares_of_senders senders) → (id : ℕ) (a : ActorReport)
+      → slice_get report.actors.items id ≡ Some a → ReleasesAddUp id a.journal.entries (map of-handle (new ∷ handles) ++ map of-sender senders))
       → HaveTheirTurns report turns
-  all-turns old new [] senders turns some is made whole none report extends add_up = absurd (some refl)
-  all-turns old new (x ∷ handles) senders turns some is made whole none report extends add_up = λ id a at.
+  one-made-all old new handles senders turns made whole none report extends add_up = λ id a at.
       (let others = map of-handle handles ++ map of-sender senders in let to = a.journal.entries in
-      let share : share_of_handle new ≡ share_of_handle x = runs-share gives origin throughput (of-handle old) turns (of-handle new) made ∙ ap share_of_handle is in
+      let share : share_of_handle new ≡ share_of_handle old = runs-share gives origin throughput (of-handle old) turns (of-handle new) made in
       let all = subst IsWhole (λ i. (sym share i ++ shares_of_handles handles) ++ shares_of_senders senders) whole in
       let sum = add_up all id a at length in
-      let rest = unchanged-all id others (All-tail ChangedNoJournal (of-handle x) others none) in
+      let rest = unchanged-all id others (All-tail ChangedNoJournal (of-handle old) others none) in
       let first : back_by id length (of-handle old) ≡ taken_by id length (of-handle old) =
-      unchanged id (of-handle old).releases
-      (subst (λ (e : WorkerHandle A K). ChangedNoJournal (of-handle e)) (sym is) (All-head ChangedNoJournal (of-handle x) others none)) in
+      unchanged id (of-handle old).releases (All-head ChangedNoJournal (of-handle old) others none) in
       let more = runs-add gives origin throughput id (of-handle old) turns (of-handle new) made in
       let seen = all-go-on report id a at (of-handle new).log (All-head (λ (e : WorkerHandle A K). ReportExtendsAll report (of-handle e)) new handles extends) in
       let added = were-added gives origin throughput id (of-handle old) turns (of-handle new) made [] to
       (λ journal each. record { newer = journal; joined = sym (append-nil journal) }) seen in
       of-all-added (turns_of id turns) to added (omega (arith, sum, rest, first, more)))
+
+  pub all-turns : (old new : List (WorkerHandle A K)) (senders : List OutsideSender) (turns : List Turn) → OnlyFirstMade gives origin throughput old new turns
+      → IsWhole (shares_of_handles old ++ shares_of_senders senders) → All ChangedNoJournal (map of-handle old ++ map of-sender senders)
+      → (report : Report) → All (λ (e : WorkerHandle A K). ReportExtendsAll report (of-handle e)) new
+      → (IsWhole (shares_of_handles new ++ shares_of_senders senders) → (id : ℕ) (a : ActorReport)
+      → slice_get report.actors.items id ≡ Some a → ReleasesAddUp id a.journal.entries (map of-handle new ++ map of-sender senders))
+      → HaveTheirTurns report turns
+  all-turns [] new senders turns made whole none report extends add_up = absurd made
+  all-turns (x ∷ others) [] senders turns made whole none report extends add_up = absurd made
+  all-turns (x ∷ others) (y ∷ same) senders turns made whole none report extends add_up =
+      let is = made.1 in
+      one-made-all x y others senders turns made.0 whole none report
+      (subst (λ (l : List (WorkerHandle A K)). All (λ (e : WorkerHandle A K). ReportExtendsAll report (of-handle e)) (y ∷ l)) is extends)
+      (subst (λ (l : List (WorkerHandle A K)). IsWhole (shares_of_handles (y ∷ l) ++ shares_of_senders senders) → (id : ℕ) (a : ActorReport)
+      → slice_get report.actors.items id ≡ Some a → ReleasesAddUp id a.journal.entries (map of-handle (y ∷ l) ++ map of-sender senders)) is add_up)
 
 module _ {A K : Type 0} where
   -- the same from before the senders carried out their orders

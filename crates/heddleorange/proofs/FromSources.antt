@@ -28,7 +28,6 @@ use Rattle.mb_dispatch.specs.Paired.{pairs}
 use Rattle.mb_dispatch.specs.Parallel.{FirstZip}
 use Rattle.mb_dispatch.specs.Sources.{BreaksPair, BreaksRunFrom, IsPairDone, others_of}
 use Rattle.heddleorange.specs.FromSources.{orders_given}
-use Rattle.heddleorange.specs.AtRest.{LeavesNobodyToRun}
 use Rattle.heddleorange.specs.GivesBack.{GivesNothingBack, tells_of_nothing_done}
 use Rattle.heddleorange.specs.NamedOrder.{NamesInLists}
 use Rattle.heddleorange.specs.NoReport.{IsErrorOfRun, IsRight, has_one_for_nobody}
@@ -140,10 +139,6 @@ pub begun-for-all : {A T : Type 0} (actors : ℕ) (result : Result T (FailedRun 
     → IfErr result (λ failed. (orders : List (List Order)) → NamesInLists actors orders failed.error)
 begun-for-all actors (Ok x) back = tt
 begun-for-all actors (Err failed) back = λ orders. begun-in-lists actors orders failed.error back.was_begun
-
--- where nothing was done, nobody was left to run
-pub rests-undone : {A : Type 0} (failed : FailedRun A) (error : Error) → failed.error ≡ error → tells_of_nothing_done error ≡ true → LeavesNobodyToRun failed
-rests-undone failed error is told = λ id left. (let clash : false ≡ true = ap tells_of_nothing_done (sym left ∙ is) ∙ told in absurd (cc))
 
 -- with so many actors beside the guardian
 others-are : (gates : Gates (Box Contents)) (actors : ℕ) → actors_of gates ≡ actors + 1 → others_of gates ≡ actors

@@ -11,7 +11,7 @@ use Rattle.heddleorange.specs.GivesBack.{GivesBack, GivesNothingBack, given_back
 use Rattle.heddleorange.specs.NamedOrder.{NamesInLists, NamesInRow}
 use Rattle.heddleorange.specs.NoReport.{HasFailedFor, IsErrorOfRun, IsUnfit}
 use Rattle.heddleorange.specs.declared.error.Error.{Error}
-use Rattle.heddleorange.specs.declared.error.Error.TheVariants.{BadPlan, OrderLists, NoSuchSender, NoSuchActor, NoMemory, NoMemoryInRun, JournalFull, NotQuiet, Mismatch, NameTaken}
+use Rattle.heddleorange.specs.declared.error.Error.TheVariants.{BadPlan, OrderLists, NoSuchSender, NoSuchActor, NoMemory, NoMemoryInRun, JournalFull, Mismatch, NameTaken}
 use Rattle.heddleorange.specs.declared.failed_run.FailedRun.{FailedRun}
 use Rattle.heddleorange.specs.declared.failed_run.Untouched.{Untouched}
 
@@ -25,7 +25,6 @@ nothing-done plan actors orders (NoSuchActor sender place to) unfit = refl
 nothing-done plan actors orders NoMemory unfit = absurd unfit
 nothing-done plan actors orders NoMemoryInRun unfit = absurd unfit
 nothing-done plan actors orders (JournalFull id) unfit = absurd unfit
-nothing-done plan actors orders (NotQuiet id) unfit = absurd unfit
 nothing-done plan actors orders (Mismatch what) unfit = absurd unfit
 nothing-done plan actors orders (NameTaken id) unfit = absurd unfit
 
@@ -38,7 +37,6 @@ begun-in-lists actors orders (NoSuchActor sender place to) begun = absurd (cc be
 begun-in-lists actors orders NoMemory begun = tt
 begun-in-lists actors orders NoMemoryInRun begun = tt
 begun-in-lists actors orders (JournalFull id) begun = tt
-begun-in-lists actors orders (NotQuiet id) begun = tt
 begun-in-lists actors orders (Mismatch what) begun = tt
 begun-in-lists actors orders (NameTaken id) begun = tt
 
@@ -50,7 +48,6 @@ begun-in-row senders actors row (NoSuchActor sender place to) begun = absurd (cc
 begun-in-row senders actors row NoMemory begun = tt
 begun-in-row senders actors row NoMemoryInRun begun = tt
 begun-in-row senders actors row (JournalFull id) begun = tt
-begun-in-row senders actors row (NotQuiet id) begun = tt
 begun-in-row senders actors row (Mismatch what) begun = tt
 begun-in-row senders actors row (NameTaken id) begun = tt
 

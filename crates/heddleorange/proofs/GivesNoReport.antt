@@ -9,23 +9,20 @@ use Rattle.heddleorange.specs.GivesBack.{GivesNothingBack, tells_of_nothing_done
 use Rattle.heddleorange.specs.GivesNoReport.{GivesNoReport}
 use Rattle.heddleorange.specs.NamedOrder.{NamesInLists}
 use Rattle.heddleorange.specs.NoReport.{IsErrorOfRun, IsRight, IsUnfit}
-use Rattle.heddleorange.specs.AtRest.{LeavesNobodyToRun}
 use Rattle.heddleorange.specs.Remains.{IsWithoutMemory}
 use Rattle.heddleorange.specs.declared.error.Error.{Error}
 use Rattle.heddleorange.specs.declared.failed_run.FailedRun.{FailedRun}
 use Rattle.heddleorange.specs.declared.failed_run.Untouched.{Untouched}
-use Rattle.heddleorange.proofs.AtRest.{rests-named, rests-short, rests-unfit}
 use Rattle.heddleorange.proofs.GivesBack.{all-back, begun-in-lists, named-back, named-failed, none-back, nothing-done}
 use Rattle.heddleorange.proofs.NoReport.{unfit, without-memory}
 
 module _ {A : Type 0} (gives : ℕ → Moment → Reply → Type 0) (plan : Plan) (actors : List A) (orders : List (List Order)) where
   -- the run was begun
-  pub begun-failure : (failed : FailedRun A) → IsErrorOfRun gives plan (length actors) orders failed → LeavesNobodyToRun failed → GivesNothingBack failed
+  pub begun-failure : (failed : FailedRun A) → IsErrorOfRun gives plan (length actors) orders failed → GivesNothingBack failed
       → GivesNoReport gives plan actors [] orders failed
-  begun-failure failed why rests none = record {
+  begun-failure failed why none = record {
     refused = why;
     which = begun-in-lists (length actors) orders failed.error none.was_begun;
-    at_rest = rests;
     back = none-back plan actors failed none;
   }
 
@@ -36,7 +33,6 @@ module _ {A : Type 0} (gives : ℕ → Moment → Reply → Type 0) (plan : Plan
   unfit-failure failed error is none untouched unnamed refused names = record {
     refused = unfit gives plan (length actors) orders failed error is none refused;
     which = subst (NamesInLists (length actors) orders) (sym is) names;
-    at_rest = rests-unfit failed plan (length actors) orders error is refused;
     back = all-back plan actors failed (ap tells_of_nothing_done is ∙ nothing-done plan (length actors) orders error refused) untouched unnamed;
   }
 
@@ -45,7 +41,7 @@ module _ {A : Type 0} (gives : ℕ → Moment → Reply → Type 0) (plan : Plan
       → IfErr result GivesNothingBack → IfErr result (GivesNoReport gives plan actors [] orders)
   short-failure (Ok x) right short none = tt
   short-failure (Err failed) right short none =
-      begun-failure failed (without-memory gives plan (length actors) orders failed right short) (rests-short failed short) none
+      begun-failure failed (without-memory gives plan (length actors) orders failed right short) none
 
   -- names were added
   pub named-failure : (names : List (String Global)) (old new : FailedRun A) → new.error ≡ old.error → new.actors.items ≡ old.actors.items
@@ -54,6 +50,5 @@ module _ {A : Type 0} (gives : ℕ → Moment → Reply → Type 0) (plan : Plan
   named-failure names old new error left untouched named failure = record {
     refused = named-failed gives plan (length actors) orders old new error left failure.refused;
     which = subst (NamesInLists (length actors) orders) (sym error) failure.which;
-    at_rest = rests-named old new error failure.at_rest;
     back = named-back plan actors names old new error untouched named failure.back;
   }

@@ -10,7 +10,6 @@ pub mod Breaking
 pub mod Jobs
 pub mod HasRunLemmas
 pub mod GoingOn
-pub mod AtRest
 pub mod Identified
 pub mod FromStory
 pub mod Sums
@@ -35,6 +34,7 @@ pub mod MadeTurns
 pub mod Stretches
 pub mod Unchanged
 pub mod Covering
+pub mod FirstMade
 pub mod Due
 pub mod Returns
 pub mod Put

@@ -32,13 +32,11 @@ made-turns gives origin throughput old (turn ∷ turns) new made =
 
 -- the same of a system of this plan
 pub turns-of : {A K : Type 0} (gives : ℕ → Moment → Reply → Type 0) (plan : Plan) (built : Built A K) (begun : IsBegun gives plan built)
-    (turns : List Turn) → All (IsTurnOf (actors_of built.system.gates) built.system.throughput) turns → AreTurnsOf plan turns
+    (turns : List Turn) → All (IsTurnOf (actors_of built.system.gates) plan.throughput) turns → AreTurnsOf plan turns
 turns-of gives plan built begun turns are =
     let actors : actors_of built.system.gates ≡ length plan.actors.items + 1 =
     actors-there gives plan built begun ∙ length-who plan.journal plan.journal_limit plan.actors.items in
-    let throughput : built.system.throughput ≡ plan.throughput = begun.numbers.2 in
-    subst (λ n. All (IsTurnOf n plan.throughput) turns) actors
-    (subst (λ n. All (IsTurnOf (actors_of built.system.gates) n) turns) throughput are)
+    subst (λ n. All (IsTurnOf n plan.throughput) turns) actors are
 
 -- they cover the journals of a report of this plan's actors, if each journal has the entries of its turns
 pub covers-of : (plan : Plan) (report : Report) (turns : List Turn) → length report.actors.items ≡ length plan.actors.items + 1 → AreTurnsOf plan turns

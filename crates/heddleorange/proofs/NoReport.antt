@@ -5,8 +5,7 @@ use Rattle.std.proofs.lemmas.List.Elements.{All-cons, All-head, All-tail}
 use Rattle.std.specs.Global.{Box}
 use Rattle.mb_actor.specs.Behaviour.{Moment, Reply}
 use Rattle.mb_build.specs.Planned.{IsDirectoryOf, actors_in}
-use Rattle.mb_gate.specs.Accessors.{actors_of, first_home, pass_view}
-use Rattle.mb_gate.specs.Rule.{IsPart}
+use Rattle.mb_gate.specs.Accessors.{actors_of, first_home}
 use Rattle.mb_gate.specs.Untouched.{origin_of}
 use Rattle.mb_gate.specs.View.{View}
 use Rattle.mb_home.specs.Contents.{Contents}
@@ -15,7 +14,6 @@ use Rattle.mb_pool.specs.WorkerPorts.{WorkerPortView}
 use Rattle.mb_msg.specs.declared.plan.Plan.{Plan}
 use Rattle.mb_shutdown.specs.Belonging.{HasRead, OnlyFirstHandleRead}
 use Rattle.mb_shutdown.specs.Mismatched.{of_whom}
-use Rattle.mb_shutdown.specs.NotFinished.{HasWorkLeft}
 use Rattle.mb_shutdown.specs.Unfinished.{AreUnfinished}
 use Rattle.mb_shutdown.specs.declared.unfinished.UnfinishedActor.{UnfinishedActor}
 use Rattle.mb_startup.specs.Begun.{IsBegun}
@@ -31,14 +29,14 @@ use Rattle.mb_shutdown.specs.declared.ending.FinishError.TheVariants as handle
 use Rattle.mb_shutdown.proofs.NotFinished.{does-not-agree}
 use Rattle.mb_startup.proofs.Directories.{still-planned, still-senders, still-there}
 use Rattle.heddleorange.specs.NoReport.{HasFailedFor, IsErrorOfRun, IsRight, IsUnfit}
-use Rattle.heddleorange.specs.Remains.{AreRemains, BringsOwnHandles, HasOwnHandles, HasWorkAmong, IsFailureFor, IsWithoutMemory}
+use Rattle.heddleorange.specs.Remains.{AreRemains, BringsOwnHandles, HasOwnHandles, IsFailureFor, IsWithoutMemory}
 use Rattle.heddleorange.specs.declared.error.Error.{Error}
-use Rattle.heddleorange.specs.declared.error.Error.TheVariants.{BadPlan, OrderLists, NoSuchSender, NoSuchActor, NoMemory, NoMemoryInRun, JournalFull, NotQuiet, Mismatch, NameTaken}
+use Rattle.heddleorange.specs.declared.error.Error.TheVariants.{BadPlan, OrderLists, NoSuchSender, NoSuchActor, NoMemory, NoMemoryInRun, JournalFull, Mismatch, NameTaken}
 use Rattle.heddleorange.specs.declared.failed_run.FailedRun.{FailedRun}
 use Rattle.heddleorange.specs.Workers.{AllOnlyRuns}
 use Rattle.heddleorange.proofs.LastRun.{HaveRun, all-ran, all-runs-on, have-run}
-use Rattle.heddleorange.proofs.GoingOn.{found-looks, idle-found-looks, read-runs}
-use Rattle.heddleorange.proofs.Remains.{remains, remains-with}
+use Rattle.heddleorange.proofs.GoingOn.{idle-found-looks, read-runs}
+use Rattle.heddleorange.proofs.Remains.{remains}
 
 -- what is refused before anything is done has no story
 unfit-for : (gives : ℕ → Moment → Reply → Type 0) (plan : Plan) (actors : ℕ) (orders : List (List Order)) (shown : List (Option UnfinishedActor))
@@ -50,7 +48,6 @@ unfit-for gives plan actors orders shown NoMemory none refused = absurd refused
 unfit-for gives plan actors orders shown (NoSuchActor sender place to) none refused = (refused.0, refused.1, refused.2, none)
 unfit-for gives plan actors orders shown NoMemoryInRun none refused = absurd refused
 unfit-for gives plan actors orders shown (JournalFull id) none refused = absurd refused
-unfit-for gives plan actors orders shown (NotQuiet id) none refused = absurd refused
 unfit-for gives plan actors orders shown (Mismatch what) none refused = absurd refused
 unfit-for gives plan actors orders shown (NameTaken id) none refused = absurd refused
 
@@ -128,49 +125,13 @@ module _ {A K : Type 0} (gives : ℕ → Moment → Reply → Type 0) (plan : Pl
   idle-left back shown (before, after, read, found) are =
       left back read.system (still-ran back before after read (idle-found-looks (actors_of built.system.gates) before after found)) shown are
 
-  work-left : (back : Built A K) (id : ℕ) → All (λ (e : WorkerHandle A K). IsHandleOf built.system.gates e.registrar) built.handles.items
-      → id < actors_of built.system.gates → HasRead (FindsBusy id) built back → HasWorkLeft plan id
-  work-left back id handles within (before, after, read, found) = record {
-    gates = built.system.gates;
-    planned = planned;
-    within = within;
-    before = read.first.registrar;
-    after = read.first'.registrar;
-    same_gates = All-head (λ (e : WorkerHandle A K). IsHandleOf built.system.gates e.registrar) read.first read.rest
-        (subst (λ l. All (λ (e : WorkerHandle A K). IsHandleOf built.system.gates e.registrar) l) read.was handles);
-    same = read.same_gates;
-    found = subst (λ (p : View × View). FindsBusy id p.0 p.1) (λ i. (sym read.knew i, sym read.knows i)) found;
-  }
-
-  work-among : (back : Built A K) (id : ℕ) (shown : List (Option UnfinishedActor))
-      → All (λ (e : WorkerHandle A K). IsHandleOf built.system.gates e.registrar) built.handles.items → id < actors_of built.system.gates
-      → HasRead (FindsBusy id) built back → AreUnfinished gives back shown → HasWorkAmong gives plan shown id
-  unfolding work-left
-  work-among back id shown handles within (before, after, read, found) are =
-      let ran = still-ran back before after read (found-looks id before after found) in
-      let rest = remains-with gives plan back (still-planned gives plan first begun back (read.system ∙ same)) ran
-      (still-there gives plan first begun back (read.system ∙ same)) shown are in record {
-        remains = rest.0;
-        work = work-left back id handles within (before, after, read, found);
-        same_gates = ap (λ (s : System A K). s.gates) (sym read.system) ∙ sym rest.1;
-        known = subst (λ (v : View). IsPart (pass_view read.first'.registrar.pass).log v.log) (sym rest.2)
-            (All-head (λ (e : WorkerHandle A K). IsPart (pass_view e.registrar.pass).log are.view.log) read.first' read.rest
-            (subst (All (λ (e : WorkerHandle A K). IsPart (pass_view e.registrar.pass).log are.view.log)) read.is are.seen));
-      }
-
   -- how it is told why a system that was right has no handle
   pub untold : (actors : ℕ) (orders : List (List Order)) (why : FinishError A K) (failed : FailedRun A) → IsRight plan actors orders
       → All (λ (e : WorkerHandle A K). IsHandleOf built.system.gates e.registrar) built.handles.items → IsRefusal built why → DisagreesIfSaid gives built why
       → IsFailureFor gives why failed → IsErrorOfRun gives plan actors orders failed
   untold actors orders (handle.MissingHandle number back) failed right handles refused cause told = absurd told
   untold actors orders (handle.MissingSender number back) failed right handles refused cause told = absurd told
-  untold actors orders (handle.NotQuiet id back) failed right handles refused cause (inr told) = without-memory gives plan actors orders failed right told
-  untold actors orders (handle.NotQuiet id back) failed right handles refused cause (inl (is, are)) =
-      subst (HasFailedFor gives plan actors orders failed.actors.items) (sym is) (
-        right,
-        subst (λ n. id.0 < n) many refused.1,
-        work-among back id.0 failed.actors.items handles refused.1 refused.2 are,
-      )
+  untold actors orders (handle.NotQuiet id back) failed right handles refused cause told = absurd told
   untold actors orders (handle.NoMemory back) failed right handles refused cause (inr told) = without-memory gives plan actors orders failed right told
   untold actors orders (handle.NoMemory back) failed right handles refused cause (inl (is, are)) =
       subst (HasFailedFor gives plan actors orders failed.actors.items) (sym is)

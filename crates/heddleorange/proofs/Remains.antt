@@ -119,13 +119,6 @@ module _ {A K : Type 0} (gives : ℕ → Moment → Reply → Type 0) (plan : Pl
         left-of (gives id) home who a (same_Some home.cell.who who (sym mine ∙ at)) own.settled.lawful back.2);
   }
 
-  -- of these gates, by what was known at the end
-  pub remains-with : HaveRun gives plan built → actors_of built.system.gates ≡ length (actors_in plan) → (shown : List (Option UnfinishedActor))
-      → (are : AreUnfinished gives built shown)
-      → (r : AreRemains gives plan shown) × (r.gates ≡ built.system.gates) × (r.view ≡ are.view)
-  unfolding remains
-  remains-with ran many shown are = (remains ran many shown are, refl, refl)
-
   -- a handle met a journal at its limit, and so saw it
   pub saw-full : (system : System A K) → system ≡ built.system → (handles : List (WorkerHandle A K)) (handle : WorkerHandle A K) → Contains handles handle
       → CameToLimit gives system handle → SawFull (actors_of built.system.gates) plan.journal_limit handles

@@ -16,7 +16,6 @@ use Rattle.mb_startup.specs.Begun.{IsBegun}
 use Rattle.mb_system.specs.declared.built.Built.{Built}
 use Rattle.mb_system.specs.declared.failure.RunError.{RunError}
 use Rattle.mb_system.specs.declared.failure.RunError.TheVariants as Fault
-use Rattle.heddleorange.specs.AtRest.{LeavesNobodyToRun}
 use Rattle.heddleorange.specs.FromSources.{orders_given}
 use Rattle.heddleorange.specs.GivesBack.{GivesNothingBack}
 use Rattle.heddleorange.specs.GivesNoReport.{GivesNoReport}
@@ -27,7 +26,6 @@ use Rattle.heddleorange.specs.SentAndRun.{HasSentAndRun, IsSameSystem}
 use Rattle.heddleorange.specs.WholeRun.{IsReportOfRun}
 use Rattle.heddleorange.specs.declared.failed_run.FailedRun.{FailedRun}
 use Rattle.heddleorange.proofs.AnyBreak.{BreaksOff}
-use Rattle.heddleorange.proofs.AtRest.{rests-broken}
 use Rattle.heddleorange.proofs.Breaking.{full-seen, may-break, own-handles, somebody}
 use Rattle.heddleorange.proofs.GivesNoReport.{begun-failure}
 use Rattle.heddleorange.proofs.LastRun.{AllToLast, have-run-by}
@@ -61,10 +59,10 @@ module _ {A K : Type 0} (gives : ℕ → Moment → Reply → Type 0) (plan : Pl
     pub ended-failure : (result : Result Report (FailedRun A))
         → IfErr result (λ failed. (p : Plan) (n : ℕ) (os : List (List Order)) → IsRight p n os → p.journal_limit ≡ plan.journal_limit → HasRun gives p os now
         → IsErrorOfRun gives p n os failed)
-        → IfErr result LeavesNobodyToRun → IfErr result GivesNothingBack → IfErr result (GivesNoReport gives plan actors [] orders)
-    ended-failure (Ok report) all rests none = tt
-    ended-failure (Err failed) all rests none =
-        begun-failure gives plan actors orders failed (all plan (length actors) orders right refl this-run) rests none
+        → IfErr result GivesNothingBack → IfErr result (GivesNoReport gives plan actors [] orders)
+    ended-failure (Ok report) all none = tt
+    ended-failure (Err failed) all none =
+        begun-failure gives plan actors orders failed (all plan (length actors) orders right refl this-run) none
 
   module _ (error : RunError) (broken : BreaksOff gives first.system now.handles.items orders error) where
     -- it is broken off, but not for an order that is to nobody
@@ -81,8 +79,7 @@ module _ {A K : Type 0} (gives : ℕ → Moment → Reply → Type 0) (plan : Pl
     broken-failure runs failed left none =
         begun-failure gives plan actors orders failed
         (may-break gives plan first now begun same.system (length actors) orders right
-        (have-run-by gives plan first now begun same.system runs) error failed broken left)
-        (rests-broken failed gives now error plan.journal_limit left) none
+        (have-run-by gives plan first now begun same.system runs) error failed broken left) none
 
 -- what sources gave, of which so many actors get what can go to one of them, is what was sent of it
 module _ {A K S : Type 0} (gives : ℕ → Moment → Reply → Type 0) (first now : Built A K) (actors : ℕ) (was is : List (RecordedSource S)) where

@@ -1,12 +1,11 @@
 -- The entries of each run of a mailbox are a stretch of its actor's journal in the report.
-use Rattle.std.proofs.Common.{◌≡◌, ◌≢◌, ◌+◌, ◌++◌, ℕ, suc, List, [], ◌∷◌, ap, append_assoc, arith, length, refl, subst, sym, ◌∙◌, Some}
-use Rattle.std.specs.Prelude.{All, slice_get, slice_set}
+use Rattle.std.proofs.Common.{◌≡◌, ◌+◌, ◌++◌, ℕ, suc, List, [], ◌∷◌, ap, append_assoc, arith, length, refl, subst, sym, ◌∙◌, Some}
+use Rattle.std.specs.Prelude.{All, slice_get}
 use Rattle.std.proofs.lemmas.List.{length-append}
-use Rattle.std.proofs.lemmas.List.Elements.{All-cons, All-head, All-nil}
+use Rattle.std.proofs.lemmas.List.Elements.{All-cons, All-nil}
 use Rattle.std.specs.Global.{Box}
 use Rattle.mb_actor.specs.Behaviour.{Moment, Reply}
 use Rattle.mb_dispatch.specs.Runs.{MadeRuns, RanMailbox}
-use Rattle.mb_gate.specs.Accessors.{pass_view}
 use Rattle.mb_gate.specs.Rule.{IsAmong}
 use Rattle.mb_gate.specs.Untouched.{Origin}
 use Rattle.mb_gate.specs.View.{Observation, View}
@@ -22,9 +21,8 @@ use Rattle.mb_mailbox.specs.Ran.{systems_in}
 use Rattle.mb_mailbox.specs.declared.turn.Turn.{Turn}
 use Rattle.mb_report.specs.declared.report.ActorReport.{ActorReport}
 use Rattle.mb_report.specs.declared.report.Report.{Report}
-use Rattle.mb_shutdown.specs.Seen.{ReportExtends, ReportExtendsAll}
+use Rattle.mb_shutdown.specs.Seen.{ReportExtends}
 use Rattle.mb_system.specs.OnlyLooks.{OnlyLooks}
-use Rattle.mb_system.specs.declared.handle.WorkerHandle.{WorkerHandle}
 use Rattle.heddleorange.specs.Turns.{AreOfTurn, AreStretches, IsStretch}
 use Rattle.heddleorange.proofs.Covered.{systems-append}
 
@@ -132,11 +130,3 @@ module _ (gives : ℕ → Moment → Reply → Type 0) (origin : Origin (Box Con
       All-cons (λ (t : Turn). (a : ActorReport) → slice_get report.actors.items t.actor.0 ≡ Some a → IsStretch a.journal.entries t) turn turns
       (stretch-of made.0 made.1 turn made.3 (each-before gives origin throughput (ReportExtends report) made.1 turns new made.4 each))
       (stretches-of made.1 turns new made.4 each)
-
--- the first handle is one of which the report tells
-pub first-extends : {A K : Type 0} (report : Report) (handles : List (WorkerHandle A K)) (handle : WorkerHandle A K) → handles ≢ []
-    → All (λ (e : WorkerHandle A K). ReportExtendsAll report (pass_view e.registrar.pass)) (slice_set handles 0 handle)
-    → Each (ReportExtends report) (pass_view handle.registrar.pass).log
-first-extends report [] handle some all = absurd (some refl)
-first-extends report (e ∷ handles) handle some all =
-    All-head (λ (e : WorkerHandle _ _). ReportExtendsAll report (pass_view e.registrar.pass)) handle handles all

@@ -20,8 +20,11 @@ use Rattle.mb_system.specs.Shares.{share_of_sender, shares_of_senders, views_of}
 use Rattle.mb_system.specs.declared.built.Built.{Built}
 use Rattle.mb_system.specs.declared.handle.WorkerHandle.{WorkerHandle}
 use Rattle.mb_system.specs.Members.{OutsideSender}
-use Rattle.heddleorange.specs.Covering.{ChangedNoJournal}
 use Rattle.heddleorange.specs.Sent.{HaveSent}
+
+-- each cell that this seat gave back came back with the journal with which it was taken
+abbrev pub ChangedNoJournal : View → Type 0
+ChangedNoJournal view = Each IsUnchanged view.releases
 
 -- ---- a new system
 

@@ -3,7 +3,7 @@ use Rattle.std.specs.Prelude.{◌≡◌, Bool, true, false, if◌then◌else◌,
 use Rattle.std.specs.Global.{Global}
 use Rattle.mb_msg.specs.declared.plan.Plan.{Plan}
 use Rattle.heddleorange.specs.declared.error.Error.{Error}
-use Rattle.heddleorange.specs.declared.error.Error.TheVariants.{BadPlan, OrderLists, NoSuchSender, NoSuchActor, NoMemory, NoMemoryInRun, JournalFull, NotQuiet, Mismatch, NameTaken}
+use Rattle.heddleorange.specs.declared.error.Error.TheVariants.{BadPlan, OrderLists, NoSuchSender, NoSuchActor, NoMemory, NoMemoryInRun, JournalFull, Mismatch, NameTaken}
 use Rattle.heddleorange.specs.declared.failed_run.FailedRun.{FailedRun}
 use Rattle.heddleorange.specs.declared.failed_run.Untouched.{Untouched}
 
@@ -16,7 +16,6 @@ tells_of_nothing_done (NoSuchActor sender place to) = true
 tells_of_nothing_done NoMemory = false
 tells_of_nothing_done NoMemoryInRun = false
 tells_of_nothing_done (JournalFull id) = false
-tells_of_nothing_done (NotQuiet id) = false
 tells_of_nothing_done (Mismatch what) = false
 tells_of_nothing_done (NameTaken id) = false
 

@@ -4,7 +4,6 @@ use Rattle.std.specs.Global.{Global}
 use Rattle.mb_actor.specs.Behaviour.{Moment, Reply}
 use Rattle.mb_msg.specs.declared.order.Order.{Order}
 use Rattle.mb_msg.specs.declared.plan.Plan.{Plan}
-use Rattle.heddleorange.specs.AtRest.{LeavesNobodyToRun}
 use Rattle.heddleorange.specs.GivesBack.{GivesBack}
 use Rattle.heddleorange.specs.NamedOrder.{NamesInLists}
 use Rattle.heddleorange.specs.NoReport.{IsErrorOfRun}
@@ -17,7 +16,5 @@ pub record GivesNoReport {A : Type 0} (gives : ℕ → Moment → Reply → Type
   pub refused : IsErrorOfRun gives plan (length actors) orders failed
   -- Which order is refused, where one is.
   pub which : NamesInLists (length actors) orders failed.error
-  -- It did not fail since an actor had something to run still.
-  pub at_rest : LeavesNobodyToRun failed
   -- What comes back of what was handed in.
   pub back : GivesBack plan actors names failed

@@ -8,7 +8,6 @@ pub mod WholeRun
 pub mod Remains
 pub mod NoReport
 pub mod HasRun
-pub mod AtRest
 pub mod Reading
 pub mod States
 pub mod Ledger
@@ -18,7 +17,6 @@ pub mod Names
 pub mod RunHeadline
 pub mod Orders
 pub mod Turns
-pub mod Covering
 pub mod NamedOrder
 pub mod GivesBack
 pub mod ReportsRun

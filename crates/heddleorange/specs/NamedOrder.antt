@@ -7,7 +7,7 @@ use Rattle.mb_msg.specs.declared.order.SenderOrder.{SenderOrder}
 use Rattle.heddleorange.specs.NoReport.{has_nobody}
 use Rattle.heddleorange.specs.Orders.{is_from_nobody}
 use Rattle.heddleorange.specs.declared.error.Error.{Error}
-use Rattle.heddleorange.specs.declared.error.Error.TheVariants.{BadPlan, OrderLists, NoSuchSender, NoSuchActor, NoMemory, NoMemoryInRun, JournalFull, NotQuiet, Mismatch, NameTaken}
+use Rattle.heddleorange.specs.declared.error.Error.TheVariants.{BadPlan, OrderLists, NoSuchSender, NoSuchActor, NoMemory, NoMemoryInRun, JournalFull, Mismatch, NameTaken}
 
 -- This stands at this place, counted from 0, and is the first that is so.
 abbrev pub IsFirstAt : {X : Type 0} → (X → Bool) → List X → ℕ → X → Type 0
@@ -28,7 +28,6 @@ NamesInLists actors orders (OrderLists lists senders) = Unit {0}
 NamesInLists actors orders NoMemory = Unit {0}
 NamesInLists actors orders NoMemoryInRun = Unit {0}
 NamesInLists actors orders (JournalFull id) = Unit {0}
-NamesInLists actors orders (NotQuiet id) = Unit {0}
 NamesInLists actors orders (Mismatch what) = Unit {0}
 NamesInLists actors orders (NameTaken id) = Unit {0}
 
@@ -44,6 +43,5 @@ NamesInRow senders actors row (BadPlan reason) = Unit {0}
 NamesInRow senders actors row NoMemory = Unit {0}
 NamesInRow senders actors row NoMemoryInRun = Unit {0}
 NamesInRow senders actors row (JournalFull id) = Unit {0}
-NamesInRow senders actors row (NotQuiet id) = Unit {0}
 NamesInRow senders actors row (Mismatch what) = Unit {0}
 NamesInRow senders actors row (NameTaken id) = Unit {0}

@@ -11,9 +11,9 @@ use Rattle.mb_msg.specs.declared.order.Order.{Order}
 pub use Rattle.mb_source.specs.Receivers.{has_nobody, is_for_nobody}
 use Rattle.mb_shutdown.specs.NotFinished.{DoesNotAgree}
 use Rattle.mb_shutdown.specs.declared.unfinished.UnfinishedActor.{UnfinishedActor}
-use Rattle.heddleorange.specs.Remains.{AreRemains, HasWorkAmong, IsFirstFull, IsLackOf}
+use Rattle.heddleorange.specs.Remains.{AreRemains, IsFirstFull, IsLackOf}
 use Rattle.heddleorange.specs.declared.error.Error.{Error}
-use Rattle.heddleorange.specs.declared.error.Error.TheVariants.{BadPlan, OrderLists, NoSuchSender, NoSuchActor, NoMemory, NoMemoryInRun, JournalFull, NotQuiet, Mismatch, NameTaken}
+use Rattle.heddleorange.specs.declared.error.Error.TheVariants.{BadPlan, OrderLists, NoSuchSender, NoSuchActor, NoMemory, NoMemoryInRun, JournalFull, Mismatch, NameTaken}
 use Rattle.heddleorange.specs.declared.failed_run.FailedRun.{FailedRun}
 
 -- One of these orders is so.
@@ -37,14 +37,12 @@ IsUnfit plan actors orders (NoSuchActor sender place to) =
 IsUnfit plan actors orders NoMemoryInRun = ⊥
 IsUnfit plan actors orders (JournalFull id) = ⊥
 IsUnfit plan actors orders NoMemory = ⊥
-IsUnfit plan actors orders (NotQuiet id) = ⊥
 IsUnfit plan actors orders (Mismatch what) = ⊥
 IsUnfit plan actors orders (NameTaken id) = ⊥
 
 -- Why the run gave no report, and what is left of its actors. Nothing is done, as above, and nothing is left. Or the plan and the orders are right, and
--- one of these holds: memory was refused; the first journal of those left that is at its limit is that of this actor; this actor was found to have
--- something to run still, and what is shown is left of the system of which that was read; this very mismatch was found, and nothing is left; or nothing
--- came back of this actor.
+-- one of these holds: memory was refused; the first journal of those left that is at its limit is that of this actor; this very mismatch was found, and
+-- nothing is left; or nothing came back of this actor.
 abbrev pub HasFailedFor : (ℕ → Moment → Reply → Type 0) → Plan → ℕ → List (List Order) → List (Option UnfinishedActor) → Error → Type 0
 HasFailedFor gives plan actors orders shown (BadPlan reason) = ((rest : List PlanError) × (reasons plan actors ≡ reason ∷ rest)) × (shown ≡ [])
 HasFailedFor gives plan actors orders shown (OrderLists lists senders) =
@@ -56,8 +54,6 @@ HasFailedFor gives plan actors orders shown NoMemoryInRun = IsRight plan actors 
 HasFailedFor gives plan actors orders shown (JournalFull id) =
     IsRight plan actors orders × AreRemains gives plan shown × IsFirstFull plan.journal_limit shown id
 HasFailedFor gives plan actors orders shown NoMemory = IsRight plan actors orders × ((shown ≡ []) ⊎ AreRemains gives plan shown)
-HasFailedFor gives plan actors orders shown (NotQuiet id) =
-    IsRight plan actors orders × (id.0 < length (actors_in plan)) × HasWorkAmong gives plan shown id.0
 HasFailedFor gives plan actors orders shown (Mismatch what) = IsRight plan actors orders × (of_whom what < length (actors_in plan))
     × ((DoesNotAgree gives plan what × (shown ≡ [])) ⊎ (AreRemains gives plan shown × IsLackOf shown what))
 HasFailedFor gives plan actors orders shown (NameTaken id) = ⊥

@@ -5,7 +5,7 @@ use Rattle.std.specs.List.{AllZip, list_any, position_from}
 use Rattle.mb_actor.specs.Behaviour.{Moment, Reply}
 use Rattle.mb_build.specs.Planned.{IsDirectoryOf, actors_in}
 use Rattle.mb_gate.specs.Accessors.{actors_of, first_home, pass_view}
-use Rattle.mb_gate.specs.Rule.{IsAmong, IsPart}
+use Rattle.mb_gate.specs.Rule.{IsAmong}
 use Rattle.mb_gate.specs.Untouched.{origin_of}
 use Rattle.mb_gate.specs.View.{Saw, View}
 use Rattle.mb_gate.specs.declared.gates.Gates.{Gates}
@@ -19,7 +19,6 @@ use Rattle.mb_journal.specs.Suspension.{count}
 use Rattle.mb_msg.specs.declared.id.ActorId.{ActorId}
 use Rattle.mb_msg.specs.declared.plan.Plan.{Plan}
 use Rattle.mb_pool.specs.WorkerPorts.{WorkerPortView}
-use Rattle.mb_shutdown.specs.NotFinished.{HasWorkLeft}
 use Rattle.mb_shutdown.specs.Unfinished.{AreUnfinished, ShowsHomes}
 use Rattle.mb_shutdown.specs.declared.ending.FinishError.{FinishError}
 use Rattle.mb_shutdown.specs.declared.ending.FinishError.TheVariants as handle
@@ -34,7 +33,7 @@ use Rattle.mb_system.specs.declared.failure.RunError.TheVariants as Fault
 use Rattle.heddleorange.specs.LastRun.{KnowTogether, OnlyRunsToLast}
 use Rattle.heddleorange.specs.Workers.{AreNewViews}
 use Rattle.heddleorange.specs.declared.error.Error.{Error}
-use Rattle.heddleorange.specs.declared.error.Error.TheVariants.{JournalFull, Mismatch, NoMemory, NoMemoryInRun, NotQuiet}
+use Rattle.heddleorange.specs.declared.error.Error.TheVariants.{JournalFull, Mismatch, NoMemory, NoMemoryInRun}
 use Rattle.heddleorange.specs.declared.failed_run.FailedRun.{FailedRun}
 
 -- What is left of an actor is what its journal says of it, and the journal is one that it can have, and keeps its entries where the plan says so.
@@ -88,13 +87,6 @@ IsLackOf shown (what.Held whom) = slice_get shown whom.0 ≡ Some None
 IsLackOf shown (what.List whom) = ⊥
 IsLackOf shown (what.Waiting whom) = ⊥
 
--- A handle of the system whose actors are shown read that this actor has something to run. This was known as the actors were shown.
-pub record HasWorkAmong (gives : ℕ → Moment → Reply → Type 0) (plan : Plan) (shown : List (Option UnfinishedActor)) (id : ℕ) : Type 0 where
-  pub remains : AreRemains gives plan shown
-  pub work : HasWorkLeft plan id
-  pub same_gates : work.gates ≡ remains.gates
-  pub known : IsPart (pass_view work.after.pass).log remains.view.log
-
 -- A run that was broken off for this reason is told so by what is left. Of the full journals that are shown the first is named; where none is shown, an
 -- actor is named of which nothing is. No order that can go to nobody is sent.
 abbrev pub IsToldAs : RunError → ℕ → List (Option UnfinishedActor) → Error → Type 0
@@ -141,10 +133,10 @@ module _ {A K : Type 0} where
   BringsOwnHandles (handle.Mismatch what) = Unit {0}
 
   -- The failure of a whole run for this reason of a system that did not end. A system to which all handles and senders come back has none that speaks of a
-  -- missing one.
+  -- missing one. There is none for the reason that an actor has something to run: the run goes on then.
   abbrev pub IsFailureFor : (ℕ → Moment → Reply → Type 0) → FinishError A K → FailedRun A → Type 0
   IsFailureFor gives (handle.MissingHandle number back) failed = ⊥
   IsFailureFor gives (handle.MissingSender number back) failed = ⊥
-  IsFailureFor gives (handle.NotQuiet id back) failed = IsLeftFor gives back (NotQuiet id) failed
+  IsFailureFor gives (handle.NotQuiet id back) failed = ⊥
   IsFailureFor gives (handle.NoMemory back) failed = IsLeftFor gives back NoMemory failed
   IsFailureFor gives (handle.Mismatch what) failed = (failed.error ≡ Mismatch what) × (failed.actors.items ≡ [])

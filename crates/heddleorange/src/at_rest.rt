@@ -1,33 +1,32 @@
 //! Ending the system of a run once nothing is left to run.
 ghost use Rattle.std.specs.Prelude.{◌≡◌, ℕ, List, IfErr, IfOk, length};
-ghost use Rattle.mb_msg.specs.declared.id.ActorId.{ActorId as Id};
 ghost use Rattle.mb_msg.specs.declared.order.Order.{Order as OrderOf};
 ghost use Rattle.mb_msg.specs.declared.plan.Plan.{Plan as PlanOf};
-ghost use Rattle.mb_shutdown.specs.Refused.{IsComplete, IsOfWhole};
-ghost use Rattle.mb_shutdown.specs.declared.ending.FinishError.TheVariants.{NotQuiet};
+ghost use Rattle.mb_shutdown.specs.Refused.{IsComplete};
 ghost use Rattle.mb_system.specs.Belonging.{BelongsTogether};
-ghost use Rattle.heddleorange.specs.AtRest.{LeavesNobodyToRun};
 ghost use Rattle.heddleorange.specs.GivesBack.{GivesNothingBack};
 ghost use Rattle.heddleorange.specs.HasRun.{HasRun, HasRunWithin};
 ghost use Rattle.heddleorange.specs.NoReport.{IsErrorOfRun, IsRight};
-ghost use Rattle.heddleorange.specs.Remains.{BringsOwnHandles, IsFailureFor};
+ghost use Rattle.heddleorange.specs.RanQuietly.{HasRunTurns};
+ghost use Rattle.heddleorange.specs.TellsTurns.{TellsTurns};
 ghost use Rattle.heddleorange.specs.WholeRun.{IsReportOfRun};
 
 use crate::broken_off::broken_off;
-use crate::error::Error;
 use crate::failed_run::FailedRun;
-use crate::finish::left_for;
-use crate::sending::run_first;
+use crate::finish::left_to_run;
+use crate::in_order::QuietRun;
+use crate::sending::{continue_first, run_first};
 use mb_actor::{Actor, Behaviours};
+use mb_dispatch::Turns;
 use mb_msg::JournalMode;
 use mb_report::Report;
-use mb_shutdown::{FinishError, finish};
+use mb_shutdown::finish;
 use mb_system::Built;
-use std::alloc::Global;
 use std::sync::Wait;
 
-/// Ends a system that has run, as `finish_run` does, once it is at rest: as long as a look at its end finds an actor that has something to
-/// run, its first handle runs on this thread what there is to run. This is the limit of its journals.
+/// Ends a system that has run, once it is at rest: its report, or why there is none and what is left. As long as a look at its end finds an
+/// actor that has something to run, its first handle runs on this thread what there is to run. This is the limit of its journals. The first two
+/// clauses hold for every plan and orders that made this system.
 pub(crate) fn finish_at_rest<A: Actor, K: Behaviours, R: Wait>(
     rt: &R,
     built: Built<A, K>,
@@ -40,7 +39,6 @@ pub(crate) fn finish_at_rest<A: Actor, K: Behaviours, R: Wait>(
         → HasRun K.gives plan orders built → IsReportOfRun K.after K.gives plan orders report) }
     ensures refused { IfErr result (λ failed. (plan : PlanOf) (actors : ℕ) (orders : List (List OrderOf)) → IsRight plan actors orders
         → plan.journal_limit ≡ limit → HasRun K.gives plan orders built → IsErrorOfRun K.gives plan actors orders failed) }
-    ensures at_rest { IfErr result LeavesNobodyToRun }
     ensures back { IfErr result GivesNothingBack }
 {
     let alloc = built.system.alloc;
@@ -61,27 +59,39 @@ pub(crate) fn finish_at_rest<A: Actor, K: Behaviours, R: Wait>(
     unreachable!()
 }
 
-// The system of which an actor has something to run still, or the failure of one that has no report for another reason.
-fn left_to_run<A: Actor, K: Behaviours, R: Wait>(
+/// The same of a system whose first handle alone ran, and made these turns: they are answered too, with those behind them that it makes here.
+pub(crate) fn finish_with_turns<A: Actor, K: Behaviours, R: Wait>(
     rt: &R,
-    alloc: Global,
-    error: FinishError<A, K>,
-) -> Result<Built<A, K>, FailedRun<A>>
-    requires whole { (actors : ℕ) × IsOfWhole actors error }
-    requires own_handles { BringsOwnHandles error }
-    ensures again { IfOk result (λ left. (id : Id) × (error ≡ NotQuiet id left)) }
-    ensures why { IfErr result (IsFailureFor K.gives error) }
-    ensures at_rest { IfErr result LeavesNobodyToRun }
+    built: Built<A, K>,
+    turns: Turns,
+    limit: u64,
+) -> Result<QuietRun, FailedRun<A>>
+    requires together { BelongsTogether built }
+    requires complete { IsComplete built }
+    requires ran { HasRunWithin K.gives limit built }
+    ensures story { IfOk result (λ run. (plan : PlanOf) (orders : List (List OrderOf)) → length orders ≡ plan.senders
+        → HasRun K.gives plan orders built → IsReportOfRun K.after K.gives plan orders run.report) }
+    ensures turns { IfOk result (λ run. (plan : PlanOf) (orders : List (List OrderOf)) → length orders ≡ plan.senders
+        → HasRunTurns K.gives plan orders built turns → TellsTurns plan run.report run.turns) }
+    ensures refused { IfErr result (λ failed. (plan : PlanOf) (actors : ℕ) (orders : List (List OrderOf)) → IsRight plan actors orders
+        → plan.journal_limit ≡ limit → HasRun K.gives plan orders built → IsErrorOfRun K.gives plan actors orders failed) }
     ensures back { IfErr result GivesNothingBack }
 {
-    match error {
-        FinishError::NotQuiet(_, left) => Ok(left),
-        FinishError::NoMemory(left) => Err(left_for(rt, left, Error::NoMemory)),
-        FinishError::Mismatch(mismatch) => Err(FailedRun::without_actors(
-            alloc,
-            Error::Mismatch(mismatch),
-        )),
-        FinishError::MissingHandle(_, _) => unreachable!(),
-        FinishError::MissingSender(_, _) => unreachable!(),
+    let alloc = built.system.alloc;
+    let mut built = built;
+    let mut turns = turns;
+    for _ in rt.forever() {
+        match finish(rt, built) {
+            Ok(report) => return Ok(QuietRun { report, turns }),
+            Err(error) => match left_to_run(rt, alloc, error) {
+                Ok(left) => built = left,
+                Err(failed) => return Err(failed),
+            },
+        }
+        match continue_first(rt, &mut built, turns) {
+            Ok(all) => turns = all,
+            Err(fault) => return Err(broken_off(rt, built, fault, limit)),
+        }
     }
+    unreachable!()
 }

@@ -5,7 +5,6 @@ ghost use Rattle.mb_build.specs.Reasons.{reasons};
 ghost use Rattle.mb_dispatch.specs.Sources.{others_of};
 ghost use Rattle.mb_msg.specs.declared.order.Order.{Order as OrderOf};
 ghost use Rattle.mb_startup.specs.Begun.{IsBegun};
-ghost use Rattle.heddleorange.specs.AtRest.{LeavesNobodyToRun};
 ghost use Rattle.heddleorange.specs.GivesBack.{GivesBack, tells_of_nothing_done};
 ghost use Rattle.heddleorange.specs.NamedOrder.{NamesInLists};
 ghost use Rattle.heddleorange.specs.NoReport.{IsErrorOfRun, IsUnfit, has_one_for_nobody};
@@ -36,7 +35,6 @@ pub(crate) fn begin_from<A: Actor, K: Behaviours, R: Wait>(
     ensures refused { IfErr result (λ failed. (orders : List (List OrderOf)) → length orders ≡ sources
         → has_one_for_nobody (length actors.items) orders ≡ false → IsErrorOfRun K.gives plan (length actors.items) orders failed) }
     ensures which { IfErr result (λ failed. (orders : List (List OrderOf)) → NamesInLists (length actors.items) orders failed.error) }
-    ensures at_rest { IfErr result LeavesNobodyToRun }
     ensures back { IfErr result (GivesBack plan actors.items []) }
 {
     if let Err(error) = check_sources(&plan, actors.len(), sources) {

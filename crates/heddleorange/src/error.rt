@@ -41,8 +41,6 @@ pub enum Error {
     /// The run was broken off, since the journal of this actor has as many entries as the plan allows. If there are several such
     /// journals, it is the first by number.
     JournalFull(ActorId),
-    /// This actor has something to run still. Only `run_in_order` answers it: each other run goes on then.
-    NotQuiet(ActorId),
     /// At the end, the parts of the system did not agree. Or the run was broken off at a full journal, and this actor, whose journal
     /// it may be, did not come back.
     Mismatch(Mismatch),

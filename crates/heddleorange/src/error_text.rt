@@ -36,10 +36,6 @@ pub(crate) fn write_error<W: fmt::Write>(
             f.write_str("the run was broken off: no more entries fit the journal of ")?;
             write_actor(f, id, names)
         }
-        Error::NotQuiet(id) => {
-            write_actor(f, id, names)?;
-            f.write_str(" has something to run still")
-        }
         Error::Mismatch(what) => {
             write!(
                 f,

@@ -9,11 +9,10 @@ ghost use Rattle.heddleorange.specs.ReportsRun.{ReportsRun};
 ghost use Rattle.heddleorange.specs.TellsTurns.{TellsTurns};
 ghost use Rattle.heddleorange.specs.WholeRun.{IsReportOfRun, gives_at};
 
+use crate::at_rest::finish_with_turns;
 use crate::begin::begin_in_order;
 use crate::broken_off::broken_off;
-use crate::error::Error;
 use crate::failed_run::FailedRun;
-use crate::finish::finish_run;
 use crate::sending::send_in_order_and_run;
 use mb_actor::{Actor, Behaviours};
 use mb_dispatch::Turns;
@@ -35,7 +34,8 @@ pub struct QuietRun {
 /// `run_here`, where the orders of all senders stand in one row: they are sent in that order, each by its sender, before anything
 /// runs. What each run of a mailbox did is answered too.
 ///
-/// The journals have the entries of the turns and no others, turn after turn. The first sender has number 0. It answers
+/// The journals have the entries of the turns and no others, turn after turn. It goes on as long as a look at its end finds an actor that has
+/// something to run, and tells those turns behind the others. The first sender has number 0. It answers
 /// `NoSuchSender` where an order is from a sender that the plan does not have; nothing was done then. (This project's own profile: in Akka
 /// whoever has a reference sends.)
 pub fn run_in_order<A: Actor, R: Wait>(
@@ -73,12 +73,8 @@ fn run_planned_in_order<A: Actor, K: Behaviours, R: Wait>(
 {
     let (limit, keeps) = (plan.journal_limit, plan.journal);
     let mut built = begin_in_order::<A, K, R>(rt, alloc, plan, actors, sends)?;
-    let turns = match send_in_order_and_run(rt, &mut built, sends, keeps) {
-        Ok(turns) => turns,
-        Err(error) => return Err(broken_off(rt, built, error, limit)),
-    };
-    match finish_run(rt, built) {
-        Ok(report) => Ok(QuietRun { report, turns }),
-        Err(error) => Err(error),
+    match send_in_order_and_run(rt, &mut built, sends, keeps) {
+        Ok(turns) => finish_with_turns(rt, built, turns, limit),
+        Err(error) => Err(broken_off(rt, built, error, limit)),
     }
 }

@@ -6,13 +6,13 @@ ghost use Rattle.mb_system.specs.Members.{AreHandlesOf, IsSenderOf, StillSee};
 ghost use Rattle.mb_system.specs.Obligations.{OwesNobody};
 ghost use Rattle.heddleorange.specs.BrokenOff.{BreaksFirst, BreaksHere, BreaksInOrder, BreaksRow, BreaksSender};
 ghost use Rattle.heddleorange.specs.Orders.{lists_of};
-ghost use Rattle.heddleorange.specs.RanQuietly.{HasRunQuietly};
+ghost use Rattle.heddleorange.specs.RanQuietly.{AddsTurns, HasRunQuietly};
 ghost use Rattle.heddleorange.specs.Sent.{FoundNothing, HaveSent};
 ghost use Rattle.heddleorange.specs.SentAndRun.{HasSentAndRun, IsSameSystem};
 ghost use Rattle.heddleorange.specs.Workers.{AllOnlyRuns};
 
 use mb_actor::{Actor, Behaviours};
-use mb_dispatch::{Turns, run_quietly, send_and_retry};
+use mb_dispatch::{Turns, continue_quietly, run_quietly, send_and_retry};
 use mb_msg::{JournalMode, Order, SenderOrder};
 use mb_system::{Built, RunError, Sender, System};
 use std::sync::Wait;
@@ -78,6 +78,25 @@ pub(crate) fn run_first<A: Actor, K: Behaviours, R: Wait>(
     ensures fault { IfErr result (BreaksFirst K.gives built.old.system built.old.handles.items built.new.handles.items) }
 {
     run_quietly(rt, &built.system, &mut built.handles[0], keeps)
+}
+
+/// Runs so behind these turns, and answers them with those behind them that are made now.
+pub(crate) fn continue_first<A: Actor, K: Behaviours, R: Wait>(
+    rt: &R,
+    built: &mut Built<A, K>,
+    turns: Turns,
+) -> Result<Turns, RunError>
+    requires same_gates { AreHandlesOf built.old.system.gates built.old.handles.items }
+    requires not_empty { built.old.handles.items ≢ [] }
+    ensures same_system { IsSameSystem built.old built.new }
+    ensures senders { built.new.senders ≡ built.old.senders }
+    ensures log_kept { StillSee built.old.handles.items built.new.handles.items }
+    ensures runs { OnOk result (AllOnlyRuns K.gives (origin_of built.old.system.gates) built.old.system.throughput built.old.handles.items
+        built.new.handles.items) }
+    ensures adds { IfOk result (AddsTurns K.gives built.old built.new turns) }
+    ensures fault { IfErr result (BreaksFirst K.gives built.old.system built.old.handles.items built.new.handles.items) }
+{
+    continue_quietly(rt, &built.system, &mut built.handles[0], turns)
 }
 
 // Has each of these in its turn carried out by its sender.

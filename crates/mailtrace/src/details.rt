@@ -1,5 +1,4 @@
 //! What the program says of a scenario beside the line of its fault.
-use mb_program::RunFault;
 use mb_scenario::ReadError;
 use mb_schema::{
     Finding, Location, Path, Reason, actor_entries_of, check_document, items_at, items_of, op_of,
@@ -18,10 +17,6 @@ pub(crate) fn details_of(
     match error {
         ProgramError::Input(ReadError::NotToml) => toml_fault(alloc, text),
         ProgramError::Input(ReadError::BadScenario { .. }) => scenario_fault(alloc, text),
-        ProgramError::Run(RunFault::NotQuiet(id)) => match toml::table_from_slice(alloc, text) {
-            Ok(top) => actor_line(alloc, &top, usize::from(id.0)),
-            Err(_) => Ok(String::new(alloc)),
-        },
         ProgramError::Input(ReadError::NoMemory)
         | ProgramError::Run(_)
         | ProgramError::Os

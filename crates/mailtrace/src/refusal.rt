@@ -135,7 +135,6 @@ fn run_line(alloc: Global, fault: RunFault) -> Result<String, AllocError> {
     match fault {
         RunFault::NoMemory => String::from_str(alloc, "mailtrace: 1 NoMemory\n"),
         RunFault::JournalFull => String::from_str(alloc, "mailtrace: 6 JournalFull\n"),
-        RunFault::NotQuiet(id) => format!(in alloc; "mailtrace: 9 NotQuiet {}\n", id.0),
         RunFault::Mismatch => String::from_str(alloc, "mailtrace: 10 Mismatch\n"),
     }
 }

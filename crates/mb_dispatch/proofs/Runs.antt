@@ -1,5 +1,6 @@
 -- Chains of runs of mailboxes.
-use Rattle.std.proofs.Common.{ℕ, List, [], ◌∷◌, ◌++◌}
+use Rattle.std.proofs.Common.{◌≡◌, ℕ, List, [], ◌∷◌, ◌++◌, ap, append_assoc, subst, sym, ◌∙◌}
+use Rattle.std.proofs.lemmas.List.{append-nil}
 use Rattle.std.specs.Prelude.{Some}
 use Rattle.std.specs.Global.{Box}
 use Rattle.mb_actor.specs.Behaviour.{Moment, Reply}
@@ -14,7 +15,7 @@ use Rattle.mb_mailbox.specs.Ran.{HadRoom, LeavesRun}
 use Rattle.mb_mailbox.specs.declared.turn.Turn.{Turn}
 use Rattle.mb_system.specs.OnlyLooks.{OnlyLooks}
 use Rattle.mb_system.proofs.Looking.{only-none, only-then}
-use Rattle.mb_dispatch.specs.Runs.{MadeRuns, OnlyRuns, RanMailbox}
+use Rattle.mb_dispatch.specs.Runs.{MadeMoreRuns, MadeRuns, OnlyRuns, RanMailbox}
 
 module _ (gives : ℕ → Moment → Reply → Type 0) (origin : Origin (Box Contents)) (throughput : ℕ) where
   -- then it only read
@@ -39,6 +40,29 @@ module _ (gives : ℕ → Moment → Reply → Type 0) (origin : Origin (Box Con
       → MadeRuns gives origin throughput u (before ++ turns) w
   made-then u v w [] turns looks made = looks-runs u v w turns looks made
   made-then u v w (t ∷ before) turns first made = (first.0, first.1, first.2, first.3, made-then first.1 v w before turns first.4 made)
+
+  -- behind earlier turns it made none yet, then it only read, and then it made a run more
+  pub more-none : (u v : View) (earlier : List Turn) → OnlyLooks u v → MadeMoreRuns gives origin throughput u earlier earlier v
+  more-none u v earlier looks = record { later = []; joined = sym (append-nil earlier); made = looks }
+
+  pub more-looks : (u v w : View) (earlier turns : List Turn) → MadeMoreRuns gives origin throughput u earlier turns v → OnlyLooks v w
+      → MadeMoreRuns gives origin throughput u earlier turns w
+  more-looks u v w earlier turns more looks =
+      record { later = more.later; joined = more.joined; made = runs-looks u v w more.later more.made looks }
+
+  pub more-runs : (u v w : View) (earlier turns : List Turn) (turn : Turn) → MadeMoreRuns gives origin throughput u earlier turns v
+      → RanMailbox gives origin throughput v w turn → MadeMoreRuns gives origin throughput u earlier (turns ++ turn ∷ []) w
+  more-runs u v w earlier turns turn more ran = record {
+    later = more.later ++ turn ∷ [];
+    joined = ap (λ l. l ++ turn ∷ []) more.joined ∙ append_assoc earlier more.later (turn ∷ []);
+    made = runs-more u v w more.later turn more.made ran;
+  }
+
+  -- where there are no earlier turns, all turns are of these runs
+  pub more-all : (u w : View) (earlier turns : List Turn) → earlier ≡ [] → MadeMoreRuns gives origin throughput u earlier turns w
+      → MadeRuns gives origin throughput u turns w
+  more-all u w earlier turns none more =
+      subst (λ l. MadeRuns gives origin throughput u l w) (sym (more.joined ∙ ap (λ l. l ++ more.later) none)) more.made
 
   -- it did nothing, only read, or made one run, as a run of a mailbox answers it
   pub no-run : (v : View) → OnlyRuns gives origin throughput v v

@@ -1,5 +1,5 @@
 -- The runs of mailboxes that a worker's handle made, as a chain of what it knew.
-use Rattle.std.specs.Prelude.{ℕ, List, [], ◌∷◌, Some}
+use Rattle.std.specs.Prelude.{◌≡◌, ℕ, List, [], ◌∷◌, ◌++◌, Some}
 use Rattle.std.specs.Global.{Box}
 use Rattle.mb_actor.specs.Behaviour.{Moment, Reply}
 use Rattle.mb_journal.specs.Entry.{Entry}
@@ -35,6 +35,12 @@ module _ (gives : ℕ → Moment → Reply → Type 0) (origin : Origin (Box Con
   MadeRuns old [] new = OnlyLooks old new
   MadeRuns old (turn ∷ turns) new =
       (before : View) × (after : View) × OnlyLooks old before × RanMailbox before after turn × MadeRuns after turns new
+
+  -- Behind the earlier turns stand those of all runs that the handle made from the old view to the new one.
+  pub record MadeMoreRuns (old : View) (earlier turns : List Turn) (new : View) : Type 0 where
+    pub later : List Turn
+    pub joined : turns ≡ earlier ++ later
+    pub made : MadeRuns old later new
 
   -- The handle made runs, one after another, and only looked at actors between them. It took nothing and sent nothing beside these runs.
   pub record OnlyRuns (old new : View) : Type 0 where

@@ -24,7 +24,7 @@ pub use mb_mailbox::{Turn, run_mailbox};
 pub use mb_send::{Look, SendError, SendOutcome, Ticket};
 pub use mb_system::{Built, RunError, Sender, System, WorkerHandle};
 pub use order::send_all;
-pub use quiet::run_quietly;
+pub use quiet::{continue_quietly, run_quietly};
 pub use running::run;
 pub use running_from::run_from;
 pub use turns::Turns;

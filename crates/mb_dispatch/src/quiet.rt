@@ -7,7 +7,7 @@ ghost use Rattle.mb_system.specs.Obligations.{AreDischargedOrOwed};
 ghost use Rattle.mb_system.specs.Members.{handle_caller, IsHandleOf, IsSameHandle};
 ghost use Rattle.mb_dispatch.specs.Claims.{RunsEachClaim};
 ghost use Rattle.mb_dispatch.specs.Faults.{BreaksQuietRun};
-ghost use Rattle.mb_dispatch.specs.Runs.{MadeRuns, turns_in};
+ghost use Rattle.mb_dispatch.specs.Runs.{MadeMoreRuns, MadeRuns, turns_in};
 ghost use Rattle.mb_dispatch.specs.Working.{HasSettled};
 
 use crate::turns::{Turns, no_turns};
@@ -41,22 +41,49 @@ pub fn run_quietly<A: Actor, K: Behaviours, R: Wait>(
     ensures kept { IfOk result (λ turns. turns.list.retention ≡ retention_of keeps) }
     ensures fault { IfErr result (BreaksQuietRun K.gives system.now (pass_view handle.old.registrar.pass) handle.new) }
 {
+    match no_turns(system.alloc, keeps) {
+        Ok(list) => continue_quietly(rt, system, handle, Turns { list }),
+        Err(_) => {
+            handle.register_all(rt, system);
+            Err(RunError::NoMemory)
+        }
+    }
+}
+
+/// Goes on after a quiet run, in the same way, and answers the turns of that run with the later ones behind them. As many are kept as of
+/// the earlier.
+///
+/// The errors are those of `run_quietly`. Where one is answered the earlier turns are let go.
+pub fn continue_quietly<A: Actor, K: Behaviours, R: Wait>(
+    rt: &R,
+    system: &System<A, K>,
+    handle: &mut WorkerHandle<A, K>,
+    turns: Turns,
+) -> Result<Turns, RunError>
+    requires same_gates { IsHandleOf system.now.gates handle.old.registrar }
+    ensures same_handle { IsSameHandle system.now.gates handle.old handle.new }
+    ensures obligations { AreDischargedOrOwed (actors_of system.now.gates) (handle_caller handle.new.registrar) }
+    ensures claims { RunsEachClaim handle.old handle.new }
+    ensures settled { OnOk result (HasSettled K.gives system.now handle.new) }
+    ensures runs { IfOk result (λ all. MadeMoreRuns K.gives (origin_of system.now.gates) system.now.throughput
+        (pass_view handle.old.registrar.pass) (turns_in turns) (turns_in all) (pass_view handle.new.registrar.pass)) }
+    ensures kept { IfOk result (λ all. all.list.retention ≡ turns.list.retention) }
+    ensures fault { IfErr result (BreaksQuietRun K.gives system.now (pass_view handle.old.registrar.pass) handle.new) }
+{
     handle.register_all(rt, system);
-    let Ok(mut turns) = no_turns(system.alloc, keeps) else {
-        return Err(RunError::NoMemory);
-    };
+    let mut list = turns.list;
     for _ in rt.forever() {
-        if turns.reserve(1).is_err() {
+        if list.reserve(1).is_err() {
             return Err(RunError::NoMemory);
         }
         match handle.take(rt) {
             Some(claim) => {
                 let registrar = &mut handle.registrar;
-                turns.push(run_mailbox(rt, &system.gates, registrar, system.throughput, claim)?)
+                list.push(run_mailbox(rt, &system.gates, registrar, system.throughput, claim)?)
             }
             None => {
                 if handle.registrar.owed.is_empty() {
-                    return Ok(Turns { list: turns });
+                    return Ok(Turns { list });
                 }
                 handle.retry_refused(rt, system)?;
             }

@@ -9,8 +9,8 @@ use mb_msg::JournalMode;
 use std::alloc::{AllocError, Global};
 
 /// What each run of a mailbox did in a quiet run, in the order in which they were made. All turns are kept, or the newest, or none, as
-/// a journal keeps its entries; those that are not kept are counted. Only `run_quietly` makes one, and nothing changes it: so whoever has it has
-/// that order. (This project's own profile: Akka's dispatchers keep no such list.)
+/// a journal keeps its entries; those that are not kept are counted. Only `run_quietly` makes one, and only `continue_quietly` puts more behind them:
+/// so whoever has it has that order. (This project's own profile: Akka's dispatchers keep no such list.)
 #[derive(Drop)]
 pub struct Turns {
     /// The turns, in order.

@@ -70,10 +70,6 @@ met_said Os said arguments known failed same met = subst (λ (f : ProgramError).
 met_said Arguments said arguments known failed same met = subst (λ (f : ProgramError). IsMet arguments known failed f) (sym same) met
 met_said (Run run.NoMemory) said arguments known failed same met = subst (λ (f : ProgramError). IsMet arguments known failed f) (sym same) met
 met_said (Run run.JournalFull) said arguments known failed same met = subst (λ (f : ProgramError). IsMet arguments known failed f) (sym same) met
-met_said (Run (run.NotQuiet id)) said arguments known failed (inl same) met =
-    subst (λ (f : ProgramError). IsMet arguments known failed f) (sym same) met
-met_said (Run (run.NotQuiet id)) said arguments known failed (inr same) met =
-    subst (λ (f : ProgramError). IsMet arguments known failed f) (sym same) (met.0, met.1)
 met_said (Run run.Mismatch) said arguments known failed same met = subst (λ (f : ProgramError). IsMet arguments known failed f) (sym same) met
 met_said (Input fault) said arguments known failed (inl same) met = subst (λ (f : ProgramError). IsMet arguments known failed f) (sym same) met
 met_said (Input fault) said arguments known failed (inr same) met =

@@ -36,7 +36,7 @@ use Rattle.mb_streams.specs.declared.fault.RunFault.TheVariants as told
 use Rattle.heddleorange.specs.NoReport.{HasFailedFor, IsErrorOfRun, IsRight, has_nobody, is_for_nobody}
 use Rattle.heddleorange.specs.Orders.{lists_of, orders_of}
 use Rattle.heddleorange.specs.declared.error.Error.{Error}
-use Rattle.heddleorange.specs.declared.error.Error.TheVariants.{BadPlan, OrderLists, NoSuchSender, NoSuchActor, NoMemory, NoMemoryInRun, JournalFull, NotQuiet, Mismatch, NameTaken}
+use Rattle.heddleorange.specs.declared.error.Error.TheVariants.{BadPlan, OrderLists, NoSuchSender, NoSuchActor, NoMemory, NoMemoryInRun, JournalFull, Mismatch, NameTaken}
 use Rattle.heddleorange.specs.declared.failed_run.FailedRun.{FailedRun}
 use Rattle.heddleorange.proofs.InOrder.{for-nobody, length-lists, many-from}
 use Rattle.mb_scenario.proofs.Passed.{AreActorData, IsBoundData, IsReceived, IsSendData, length-items, passed, senders-right}
@@ -182,7 +182,6 @@ some-fault gives plan actors orders failed NoMemory right is = (told.NoMemory, r
 some-fault gives plan actors orders failed NoMemoryInRun right is = (told.NoMemory, refl)
 some-fault gives plan actors orders failed (JournalFull id) right is = (told.JournalFull, refl)
 some-fault gives plan actors orders failed (NoSuchActor sender place to) right is = absurd (cc (right.2, is.2))
-some-fault gives plan actors orders failed (NotQuiet id) right is = (told.NotQuiet id, refl)
 some-fault gives plan actors orders failed (Mismatch what) right is = (told.Mismatch, refl)
 some-fault gives plan actors orders failed (NameTaken id) right is = absurd is
 

@@ -1,7 +1,7 @@
 -- How the program tells why a run gave no report (this project's own profile).
 use Rattle.std.specs.Prelude.{◌≡◌}
 use Rattle.heddleorange.specs.declared.error.Error.{Error}
-use Rattle.heddleorange.specs.declared.error.Error.TheVariants.{BadPlan, OrderLists, NoSuchSender, NoSuchActor, NoMemory, NoMemoryInRun, JournalFull, NotQuiet, Mismatch, NameTaken}
+use Rattle.heddleorange.specs.declared.error.Error.TheVariants.{BadPlan, OrderLists, NoSuchSender, NoSuchActor, NoMemory, NoMemoryInRun, JournalFull, Mismatch, NameTaken}
 use Rattle.mb_streams.specs.declared.fault.RunFault.{RunFault}
 use Rattle.mb_streams.specs.declared.fault.RunFault.TheVariants as told
 
@@ -14,6 +14,5 @@ IsFaultOf (NoSuchActor sender place to) fault = ⊥
 IsFaultOf NoMemory fault = fault ≡ told.NoMemory
 IsFaultOf NoMemoryInRun fault = fault ≡ told.NoMemory
 IsFaultOf (JournalFull id) fault = fault ≡ told.JournalFull
-IsFaultOf (NotQuiet id) fault = fault ≡ told.NotQuiet id
 IsFaultOf (Mismatch what) fault = fault ≡ told.Mismatch
 IsFaultOf (NameTaken id) fault = ⊥

@@ -13,7 +13,6 @@ pub(crate) fn fault_of(error: &Error) -> RunFault
     match error {
         Error::NoMemory | Error::NoMemoryInRun => RunFault::NoMemory,
         Error::JournalFull(_) => RunFault::JournalFull,
-        Error::NotQuiet(id) => RunFault::NotQuiet(*id),
         Error::Mismatch(_) => RunFault::Mismatch,
         Error::BadPlan(_)
         | Error::OrderLists { .. }

@@ -28,7 +28,7 @@ pub struct FinishedRun {
 /// calling thread alone, after all was sent in the order of the text; of it the turns are answered too. Else each worker and each
 /// sender has a thread of its own.
 ///
-/// The errors are `NoMemory`, `NoMemoryInRun`, `JournalFull`, `NotQuiet` and `Mismatch`, as `heddleorange` says of them.
+/// The errors are `NoMemory`, `NoMemoryInRun`, `JournalFull` and `Mismatch`, as `heddleorange` says of them.
 pub fn run<A: Actor + Send, R: Threads + Wait + Sync>(
     rt: &R,
     alloc: Global,

@@ -1,6 +1,5 @@
 -- What is printed of a failure, and with which status.
 use Rattle.std.proofs.Common.{◌≡◌, ℕ, ◌<◌, Bool, List, Option, refl, sym, subst, inl, inr, arith}
-use Rattle.mb_msg.specs.declared.id.ActorId.{ActorId}
 use Rattle.mb_scenario.specs.declared.read_error.ReadError.{ReadError}
 use Rattle.mb_scenario.specs.declared.read_error.ReadError.TheVariants.{NoMemory, NotToml, BadScenario}
 use Rattle.mb_streams.specs.ProgramError.{exit_status}
@@ -26,15 +25,11 @@ refused_not_zero failure result old new failed refusal zero = let some = positiv
 pub said_no_memory : (failure : ProgramError) (fault : ReadError) → failure ≡ Input fault → IsSaidFor failure (Input NoMemory)
 said_no_memory failure fault same = subst (λ (f : ProgramError). IsSaidFor f (Input NoMemory)) (sym same) (inr refl)
 
-pub said_no_memory_of : (failure : ProgramError) (id : ActorId) → failure ≡ Run (run.NotQuiet id) → IsSaidFor failure (Input NoMemory)
-said_no_memory_of failure id same = subst (λ (f : ProgramError). IsSaidFor f (Input NoMemory)) (sym same) (inr refl)
-
 -- where a failure's own line was said, it was said for it
 pub said-itself : (failure : ProgramError) → IsSaidFor failure failure
 said-itself Os = refl
 said-itself Arguments = refl
 said-itself (Run run.NoMemory) = refl
 said-itself (Run run.JournalFull) = refl
-said-itself (Run (run.NotQuiet id)) = inl refl
 said-itself (Run run.Mismatch) = refl
 said-itself (Input fault) = inl refl

@@ -18,7 +18,6 @@ IsSaidFor Os said = said ≡ Os
 IsSaidFor Arguments said = said ≡ Arguments
 IsSaidFor (Run run.NoMemory) said = said ≡ Run run.NoMemory
 IsSaidFor (Run run.JournalFull) said = said ≡ Run run.JournalFull
-IsSaidFor (Run (run.NotQuiet id)) said = (said ≡ Run (run.NotQuiet id)) ⊎ (said ≡ Input NoMemory)
 IsSaidFor (Run run.Mismatch) said = said ≡ Run run.Mismatch
 IsSaidFor (Input fault) said = (said ≡ Input fault) ⊎ (said ≡ Input NoMemory)
 

@@ -1,7 +1,6 @@
 -- Why the program ends without a report, and the line and status for that (this project's own profile: Akka has no such
 -- program).
 use Rattle.std.specs.Prelude.{ℕ, List, ◌++◌, codes}
-use Rattle.std.specs.Fmt.{decimal}
 use Rattle.mb_scenario.specs.ReadError.{read_error_text}
 use Rattle.mb_scenario.specs.declared.read_error.ReadError.TheVariants.{NoMemory, NotToml, BadScenario}
 use Rattle.mb_streams.specs.declared.program_error.ProgramError.{ProgramError}
@@ -22,7 +21,6 @@ exit_status (Input (BadScenario place reason)) = 2
 abbrev pub run_fault_text : RunFault → List ℕ
 run_fault_text run.NoMemory = codes "1 NoMemory"
 run_fault_text run.JournalFull = codes "6 JournalFull"
-run_fault_text (run.NotQuiet id) = codes "9 NotQuiet " ++ decimal id.0
 run_fault_text run.Mismatch = codes "10 Mismatch"
 
 -- a failure as it is printed: its number, its name, and what is wrong where

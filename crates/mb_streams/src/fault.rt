@@ -1,7 +1,6 @@
 //! Why a run gave no report.
 ghost use Rattle.std.specs.Prelude.{◌≡◌};
 
-use mb_msg::ActorId;
 use std::alloc::AllocError;
 
 /// Why a run gave no report.
@@ -11,8 +10,6 @@ pub enum RunFault {
     NoMemory,
     /// The journal of an actor has as many entries as it may have.
     JournalFull,
-    /// This actor still has something to run.
-    NotQuiet(ActorId),
     /// The parts of the system do not agree at the end.
     Mismatch,
 }

@@ -4,13 +4,11 @@ ghost use Rattle.mb_scenario.specs.declared.read_error.ReadError.TheVariants.{No
 ghost use Rattle.mb_streams.specs.ProgramError.{error_line, exit_status};
 ghost use Rattle.mb_streams.specs.ErrorLine.{IsLineSaid, IsRefusal};
 ghost use Rattle.mb_streams.specs.declared.program_error.ProgramError.TheVariants.{Input, Run};
-ghost use Rattle.mb_streams.specs.declared.fault.RunFault.TheVariants as run;
 
 use crate::fault::RunFault;
 use crate::flush::Flush;
 use crate::program_error::ProgramError;
 use crate::tracked_stream::TrackedStream;
-use mb_msg::ActorId;
 use mb_scenario::ReadError;
 use std::alloc::{AllocError, Global};
 
@@ -31,7 +29,7 @@ pub(crate) fn print_failure<E: Flush>(
             failure,
             "mailrun: 12 BadScenario arguments: too many\n",
         ),
-        ProgramError::Run(fault) => refuse_run(alloc, errors, *fault),
+        ProgramError::Run(fault) => refuse_run(errors, *fault),
         ProgramError::Input(fault) => match fault_line(alloc, fault) {
             Ok(line) => print_line(errors, failure, line.as_str()),
             Err(_) => print_no_memory(errors),
@@ -40,7 +38,7 @@ pub(crate) fn print_failure<E: Flush>(
 }
 
 /// The same where a run gave no report.
-fn refuse_run<E: Flush>(alloc: Global, errors: &mut TrackedStream<E>, fault: RunFault) -> u8
+fn refuse_run<E: Flush>(errors: &mut TrackedStream<E>, fault: RunFault) -> u8
     requires errors { errors.old.failed ≡ false }
     ensures { IsRefusal (Run fault) result (E.contents errors.old.stream) (E.contents errors.new.stream) errors.new.failed }
 {
@@ -49,19 +47,7 @@ fn refuse_run<E: Flush>(alloc: Global, errors: &mut TrackedStream<E>, fault: Run
         RunFault::NoMemory => print_line(errors, &failure, "mailrun: 1 NoMemory\n"),
         RunFault::JournalFull => print_line(errors, &failure, "mailrun: 6 JournalFull\n"),
         RunFault::Mismatch => print_line(errors, &failure, "mailrun: 10 Mismatch\n"),
-        RunFault::NotQuiet(id) => match not_quiet_line(alloc, id) {
-            Ok(line) => print_line(errors, &failure, line.as_str()),
-            Err(_) => print_no_memory(errors),
-        },
     }
-}
-
-/// The line for an actor that still has something to run.
-fn not_quiet_line(alloc: Global, id: ActorId) -> Result<String, AllocError>
-    ensures { IfOk result (λ line. string_bytes line ≡ error_line (Run (run.NotQuiet id))) }
-{
-    let number = id.0;
-    format!(in alloc; "mailrun: 9 NotQuiet {number}\n")
 }
 
 /// The line for an error of the input.

@@ -3,8 +3,7 @@ use Rattle.mb_build.specs.Reasons.{reasons}
 use Rattle.heddleorange.specs.GivesBack.{tells_of_nothing_done}
 use Rattle.heddleorange.specs.NamedOrder.{NamesInLists}
 use Rattle.heddleorange.specs.NoReport.{IsUnfit}
-use Rattle.heddleorange.proofs.AtRest.{all-short}
-use Rattle.heddleorange.proofs.FromSources.{begun-for-all, others-begun, rests-undone, short-for-all}
+use Rattle.heddleorange.proofs.FromSources.{begun-for-all, others-begun, short-for-all}
 use Rattle.heddleorange.proofs.GivesBack.{all-back, none-of}
 use Rattle.heddleorange.proofs.NoReport.{unfit}
 use Rattle.heddleorange.proofs.Sent.{on-ok}
@@ -27,9 +26,6 @@ returns-in-Err-clause-back g c =
     all-back c.args.plan c.args.actors.items c.refused.result (ap tells_of_nothing_done c.refused.ensures.error ∙ c.in-Err.ensures.nothing_done)
     c.refused.ensures.untouched c.refused.ensures.names
 
-pub returns-in-Err-clause-at_rest : goal.returns-in-Err-clause-at_rest
-returns-in-Err-clause-at_rest g c = rests-undone c.refused.result c.in-Err.error c.refused.ensures.error c.in-Err.ensures.nothing_done
-
 pub returns-clause-right : goal.returns-clause-right
 returns-clause-right g c =
     let count : c.len.result ≡ length c.args.actors.items = search rules in
@@ -46,9 +42,6 @@ returns-clause-which g c = begun-for-all (length c.args.actors.items) c.build_ch
 
 pub returns-clause-back : goal.returns-clause-back
 returns-clause-back g c = none-of c.args.plan c.args.actors.items c.build_checked.result c.build_checked.ensures.back
-
-pub returns-clause-at_rest : goal.returns-clause-at_rest
-returns-clause-at_rest g c = all-short c.build_checked.result c.build_checked.ensures.refused
 
 pub returns-clause-others : goal.returns-clause-others
 returns-clause-others g c =

@@ -1,8 +1,11 @@
-use Rattle.std.proofs.Common.{[], ◌+◌, ap, length, sym, subst, ◌∙◌}
+use Rattle.std.proofs.Common.{[], length, refl, sym, subst}
+use Rattle.std.proofs.lemmas.Result.{IfErr-weaker}
 use Rattle.mb_dispatch.specs.Runs.{turns_in}
+use Rattle.mb_gate.specs.Untouched.{origin_of}
 use Rattle.mb_msg.specs.Limits.{most_actors}
 use Rattle.mb_startup.proofs.There.{senders-there, some-handle}
 use Rattle.heddleorange.specs.Orders.{lists_of}
+use Rattle.heddleorange.specs.RanQuietly.{OnlyFirstMade}
 use Rattle.heddleorange.specs.SentAndRun.{HasSentAndRun}
 use Rattle.heddleorange.proofs.AnyBreak.{BreaksOff}
 use Rattle.heddleorange.proofs.Breaking.{may-break}
@@ -10,14 +13,10 @@ use Rattle.heddleorange.proofs.BrokenOff.{from-first, in-order-to-last, off-in-o
 use Rattle.heddleorange.specs.GivesBack.{GivesBack}
 use Rattle.heddleorange.specs.NamedOrder.{NamesInRow}
 use Rattle.heddleorange.proofs.GivesBack.{begun-in-row, none-back}
-use Rattle.heddleorange.proofs.Sent.{err-of}
-use Rattle.heddleorange.proofs.Identified.{as-planned}
+use Rattle.heddleorange.proofs.Sent.{err-of, ok-each, on-ok}
 use Rattle.heddleorange.proofs.InTurn.{new-owe-nobody}
 use Rattle.heddleorange.proofs.LastRun.{have-run-by}
-use Rattle.heddleorange.proofs.Ledger.{line-count}
-use Rattle.heddleorange.proofs.MadeTurns.{covers-of, turns-of}
-use Rattle.heddleorange.proofs.RunEnds.{all-there, journal-seen, not-for-nobody, still-its-own, this-run}
-use Rattle.heddleorange.proofs.Unchanged.{changed-none}
+use Rattle.heddleorange.proofs.RunEnds.{all-there, journal-seen, not-for-nobody, still-its-own, this-run, within-limit}
 use Rattle.heddleorange.proofs.in_order.run_planned_in_order.Goals as goal
 
 pub send_in_order_and_run-requires-clause-not_empty : goal.send_in_order_and_run-requires-clause-not_empty
@@ -33,33 +32,40 @@ send_in_order_and_run-requires-clause-from g c =
     let begun = c.in_ok-built.ensures in
     from-first g.K.Behaviours.gives c.args.plan c.in_ok-built.built c.args.sends.now begun.begun begun.right.1
 
-pub finish_run-requires : goal.finish_run-requires
-finish_run-requires g c =
+pub finish_with_turns-requires : goal.finish_with_turns-requires
+finish_with_turns-requires g c =
     let begun = c.in_ok-built.ensures in let went = c.in-Ok.ensures in let gives = g.K.Behaviours.gives in let plan = c.args.plan in
     let actors = c.args.actors.items in let sends = c.args.sends.now in let orders = lists_of plan.senders sends in
     let first = c.in_ok-built.built in let now = c.send_in_order_and_run.new.built in
     let ran = subst (λ n. HasSentAndRun gives (lists_of n sends) first now) (senders-there gives plan first begun.begun).0 went.ran in record {
       together = ran.together;
       complete = all-there gives plan actors orders first now begun.begun begun.right went.same_system ran;
+      ran = within-limit gives plan actors orders first now begun.begun begun.right went.same_system ran;
     }
 
-pub returns-in-Ok-finish_run-clause-story : goal.returns-in-Ok-finish_run-clause-story
-returns-in-Ok-finish_run-clause-story g c =
+pub returns-in-Ok : goal.returns-in-Ok
+returns-in-Ok g c =
     let begun = c.in_ok-built.ensures in let went = c.in-Ok.ensures in let gives = g.K.Behaviours.gives in let plan = c.args.plan in
     let actors = c.args.actors.items in let sends = c.args.sends.now in let orders = lists_of plan.senders sends in
     let first = c.in_ok-built.built in let now = c.send_in_order_and_run.new.built in
     let ran = subst (λ n. HasSentAndRun gives (lists_of n sends) first now) (senders-there gives plan first begun.begun).0 went.ran in
-    c.in-Ok-finish_run.ensures.story plan orders begun.right.1
-    (this-run gives plan actors orders first now begun.begun begun.right went.same_system ran)
-
-pub returns-in-Err-finish_run-clause-refused : goal.returns-in-Err-finish_run-clause-refused
-returns-in-Err-finish_run-clause-refused g c =
-    let begun = c.in_ok-built.ensures in let went = c.in-Ok.ensures in let gives = g.K.Behaviours.gives in let plan = c.args.plan in
-    let actors = c.args.actors.items in let sends = c.args.sends.now in let orders = lists_of plan.senders sends in
-    let first = c.in_ok-built.built in let now = c.send_in_order_and_run.new.built in
-    let ran = subst (λ n. HasSentAndRun gives (lists_of n sends) first now) (senders-there gives plan first begun.begun).0 went.ran in
-    c.in-Err-finish_run.ensures.refused plan (length actors) orders begun.right
-    (this-run gives plan actors orders first now begun.begun begun.right went.same_system ran)
+    let this = this-run gives plan actors orders first now begun.begun begun.right went.same_system ran in
+    let ended = c.finish_with_turns.ensures in let result = c.finish_with_turns.result in record {
+      story = ok-each result ended.story (λ run all. all plan orders begun.right.1 this);
+      right = on-ok result begun.right;
+      refused = IfErr-weaker result _ _ (λ failed all. all plan (length actors) orders begun.right refl this) ended.refused;
+      which = IfErr-weaker result _ _ (λ failed none. begun-in-row plan.senders (length actors) sends failed.error none.was_begun) ended.back;
+      back = IfErr-weaker result _ _ (λ failed none. none-back plan actors failed none) ended.back;
+      turns = ok-each result ended.turns (λ run all. all plan orders begun.right.1 (record {
+        first = first;
+        begun = begun.begun;
+        system = went.same_system.system;
+        sent = ran.sent;
+        made = subst (λ n. OnlyFirstMade gives (origin_of first.system.gates) n first.handles.items now.handles.items (turns_in c.in-Ok.turns))
+            begun.begun.numbers.2 went.quiet.made;
+        kept = went.quiet.kept;
+      }));
+    }
 
 pub broken_off-requires : goal.broken_off-requires
 broken_off-requires g c =
@@ -84,36 +90,12 @@ returns-in-Err-clause-refused g c =
     (have-run-by gives plan first now begun.begun went.same_system.system (in-order-to-last gives first now error sends went.fault)) error c.broken_off.result fault
     c.broken_off.ensures.left
 
-pub returns-in-Ok-finish_run-clause-turns : goal.returns-in-Ok-finish_run-clause-turns
-returns-in-Ok-finish_run-clause-turns g c =
-    let begun = c.in_ok-built.ensures in let went = c.in-Ok.ensures in let gives = g.K.Behaviours.gives in let plan = c.args.plan in
-    let actors = c.args.actors.items in let sends = c.args.sends.now in let orders = lists_of plan.senders sends in
-    let first = c.in_ok-built.built in let now = c.send_in_order_and_run.new.built in
-    let ran = subst (λ n. HasSentAndRun gives (lists_of n sends) first now) (senders-there gives plan first begun.begun).0 went.ran in
-    let ended = c.in-Ok-finish_run.ensures in let report = c.in-Ok-finish_run.report in let made = turns_in c.in-Ok.turns in let quiet = went.quiet in
-    let told = ended.story plan orders begun.right.1 (this-run gives plan actors orders first now begun.begun begun.right went.same_system ran) in
-    let many = line-count g.K.Behaviours.after gives plan (length actors) orders report begun.right told in
-    let turns = turns-of gives plan first begun.begun made quiet.turns in record {
-      turns = turns;
-      stretches = quiet.stretches report ended.seen;
-      covers = covers-of plan report made (many ∙ ap (λ n. n + 1) (sym (as-planned plan (length actors) begun.right.0))) turns
-          (quiet.covers begun.begun.whole (changed-none gives plan first begun.begun) report ended.seen ended.releases);
-      kept_turns = quiet.kept;
-    }
-
 pub returns-in-Err-clause-which : goal.returns-in-Err-clause-which
 returns-in-Err-clause-which g c =
     begun-in-row c.args.plan.senders (length c.args.actors.items) c.args.sends.now c.broken_off.result.error c.broken_off.ensures.back.was_begun
 
 pub returns-in-Err-clause-back : goal.returns-in-Err-clause-back
 returns-in-Err-clause-back g c = none-back c.args.plan c.args.actors.items c.broken_off.result c.broken_off.ensures.back
-
-pub returns-in-Err-finish_run-clause-which : goal.returns-in-Err-finish_run-clause-which
-returns-in-Err-finish_run-clause-which g c =
-    begun-in-row c.args.plan.senders (length c.args.actors.items) c.args.sends.now c.in-Err-finish_run.error.error c.in-Err-finish_run.ensures.back.was_begun
-
-pub returns-in-Err-finish_run-clause-back : goal.returns-in-Err-finish_run-clause-back
-returns-in-Err-finish_run-clause-back g c = none-back c.args.plan c.args.actors.items c.in-Err-finish_run.error c.in-Err-finish_run.ensures.back
 
 pub returns-in_err-built-clause-which : goal.returns-in_err-built-clause-which
 returns-in_err-built-clause-which g c =

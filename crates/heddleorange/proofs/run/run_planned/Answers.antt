@@ -36,7 +36,7 @@ returns g c =
           ended.ensures.story;
       right = on-ok ended.result begun.right;
       failure = ended-failure gives plan actors orders first now begun.begun begun.right went.same_system went.ran ended.result ended.ensures.refused
-          ended.ensures.at_rest ended.ensures.back;
+          ended.ensures.back;
     }
 
 pub broken_off-requires : goal.broken_off-requires

@@ -40,7 +40,7 @@ returns g c =
       story = ended-story gives plan actors orders first now begun.begun right went.same_system ran g.K.Behaviours.after ended.result ended.ensures.story;
       right = on-ok ended.result right;
       failure = ended-failure gives plan actors orders first now begun.begun right went.same_system ran ended.result ended.ensures.refused
-          ended.ensures.at_rest ended.ensures.back;
+          ended.ensures.back;
       gave = subst (λ k. AllZip (Gave S.gives S.takes_back k) was is) begun.others went.gave;
       gave_all = on-ok ended.result (subst (λ k. AllZip (GaveAll S.gives S.takes_back k) was is) begun.others went.gave_all);
     }
@@ -86,7 +86,6 @@ returns-in_err-built g c =
     let refused = c.in_err-built.ensures in let failure : GivesNoReport g.K.Behaviours.gives c.args.plan c.args.actors.items [] orders failed = record {
       refused = refused.refused orders (many-given actors sources sources refl) (all-for-somebody actors sources sources);
       which = refused.which orders;
-      at_rest = refused.at_rest;
       back = refused.back;
     } in record {
       story = none-of-err _ result failed passed;

@@ -9,10 +9,8 @@ use Rattle.mb_gate.specs.Untouched.{origin_of}
 use Rattle.mb_system.specs.Members.{IsHandleOf}
 use Rattle.heddleorange.specs.BrokenOff.{BreaksFirst}
 use Rattle.heddleorange.proofs.AnyBreak.{breaks-first}
-use Rattle.heddleorange.proofs.Covering.{all-turns}
+use Rattle.heddleorange.proofs.FirstMade.{first-set}
 use Rattle.heddleorange.proofs.Sent.{all-ok, err-weaker, first-number, found-nothing, ok-gives, ran-on, see-on}
-use Rattle.heddleorange.proofs.Stretches.{first-extends, stretches-of}
-use Rattle.heddleorange.proofs.MadeTurns.{made-turns}
 use Rattle.heddleorange.proofs.sending.run_first.Goals as goal
 
 pub returns-clause-same_system : goal.returns-clause-same_system
@@ -46,12 +44,8 @@ returns-clause-quiet g c =
     all-ok c.run_quietly.result found ran.runs ran.kept
     (λ turns nothing made kept. record {
       found_nothing = nothing;
-      turns = made-turns gives origin throughput _ (turns_in turns) _ made;
-      stretches = λ report extends.
-          stretches-of gives origin throughput report _ (turns_in turns) _ made
-          (first-extends report built.handles.items handle c.requires.not_empty extends);
-      covers = all-turns gives origin throughput c.index_mut.result.now handle built.handles.items built.senders.items (turns_in turns)
-          c.requires.not_empty c.index_mut.ensures.value made;
+      made = first-set gives origin throughput c.index_mut.result.now handle built.handles.items (turns_in turns) c.requires.not_empty
+          c.index_mut.ensures.value made;
       kept = kept;
     })
 

@@ -9,7 +9,6 @@ use Rattle.heddleorange.specs.Orders.{lists_of}
 use Rattle.heddleorange.specs.BrokenOff.{BreaksInOrder, BreaksRow}
 use Rattle.heddleorange.specs.Sent.{HaveSent}
 use Rattle.heddleorange.proofs.InOrder.{length-lists, many-from}
-use Rattle.heddleorange.proofs.Covering.{all-turns-since}
 use Rattle.heddleorange.proofs.PassedOn.{none-of-err}
 use Rattle.heddleorange.proofs.Sent.{err-of, err-weaker, ok-each}
 use Rattle.heddleorange.proofs.SentAndRun.{sent-and-run}
@@ -43,18 +42,8 @@ returns-clause-ran g c =
 
 pub returns-clause-quiet : goal.returns-clause-quiet
 returns-clause-quiet g c =
-    let old = c.args.built.now in let gates = old.system.gates in let now = c.send_in_order.new.senders in
-    let senders = length old.senders.items in let sends = c.args.sends.now in let orders = lists_of senders sends in
-    let many = sym (length-lists senders sends ∙ many-from senders sends c.requires.from) in
-    let sent = subst (λ l. HaveSent gates (lists_of (length l) sends) l now) c.deref_mut.ensures.value c.in_ok-send_in_order.ensures.sent in
-    let items = with_items_is old.senders now (sent.same_count ∙ sym old.senders.ok.0) in
-    ok-each c.run_first.result c.run_first.ensures.quiet (λ turns quiet. record {
-      found_nothing = quiet.found_nothing;
-      turns = quiet.turns;
-      stretches = quiet.stretches;
-      covers = all-turns-since gates orders old.handles.items old.senders.items _ now many sent items _ quiet.covers;
-      kept = quiet.kept;
-    })
+    ok-each c.run_first.result c.run_first.ensures.quiet
+    (λ turns quiet. record { found_nothing = quiet.found_nothing; made = quiet.made; kept = quiet.kept })
 
 pub returns-clause-fault : goal.returns-clause-fault
 returns-clause-fault g c =

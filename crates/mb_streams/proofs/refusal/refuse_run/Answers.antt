@@ -1,8 +1,7 @@
-use Rattle.std.proofs.Common.{ap, sym, ◌∙◌}
-use Rattle.mb_scenario.specs.declared.read_error.ReadError.TheVariants.{NoMemory}
+use Rattle.std.proofs.Common.{ap, sym}
 use Rattle.mb_streams.specs.ProgramError.{error_line}
-use Rattle.mb_streams.specs.declared.program_error.ProgramError.TheVariants.{Input, Run}
-use Rattle.mb_streams.proofs.SayingLemmas.{said-itself, said_no_memory_of}
+use Rattle.mb_streams.specs.declared.program_error.ProgramError.TheVariants.{Run}
+use Rattle.mb_streams.proofs.SayingLemmas.{said-itself}
 use Rattle.mb_streams.proofs.refusal.refuse_run.Goals as goal
 
 pub print_line-requires-clause-line : goal.print_line-requires-clause-line
@@ -14,22 +13,11 @@ print_line-requires-in-JournalFull-clause-line g c = ap (λ f. error_line (Run f
 pub print_line-requires-in-Mismatch-clause-line : goal.print_line-requires-in-Mismatch-clause-line
 print_line-requires-in-Mismatch-clause-line g c = ap (λ f. error_line (Run f)) (sym c.in-Mismatch.is)
 
-pub print_line-requires-in-Ok-clause-line : goal.print_line-requires-in-Ok-clause-line
-print_line-requires-in-Ok-clause-line g c =
-    c.as_str.ensures.value ∙ c.in-Ok.ensures ∙ ap (λ f. error_line (Run f)) (sym c.in-NotQuiet.is)
-
 pub returns-in-NoMemory : goal.returns-in-NoMemory
 returns-in-NoMemory g c = (Run c.args.fault, said-itself (Run c.args.fault), c.print_line.ensures.0, c.print_line.ensures.1)
 
 pub returns-in-JournalFull : goal.returns-in-JournalFull
 returns-in-JournalFull g c = (Run c.args.fault, said-itself (Run c.args.fault), c.print_line-in-JournalFull.ensures.0, c.print_line-in-JournalFull.ensures.1)
 
-pub returns-in-Mismatch : goal.returns-in-Mismatch
-returns-in-Mismatch g c = (Run c.args.fault, said-itself (Run c.args.fault), c.print_line-in-Mismatch.ensures.0, c.print_line-in-Mismatch.ensures.1)
-
-pub returns-in-Ok : goal.returns-in-Ok
-returns-in-Ok g c = (Run c.args.fault, said-itself (Run c.args.fault), c.print_line-in-Ok.ensures.0, c.print_line-in-Ok.ensures.1)
-
 pub returns : goal.returns
-returns g c =
-    (Input NoMemory, said_no_memory_of (Run c.args.fault) c.in-NotQuiet.id (ap Run c.in-NotQuiet.is), c.print_no_memory.ensures.0, c.print_no_memory.ensures.1)
+returns g c = (Run c.args.fault, said-itself (Run c.args.fault), c.print_line-in-Mismatch.ensures.0, c.print_line-in-Mismatch.ensures.1)

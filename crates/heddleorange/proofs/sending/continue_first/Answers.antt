@@ -1,0 +1,54 @@
+use Rattle.std.proofs.Common.{refl}
+use Rattle.std.specs.Prelude.{slice_set}
+use Rattle.std.proofs.lemmas.List.Elements.{All-set}
+use Rattle.mb_dispatch.specs.Faults.{BreaksQuietRun}
+use Rattle.mb_gate.specs.Accessors.{pass_view}
+use Rattle.mb_gate.specs.Untouched.{origin_of}
+use Rattle.mb_system.specs.Members.{IsHandleOf}
+use Rattle.heddleorange.specs.BrokenOff.{BreaksFirst}
+use Rattle.heddleorange.proofs.AnyBreak.{breaks-first}
+use Rattle.heddleorange.proofs.FirstMade.{first-set}
+use Rattle.heddleorange.proofs.Sent.{all-ok, err-weaker, first-number, ok-gives, on-ok, ran-on, see-on}
+use Rattle.heddleorange.proofs.sending.continue_first.Goals as goal
+
+pub returns-clause-same_system : goal.returns-clause-same_system
+returns-clause-same_system g c = record {
+  system = refl;
+  handles = first-number c.index_mut.result.now c.continue_quietly.new.handle c.args.built.now.handles.items c.requires.not_empty c.index_mut.ensures.value
+      c.continue_quietly.ensures.same_handle.number;
+  same_gates = All-set (λ e. IsHandleOf c.args.built.now.system.gates e.registrar) c.args.built.now.handles.items 0 c.continue_quietly.new.handle
+      c.continue_quietly.ensures.same_handle.same_gates c.requires.same_gates;
+}
+
+pub returns-clause-log_kept : goal.returns-clause-log_kept
+returns-clause-log_kept g c =
+    see-on c.index_mut.result.now c.continue_quietly.new.handle c.args.built.now.handles.items c.requires.not_empty c.index_mut.ensures.value
+    c.continue_quietly.ensures.same_handle.log_kept
+
+pub returns-clause-fault : goal.returns-clause-fault
+returns-clause-fault g c =
+    let built = c.args.built.now in let gives = g.K.Behaviours.gives in let old = c.index_mut.result.now in let new = c.continue_quietly.new.handle in
+    err-weaker (BreaksQuietRun gives built.system (pass_view old.registrar.pass) new)
+    (BreaksFirst gives built.system built.handles.items (slice_set built.handles.items 0 new)) c.continue_quietly.result
+    (λ e broken. breaks-first gives built.system old new built.handles.items e c.requires.not_empty c.index_mut.ensures.value broken)
+    c.continue_quietly.ensures.fault
+
+pub returns-clause-adds : goal.returns-clause-adds
+returns-clause-adds g c =
+    let ran = c.continue_quietly.ensures in let built = c.args.built.now in let gives = g.K.Behaviours.gives in
+    let nothing : Unit {0} = tt in
+    all-ok c.continue_quietly.result (on-ok c.continue_quietly.result nothing) ran.runs ran.kept
+    (λ all none more kept. record {
+      later = more.later;
+      joined = more.joined;
+      made = first-set gives (origin_of built.system.gates) built.system.throughput c.index_mut.result.now c.continue_quietly.new.handle built.handles.items
+          more.later c.requires.not_empty c.index_mut.ensures.value more.made;
+      kept = kept;
+    })
+
+pub returns-clause-runs : goal.returns-clause-runs
+returns-clause-runs g c =
+    let built = c.args.built.now in let origin = origin_of built.system.gates in let throughput = built.system.throughput in
+    ok-gives _ _ c.continue_quietly.result
+    (λ all more. ran-on g.K.Behaviours.gives origin throughput c.index_mut.result.now c.continue_quietly.new.handle built.handles.items c.requires.not_empty
+    c.index_mut.ensures.value (record { turns = more.later; made = more.made })) c.continue_quietly.ensures.runs
