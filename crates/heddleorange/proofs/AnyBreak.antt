@@ -1,5 +1,5 @@
 -- Why a run is broken off, where it does not matter which of its senders and handles was.
-use Rattle.std.proofs.Common.{◌≡◌, ℕ, List, [], ◌∷◌, refl, sym, subst, get_or, arith}
+use Rattle.std.proofs.Common.{ap, ◌≡◌, ℕ, List, [], ◌∷◌, refl, sym, subst, get_or, arith}
 use Rattle.std.specs.Prelude.{◌≢◌, ◌⊎◌, Contains, Some, slice_get, slice_set}
 use Rattle.std.specs.Global.{Box}
 use Rattle.mb_actor.specs.Behaviour.{Moment, Reply}
@@ -11,6 +11,7 @@ use Rattle.mb_msg.specs.declared.order.Order.{Order}
 use Rattle.mb_system.specs.declared.handle.WorkerHandle.{WorkerHandle}
 use Rattle.mb_system.specs.declared.failure.RunError.{RunError}
 use Rattle.mb_system.specs.declared.system.System.{System}
+use Rattle.mb_dispatch.specs.Alone.{FirstAlone}
 use Rattle.mb_dispatch.specs.Faults.{BreaksQuietRun, BreaksSending}
 use Rattle.heddleorange.specs.BrokenOff.{BreaksFirst}
 
@@ -30,17 +31,12 @@ module _ {A K : Type 0} where
 
   module _ (gives : ℕ → Moment → Reply → Type 0) (system : System A K) where
     -- the first handle is put in its place, which was broken off
-    pub breaks-first : (old new : WorkerHandle A K) (handles : List (WorkerHandle A K)) (error : RunError) → handles ≢ [] → old ≡ get_or handles 0 old
-        → BreaksQuietRun gives system (pass_view old.registrar.pass) new error → BreaksFirst gives system handles (slice_set handles 0 new) error
-    breaks-first old new [] error some is broken = absurd (some refl)
-    breaks-first old new (x ∷ handles) error some is broken = record {
-      first = x;
-      first' = new;
-      others = handles;
-      were = refl;
-      are = refl;
-      breaks = subst (λ (e : WorkerHandle A K). BreaksQuietRun gives system (pass_view e.registrar.pass) new error) is broken;
-    }
+    pub breaks-first : (old new : List (WorkerHandle A K)) (error : RunError)
+        → FirstAlone (λ o n. BreaksQuietRun gives system (pass_view o.registrar.pass) n error) old new → BreaksFirst gives system old new error
+    breaks-first [] new error broken = absurd broken
+    breaks-first (x ∷ old) [] error broken = absurd broken
+    breaks-first (x ∷ old) (y ∷ new) error broken =
+        record { first = x; first' = y; others = old; were = refl; are = ap (λ l. y ∷ l) broken.1; breaks = broken.0 }
 
     -- it is one of the handles
     pub off-first : (old new : List (WorkerHandle A K)) (error : RunError) → BreaksFirst gives system old new error → BreaksOneHandle gives system new error

@@ -5,7 +5,9 @@ use Rattle.std.specs.Global.{Box}
 use Rattle.std.proofs.lemmas.List.Elements.{All-head}
 use Rattle.mb_actor.specs.Behaviour.{Moment, Reply}
 use Rattle.mb_build.proofs.NewHomesLemmas.{length-who}
-use Rattle.mb_dispatch.specs.Runs.{MadeRuns, turns_in}
+use Rattle.mb_dispatch.proofs.Runs.{made-then}
+use Rattle.mb_dispatch.specs.Alone.{FirstAlone}
+use Rattle.mb_dispatch.specs.Runs.{MadeMoreRuns, MadeRuns, turns_in}
 use Rattle.mb_dispatch.specs.declared.turns.Turns.{Turns}
 use Rattle.mb_gate.specs.Accessors.{actors_of, pass_view}
 use Rattle.mb_gate.specs.Untouched.{Origin, origin_of}
@@ -36,17 +38,6 @@ use Rattle.heddleorange.proofs.MadeTurns.{covers-of, made-turns, turns-of}
 use Rattle.heddleorange.proofs.Stretches.{stretches-of}
 use Rattle.heddleorange.proofs.Unchanged.{changed-none, of-handle}
 
-module _ (gives : ℕ → Moment → Reply → Type 0) (origin : Origin (Box Contents)) (throughput : ℕ) where
-  -- one handle made runs, and then others
-  looks-runs : (u v w : View) (turns : List Turn) → OnlyLooks u v → MadeRuns gives origin throughput v turns w → MadeRuns gives origin throughput u turns w
-  looks-runs u v w [] looks made = only-then u v w looks made
-  looks-runs u v w (t ∷ turns) looks made = (made.0, made.1, only-then u v made.0 looks made.2, made.3, made.4)
-
-  made-then : (u v w : View) (before turns : List Turn) → MadeRuns gives origin throughput u before v → MadeRuns gives origin throughput v turns w
-      → MadeRuns gives origin throughput u (before ++ turns) w
-  made-then u v w [] turns looks made = looks-runs u v w turns looks made
-  made-then u v w (t ∷ before) turns first made = (first.0, first.1, first.2, first.3, made-then first.1 v w before turns first.4 made)
-
 module _ {A K : Type 0} (gives : ℕ → Moment → Reply → Type 0) (origin : Origin (Box Contents)) (throughput : ℕ) where
   -- it made turns, and then others
   pub first-then : (old between new : List (WorkerHandle A K)) (earlier later : List Turn) → OnlyFirstMade gives origin throughput old between earlier
@@ -57,13 +48,20 @@ module _ {A K : Type 0} (gives : ℕ → Moment → Reply → Type 0) (origin : 
   first-then (x ∷ xs) (y ∷ ys) (z ∷ zs) earlier later one other =
       (made-then gives origin throughput (of-handle x) (of-handle y) (of-handle z) earlier later one.0 other.0, other.1 ∙ one.1)
 
-  -- a handle that made them is put in the place of the first
-  pub first-set : (old new : WorkerHandle A K) (handles : List (WorkerHandle A K)) (turns : List Turn) → handles ≢ [] → old ≡ get_or handles 0 old
-      → MadeRuns gives origin throughput (of-handle old) turns (of-handle new)
-      → OnlyFirstMade gives origin throughput handles (slice_set handles 0 new) turns
-  first-set old new [] turns some is made = absurd (some refl)
-  first-set old new (x ∷ handles) turns some is made =
-      (subst (λ (e : WorkerHandle A K). MadeRuns gives origin throughput (of-handle e) turns (of-handle new)) is made, refl)
+  -- the first alone made them
+  pub first-made : (old new : List (WorkerHandle A K)) (turns : List Turn)
+      → FirstAlone (λ o n. MadeRuns gives origin throughput (of-handle o) turns (of-handle n)) old new → OnlyFirstMade gives origin throughput old new turns
+  first-made [] new turns did = absurd did
+  first-made (x ∷ old) [] turns did = absurd did
+  first-made (x ∷ old) (y ∷ new) turns did = did
+
+  -- the first alone made them behind others
+  pub adds-made : (old new : List (WorkerHandle A K)) (earlier all : List Turn)
+      → FirstAlone (λ o n. MadeMoreRuns gives origin throughput (of-handle o) earlier all (of-handle n)) old new
+      → (later : List Turn) × (all ≡ earlier ++ later) × OnlyFirstMade gives origin throughput old new later
+  adds-made [] new earlier all did = absurd did
+  adds-made (x ∷ old) [] earlier all did = absurd did
+  adds-made (x ∷ old) (y ∷ new) earlier all did = (did.0.later, did.0.joined, (did.0.made, did.1))
 
   -- it only looked
   first-looked : (old new : Built A K) (before after : View) → OnlyFirstHandleRead old new before after → OnlyLooks before after

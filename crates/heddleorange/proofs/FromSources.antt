@@ -69,16 +69,7 @@ module _ {S : Type 0} (actors : ℕ) where
   right-given plan old new none many same = (none, many-given old new same ∙ many, all-for-somebody old new)
 
 module _ {T V : Type 0} (R : T × V → T × V → Type 0) where
-  -- what holds of each pair holds of its first, or of its second
-  pub of-firsts : (Q : T → Type 0) → ((a b : T × V) → R a b → Q b.0) → (xs ys : List T) (vs ws : List V) → length xs ≡ length vs → length ys ≡ length xs
-      → AllZip R (pairs xs vs) (pairs ys ws) → All Q ys
-  of-firsts Q f xs [] vs ws lent same all = All-nil Q
-  of-firsts Q f [] (y ∷ ys) vs ws lent same all = absurd (omega (arith, same))
-  of-firsts Q f (x ∷ xs) (y ∷ ys) [] ws lent same all = absurd (omega (arith, lent))
-  of-firsts Q f (x ∷ xs) (y ∷ ys) (v ∷ vs) [] lent same all = absurd all
-  of-firsts Q f (x ∷ xs) (y ∷ ys) (v ∷ vs) (w ∷ ws) lent same all =
-      All-cons Q y ys (f (x, v) (y, w) all.0) (of-firsts Q f xs ys vs ws (omega (arith, lent)) (omega (arith, same)) all.1)
-
+  -- what holds of each pair holds of its second
   pub of-seconds : (Q : V → V → Type 0) → ((a b : T × V) → R a b → Q a.1 b.1) → (xs ys : List T) (vs ws : List V) → length xs ≡ length vs
       → length ys ≡ length xs → length ws ≡ length vs → AllZip R (pairs xs vs) (pairs ys ws) → AllZip Q vs ws
   of-seconds Q f xs ys [] [] lent same long all = tt

@@ -22,11 +22,13 @@ use Rattle.mb_system.specs.Members.{IsHandleOf, IsSenderOf, OutsideSender, Still
 use Rattle.mb_system.specs.declared.built.Built.{Built}
 use Rattle.mb_system.specs.declared.handle.WorkerHandle.{WorkerHandle}
 use Rattle.mb_msg.specs.declared.order.Order.{Order}
+use Rattle.mb_system.specs.declared.system.System.{System}
 use Rattle.mb_dispatch.proofs.Alike.{look-alike}
 use Rattle.mb_dispatch.proofs.Together.{again, by_of}
 use Rattle.mb_dispatch.proofs.Runs.{no-run}
-use Rattle.mb_dispatch.specs.Found.{FoundPoolEmpty}
+use Rattle.mb_dispatch.specs.Alone.{FirstAlone, KeepsAlone}
 use Rattle.mb_dispatch.specs.Runs.{OnlyRuns}
+use Rattle.mb_dispatch.specs.Working.{HasSettled}
 use Rattle.mb_shutdown.proofs.Parts.{part-same}
 use Rattle.heddleorange.specs.Sent.{FoundNothing, HasSentAndRetried, HaveSent}
 use Rattle.heddleorange.specs.Workers.{AllOnlyRuns}
@@ -159,10 +161,11 @@ module _ {A K : Type 0} where
       again old new same handles senders (senders-kept old.system.gates orders old.senders.items new.senders.items as_many sent) was
 
   -- a handle is put in the place of the first, whose number it has
-  pub first-number : (old new : WorkerHandle A K) (handles : List (WorkerHandle A K)) → handles ≢ [] → old ≡ get_or handles 0 old → new.number ≡ old.number
-      → handle_numbers (slice_set handles 0 new) ≡ handle_numbers handles
-  first-number old new [] some is same = absurd (some refl)
-  first-number old new (x ∷ handles) some is same = ap (λ n. n ∷ handle_numbers handles) (same ∙ ap (λ (w : WorkerHandle A K). w.number) is)
+  pub first-number : (system : System A K) (old new : List (WorkerHandle A K)) → FirstAlone (KeepsAlone system) old new
+      → handle_numbers new ≡ handle_numbers old
+  first-number system [] new did = absurd did
+  first-number system (x ∷ old) [] did = absurd did
+  first-number system (x ∷ old) (y ∷ new) did = λ i. did.0.same_handle.number i ∷ handle_numbers (did.1 i)
 
   -- where handles have the numbers of others that there are, there is one
   pub some-left : (old new : List (WorkerHandle A K)) → old ≢ [] → handle_numbers new ≡ handle_numbers old → 0 < length new
@@ -178,11 +181,10 @@ module _ {A K : Type 0} where
   see-same [] = tt
   see-same (x ∷ handles) = (part-same (pass_view x.registrar.pass).log, see-same handles)
 
-  pub see-on : (old new : WorkerHandle A K) (handles : List (WorkerHandle A K)) → handles ≢ [] → old ≡ get_or handles 0 old
-      → IsPart (pass_view old.registrar.pass).log (pass_view new.registrar.pass).log → StillSee handles (slice_set handles 0 new)
-  see-on old new [] some is saw = absurd (some refl)
-  see-on old new (x ∷ handles) some is saw =
-      (subst (λ (e : WorkerHandle A K). IsPart (pass_view e.registrar.pass).log (pass_view new.registrar.pass).log) is saw, see-same handles)
+  pub see-on : (system : System A K) (old new : List (WorkerHandle A K)) → FirstAlone (KeepsAlone system) old new → StillSee old new
+  see-on system [] new did = absurd did
+  see-on system (x ∷ old) [] did = absurd did
+  see-on system (x ∷ old) (y ∷ new) did = (did.0.same_handle.log_kept, subst (StillSee old) (sym did.1) (see-same old))
 
   -- a handle that only made runs since is put in its place
   runs-same : (gives : ℕ → Moment → Reply → Type 0) (origin : Origin (Box Contents)) (throughput : ℕ) (handles : List (WorkerHandle A K))
@@ -191,20 +193,18 @@ module _ {A K : Type 0} where
   runs-same gives origin throughput (x ∷ handles) =
       (no-run gives origin throughput (pass_view x.registrar.pass), runs-same gives origin throughput handles)
 
-  pub ran-on : (gives : ℕ → Moment → Reply → Type 0) (origin : Origin (Box Contents)) (throughput : ℕ) (old new : WorkerHandle A K)
-      (handles : List (WorkerHandle A K)) → handles ≢ [] → old ≡ get_or handles 0 old
-      → OnlyRuns gives origin throughput (pass_view old.registrar.pass) (pass_view new.registrar.pass)
-      → AllOnlyRuns gives origin throughput handles (slice_set handles 0 new)
-  ran-on gives origin throughput old new [] some is ran = absurd (some refl)
-  ran-on gives origin throughput old new (x ∷ handles) some is ran = (
-    subst (λ (e : WorkerHandle A K). OnlyRuns gives origin throughput (pass_view e.registrar.pass) (pass_view new.registrar.pass)) is ran,
-    runs-same gives origin throughput handles,
-  )
+  pub ran-on : (gives : ℕ → Moment → Reply → Type 0) (origin : Origin (Box Contents)) (throughput : ℕ) (old new : List (WorkerHandle A K))
+      → FirstAlone (λ o n. OnlyRuns gives origin throughput (pass_view o.registrar.pass) (pass_view n.registrar.pass)) old new
+      → AllOnlyRuns gives origin throughput old new
+  ran-on gives origin throughput [] new did = absurd did
+  ran-on gives origin throughput (x ∷ old) [] did = absurd did
+  ran-on gives origin throughput (x ∷ old) (y ∷ new) did =
+      (did.0, subst (AllOnlyRuns gives origin throughput old) (sym did.1) (runs-same gives origin throughput old))
 
   -- the first of the handles, which ran, found nothing more
-  pub found-nothing : (gives : ℕ → Moment → Reply → Type 0) (gates : Gates (Box Contents)) (handles : List (WorkerHandle A K)) (e : WorkerHandle A K)
-      → handles ≢ [] → IsNobody e.registrar.owed → HasNoObligationTo (actors_of gates) (handle_caller e.registrar)
-      → FoundPoolEmpty gives e → FoundNothing gives gates (slice_set handles 0 e)
-  found-nothing gives gates [] e some nobody settled empty = absurd (some refl)
-  found-nothing gives gates (x ∷ handles) e some nobody settled empty =
-      record { first = e; rest = handles; are = refl; nobody = nobody; settled = settled; empty = empty }
+  pub found-nothing : (gives : ℕ → Moment → Reply → Type 0) (system : System A K) (old new : List (WorkerHandle A K))
+      → FirstAlone (λ o n. HasSettled gives system n) old new → FoundNothing gives system.gates new
+  found-nothing gives system [] new did = absurd did
+  found-nothing gives system (x ∷ old) [] did = absurd did
+  found-nothing gives system (x ∷ old) (y ∷ new) did =
+      record { first = y; rest = new; are = refl; nobody = did.0.discharged; settled = did.0.settled; empty = did.0.empty }

@@ -68,16 +68,18 @@ pub(crate) fn run_first<A: Actor, K: Behaviours, R: Wait>(
     keeps: JournalMode,
 ) -> Result<Turns, RunError>
     requires same_gates { AreHandlesOf built.old.system.gates built.old.handles.items }
+    requires senders { All (λ s. IsSenderOf built.old.system.gates s) built.old.senders.items }
     requires not_empty { built.old.handles.items ≢ [] }
     ensures same_system { IsSameSystem built.old built.new }
-    ensures senders { built.new.senders ≡ built.old.senders }
+    ensures senders { built.new.senders.items ≡ built.old.senders.items }
     ensures log_kept { StillSee built.old.handles.items built.new.handles.items }
     ensures runs { OnOk result (AllOnlyRuns K.gives (origin_of built.old.system.gates) built.old.system.throughput built.old.handles.items
         built.new.handles.items) }
     ensures quiet { IfOk result (HasRunQuietly K.gives keeps built.old built.new) }
     ensures fault { IfErr result (BreaksFirst K.gives built.old.system built.old.handles.items built.new.handles.items) }
 {
-    run_quietly(rt, &built.system, &mut built.handles[0], keeps)
+    let system = &built.system;
+    run_quietly(rt, system, &mut built.handles, &mut built.senders, keeps)
 }
 
 /// Runs so behind these turns, and answers them with those behind them that are made now.
@@ -87,16 +89,18 @@ pub(crate) fn continue_first<A: Actor, K: Behaviours, R: Wait>(
     turns: Turns,
 ) -> Result<Turns, RunError>
     requires same_gates { AreHandlesOf built.old.system.gates built.old.handles.items }
+    requires senders { All (λ s. IsSenderOf built.old.system.gates s) built.old.senders.items }
     requires not_empty { built.old.handles.items ≢ [] }
     ensures same_system { IsSameSystem built.old built.new }
-    ensures senders { built.new.senders ≡ built.old.senders }
+    ensures senders { built.new.senders.items ≡ built.old.senders.items }
     ensures log_kept { StillSee built.old.handles.items built.new.handles.items }
     ensures runs { OnOk result (AllOnlyRuns K.gives (origin_of built.old.system.gates) built.old.system.throughput built.old.handles.items
         built.new.handles.items) }
     ensures adds { IfOk result (AddsTurns K.gives built.old built.new turns) }
     ensures fault { IfErr result (BreaksFirst K.gives built.old.system built.old.handles.items built.new.handles.items) }
 {
-    continue_quietly(rt, &built.system, &mut built.handles[0], turns)
+    let system = &built.system;
+    continue_quietly(rt, system, &mut built.handles, &mut built.senders, turns)
 }
 
 // Has each of these in its turn carried out by its sender.

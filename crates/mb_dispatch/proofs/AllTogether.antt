@@ -1,12 +1,16 @@
 -- What one party knows that has all that some have is what they know together.
-use Rattle.std.proofs.Common.{◌≡◌, ℕ, ◌+◌, ◌-◌, ◌^◌, ◌<◌, List, [], ◌∷◌, ◌++◌, refl, sym, ap, ◌∙◌, arith}
+use Rattle.std.proofs.Common.{◌≡◌, ℕ, ◌+◌, ◌-◌, ◌^◌, ◌<◌, List, [], ◌∷◌, ◌++◌, refl, sym, ap, ◌∙◌, arith, map}
 use Rattle.mb_ghost.specs.Shares.{FitsIn, IsWhole}
 use Rattle.mb_ghost.specs.Summed.{total}
 use Rattle.mb_ghost.proofs.SummedLemmas.{total_append}
 use Rattle.mb_gate.specs.NotRun.{shares_in}
 use Rattle.mb_gate.specs.Together.{NoClaimIsOut, together}
 use Rattle.mb_gate.specs.View.{View}
-use Rattle.mb_dispatch.specs.AtRest.{NoClaimIsLeft, all_together}
+use Rattle.mb_gate.specs.Accessors.{pass_view}
+use Rattle.mb_system.specs.Members.{OutsideSender}
+use Rattle.mb_system.specs.declared.handle.WorkerHandle.{WorkerHandle}
+use Rattle.mb_dispatch.specs.AtRest.{NoClaimIsLeft, all_together, views_of, views_of_jobs, views_of_senders}
+use Rattle.mb_dispatch.specs.declared.job.Job.{Job}
 
 -- a sum over one list that each has
 module _ (items : View → List ℕ) (joins : (v w : View) → items (together v w) ≡ items w ++ items v) (part : ℕ → ℕ) where
@@ -46,3 +50,12 @@ module _ (v : View) (ws : List View) where
   none-left actors back whole actor inside =
       sym (of-all (λ (u : View). u.got) (λ a b. refl) _ v ws) ∙ back actor inside (whole-together whole)
       ∙ of-all (λ (u : View). u.returned) (λ a b. refl) _ v ws
+
+-- what handles, jobs and senders know is what the handles know and then all senders, those of the jobs first
+module _ {A K : Type 0} (handles : List (WorkerHandle A K)) (senders : List OutsideSender) where
+  senders-views : (jobs : List (Job A K)) → views_of_senders (map (λ (j : Job A K). j.sender) jobs ++ senders) ≡ views_of_jobs jobs ++ views_of_senders senders
+  senders-views [] = refl
+  senders-views (j ∷ jobs) = ap (λ l. pass_view j.sender.registrar.pass ∷ l) (senders-views jobs)
+
+  pub of-senders : (jobs : List (Job A K)) → views_of handles [] (map (λ (j : Job A K). j.sender) jobs ++ senders) ≡ views_of handles jobs senders
+  of-senders jobs = ap (λ l. map (λ (e : WorkerHandle A K). pass_view e.registrar.pass) handles ++ l) (senders-views jobs)

@@ -1,5 +1,5 @@
 -- For which reasons sending, work and a whole run are broken off.
-use Rattle.std.proofs.Common.{◌≡◌, ◌≤◌, ℕ, false, List, [], ◌∷◌, ◌<◌, length, refl, subst, sym, ap, ◌∙◌, arith, inl, inr}
+use Rattle.std.proofs.Common.{◌≡◌, ◌≤◌, ℕ, List, [], ◌∷◌, ◌<◌, length, refl, subst, sym, ap, ◌∙◌, arith, inl, inr}
 use Rattle.std.specs.Prelude.{◌≢◌, ◌⊎◌, ⊤, Contains, Err, IfErr, IsErrOf, MatchResult, Ok, OnErr, OnOk, Result, Some}
 use Rattle.std.specs.Global.{Box}
 use Rattle.std.specs.List.{AllZip}
@@ -13,7 +13,7 @@ use Rattle.mb_journal.specs.Run.{Stopped}
 use Rattle.mb_journal.specs.Run.Stopped.{NoRoom}
 use Rattle.mb_journal.specs.declared.error.ReadyError.{ReadyError}
 use Rattle.mb_journal.specs.declared.error.ReadyError.TheVariants as Ready
-use Rattle.mb_gate.specs.Accessors.{actors_of, held_actor, pass_view}
+use Rattle.mb_gate.specs.Accessors.{held_actor, pass_view}
 use Rattle.mb_gate.specs.Untouched.{origin_of}
 use Rattle.mb_gate.specs.View.{View}
 use Rattle.mb_gate.specs.declared.claim.Claim.{Claim}
@@ -25,11 +25,9 @@ use Rattle.mb_home.specs.Fresh.{IsFreshClaim}
 use Rattle.mb_mailbox.specs.Ran.{HadRoom, IsShortOfMemory, LeavesRun}
 use Rattle.mb_mailbox.specs.declared.turn.Turn.{Turn}
 use Rattle.mb_dispatch.specs.Faults.{BreaksJob, BreaksRun, BreaksWork, BreaksSending, HasWorked, IsRefusedFor, IsToNobody, IsToSomebody, OnlyRunsBySystem, RunsOrBreaks, StopsFor}
-use Rattle.mb_dispatch.specs.Found.{FoundPoolEmpty}
 use Rattle.mb_dispatch.specs.Jobs.{IsDone}
 use Rattle.mb_dispatch.specs.Orders.{HasSent, order_for}
 use Rattle.mb_dispatch.specs.Parallel.{FirstZip}
-use Rattle.mb_register.specs.ActorSet.{has_actor}
 use Rattle.mb_register.specs.Registering.{QueueAccount, StopsAt}
 use Rattle.mb_system.specs.Members.{OutsideSender, handle_caller, sender_caller}
 use Rattle.mb_system.specs.RunErrors.{of_ready, of_send}

@@ -1,5 +1,5 @@
 -- What the handles of a run keep and did, as they go on working.
-use Rattle.std.proofs.Common.{◌≡◌, ◌<◌, ◌≤◌, false, ℕ, List, [], ◌∷◌, get_or, length, set, refl, ◌∙◌, subst, arith, inl, inr}
+use Rattle.std.proofs.Common.{◌≡◌, ◌<◌, ◌≤◌, false, ℕ, List, [], ◌∷◌, get_or, length, set, refl, ◌∙◌, arith, inl, inr}
 use Rattle.std.specs.Prelude.{All, Err, IfErr, Ok, OnOk, Result}
 use Rattle.std.specs.List.{AllZip}
 use Rattle.std.proofs.lemmas.List.Elements.{All-head, All-tail}
@@ -35,7 +35,7 @@ zip-both P Q (x ∷ xs) [] p q = absurd p
 zip-both P Q (x ∷ xs) (y ∷ ys) p q = ((p.0, q.0), zip-both P Q xs ys p.1 q.1)
 
 -- of a result
-err-weaker : {E : Type 0} (P Q : E → Type 0) (r : Result (Unit {0}) E) → ((e : E) → P e → Q e) → IfErr r P → IfErr r Q
+pub err-weaker : {E : Type 0} (P Q : E → Type 0) (r : Result (Unit {0}) E) → ((e : E) → P e → Q e) → IfErr r P → IfErr r Q
 err-weaker P Q (Ok u) f p = tt
 err-weaker P Q (Err e) f p = f e p
 
@@ -168,10 +168,13 @@ module _ {A K : Type 0} (gives : ℕ → Moment → Reply → Type 0) (system : 
     }
 
     -- a run that is broken off afterwards is broken off by one of its handles
+    pub run-fails : (r : Result (Unit {0}) RunError) → Ended ys zs r → IfErr r (λ e. FirstZip Worked (λ x y. Broke x y e) xs zs)
+    run-fails r ended = fails-then r ended.fails
+
     pub run-breaks : (before after : List (Job A K)) (r : Result (Unit {0}) RunError) → Ended ys zs r
         → IfErr r (BreaksRun gives system xs zs before after)
     run-breaks before after r ended =
-        err-weaker (λ e. FirstZip Worked (λ x y. Broke x y e) xs zs) (BreaksRun gives system xs zs before after) r (λ e f. inl f) (fails-then r ended.fails)
+        err-weaker (λ e. FirstZip Worked (λ x y. Broke x y e) xs zs) (BreaksRun gives system xs zs before after) r (λ e f. inl f) (run-fails r ended)
 
   pub ran-of : (xs ys : List (WorkerHandle A K)) → HaveWorked xs ys → AllZip Ran xs ys
   ran-of xs ys worked = zip_weaker Worked Ran (λ x y w. w.2) xs ys worked

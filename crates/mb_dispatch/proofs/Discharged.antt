@@ -1,5 +1,5 @@
 -- Who had in its set all to which it owed something, forgot nothing and has an empty set, owes nothing.
-use Rattle.std.proofs.Common.{◌≡◌, ◌⊎◌, inl, inr, ◌<◌, false, ℕ, List, [], ◌∷◌, ◌∙◌}
+use Rattle.std.proofs.Common.{◌≡◌, ◌⊎◌, inl, inr, ◌<◌, false, ℕ, List, [], ◌∷◌, ◌∙◌, map}
 use Rattle.std.specs.Prelude.{All, Err, Ok, OnOk, Result}
 use Rattle.std.specs.List.{AllZip}
 use Rattle.std.proofs.lemmas.List.Elements.{All-cons, All-head, All-nil, All-tail}
@@ -42,3 +42,12 @@ all-done R P Q f (x ∷ xs) (y ∷ ys) zip p = All-cons Q y ys (f x y zip.0 (All
 pub both-ok : {T E A B C : Type 0} (r : Result T E) → (A → B → C) → OnOk r A → OnOk r B → OnOk r C
 both-ok (Ok x) f a b = f a b
 both-ok (Err e) f a b = tt
+
+-- the same of what each has
+pub all-done-of : {T U : Type 0} (f : T → U) (R : T → T → Type 0) (P Q : U → Type 0) → ((x y : T) → R x y → P (f x) → Q (f y)) → (xs ys : List T)
+    → AllZip R xs ys → All P (map f xs) → All Q (map f ys)
+all-done-of f R P Q go [] [] zip p = All-nil Q
+all-done-of f R P Q go [] (y ∷ ys) zip p = absurd zip
+all-done-of f R P Q go (x ∷ xs) [] zip p = absurd zip
+all-done-of f R P Q go (x ∷ xs) (y ∷ ys) zip p =
+    All-cons Q (f y) (map f ys) (go x y zip.0 (All-head P (f x) (map f xs) p)) (all-done-of f R P Q go xs ys zip.1 (All-tail P (f x) (map f xs) p))

@@ -8,6 +8,7 @@ pub mod Firsts
 pub mod Breaking
 pub mod Crossing
 pub mod Alike
+pub mod Alone
 pub mod Together
 pub mod There
 pub mod Runs

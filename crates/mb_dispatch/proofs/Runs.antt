@@ -36,7 +36,7 @@ module _ (gives : ℕ → Moment → Reply → Type 0) (origin : Origin (Box Con
   looks-runs u v w [] looks made = only-then u v w looks made
   looks-runs u v w (t ∷ turns) looks made = (made.0, made.1, only-then u v made.0 looks made.2, made.3, made.4)
 
-  made-then : (u v w : View) (before turns : List Turn) → MadeRuns gives origin throughput u before v → MadeRuns gives origin throughput v turns w
+  pub made-then : (u v w : View) (before turns : List Turn) → MadeRuns gives origin throughput u before v → MadeRuns gives origin throughput v turns w
       → MadeRuns gives origin throughput u (before ++ turns) w
   made-then u v w [] turns looks made = looks-runs u v w turns looks made
   made-then u v w (t ∷ before) turns first made = (first.0, first.1, first.2, first.3, made-then first.1 v w before turns first.4 made)

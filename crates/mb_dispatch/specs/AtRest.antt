@@ -10,7 +10,7 @@ use Rattle.mb_gate.specs.Together.{together}
 use Rattle.mb_gate.specs.View.{View}
 use Rattle.mb_gate.specs.declared.gates.Gates.{Gates}
 use Rattle.mb_home.specs.Contents.{Contents}
-use Rattle.mb_system.specs.Members.{handle_caller, sender_caller}
+use Rattle.mb_system.specs.Members.{OutsideSender, handle_caller, sender_caller}
 use Rattle.mb_system.specs.Obligations.{AreDischargedOrOwed, HasNoObligationTo}
 use Rattle.mb_system.specs.declared.handle.WorkerHandle.{WorkerHandle}
 use Rattle.mb_system.specs.declared.system.System.{System}
@@ -27,36 +27,41 @@ abbrev pub NoClaimIsLeft : ℕ → List View → Type 0
 NoClaimIsLeft actors views =
     IsWhole (shares_in views) → (actor : ℕ) → actor < actors → total (claims_got actor) views ≡ total (claims_returned actor) views
 
+-- What these senders know.
+abbrev pub views_of_senders : List OutsideSender → List View
+views_of_senders = map (λ (s : OutsideSender). pass_view s.registrar.pass)
+
 module _ {A K : Type 0} where
   -- What the senders of these jobs know.
   abbrev pub views_of_jobs : List (Job A K) → List View
   views_of_jobs = map (λ (j : Job A K). pass_view j.sender.registrar.pass)
 
-  -- What these handles and the senders of these jobs know.
-  abbrev pub views_of : List (WorkerHandle A K) → List (Job A K) → List View
-  views_of handles jobs = map (λ (e : WorkerHandle A K). pass_view e.registrar.pass) handles ++ views_of_jobs jobs
+  -- What these handles know, the senders of these jobs, and these senders.
+  abbrev pub views_of : List (WorkerHandle A K) → List (Job A K) → List OutsideSender → List View
+  views_of handles jobs senders =
+      map (λ (e : WorkerHandle A K). pass_view e.registrar.pass) handles ++ (views_of_jobs jobs ++ views_of_senders senders)
 
-  -- The system is at rest, where there are as many handles as it has workers, and as many jobs as it has senders: no claim is out.
-  abbrev pub IsAtRest : System A K → List (WorkerHandle A K) → List (Job A K) → Type 0
-  IsAtRest system handles jobs =
-      length handles ≡ system.workers → length jobs ≡ system.senders → NoClaimIsLeft (actors_of system.gates) (views_of handles jobs)
+  -- The system is at rest, where there are as many handles as it has workers, and as many senders as it has: no claim is out.
+  abbrev pub IsAtRest : System A K → List (WorkerHandle A K) → List OutsideSender → Type 0
+  IsAtRest system handles senders =
+      length handles ≡ system.workers → length senders ≡ system.senders → NoClaimIsLeft (actors_of system.gates) (views_of handles [] senders)
 
-  -- To each actor each of these handles, and the sender of each of these jobs, owes nothing, or it has the actor in its set of owed looks. So it is in a
-  -- new system, in which nobody owes anything.
-  abbrev pub AllDischargedOrOwed : Gates (Box Contents) → List (WorkerHandle A K) → List (Job A K) → Type 0
-  AllDischargedOrOwed gates handles jobs =
+  -- To each actor each of these handles, and each of these senders, owes nothing, or it has the actor in its set of owed looks. So it is in a new
+  -- system, in which nobody owes anything.
+  abbrev pub AllDischargedOrOwed : Gates (Box Contents) → List (WorkerHandle A K) → List OutsideSender → Type 0
+  AllDischargedOrOwed gates handles senders =
       All (λ (e : WorkerHandle A K). AreDischargedOrOwed (actors_of gates) (handle_caller e.registrar)) handles
-      × All (λ (j : Job A K). AreDischargedOrOwed (actors_of gates) (sender_caller j.sender.registrar)) jobs
+      × All (λ (s : OutsideSender). AreDischargedOrOwed (actors_of gates) (sender_caller s.registrar)) senders
 
-  -- None of these handles, and none of the senders of these jobs, owes an actor anything.
-  abbrev pub NobodyOwes : Gates (Box Contents) → List (WorkerHandle A K) → List (Job A K) → Type 0
-  NobodyOwes gates handles jobs =
+  -- None of these handles, and none of these senders, owes an actor anything.
+  abbrev pub NobodyOwes : Gates (Box Contents) → List (WorkerHandle A K) → List OutsideSender → Type 0
+  NobodyOwes gates handles senders =
       All (λ (e : WorkerHandle A K). HasNoObligationTo (actors_of gates) (handle_caller e.registrar)) handles
-      × All (λ (j : Job A K). HasNoObligationTo (actors_of gates) (sender_caller j.sender.registrar)) jobs
+      × All (λ (s : OutsideSender). HasNoObligationTo (actors_of gates) (sender_caller s.registrar)) senders
 
-  -- A run with these handles and jobs, as they were before and as they are now, came to rest: no claim is out; and nobody owes an actor anything, where
+  -- A run with these handles and senders, as they were before and as they are now, came to rest: no claim is out; and nobody owes an actor anything, where
   -- before each party had in its set all to which it owed something.
-  pub record ComesToRest (system : System A K) (handles_before : List (WorkerHandle A K)) (jobs_before : List (Job A K)) (handles : List (WorkerHandle A K))
-      (jobs : List (Job A K)) : Type 0 where
-    pub no_claim : IsAtRest system handles jobs
-    pub no_obligation : AllDischargedOrOwed system.gates handles_before jobs_before → NobodyOwes system.gates handles jobs
+  pub record ComesToRest (system : System A K) (handles_before : List (WorkerHandle A K)) (senders_before : List OutsideSender)
+      (handles : List (WorkerHandle A K)) (senders : List OutsideSender) : Type 0 where
+    pub no_claim : IsAtRest system handles senders
+    pub no_obligation : AllDischargedOrOwed system.gates handles_before senders_before → NobodyOwes system.gates handles senders

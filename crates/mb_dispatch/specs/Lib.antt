@@ -1,4 +1,5 @@
 pub mod Orders
+pub mod Alone
 pub mod Parallel
 pub mod Found
 pub mod Jobs

@@ -1,5 +1,5 @@
 //! A run of all workers and some senders, each on a thread of its own.
-ghost use Rattle.std.specs.Prelude.{◌≡◌, IfErr, OnOk};
+ghost use Rattle.std.specs.Prelude.{◌≡◌, IfErr, OnOk, map};
 ghost use Rattle.std.specs.List.{AllZip};
 ghost use Rattle.mb_gate.specs.Accessors.{pass_view};
 ghost use Rattle.mb_system.specs.OnlyLooks.{OnlyLooks};
@@ -15,7 +15,7 @@ use crate::job::Job;
 use crate::parallel::{both_in_parallel, first_error};
 use crate::settling::settle;
 use mb_actor::{Actor, Behaviours};
-use mb_system::{RunError, System, WorkerHandle};
+use mb_system::{RunError, Sender, System, WorkerHandle};
 use std::sync::Wait;
 use std::thread::Threads;
 
@@ -45,10 +45,11 @@ pub fn run<A: Actor + Send, K: Behaviours + Send, R: Threads + Wait + Sync>(
     ensures worked { OnOk result (AllHaveWorked K.gives system.now handles.old handles.new) }
     ensures done { OnOk result (AreDone system.now.gates jobs.old jobs.new) }
     ensures fault { IfErr result (BreaksRun K.gives system.now handles.old handles.new jobs.old jobs.new) }
-    ensures at_rest { OnOk result (ComesToRest system.now handles.old jobs.old handles.new jobs.new) }
+    ensures at_rest { OnOk result (ComesToRest system.now handles.old (map (λ job. job.sender) jobs.old) handles.new (map (λ job. job.sender) jobs.new)) }
 {
     run_once(rt, system, handles, jobs)?;
-    settle(rt, system, handles, jobs)
+    let mut no_senders: Vec<Sender<A, K>> = Vec::new(system.alloc);
+    settle(rt, system, handles, jobs, &mut no_senders)
 }
 
 // The same, but a worker that leaves too early leaves what there is to run.

@@ -1,7 +1,7 @@
 //! How a run comes to rest: what a last look finds is run.
-ghost use Rattle.std.specs.Prelude.{◌≡◌, OnOk};
+ghost use Rattle.std.specs.Prelude.{◌≡◌, ◌++◌, All, OnOk, map};
 ghost use Rattle.mb_gate.specs.Accessors.{pass_view};
-ghost use Rattle.mb_system.specs.Members.{AreHandlesOf, OweNobody};
+ghost use Rattle.mb_system.specs.Members.{AreHandlesOf, IsSenderOf, OweNobody};
 ghost use Rattle.mb_dispatch.specs.AtRest.{IsAtRest};
 ghost use Rattle.mb_dispatch.specs.Faults.{BreaksWork, HasWorked};
 ghost use Rattle.mb_dispatch.specs.Found.{AllFoundPoolEmpty};
@@ -13,27 +13,29 @@ use crate::job::Job;
 use crate::last_look::is_settled;
 use crate::working::work;
 use mb_actor::{Actor, Behaviours};
-use mb_system::{RunError, System, WorkerHandle};
+use mb_system::{RunError, Sender, System, WorkerHandle};
 use std::sync::Wait;
 
-/// Looks whether any claim is out, by all that these handles and the senders of these jobs know together, and has the first handle run what
-/// there is, on this thread, until no claim is out.
+/// Looks whether any claim is out, by all that these handles, the senders of these jobs and these senders know together, and has the first
+/// handle run what there is, on this thread, until no claim is out.
 pub(crate) fn settle<A: Actor, K: Behaviours, R: Wait>(
     rt: &R,
     system: &System<A, K>,
     handles: &mut [WorkerHandle<A, K>],
     jobs: &mut [Job<A, K>],
+    senders: &mut [Sender<A, K>],
 ) -> Result<(), RunError>
     requires handles { AreHandlesOf system.now.gates handles.old }
     requires jobs { AreJobsOf system.now.gates jobs.old }
+    requires senders { All (λ s. IsSenderOf system.now.gates s) senders.old }
     requires worked { OweNobody system.now.gates handles.old × AllFoundPoolEmpty K.gives handles.old }
-    ensures jobs { jobs.new ≡ jobs.old }
+    ensures others { (jobs.new ≡ jobs.old) × (senders.new ≡ senders.old) }
     ensures ended { HaveEnded (KeepsHandle K.gives system.now) (λ o n. HasWorked K.gives system.now (pass_view o.registrar.pass) n)
         (λ o n. BreaksWork K.gives system.now (pass_view o.registrar.pass) n) handles.old handles.new result }
-    ensures at_rest { OnOk result (IsAtRest system.now handles.new jobs.new) }
+    ensures at_rest { OnOk result (IsAtRest system.now handles.new (map (λ job. job.sender) jobs.new ++ senders.new)) }
 {
     for _ in rt.forever() {
-        if is_settled(system, handles, jobs) {
+        if is_settled(system, handles, jobs, senders) {
             return Ok(());
         }
         work_by_first(rt, system, handles)?;

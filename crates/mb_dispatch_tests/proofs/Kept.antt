@@ -11,12 +11,12 @@ use Rattle.mb_home.specs.Contents.{Contents}
 use Rattle.mb_pool.specs.Places.{gates_of}
 use Rattle.mb_pool.specs.WorkerPorts.{WorkerPortView}
 use Rattle.mb_system.specs.Belonging.{BelongsTogether, senders_numbers}
-use Rattle.mb_system.specs.Members.{IsHandleOf, IsSenderOf, OutsideSender}
+use Rattle.mb_system.specs.Members.{AreHandlesOf, IsHandleOf, IsSenderOf, OutsideSender}
 use Rattle.mb_system.specs.declared.built.Built.{Built}
 use Rattle.mb_system.specs.declared.handle.WorkerHandle.{WorkerHandle}
 use Rattle.mb_system.specs.declared.system.System.{System}
-use Rattle.mb_dispatch.proofs.There.{handle-at, sender-at}
-use Rattle.mb_dispatch.proofs.Together.{AreSendersOf, again, by_of, handle-again, sender-again}
+use Rattle.mb_dispatch.proofs.There.{sender-at}
+use Rattle.mb_dispatch.proofs.Together.{AreSendersOf, again, by_of, sender-again}
 use Rattle.mb_shutdown.specs.Belonging.{OnlyFirstHandleRead}
 use Rattle.mb_shutdown.specs.Refused.{IsRefusal}
 use Rattle.mb_shutdown.specs.declared.ending.FinishError.{FinishError}
@@ -34,20 +34,21 @@ module _ {A K : Type 0} (system : System A K) (handles : Vec (WorkerHandle A K) 
   abbrev pub Are : Type 0
   Are = BelongsTogether (record { system = system; handles = handles; senders = senders })
 
-  -- the first handle, and the first sender, is of the system
-  pub first-handle : (e : WorkerHandle A K) → e ≡ get_or handles.items 0 e → 0 < length handles.items → Are → IsHandleOf system.gates e.registrar
-  first-handle e is some was = handle-at (record { system = system; handles = handles; senders = senders }) 0 e is some was
-
+  -- the first sender is of the system
   pub first-sender : (s : OutsideSender) → s ≡ get_or senders.items 0 s → 0 < length senders.items → Are → IsSenderOf system.gates s
   first-sender s is some was = sender-at (record { system = system; handles = handles; senders = senders }) 0 s is some was
 
-  -- the first handle, and the first sender, did something
-  pub with-handle : (handles' : Vec (WorkerHandle A K) Global) (e : WorkerHandle A K) → handles'.items ≡ set handles.items 0 e → IsHandleOf system.gates e.registrar → Are
-      → BelongsTogether (record { system = system; handles = handles'; senders = senders })
-  with-handle handles' e are ours was =
-      handle-again (record { system = system; handles = handles; senders = senders }) (record { system = system; handles = handles'; senders = senders }) 0 e refl
-      refl are ours was
+  -- handles did something, and the senders nothing
+  pub with-handles : (handles' : Vec (WorkerHandle A K) Global) (senders' : Vec OutsideSender Global) → AreHandlesOf system.gates handles'.items
+      → senders'.items ≡ senders.items → Are → BelongsTogether (record { system = system; handles = handles'; senders = senders' })
+  with-handles handles' senders' ours same was = record {
+    handles = ours;
+    senders = subst (All (λ s. IsSenderOf system.gates s)) (sym same) was.senders;
+    once = subst (λ l. AllPairs (λ a b. a ≢ b) (senders_numbers l)) (sym same) was.once;
+    numbered = subst (All (λ s. (most_actors ≤ s.send_log.by.0) × (s.send_log.by.0 < most_actors + system.senders))) (sym same) was.numbered;
+  }
 
+  -- the first sender did something
   pub with-sender : (senders' : Vec OutsideSender Global) (s s' : OutsideSender) → senders'.items ≡ set senders.items 0 s'
       → IsSenderOf system.gates s' → s'.send_log.by ≡ s.send_log.by → s ≡ get_or senders.items 0 s → Are
       → BelongsTogether (record { system = system; handles = handles; senders = senders' })

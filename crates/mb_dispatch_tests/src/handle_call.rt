@@ -1,8 +1,11 @@
 //! What the handle of a worker is called for.
-ghost use Rattle.mb_system.specs.Members.{IsHandleOf};
+ghost use Rattle.std.specs.Prelude.{◌≡◌, ◌<◌, All, length};
+ghost use Rattle.mb_system.specs.Members.{AreHandlesOf, IsHandleOf, IsSenderOf};
 
 use mb_actor::{Actor, Behaviours};
-use mb_dispatch::{RunError, System, Turn, Turns, WorkerHandle, run_mailbox, run_quietly, work};
+use mb_dispatch::{
+    RunError, Sender, System, Turn, Turns, WorkerHandle, run_mailbox, run_quietly, work,
+};
 use mb_msg::{ActorId, JournalMode};
 use mb_register::Hint;
 use std::sync::Wait;
@@ -33,30 +36,35 @@ pub enum HandleAnswer {
     Worked(Result<(), RunError>),
 }
 
-/// Calls the handle. Nothing where there is no such actor, where there is no claim to take, or where the run of its mailbox is broken
+/// Calls the first handle. Nothing where there is no such actor, where there is no claim to take, or where the run of its mailbox is broken
 /// off.
 pub(crate) fn call_handle<A: Actor, K: Behaviours, R: Wait>(
     rt: &R,
     system: &System<A, K>,
-    handle: &mut WorkerHandle<A, K>,
+    handles: &mut [WorkerHandle<A, K>],
+    senders: &mut [Sender<A, K>],
     call: HandleCall,
 ) -> Option<HandleAnswer>
-    requires same_gates { IsHandleOf system.now.gates handle.old.registrar }
-    ensures same_gates { IsHandleOf system.now.gates handle.new.registrar }
+    requires handles { AreHandlesOf system.now.gates handles.old }
+    requires senders { All (λ s. IsSenderOf system.now.gates s) senders.old }
+    requires not_empty { 0 < length handles.old }
+    ensures handles { AreHandlesOf system.now.gates handles.new }
+    ensures senders { senders.new ≡ senders.old }
 {
     match call {
         HandleCall::RunQuietly => Some(HandleAnswer::Turns(run_quietly(
             rt,
             system,
-            handle,
+            handles,
+            senders,
             JournalMode::Kept,
         ))),
-        HandleCall::Register(id) => register(rt, system, handle, id),
-        HandleCall::Turn => match run_next(rt, system, handle) {
+        HandleCall::Register(id) => register(rt, system, &mut handles[0], id),
+        HandleCall::Turn => match run_next(rt, system, &mut handles[0]) {
             Some(turn) => Some(HandleAnswer::Turned(turn)),
             None => None,
         },
-        HandleCall::Work => Some(HandleAnswer::Worked(work(rt, system, handle))),
+        HandleCall::Work => Some(HandleAnswer::Worked(work(rt, system, &mut handles[0]))),
     }
 }
 

@@ -106,7 +106,7 @@ impl SystemDriver for TestSystem {
         if self.handles.len() == 0 {
             return None;
         }
-        call_handle(rt, &self.system, &mut self.handles[0], call)
+        call_handle(rt, &self.system, &mut self.handles, &mut self.senders, call)
     }
 
     fn send<R: Wait>(&mut self, rt: &R, call: SenderCall) -> Option<SenderAnswer> {

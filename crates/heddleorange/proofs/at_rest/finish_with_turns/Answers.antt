@@ -44,7 +44,7 @@ continue_first-requires g c =
     let busy = busy-of c.loop.built left c.in-Err.error again.0 again.1 c.in-Err.ensures.refused in
     let together = together-read again.0.0 c.loop.built left busy c.loop.invariant.0 in
     let complete = complete-read again.0.0 c.loop.built left busy c.loop.invariant.1 in
-    record { same_gates = together.handles; not_empty = not-empty left.handles.items (own-some left together complete).1 }
+    record { same_gates = together.handles; senders = together.senders; not_empty = not-empty left.handles.items (own-some left together complete).1 }
 
 pub broken_off-requires : goal.broken_off-requires
 broken_off-requires g c =
@@ -81,7 +81,7 @@ loop-preserved g c =
     let left = c.in-Ok-left_to_run.left in let again = c.in-Ok-left_to_run.ensures.again in let ran = c.in-Ok-continue_first.ensures in
     let now = c.continue_first.new.built in let gives = g.K.Behaviours.gives in let old = c.loop.built in let id = again.0.0 in
     let busy = busy-of old left c.in-Err.error again.0 again.1 c.in-Err.ensures.refused in
-    let senders = ap (λ v. v.items) ran.senders in (
+    let senders = ran.senders in (
       together-on left now ran.same_system.system ran.same_system.handles senders ran.same_system.same_gates (together-read id old left busy c.loop.invariant.0),
       complete-on left now ran.same_system.system ran.same_system.handles senders (complete-read id old left busy c.loop.invariant.1),
       within-gone gives id old left now busy ran.same_system.system ran.same_system.handles senders ran.log_kept ran.runs c.args.limit c.loop.invariant.2,

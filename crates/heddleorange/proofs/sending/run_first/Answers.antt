@@ -1,57 +1,86 @@
-use Rattle.std.proofs.Common.{refl}
-use Rattle.std.specs.Prelude.{slice_set}
-use Rattle.std.proofs.lemmas.List.Elements.{All-set}
+use Rattle.std.proofs.Common.{◌≡◌, ◌∙◌, ap, length, refl, subst, sym}
+use Rattle.std.specs.Prelude.{All}
+use Rattle.std.proofs.lemmas.List.{with_items_is}
 use Rattle.std.proofs.lemmas.Result.{on_ok_weaker}
-use Rattle.mb_dispatch.specs.Faults.{BreaksQuietRun}
+use Rattle.mb_dispatch.proofs.Alone.{alone-ours, alone-weaker}
 use Rattle.mb_dispatch.specs.Runs.{turns_in}
 use Rattle.mb_gate.specs.Accessors.{pass_view}
 use Rattle.mb_gate.specs.Untouched.{origin_of}
-use Rattle.mb_system.specs.Members.{IsHandleOf}
+use Rattle.mb_system.specs.Members.{AreHandlesOf, IsSenderOf, StillSee, handle_numbers}
 use Rattle.heddleorange.specs.BrokenOff.{BreaksFirst}
+use Rattle.heddleorange.specs.RanQuietly.{OnlyFirstMade}
+use Rattle.heddleorange.specs.Sent.{FoundNothing}
+use Rattle.heddleorange.specs.Workers.{AllOnlyRuns}
 use Rattle.heddleorange.proofs.AnyBreak.{breaks-first}
-use Rattle.heddleorange.proofs.FirstMade.{first-set}
-use Rattle.heddleorange.proofs.Sent.{all-ok, err-weaker, first-number, found-nothing, ok-gives, ran-on, see-on}
+use Rattle.heddleorange.proofs.FirstMade.{first-made}
+use Rattle.heddleorange.proofs.Sent.{all-ok, err-weaker, first-number, found-nothing, ok-gives, on-ok, ran-on, see-on}
 use Rattle.heddleorange.proofs.sending.run_first.Goals as goal
 
+pub run_quietly-requires-clause-handles : goal.run_quietly-requires-clause-handles
+run_quietly-requires-clause-handles g c = subst (AreHandlesOf c.args.built.now.system.gates) (sym c.deref_mut.ensures.value) c.requires.same_gates
+
+pub run_quietly-requires-clause-senders : goal.run_quietly-requires-clause-senders
+run_quietly-requires-clause-senders g c = subst (All (λ s. IsSenderOf c.args.built.now.system.gates s)) (sym c.deref_mut-2.ensures.value) c.requires.senders
+
 pub returns-clause-same_system : goal.returns-clause-same_system
-returns-clause-same_system g c = record {
-  system = refl;
-  handles = first-number c.index_mut.result.now c.run_quietly.new.handle c.args.built.now.handles.items c.requires.not_empty c.index_mut.ensures.value
-      c.run_quietly.ensures.same_handle.number;
-  same_gates = All-set (λ e. IsHandleOf c.args.built.now.system.gates e.registrar) c.args.built.now.handles.items 0 c.run_quietly.new.handle
-      c.run_quietly.ensures.same_handle.same_gates c.requires.same_gates;
-}
+returns-clause-same_system g c =
+    let old = c.args.built.now in let ran = c.run_quietly in
+    let handles = with_items_is old.handles ran.new.handles (ran.auto.handles ∙ ap length c.deref_mut.ensures.value ∙ sym old.handles.ok.0) in record {
+      system = refl;
+      handles = ap handle_numbers handles ∙ first-number old.system c.deref_mut.result.now ran.new.handles ran.ensures.alone
+          ∙ ap handle_numbers c.deref_mut.ensures.value;
+      same_gates =
+          subst (AreHandlesOf old.system.gates) (sym handles)
+          (alone-ours old.system c.deref_mut.result.now ran.new.handles
+          (subst (AreHandlesOf old.system.gates) (sym c.deref_mut.ensures.value) c.requires.same_gates) ran.ensures.alone);
+    }
+
+pub returns-clause-senders : goal.returns-clause-senders
+returns-clause-senders g c =
+    let old = c.args.built.now in let ran = c.run_quietly in
+    with_items_is old.senders ran.new.senders (ran.auto.senders ∙ ap length c.deref_mut-2.ensures.value ∙ sym old.senders.ok.0)
+    ∙ ran.ensures.senders ∙ c.deref_mut-2.ensures.value
 
 pub returns-clause-log_kept : goal.returns-clause-log_kept
 returns-clause-log_kept g c =
-    see-on c.index_mut.result.now c.run_quietly.new.handle c.args.built.now.handles.items c.requires.not_empty c.index_mut.ensures.value
-    c.run_quietly.ensures.same_handle.log_kept
+    let old = c.args.built.now in let ran = c.run_quietly in
+    let handles = with_items_is old.handles ran.new.handles (ran.auto.handles ∙ ap length c.deref_mut.ensures.value ∙ sym old.handles.ok.0) in
+    subst (StillSee old.handles.items) (sym handles)
+    (subst (λ l. StillSee l ran.new.handles) c.deref_mut.ensures.value (see-on old.system c.deref_mut.result.now ran.new.handles ran.ensures.alone))
 
 pub returns-clause-fault : goal.returns-clause-fault
 returns-clause-fault g c =
-    let built = c.args.built.now in let gives = g.K.Behaviours.gives in let old = c.index_mut.result.now in let new = c.run_quietly.new.handle in
-    err-weaker (BreaksQuietRun gives built.system (pass_view old.registrar.pass) new)
-    (BreaksFirst gives built.system built.handles.items (slice_set built.handles.items 0 new)) c.run_quietly.result
-    (λ e broken. breaks-first gives built.system old new built.handles.items e c.requires.not_empty c.index_mut.ensures.value broken)
-    c.run_quietly.ensures.fault
-
-pub returns-clause-quiet : goal.returns-clause-quiet
-returns-clause-quiet g c =
-    let ran = c.run_quietly.ensures in let built = c.args.built.now in let handle = c.run_quietly.new.handle in let gives = g.K.Behaviours.gives in
-    let origin = origin_of built.system.gates in let throughput = built.system.throughput in
-    let found = on_ok_weaker c.run_quietly.result
-    (λ done. found-nothing gives built.system.gates built.handles.items handle c.requires.not_empty done.discharged done.settled done.empty) ran.settled in
-    all-ok c.run_quietly.result found ran.runs ran.kept
-    (λ turns nothing made kept. record {
-      found_nothing = nothing;
-      made = first-set gives origin throughput c.index_mut.result.now handle built.handles.items (turns_in turns) c.requires.not_empty
-          c.index_mut.ensures.value made;
-      kept = kept;
-    })
+    let old = c.args.built.now in let ran = c.run_quietly in let gives = g.K.Behaviours.gives in
+    let handles = with_items_is old.handles ran.new.handles (ran.auto.handles ∙ ap length c.deref_mut.ensures.value ∙ sym old.handles.ok.0) in
+    err-weaker _ (BreaksFirst gives old.system old.handles.items _) ran.result
+    (λ error broken. subst (λ l. BreaksFirst gives old.system old.handles.items l error) (sym handles)
+    (subst (λ l. BreaksFirst gives old.system l ran.new.handles error) c.deref_mut.ensures.value
+    (breaks-first gives old.system c.deref_mut.result.now ran.new.handles error broken))) ran.ensures.fault
 
 pub returns-clause-runs : goal.returns-clause-runs
 returns-clause-runs g c =
-    let built = c.args.built.now in let origin = origin_of built.system.gates in let throughput = built.system.throughput in
-    ok-gives _ _ c.run_quietly.result
-    (λ turns made. ran-on g.K.Behaviours.gives origin throughput c.index_mut.result.now c.run_quietly.new.handle built.handles.items c.requires.not_empty
-    c.index_mut.ensures.value (record { turns = turns_in turns; made = made })) c.run_quietly.ensures.runs
+    let old = c.args.built.now in let ran = c.run_quietly in let gives = g.K.Behaviours.gives in let origin = origin_of old.system.gates in
+    let throughput = old.system.throughput in let first = c.deref_mut.result.now in
+    let handles = with_items_is old.handles ran.new.handles (ran.auto.handles ∙ ap length c.deref_mut.ensures.value ∙ sym old.handles.ok.0) in
+    ok-gives _ _ ran.result
+    (λ all did. subst (AllOnlyRuns gives origin throughput old.handles.items) (sym handles)
+    (subst (λ l. AllOnlyRuns gives origin throughput l ran.new.handles) c.deref_mut.ensures.value
+    (ran-on gives origin throughput first ran.new.handles
+    (alone-weaker _ _ (λ x y made. record { turns = turns_in all; made = made }) first ran.new.handles did)))) ran.ensures.runs
+
+pub returns-clause-quiet : goal.returns-clause-quiet
+returns-clause-quiet g c =
+    let old = c.args.built.now in let ran = c.run_quietly in let gives = g.K.Behaviours.gives in let origin = origin_of old.system.gates in
+    let throughput = old.system.throughput in let first = c.deref_mut.result.now in
+    let handles = with_items_is old.handles ran.new.handles (ran.auto.handles ∙ ap length c.deref_mut.ensures.value ∙ sym old.handles.ok.0) in
+    let found = on_ok_weaker ran.result
+    (λ done. subst (FoundNothing gives old.system.gates) (sym handles) (found-nothing gives old.system first ran.new.handles done)) ran.ensures.settled in
+    all-ok ran.result found ran.ensures.runs ran.ensures.kept
+    (λ turns nothing made kept. record {
+      found_nothing = nothing;
+      made =
+          subst (λ l. OnlyFirstMade gives origin throughput old.handles.items l (turns_in turns)) (sym handles)
+          (subst (λ l. OnlyFirstMade gives origin throughput l ran.new.handles (turns_in turns)) c.deref_mut.ensures.value
+          (first-made gives origin throughput first ran.new.handles (turns_in turns) made));
+      kept = kept;
+    })

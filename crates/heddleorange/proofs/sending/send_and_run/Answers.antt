@@ -22,7 +22,15 @@ send_each-requires g c =
     }
 
 pub run_first-requires : goal.run_first-requires
-run_first-requires g c = record { same_gates = c.requires.together.handles; not_empty = c.requires.not_empty }
+run_first-requires g c =
+    let old = c.args.built.now.senders in let now = c.send_each.new.senders in
+    record {
+      same_gates = c.requires.together.handles;
+      senders =
+          subst (All (λ s. IsSenderOf c.args.built.now.system.gates s))
+          (sym (with_items_is old now (c.send_each.auto.senders ∙ ap length c.deref_mut.ensures.value ∙ sym old.ok.0))) c.in_ok-send_each.ensures.same_gates;
+      not_empty = c.requires.not_empty;
+    }
 
 pub returns-clause-same_system : goal.returns-clause-same_system
 returns-clause-same_system g c =
@@ -32,7 +40,7 @@ pub returns-clause-ran : goal.returns-clause-ran
 returns-clause-ran g c =
     let old = c.args.built.now in let now = c.send_each.new.senders in let went = c.in_ok-send_each.ensures in let ran = c.run_first.ensures in
     let orders = orders_of c.args.sends.now in let sent = subst (λ l. HaveSent old.system.gates orders l now) c.deref_mut.ensures.value went.sent in
-    let is = ap (λ v. v.items) ran.senders ∙ with_items_is old.senders now (sent.same_count ∙ sym old.senders.ok.0) in
+    let is = ran.senders ∙ with_items_is old.senders now (sent.same_count ∙ sym old.senders.ok.0) in
     on_ok_weaker c.run_first.result
     (sent-and-run g.K.Behaviours.gives orders old c.run_first.new.built now
     (c.requires.same_count ∙ sym (length-mapped (λ (v : Vec Order Global). v.items) c.args.sends.now)) c.requires.together sent went.same_gates is
@@ -45,7 +53,7 @@ pub returns-clause-fault : goal.returns-clause-fault
 returns-clause-fault g c =
     let old = c.args.built.now in let now = c.send_each.new.senders in let ran = c.run_first.ensures in let orders = orders_of c.args.sends.now in
     let sent = subst (λ l. HaveSent old.system.gates orders l now) c.deref_mut.ensures.value c.in_ok-send_each.ensures.sent in
-    let is = ap (λ v. v.items) ran.senders ∙ with_items_is old.senders now (sent.same_count ∙ sym old.senders.ok.0) in
+    let is = ran.senders ∙ with_items_is old.senders now (sent.same_count ∙ sym old.senders.ok.0) in
     err-weaker _ _ c.run_first.result (λ e broken. inr (subst (HaveSent old.system.gates orders old.senders.items) (sym is) sent, broken)) ran.fault
 
 pub returns-in_err-send_each-clause-same_system : goal.returns-in_err-send_each-clause-same_system

@@ -23,7 +23,15 @@ send_in_order-requires g c =
     }
 
 pub run_first-requires : goal.run_first-requires
-run_first-requires g c = record { same_gates = c.requires.together.handles; not_empty = c.requires.not_empty }
+run_first-requires g c =
+    let old = c.args.built.now.senders in let now = c.send_in_order.new.senders in
+    record {
+      same_gates = c.requires.together.handles;
+      senders =
+          subst (All (λ s. IsSenderOf c.args.built.now.system.gates s))
+          (sym (with_items_is old now (c.send_in_order.auto.senders ∙ ap length c.deref_mut.ensures.value ∙ sym old.ok.0))) c.in_ok-send_in_order.ensures.same_gates;
+      not_empty = c.requires.not_empty;
+    }
 
 pub returns-clause-same_system : goal.returns-clause-same_system
 returns-clause-same_system g c =
@@ -34,7 +42,7 @@ returns-clause-ran g c =
     let old = c.args.built.now in let now = c.send_in_order.new.senders in let went = c.in_ok-send_in_order.ensures in let ran = c.run_first.ensures in
     let senders = length old.senders.items in let sends = c.args.sends.now in let orders = lists_of senders sends in
     let sent = subst (λ l. HaveSent old.system.gates (lists_of (length l) sends) l now) c.deref_mut.ensures.value went.sent in
-    let is = ap (λ v. v.items) ran.senders ∙ with_items_is old.senders now (sent.same_count ∙ sym old.senders.ok.0) in
+    let is = ran.senders ∙ with_items_is old.senders now (sent.same_count ∙ sym old.senders.ok.0) in
     on_ok_weaker c.run_first.result
     (sent-and-run g.K.Behaviours.gives orders old c.run_first.new.built now
     (sym (length-lists senders sends ∙ many-from senders sends c.requires.from)) c.requires.together sent went.same_gates is ran.same_system.system
@@ -50,7 +58,7 @@ returns-clause-fault g c =
     let old = c.args.built.now in let gates = old.system.gates in let now = c.send_in_order.new.senders in let ran = c.run_first.ensures in
     let orders = lists_of (length old.senders.items) c.args.sends.now in
     let sent = subst (λ l. HaveSent gates (lists_of (length l) c.args.sends.now) l now) c.deref_mut.ensures.value c.in_ok-send_in_order.ensures.sent in
-    let is = ap (λ v. v.items) ran.senders ∙ with_items_is old.senders now (sent.same_count ∙ sym old.senders.ok.0) in
+    let is = ran.senders ∙ with_items_is old.senders now (sent.same_count ∙ sym old.senders.ok.0) in
     err-weaker _ _ c.run_first.result (λ e broken. inr (subst (HaveSent gates orders old.senders.items) (sym is) sent, broken)) ran.fault
 
 pub returns-in_err-send_in_order-clause-same_system : goal.returns-in_err-send_in_order-clause-same_system

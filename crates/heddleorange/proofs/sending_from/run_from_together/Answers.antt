@@ -9,7 +9,8 @@ use Rattle.heddleorange.specs.FromSources.{orders_given}
 use Rattle.heddleorange.specs.Sent.{HaveSent}
 use Rattle.heddleorange.specs.Workers.{AllOnlyRuns}
 use Rattle.heddleorange.proofs.BrokenOff.{same-break, same-runs}
-use Rattle.heddleorange.proofs.FromSources.{many-given, of-firsts, of-seconds, ok-then, pairs-sent}
+use Rattle.mb_dispatch.proofs.Pairs.{of-firsts}
+use Rattle.heddleorange.proofs.FromSources.{many-given, of-seconds, ok-then, pairs-sent}
 use Rattle.heddleorange.proofs.Sent.{err-weaker, ok-both}
 use Rattle.heddleorange.proofs.SentAndRun.{sent-and-run}
 use Rattle.heddleorange.proofs.sending_from.run_from_together.Goals as goal
@@ -43,14 +44,14 @@ returns-clause-ran g c =
     let handles = with_items_is old.handles ran.new.handles (ran.auto.handles ∙ ap length c.deref_mut.ensures.value ∙ sym old.handles.ok.0) in
     let senders = with_items_is old.senders ran.new.senders (same ∙ ap length c.deref_mut-2.ensures.value ∙ sym old.senders.ok.0) in
     let orders = orders_given (others_of gates) first last in let runs = AllOnlyRuns g.K.Behaviours.gives (origin_of gates) old.system.throughput in
-    ok-both ran.result ran.ensures.done ran.ensures.ran (λ done all.
+    ok-both ran.result ran.ensures.done ran.ensures.worked (λ done worked.
     sent-and-run g.K.Behaviours.gives orders old _ ran.new.senders (c.requires.same_count ∙ sym (many-given (others_of gates) first last long))
     c.requires.together
     (subst (λ l. HaveSent gates orders l ran.new.senders) c.deref_mut-2.ensures.value (pairs-sent gates S.gives S.takes_back _ _ _ _ lent same long done))
     (of-firsts _ (λ (s : OutsideSender). IsSenderOf gates s) (λ a b kept. kept.same_gates) _ _ _ _ lent same ran.ensures.keeps) senders refl
     (subst (AreHandlesOf gates) (sym handles) ran.ensures.keeps_handles.handles.0)
     (subst (StillSee old.handles.items) (sym handles) (subst (λ l. StillSee l ran.new.handles) c.deref_mut.ensures.value ran.ensures.keeps_handles.log_kept))
-    (subst (runs old.handles.items) (sym handles) (subst (λ l. runs l ran.new.handles) c.deref_mut.ensures.value all)))
+    (subst (runs old.handles.items) (sym handles) (subst (λ l. runs l ran.new.handles) c.deref_mut.ensures.value worked.ran)))
 
 pub returns-clause-fault : goal.returns-clause-fault
 returns-clause-fault g c =

@@ -11,7 +11,8 @@ use Rattle.mb_source.specs.Given.{Gave, GaveAll}
 use Rattle.heddleorange.specs.FromSources.{orders_given}
 use Rattle.heddleorange.specs.BrokenOff.{BreaksHereFrom}
 use Rattle.heddleorange.specs.Sent.{HaveSent}
-use Rattle.heddleorange.proofs.FromSources.{many-given, of-firsts, of-seconds, pairs-sent}
+use Rattle.mb_dispatch.proofs.Pairs.{of-firsts}
+use Rattle.heddleorange.proofs.FromSources.{many-given, of-seconds, pairs-sent}
 use Rattle.heddleorange.proofs.PassedOn.{none-of-err}
 use Rattle.heddleorange.proofs.Sent.{err-of}
 use Rattle.heddleorange.proofs.SentAndRun.{sent-and-run}
@@ -24,7 +25,16 @@ send_from_each-requires g c = record {
 }
 
 pub run_first-requires : goal.run_first-requires
-run_first-requires g c = record { same_gates = c.requires.together.handles; not_empty = c.requires.not_empty }
+run_first-requires g c =
+    let old = c.args.built.now in let gates = old.system.gates in let sent = c.send_from_each in let now = sent.new.senders in
+    let lent = ap length c.deref_mut.ensures.value ∙ c.requires.same_count in
+    record {
+      same_gates = c.requires.together.handles;
+      senders =
+          subst (All (λ s. IsSenderOf gates s)) (sym (with_items_is old.senders now (sent.auto.senders ∙ ap length c.deref_mut.ensures.value ∙ sym old.senders.ok.0)))
+          (of-firsts _ (λ (s : OutsideSender). IsSenderOf gates s) (λ a b kept. kept.same_gates) _ _ _ _ lent sent.auto.senders sent.ensures.ended.keeps);
+      not_empty = c.requires.not_empty;
+    }
 
 pub returns-clause-ran : goal.returns-clause-ran
 returns-clause-ran g c =
@@ -34,7 +44,7 @@ returns-clause-ran g c =
     let orders = orders_given (others_of gates) first last in let ended = c.in_ok-send_from_each.ensures.ended in
     let did = subst (λ l. HaveSent gates orders l now) c.deref_mut.ensures.value
     (pairs-sent gates S.gives S.takes_back _ _ _ _ lent same long ended.done) in let ran = c.run_first.ensures in
-    let is = ap (λ v. v.items) ran.senders ∙ with_items_is was now (did.same_count ∙ sym was.ok.0) in
+    let is = ran.senders ∙ with_items_is was now (did.same_count ∙ sym was.ok.0) in
     sent-and-run g.K.Behaviours.gives orders old c.run_first.new.built now (c.requires.same_count ∙ sym (many-given (others_of gates) first last long))
     c.requires.together did (of-firsts _ (λ (s : OutsideSender). IsSenderOf gates s) (λ a b kept. kept.same_gates) _ _ _ _ lent same ended.keeps) is
     ran.same_system.system ran.same_system.same_gates ran.log_kept c.in_ok-run_first.ensures.runs
@@ -112,7 +122,7 @@ returns-in_err-run_first-clause-fault g c =
     let old = c.args.built.now in let gates = old.system.gates in let sent = c.send_from_each in let now = sent.new.senders in
     let first = c.args.sources.now in let last = sent.new.sources in let S = g.S.Source in let error = c.in_err-run_first.field-0.0 in
     let items = with_items_is old.senders now (sent.auto.senders ∙ ap length c.deref_mut.ensures.value ∙ sym old.senders.ok.0) in
-    let is = ap (λ v. v.items) c.run_first.ensures.senders ∙ items in
+    let is = c.run_first.ensures.senders ∙ items in
     err-of (BreaksHereFrom g.K.Behaviours.gives S.gives S.takes_back first last old c.run_first.new.built) c.from_residual-in_err-run_first.result error
     c.from_residual-in_err-run_first.ensures.1 (inr (
       subst (λ (p : List OutsideSender × List OutsideSender). AllZip (IsPairDone gates S.gives S.takes_back) (pairs p.0 first) (pairs p.1 last))

@@ -1,265 +1,66 @@
-use Rattle.std.proofs.Common.{◌≡◌, arith, List, [], ◌∷◌, ◌++◌, ◌∙◌, ap, refl, subst, sym, inl, inr}
-use Rattle.std.specs.Prelude.{IfErr}
-use Rattle.std.proofs.lemmas.Result.{IfOk-from_err}
-use Rattle.std.proofs.lemmas.Grind.{common_steps}
-use Rattle.mb_gate.specs.Accessors.{actors_of, pass_view, pass_id}
-use Rattle.mb_gate.specs.Rule.{IsPart}
-use Rattle.std.specs.Global.{Box}
-use Rattle.std.specs.Prelude.{Option}
-use Rattle.mb_gate.specs.Untouched.{Origin, origin_of}
-use Rattle.mb_home.specs.Contents.{Contents}
-use Rattle.mb_home.specs.Fresh.{IsFreshClaim}
-use Rattle.mb_dead_letters.specs.KeptListView.{KeptListView}
-use Rattle.mb_mailbox.specs.declared.turn.Turn.{Turn}
-use Rattle.mb_system.specs.Members.{handle_caller}
-use Rattle.mb_system.proofs.Obligations.{obligations-left, obligations-same, owes-nothing, discharged-still}
-use Rattle.mb_system.proofs.Saw.{saw-then}
-use Rattle.mb_system.specs.OnlyLooks.{OnlyLooks}
-use Rattle.mb_system.specs.RunErrors.{of_ready}
-use Rattle.mb_dispatch.specs.Claims.{RunsEachClaim}
-use Rattle.mb_dispatch.specs.Faults.{BreaksQuietRun, BreaksWork}
-use Rattle.mb_dispatch.specs.Found.{FoundPoolEmpty}
-use Rattle.mb_dispatch.proofs.Breaking.{breaks-after, breaks-mailbox, breaks-retry}
-use Rattle.mb_dispatch.proofs.Claims.{none-then, claims-registered, claims-registered-all, tried-ran}
+use Rattle.std.proofs.Common.{◌∙◌, ◌<◌, length, set, subst, sym}
+use Rattle.std.proofs.lemmas.List.{with_items_is}
+use Rattle.mb_gate.specs.Accessors.{pass_view}
+use Rattle.mb_gate.specs.Untouched.{origin_of}
+use Rattle.mb_system.specs.Members.{AreHandlesOf}
+use Rattle.mb_dispatch.specs.Alone.{FirstAlone, KeepsAlone}
+use Rattle.mb_dispatch.specs.Faults.{BreaksQuietRun}
+use Rattle.mb_dispatch.specs.Runs.{MadeMoreRuns, turns_in}
+use Rattle.mb_dispatch.specs.Working.{HasSettled}
+use Rattle.mb_dispatch.proofs.Alone.{alone-next, alone-ours, alone-some, alone-then, more-then, quiet-breaks-after}
 use Rattle.mb_system.proofs.RunErrors.{on-error}
-use Rattle.mb_dispatch.specs.Runs.{MadeMoreRuns, RanMailbox}
-use Rattle.mb_dispatch.proofs.Runs.{more-looks, more-none, more-runs, ran-mailbox, runs-looks}
 use Rattle.mb_dispatch.proofs.quiet.continue_quietly.Goals as goal
 
-items-of : {old new : KeptListView Turn} → new ≡ old → new.items ≡ old.items
-items-of = ap (λ (l : KeptListView Turn). l.items)
+pub is_settled-requires-clause-handles : goal.is_settled-requires-clause-handles
+is_settled-requires-clause-handles g c =
+    alone-ours c.args.system.now c.args.handles.now c.loop.handles c.requires.handles c.loop.invariant.0
 
-pub loop-init : goal.loop-init
-loop-init g c =
-    let did = c.register_all.ensures in (
-      did.same_handle.same_gates,
-      did.same_handle.number,
-      did.same_handle.log_kept,
-      did.discharged,
-      more-none g.K.Behaviours.gives (origin_of c.args.system.now.gates) c.args.system.now.throughput (pass_view c.args.handle.now.registrar.pass)
-          (pass_view c.register_all.new.self.registrar.pass) c.args.turns.list.items did.looks_for_work.looks,
-      claims-registered-all c.args.handle.now c.register_all.new.self (actors_of c.args.system.now.gates) did.registered did.log,
-      refl,
-    )
+pub work_quietly-requires-in-loop : goal.work_quietly-requires-in-loop
+work_quietly-requires-in-loop g c =
+    let some = alone-some _ c.args.handles.now c.loop.handles c.loop.invariant.0 in let same = c.is_settled.ensures.same.0 in
+    record {
+      same_gates =
+          subst (λ l. AreHandlesOf c.args.system.now.gates l) (sym same)
+          (alone-ours c.args.system.now c.args.handles.now c.loop.handles c.requires.handles c.loop.invariant.0)
+          0 c.index-handles-0-in-loop.result (subst (λ l. 0 < length l) (sym same) some);
+    }
 
-pub loop-preserved-in-Some-take : goal.loop-preserved-in-Some-take
-loop-preserved-in-Some-take g c =
-    let gives = g.K.Behaviours.gives in let system = c.args.system.now in let first = handle_caller c.args.handle.now.registrar in
-    let turn = c.in_ok-run_mailbox-in-Some-take.field-0 in let did = c.run_mailbox.ensures in let same = c.take.ensures.same in let actors = actors_of c.args.system.now.gates in
-    let old = handle_caller c.loop.handle.registrar in let between = handle_caller c.take.new.self.registrar in let new = handle_caller c.run_mailbox.new.registrar in (
-      did.same_gates,
-      same.3 ∙ c.loop.invariant.1,
-      saw-then _ _ _ c.loop.invariant.2
-          (subst (λ p. IsPart (pass_view p).log (pass_view c.run_mailbox.new.registrar.pass).log) same.0 did.caller_advances.log),
-      discharged-still actors between new
-          (discharged-still actors old between c.loop.invariant.3 (obligations-same actors old between (ap pass_view same.0) same.1))
-          (obligations-left actors between new did.caller_advances),
-      subst (λ turns. MadeMoreRuns gives (origin_of system.gates) system.throughput first.view c.args.turns.list.items turns new.view)
-          (sym {A = List Turn} (◌∙◌ {A = List Turn} c.push.ensures.items (ap {A = List Turn} {B = List Turn} (λ turns. turns ++ turn ∷ []) (items-of c.reserve.ensures.same))))
-          (more-runs gives (origin_of system.gates) system.throughput first.view old.view new.view c.args.turns.list.items c.loop.list.items turn c.loop.invariant.4
-          (subst (λ p. RanMailbox gives (origin_of system.gates) system.throughput (pass_view p) new.view turn) same.0
-          (ran-mailbox gives (origin_of system.gates) system.throughput between.view new.view c.in-Some-take.claim turn
-          (subst (λ (o : Option (Origin (Box Contents))). IsFreshClaim gives o c.in-Some-take.claim) c.loop.invariant.0.1 c.in-Some-take.ensures.untouched)
-          c.in_ok-run_mailbox-in-Some-take.ensures.answer.ran))),
-      tried-ran c.in-Some-take.claim c.args.handle.now c.loop.handle c.take.new.self (record c.take.new.self { registrar = c.run_mailbox.new.registrar }) c.take.result c.in-Some-take.is c.loop.invariant.5 same.0
-          c.take.ensures.account c.take.ensures.log did.back.claims refl,
-      c.push.ensures.same ∙ ap (λ (l : KeptListView Turn). l.retention) c.reserve.ensures.same ∙ c.loop.invariant.6,
-    )
+pub returns-in_err-all-2-clause-alone : goal.returns-in_err-all-2-clause-alone
+returns-in_err-all-2-clause-alone g c =
+    let system = c.args.system.now in let new = c.work_quietly-in-loop.new.handle in
+    alone-next (KeepsAlone system) (KeepsAlone system) (KeepsAlone system) (alone-then system) c.args.handles.now c.is_settled.new.handles
+    c.index-handles-0-in-loop.result new
+    (subst (FirstAlone (KeepsAlone system) c.args.handles.now) (sym c.is_settled.ensures.same.0) c.loop.invariant.0)
+    c.work_quietly-in-loop.ensures.alone
+
+pub returns-in_err-all-2-clause-fault : goal.returns-in_err-all-2-clause-fault
+returns-in_err-all-2-clause-fault g c =
+    let gives = g.K.Behaviours.gives in let system = c.args.system.now in let new = c.work_quietly-in-loop.new.handle in
+    let left = c.from_residual-in_err-all-2 in let error = c.in_err-all-2.field-0.0 in let handles = c.is_settled.new.handles in
+    on-error left.result (λ fault. FirstAlone (λ o n. BreaksQuietRun gives system (pass_view o.registrar.pass) n fault) c.args.handles.now (set handles 0 new)) error
+    left.ensures.1
+    (alone-next _ (λ o n. BreaksQuietRun gives system (pass_view o.registrar.pass) n error) _
+    (λ x y z more broken. quiet-breaks-after gives system (pass_view x.registrar.pass) (pass_view y.registrar.pass) z error
+    (record { turns = more.later; made = more.made }) broken) c.args.handles.now handles c.index-handles-0-in-loop.result new
+    (subst (FirstAlone _ c.args.handles.now) (sym c.is_settled.ensures.same.0) c.loop.invariant.2) c.in_err-all-2.ensures.fault)
 
 pub loop-preserved : goal.loop-preserved
 loop-preserved g c =
-    let gives = g.K.Behaviours.gives in let system = c.args.system.now in let first = handle_caller c.args.handle.now.registrar in
-    let did = c.retry_refused.ensures in let same = c.take.ensures.same in let actors = actors_of c.args.system.now.gates in
-    let old = handle_caller c.loop.handle.registrar in let between = handle_caller c.take.new.self.registrar in let new = handle_caller c.retry_refused.new.self.registrar in (
-      did.same_handle.same_gates,
-      did.same_handle.number ∙ same.3 ∙ c.loop.invariant.1,
-      saw-then _ _ _ c.loop.invariant.2 (subst (λ p. IsPart (pass_view p).log (pass_view c.retry_refused.new.self.registrar.pass).log) same.0 did.same_handle.log_kept),
-      discharged-still actors between new
-          (discharged-still actors old between c.loop.invariant.3 (obligations-same actors old between (ap pass_view same.0) same.1))
-          did.forgets_nothing.obligations,
-      subst (λ turns. MadeMoreRuns gives (origin_of system.gates) system.throughput first.view c.args.turns.list.items turns new.view) (sym {A = List Turn} (items-of c.reserve.ensures.same))
-          (more-looks gives (origin_of system.gates) system.throughput first.view old.view new.view c.args.turns.list.items c.loop.list.items c.loop.invariant.4
-          (subst (λ p. OnlyLooks (pass_view p) new.view) same.0 did.looks_for_work.looks)),
-      none-then c.args.handle.now c.loop.handle c.take.new.self c.retry_refused.new.self c.in-None-take.ensures.none.0 c.loop.invariant.5
-          (claims-registered c.take.new.self c.retry_refused.new.self did.forgets_nothing.handed did.log),
-      ap (λ (l : KeptListView Turn). l.retention) c.reserve.ensures.same ∙ c.loop.invariant.6,
+    let gives = g.K.Behaviours.gives in let system = c.args.system.now in let new = c.work_quietly-in-loop.new.handle in
+    let same = c.is_settled.ensures.same in let did = c.in_ok-all-2.ensures in let at = c.loop.invariant in
+    let first = c.args.handles.now in let handles = c.is_settled.new.handles in let other = c.index-handles-0-in-loop.result in
+    let origin = origin_of system.gates in let kept = subst (FirstAlone (KeepsAlone system) first) (sym same.0) at.0 in (
+      alone-next (KeepsAlone system) (KeepsAlone system) (KeepsAlone system) (alone-then system) first handles other new kept did.alone,
+      alone-next (KeepsAlone system) (λ o n. HasSettled gives system n) (λ o n. HasSettled gives system n) (λ x y z k settled. settled) first handles other new
+          kept did.settled,
+      alone-next
+          (λ o n. MadeMoreRuns gives origin system.throughput (pass_view o.registrar.pass) (turns_in c.args.turns) (turns_in c.loop.all) (pass_view n.registrar.pass))
+          (λ o n. MadeMoreRuns gives origin system.throughput (pass_view o.registrar.pass) (turns_in c.loop.all) (turns_in c.in_ok-all-2.all) (pass_view n.registrar.pass))
+          (λ o n. MadeMoreRuns gives origin system.throughput (pass_view o.registrar.pass) (turns_in c.args.turns) (turns_in c.in_ok-all-2.all) (pass_view n.registrar.pass))
+          (λ x y z before more. more-then gives origin system.throughput (pass_view x.registrar.pass) (pass_view y.registrar.pass) (pass_view z.registrar.pass)
+          (turns_in c.args.turns) (turns_in c.loop.all) (turns_in c.in_ok-all-2.all) before more) first handles other new
+          (subst (FirstAlone _ first) (sym same.0) at.2) did.runs,
+      did.kept ∙ at.3,
+      same.2 ∙ at.4,
+      with_items_is c.loop.no_jobs c.is_settled.new.jobs (c.is_settled.auto.jobs ∙ c.deref_mut.ensures.len) ∙ same.1 ∙ c.deref_mut.ensures.value ∙ at.5,
     )
-
-pub returns-in_err-run_mailbox-in-Some-take-clause-obligations : goal.returns-in_err-run_mailbox-in-Some-take-clause-obligations
-returns-in_err-run_mailbox-in-Some-take-clause-obligations g c =
-    let same = c.take.ensures.same in let actors = actors_of c.args.system.now.gates in
-    let old = handle_caller c.loop.handle.registrar in let between = handle_caller c.take.new.self.registrar in let new = handle_caller c.run_mailbox.new.registrar in
-    discharged-still actors between new
-    (discharged-still actors old between c.loop.invariant.3 (obligations-same actors old between (ap pass_view same.0) same.1))
-    (obligations-left actors between new c.run_mailbox.ensures.caller_advances)
-
-pub returns-in_err-retry_refused-in-None-take-clause-obligations : goal.returns-in_err-retry_refused-in-None-take-clause-obligations
-returns-in_err-retry_refused-in-None-take-clause-obligations g c =
-    let same = c.take.ensures.same in let actors = actors_of c.args.system.now.gates in
-    let old = handle_caller c.loop.handle.registrar in let between = handle_caller c.take.new.self.registrar in let new = handle_caller c.retry_refused.new.self.registrar in
-    discharged-still actors between new
-    (discharged-still actors old between c.loop.invariant.3 (obligations-same actors old between (ap pass_view same.0) same.1)) c.retry_refused.ensures.forgets_nothing.obligations
-
-pub returns-then-is_empty-clause-obligations : goal.returns-then-is_empty-clause-obligations
-returns-then-is_empty-clause-obligations g c =
-    let same = c.take.ensures.same in let actors = actors_of c.args.system.now.gates in
-    let old = handle_caller c.loop.handle.registrar in let new = handle_caller c.take.new.self.registrar in
-    discharged-still actors old new c.loop.invariant.3 (obligations-same actors old new (ap pass_view same.0) same.1)
-
-pub returns-then-is_empty-clause-runs : goal.returns-then-is_empty-clause-runs
-returns-then-is_empty-clause-runs g c =
-    let gives = g.K.Behaviours.gives in let system = c.args.system.now in let first = pass_view c.args.handle.now.registrar.pass in
-    let earlier = c.args.turns.list.items in
-    subst (λ turns. MadeMoreRuns gives (origin_of system.gates) system.throughput first earlier turns (pass_view c.take.new.self.registrar.pass)) (sym {A = List Turn} (items-of c.reserve.ensures.same))
-    (subst (λ p. MadeMoreRuns gives (origin_of system.gates) system.throughput first earlier c.loop.list.items (pass_view p)) (sym c.take.ensures.same.0) c.loop.invariant.4)
-
-pub returns-then-is_err-clause-runs : goal.returns-then-is_err-clause-runs
-returns-then-is_err-clause-runs g c = tt
-
-pub returns-in_err-run_mailbox-in-Some-take-clause-runs : goal.returns-in_err-run_mailbox-in-Some-take-clause-runs
-returns-in_err-run_mailbox-in-Some-take-clause-runs g c = IfOk-from_err c.from_residual.result _ c.from_residual.ensures.0
-
-pub returns-in_err-retry_refused-in-None-take-clause-runs : goal.returns-in_err-retry_refused-in-None-take-clause-runs
-returns-in_err-retry_refused-in-None-take-clause-runs g c =
-    let left = c.from_residual-in_err-retry_refused-in-None-take in IfOk-from_err left.result _ left.ensures.0
-
-pub run_mailbox-requires-clause-same_gates : goal.run_mailbox-requires-clause-same_gates
-run_mailbox-requires-clause-same_gates g c =
-    let same = c.take.ensures.same in let ours = c.loop.invariant.0 in (ap pass_id same.0 ∙ ours.0, same.2 ∙ ours.1, ours.2)
-
-pub run_mailbox-requires-clause-same_count : goal.run_mailbox-requires-clause-same_count
-run_mailbox-requires-clause-same_count g c = c.args.system.now.directory
-
-pub run_mailbox-requires-clause-untouched : goal.run_mailbox-requires-clause-untouched
-run_mailbox-requires-clause-untouched g c =
-    subst (λ (o : Option (Origin (Box Contents))). IsFreshClaim g.K.Behaviours.gives o c.in-Some-take.claim) c.loop.invariant.0.1 c.in-Some-take.ensures.untouched
-
-pub returns-then-is_err-clause-same_handle : goal.returns-then-is_err-clause-same_handle
-returns-then-is_err-clause-same_handle g c = record {
-  same_gates = c.loop.invariant.0;
-  number = c.loop.invariant.1;
-  log_kept = c.loop.invariant.2;
-}
-
-pub returns-then-is_err-clause-obligations : goal.returns-then-is_err-clause-obligations
-returns-then-is_err-clause-obligations g c = c.loop.invariant.3
-
-pub returns-then-is_err-clause-settled : goal.returns-then-is_err-clause-settled
-returns-then-is_err-clause-settled g c = tt
-
-pub returns-then-is_err-clause-fault : goal.returns-then-is_err-clause-fault
-returns-then-is_err-clause-fault g c = inl (refl, record { turns = c.loop.invariant.4.later; made = c.loop.invariant.4.made })
-
-pub returns-in_err-run_mailbox-in-Some-take-clause-fault : goal.returns-in_err-run_mailbox-in-Some-take-clause-fault
-returns-in_err-run_mailbox-in-Some-take-clause-fault g c =
-    let gives = g.K.Behaviours.gives in let system = c.args.system.now in let new = record c.take.new.self { registrar = c.run_mailbox.new.registrar } in
-    let start = pass_view c.args.handle.now.registrar.pass in let old = pass_view c.loop.handle.registrar.pass in
-    let failed = c.in_err-run_mailbox-in-Some-take in let error = of_ready failed.field-0.0 in
-    let fresh = subst (λ (o : Option (Origin (Box Contents))). IsFreshClaim gives o c.in-Some-take.claim) c.loop.invariant.0.1 c.in-Some-take.ensures.untouched in
-    on-error c.from_residual.result (BreaksQuietRun gives system start new) error c.from_residual.ensures.1
-    (inr (breaks-after gives system start old new error (record { turns = c.loop.invariant.4.later; made = c.loop.invariant.4.made })
-    (subst (λ p. BreaksWork gives system (pass_view p) new error) c.take.ensures.same.0
-    (breaks-mailbox gives system (pass_view c.take.new.self.registrar.pass) new c.in-Some-take.claim fresh c.run_mailbox.result failed.field-0.0 failed.was
-    c.run_mailbox.ensures.answer.ran c.run_mailbox.ensures.answer.out_of_memory))))
-
-pub returns-in_err-retry_refused-in-None-take-clause-fault : goal.returns-in_err-retry_refused-in-None-take-clause-fault
-returns-in_err-retry_refused-in-None-take-clause-fault g c =
-    let gives = g.K.Behaviours.gives in let system = c.args.system.now in let handle = c.retry_refused.new.self in
-    let retried = c.retry_refused.ensures in let left = c.from_residual-in_err-retry_refused-in-None-take in
-    let start = pass_view c.args.handle.now.registrar.pass in let old = pass_view c.loop.handle.registrar.pass in let new = pass_view handle.registrar.pass in
-    let made = runs-looks gives (origin_of system.gates) system.throughput start old new c.loop.invariant.4.later c.loop.invariant.4.made
-    (subst (λ p. OnlyLooks (pass_view p) new) c.take.ensures.same.0 retried.looks_for_work.looks) in
-    on-error left.result (BreaksQuietRun gives system start handle) _ left.ensures.1
-    (inr (subst (λ r. IfErr r (BreaksWork gives system start handle)) c.in_err-retry_refused-in-None-take.was
-    (breaks-retry gives system start handle (handle_caller c.take.new.self.registrar).account _ c.retry_refused.result retried.stops retried.refused
-    (record { turns = c.loop.invariant.4.later; made = made }))))
-
-pub returns-in_err-run_mailbox-in-Some-take-clause-same_handle : goal.returns-in_err-run_mailbox-in-Some-take-clause-same_handle
-returns-in_err-run_mailbox-in-Some-take-clause-same_handle g c = record {
-  same_gates = c.run_mailbox.ensures.same_gates;
-  number =
-      c.take.ensures.same.3 ∙ c.loop.invariant.1;
-  log_kept =
-      saw-then _ _ _ c.loop.invariant.2
-      (subst (λ p. IsPart (pass_view p).log (pass_view c.run_mailbox.new.registrar.pass).log) c.take.ensures.same.0 c.run_mailbox.ensures.caller_advances.log);
-}
-
-pub returns-in_err-retry_refused-in-None-take-clause-same_handle : goal.returns-in_err-retry_refused-in-None-take-clause-same_handle
-returns-in_err-retry_refused-in-None-take-clause-same_handle g c = record {
-  same_gates = c.retry_refused.ensures.same_handle.same_gates;
-  number = c.retry_refused.ensures.same_handle.number ∙ c.take.ensures.same.3 ∙ c.loop.invariant.1;
-  log_kept =
-      saw-then _ _ _ c.loop.invariant.2
-      (subst (λ p. IsPart (pass_view p).log (pass_view c.retry_refused.new.self.registrar.pass).log) c.take.ensures.same.0 c.retry_refused.ensures.same_handle.log_kept);
-}
-
-pub returns-then-is_empty-clause-same_handle : goal.returns-then-is_empty-clause-same_handle
-returns-then-is_empty-clause-same_handle g c = record {
-  same_gates =
-      let same = c.take.ensures.same in let ours = c.loop.invariant.0 in (ap pass_id same.0 ∙ ours.0, same.2 ∙ ours.1, ours.2);
-  number = c.take.ensures.same.3 ∙ c.loop.invariant.1;
-  log_kept =
-      subst (λ p. IsPart (pass_view c.args.handle.now.registrar.pass).log (pass_view p).log) (sym c.take.ensures.same.0) c.loop.invariant.2;
-}
-
-pub returns-then-is_empty-clause-fault : goal.returns-then-is_empty-clause-fault
-returns-then-is_empty-clause-fault g c = tt
-
-pub returns-in_err-run_mailbox-in-Some-take-clause-settled : goal.returns-in_err-run_mailbox-in-Some-take-clause-settled
-returns-in_err-run_mailbox-in-Some-take-clause-settled g c = IfOk-from_err c.from_residual.result _ c.from_residual.ensures.0
-
-pub returns-then-is_empty-clause-settled : goal.returns-then-is_empty-clause-settled
-returns-then-is_empty-clause-settled g c = record {
-  discharged = c.is_empty.ensures.nobody c.if-is_empty.true;
-  settled =
-      let same = c.take.ensures.same in let actors = actors_of c.args.system.now.gates in
-      let old = handle_caller c.loop.handle.registrar in let new = handle_caller c.take.new.self.registrar in
-      owes-nothing actors new (discharged-still actors old new c.loop.invariant.3 (obligations-same actors old new (ap pass_view same.0) same.1))
-      (λ id lt. c.is_empty.ensures.nobody c.if-is_empty.true id);
-  empty =
-      let none = c.in-None-take.ensures.none in subst (FoundPoolEmpty g.K.Behaviours.gives) (sym none.0) (none.1, none.2);
-}
-
-pub returns-in_err-retry_refused-in-None-take-clause-settled : goal.returns-in_err-retry_refused-in-None-take-clause-settled
-returns-in_err-retry_refused-in-None-take-clause-settled g c =
-    let left = c.from_residual-in_err-retry_refused-in-None-take in IfOk-from_err left.result _ left.ensures.0
-
-pub retry_refused-requires : goal.retry_refused-requires
-retry_refused-requires g c =
-    let same = c.take.ensures.same in let ours = c.loop.invariant.0 in
-    record { same_gates = (ap pass_id same.0 ∙ ours.0, same.2 ∙ ours.1, ours.2) }
-
-pub push-requires : goal.push-requires
-push-requires g c =
-    let room = c.reserve.ensures.room in let went = c.if-is_err.false in let is = c.is_err.ensures in grind (arith, common_steps)
-
-pub returns-in_err-run_mailbox-in-Some-take-clause-claims : goal.returns-in_err-run_mailbox-in-Some-take-clause-claims
-returns-in_err-run_mailbox-in-Some-take-clause-claims g c =
-    let did = c.run_mailbox.ensures in let took = c.take.ensures in
-    tried-ran c.in-Some-take.claim c.args.handle.now c.loop.handle c.take.new.self (record c.take.new.self { registrar = c.run_mailbox.new.registrar }) c.take.result c.in-Some-take.is c.loop.invariant.5
-    took.same.0 took.account took.log did.back.claims refl
-
-pub returns-in_err-retry_refused-in-None-take-clause-claims : goal.returns-in_err-retry_refused-in-None-take-clause-claims
-returns-in_err-retry_refused-in-None-take-clause-claims g c =
-    let did = c.retry_refused.ensures in
-    none-then c.args.handle.now c.loop.handle c.take.new.self c.retry_refused.new.self c.in-None-take.ensures.none.0 c.loop.invariant.5
-    (claims-registered c.take.new.self c.retry_refused.new.self did.forgets_nothing.handed did.log)
-
-pub returns-then-is_empty-clause-claims : goal.returns-then-is_empty-clause-claims
-returns-then-is_empty-clause-claims g c = subst (RunsEachClaim c.args.handle.now) (sym c.in-None-take.ensures.none.0) c.loop.invariant.5
-
-pub returns-then-is_err-clause-claims : goal.returns-then-is_err-clause-claims
-returns-then-is_err-clause-claims g c = c.loop.invariant.5
-
-pub returns-then-is_err-clause-kept : goal.returns-then-is_err-clause-kept
-returns-then-is_err-clause-kept g c = tt
-
-pub returns-in_err-run_mailbox-in-Some-take-clause-kept : goal.returns-in_err-run_mailbox-in-Some-take-clause-kept
-returns-in_err-run_mailbox-in-Some-take-clause-kept g c = IfOk-from_err c.from_residual.result _ c.from_residual.ensures.0
-
-pub returns-in_err-retry_refused-in-None-take-clause-kept : goal.returns-in_err-retry_refused-in-None-take-clause-kept
-returns-in_err-retry_refused-in-None-take-clause-kept g c =
-    let left = c.from_residual-in_err-retry_refused-in-None-take in IfOk-from_err left.result _ left.ensures.0
-
-pub returns-then-is_empty-clause-kept : goal.returns-then-is_empty-clause-kept
-returns-then-is_empty-clause-kept g c = ap (λ (l : KeptListView Turn). l.retention) c.reserve.ensures.same ∙ c.loop.invariant.6

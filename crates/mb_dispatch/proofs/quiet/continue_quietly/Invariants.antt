@@ -1,16 +1,14 @@
-use Rattle.std.proofs.Common.{◌≡◌}
-use Rattle.mb_gate.specs.Accessors.{actors_of, pass_view}
-use Rattle.mb_gate.specs.Rule.{IsPart}
+use Rattle.std.proofs.Common.{◌≡◌, []}
+use Rattle.mb_gate.specs.Accessors.{pass_view}
 use Rattle.mb_gate.specs.Untouched.{origin_of}
-use Rattle.mb_system.specs.Obligations.{AreDischargedOrOwed}
-use Rattle.mb_system.specs.Members.{IsHandleOf, handle_caller}
-use Rattle.mb_dispatch.specs.Claims.{RunsEachClaim}
-use Rattle.mb_dispatch.specs.Runs.{MadeMoreRuns}
+use Rattle.mb_dispatch.specs.Alone.{FirstAlone, KeepsAlone}
+use Rattle.mb_dispatch.specs.Runs.{MadeMoreRuns, turns_in}
+use Rattle.mb_dispatch.specs.Working.{HasSettled}
 use Rattle.mb_dispatch.proofs.quiet.continue_quietly.Given as goal
 
 abbrev pub invariant-loop : goal.invariant-loop
 invariant-loop g l =
-    IsHandleOf l.system.gates l.handle.registrar × (l.handle.number ≡ l.fn.handle.number)
-    × IsPart (pass_view l.fn.handle.registrar.pass).log (pass_view l.handle.registrar.pass).log × AreDischargedOrOwed (actors_of l.system.gates) (handle_caller l.handle.registrar)
-    × MadeMoreRuns g.K.Behaviours.gives (origin_of l.system.gates) l.system.throughput (pass_view l.fn.handle.registrar.pass) l.fn.turns.list.items l.list.items (pass_view l.handle.registrar.pass)
-    × RunsEachClaim l.fn.handle l.handle × (l.list.retention ≡ l.fn.turns.list.retention)
+    FirstAlone (KeepsAlone l.system) l.fn.handles l.handles × FirstAlone (λ o n. HasSettled g.K.Behaviours.gives l.system n) l.fn.handles l.handles
+    × FirstAlone (λ o n. MadeMoreRuns g.K.Behaviours.gives (origin_of l.system.gates) l.system.throughput (pass_view o.registrar.pass) (turns_in l.fn.turns)
+    (turns_in l.all) (pass_view n.registrar.pass)) l.fn.handles l.handles
+    × (l.all.list.retention ≡ l.fn.turns.list.retention) × (l.senders ≡ l.fn.senders) × (l.no_jobs.items ≡ [])

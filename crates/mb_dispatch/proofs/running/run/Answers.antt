@@ -1,13 +1,16 @@
-use Rattle.std.proofs.Common.{◌∙◌, [], sym, subst}
+use Rattle.std.proofs.Common.{◌≡◌, ◌∙◌, ◌++◌, [], ap, map, sym, subst}
+use Rattle.std.proofs.lemmas.List.{append-nil}
 use Rattle.std.proofs.lemmas.Result.{on_ok_weaker}
 use Rattle.mb_gate.specs.Accessors.{actors_of}
-use Rattle.mb_system.specs.Members.{handle_caller, sender_caller}
+use Rattle.mb_system.specs.Members.{OutsideSender, handle_caller, sender_caller}
+use Rattle.mb_system.specs.Obligations.{AreDischargedOrOwed, HasNoObligationTo}
 use Rattle.mb_system.proofs.Obligations.{obligations-then}
 use Rattle.mb_system.proofs.Saw.{saw-then}
+use Rattle.mb_dispatch.specs.AtRest.{IsAtRest}
 use Rattle.mb_dispatch.specs.Jobs.{AreDone, KeepJobs}
 use Rattle.mb_dispatch.proofs.Claims.{claims-then}
 use Rattle.mb_dispatch.proofs.Continuing.{done-after, first-still, ours-after, ran-of, ran-then, run-breaks, worked-then}
-use Rattle.mb_dispatch.proofs.Discharged.{all-by, all-done, both-ok, none-owed}
+use Rattle.mb_dispatch.proofs.Discharged.{all-by, all-done-of, both-ok, none-owed}
 use Rattle.mb_dispatch.proofs.Sides.{on_ok, same_after, zip_then}
 use Rattle.mb_dispatch.proofs.running.run.Goals as goal
 
@@ -41,12 +44,12 @@ returns-clause-keeps_handles g c = record {
 
 pub returns-clause-keeps_jobs : goal.returns-clause-keeps_jobs
 returns-clause-keeps_jobs g c =
-    subst (λ l. KeepJobs c.args.system.now.gates c.args.jobs.now l) (sym c.settle.ensures.jobs) c.run_once.ensures.keeps_jobs
+    subst (λ l. KeepJobs c.args.system.now.gates c.args.jobs.now l) (sym c.settle.ensures.others.0) c.run_once.ensures.keeps_jobs
 
 pub returns-clause-done : goal.returns-clause-done
 returns-clause-done g c =
     on_ok c.settle.result
-    (subst (λ l. AreDone c.args.system.now.gates c.args.jobs.now l) (sym c.settle.ensures.jobs)
+    (subst (λ l. AreDone c.args.system.now.gates c.args.jobs.now l) (sym c.settle.ensures.others.0)
     c.in_ok-run_once.ensures.done)
 
 pub returns-clause-fault : goal.returns-clause-fault
@@ -76,15 +79,20 @@ returns-clause-at_rest g c =
     let ended = c.settle.ensures.ended in
     let kept = zip_then _ _ _ (λ x y z p kept. obligations-then actors (handle_caller x.registrar) (handle_caller y.registrar) (handle_caller z.registrar) p kept.obligations)
     _ _ _ c.run_once.ensures.keeps_handles.obligations ended.keeps in
-    let jobs_done = subst (λ l. AreDone system.gates c.args.jobs.now l) (sym c.settle.ensures.jobs) c.in_ok-run_once.ensures.done in
+    let jobs_done = subst (λ l. AreDone system.gates c.args.jobs.now l) (sym c.settle.ensures.others.0) c.in_ok-run_once.ensures.done in
+    let none : c.settle.new.senders ≡ [] = c.settle.ensures.others.1 ∙ c.deref_mut.ensures.value ∙ c.new-no_senders.ensures.items in
     both-ok c.settle.result
     (λ worked rests. record {
-      no_claim = rests;
+      no_claim =
+          subst (IsAtRest system c.settle.new.handles)
+          (ap (λ l. map (λ job. job.sender) c.settle.new.jobs ++ l) none ∙ append-nil (map (λ job. job.sender) c.settle.new.jobs)) rests;
       no_obligation = λ before. (
         all-by _ _ _ _ (λ x y p owed none. none-owed actors (handle_caller x.registrar) (handle_caller y.registrar) p owed none) _ _ kept before.0
             (done-after gives system _ _ worked).0,
-        all-done _ _ _ (λ x y done owed. none-owed actors (sender_caller x.sender.registrar) (sender_caller y.sender.registrar) done.obligations owed done.nobody)
-            _ _ jobs_done before.1,
+        all-done-of (λ job. job.sender) _ (λ (s : OutsideSender). AreDischargedOrOwed actors (sender_caller s.registrar))
+            (λ (s : OutsideSender). HasNoObligationTo actors (sender_caller s.registrar))
+            (λ x y done owed. none-owed actors (sender_caller x.sender.registrar) (sender_caller y.sender.registrar) done.obligations owed done.nobody) _ _ jobs_done
+            before.1,
       );
     })
     ended.done c.settle.ensures.at_rest

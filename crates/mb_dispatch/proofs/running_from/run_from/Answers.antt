@@ -1,83 +1,102 @@
-use Rattle.std.proofs.Common.{◌∙◌, []}
+use Rattle.std.proofs.Common.{All, ◌≡◌, ◌∙◌, ◌++◌, [], ap, inl, map, subst, sym}
 use Rattle.std.proofs.lemmas.Result.{on_ok_weaker}
+use Rattle.std.specs.List.{AllZip}
 use Rattle.mb_gate.specs.Accessors.{actors_of}
-use Rattle.mb_source.proofs.Crossing.{recorded_send}
-use Rattle.mb_system.specs.Members.{handle_caller}
-use Rattle.mb_system.proofs.Crossing.{handle_send, passed_send, passed_sync, sender_send, system_sync}
+use Rattle.mb_system.specs.Members.{IsSenderOf, OutsideSender, handle_caller, sender_caller}
+use Rattle.mb_system.specs.Obligations.{AreDischargedOrOwed, HasNoObligationTo, KeepsObligations, OwesNobody}
 use Rattle.mb_system.proofs.Obligations.{obligations-then}
 use Rattle.mb_system.proofs.Saw.{saw-then}
-use Rattle.mb_dispatch.specs.Sources.{BreaksPair, IsPairDone}
-use Rattle.mb_dispatch.proofs.Breaking.{breaks-beside, runs-or-broke-then, worked-then}
+use Rattle.mb_dispatch.specs.AtRest.{IsAtRest}
+use Rattle.mb_dispatch.specs.Paired.{pairs}
+use Rattle.mb_dispatch.specs.Sources.{IsPairDone, KeepsPair}
 use Rattle.mb_dispatch.proofs.Claims.{claims-then}
-use Rattle.mb_dispatch.proofs.FromSource.{all-ready}
-use Rattle.mb_dispatch.proofs.Sides.{all_after, ok_first, ok_rest, same_after, zip_then}
+use Rattle.mb_dispatch.proofs.Continuing.{done-after, err-weaker, first-still, ours-after, ran-of, ran-then, run-fails, worked-then}
+use Rattle.mb_dispatch.proofs.Discharged.{all-by, all-done, both-ok, none-owed}
+use Rattle.mb_dispatch.proofs.Pairs.{of-firsts, zip-firsts}
+use Rattle.mb_dispatch.proofs.Sides.{on_ok, same_after, zip_then}
 use Rattle.mb_dispatch.proofs.running_from.run_from.Goals as goal
 
-pub pairs_in_parallel-of_senders-requires-sync-S : goal.pairs_in_parallel-of_senders-requires-sync-S
-pairs_in_parallel-of_senders-requires-sync-S g c κs within =
-    passed_sync 1 _ _ (system_sync _ _ g.A.Actor g.K.Behaviours c.type_bounds.send-A c.type_bounds.send-K)
+pub settle-requires-clause-handles : goal.settle-requires-clause-handles
+settle-requires-clause-handles g c = c.run_from_once.ensures.keeps_handles.handles.0
 
-pub pairs_in_parallel-of_senders-requires-send-V : goal.pairs_in_parallel-of_senders-requires-send-V
-pairs_in_parallel-of_senders-requires-send-V g c κs within = passed_send 2 _ _ (recorded_send _ g.S.Source c.type_bounds.send-S)
+pub settle-requires-clause-senders : goal.settle-requires-clause-senders
+settle-requires-clause-senders g c =
+    of-firsts _ (λ (s : OutsideSender). IsSenderOf c.args.system.now.gates s) (λ a b kept. kept.same_gates) _ _ _ _ c.requires.same_count
+    c.run_from_once.auto.senders c.run_from_once.ensures.keeps
 
-pub pairs_in_parallel-of_senders-requires-send-T : goal.pairs_in_parallel-of_senders-requires-send-T
-pairs_in_parallel-of_senders-requires-send-T g c κs within =
-    passed_send 3 _ _ (sender_send _ _ g.A.Actor g.K.Behaviours c.type_bounds.send-A c.type_bounds.send-K)
-
-pub pairs_in_parallel-of_senders-requires-send-U : goal.pairs_in_parallel-of_senders-requires-send-U
-pairs_in_parallel-of_senders-requires-send-U g c κs within =
-    passed_send 4 _ _ (handle_send _ _ g.A.Actor g.K.Behaviours c.type_bounds.send-A c.type_bounds.send-K)
-
-pub pairs_in_parallel-of_senders-requires-clause-these_ready : goal.pairs_in_parallel-of_senders-requires-clause-these_ready
-pairs_in_parallel-of_senders-requires-clause-these_ready g c κs within =
-    record { same_count = c.requires.same_count; ready = all-ready _ _ _ c.requires.same_gates }
-
-pub pairs_in_parallel-of_senders-requires-clause-those_ready : goal.pairs_in_parallel-of_senders-requires-clause-those_ready
-pairs_in_parallel-of_senders-requires-clause-those_ready g c κs within = c.register_by_first.ensures.handles.0
-
-pub register_by_first-requires : goal.register_by_first-requires
-register_by_first-requires g c = c.requires.handles
+pub settle-requires-clause-worked : goal.settle-requires-clause-worked
+settle-requires-clause-worked g c = (c.in_ok-run_from_once.ensures.worked.discharged, c.in_ok-run_from_once.ensures.worked.empty)
 
 pub returns-clause-keeps_handles : goal.returns-clause-keeps_handles
 returns-clause-keeps_handles g c = record {
   handles =
-      let each = c.pairs_in_parallel-of_senders.ensures.those.keeps in (
-        all_after _ _ (λ old new kept. kept.of_system) _ _ each,
-        same_after _ _ (λ old new kept. kept.number) _ _ each ∙ c.register_by_first.ensures.handles.1,
-      );
+      let each = c.settle.ensures.ended.keeps in
+      (ours-after g.K.Behaviours.gives c.args.system.now _ _ each, same_after _ _ (λ o n k. k.number) _ _ each ∙ c.run_from_once.ensures.keeps_handles.handles.1);
   log_kept =
-      zip_then _ _ _ (λ x y z saw kept. saw-then _ _ _ saw kept.log_kept) _ _ _ c.register_by_first.ensures.log_kept
-      c.pairs_in_parallel-of_senders.ensures.those.keeps;
+      zip_then _ _ _ (λ x y z saw kept. saw-then _ _ _ saw kept.log_kept) _ _ _ c.run_from_once.ensures.keeps_handles.log_kept c.settle.ensures.ended.keeps;
   obligations =
       let actors = actors_of c.args.system.now.gates in
       zip_then _ _ _ (λ x y z p kept. obligations-then actors (handle_caller x.registrar) (handle_caller y.registrar) (handle_caller z.registrar) p kept.obligations) _ _ _
-      c.register_by_first.ensures.obligations c.pairs_in_parallel-of_senders.ensures.those.keeps;
+      c.run_from_once.ensures.keeps_handles.obligations c.settle.ensures.ended.keeps;
   claims =
-      zip_then _ _ _ (λ x y z ran kept. claims-then [] x y z ran kept.claims) _ _ _ c.register_by_first.ensures.claims
-      c.pairs_in_parallel-of_senders.ensures.those.keeps;
+      zip_then _ _ _ (λ x y z ran kept. claims-then [] x y z ran kept.claims) _ _ _ c.run_from_once.ensures.keeps_handles.claims c.settle.ensures.ended.keeps;
   runs =
-      zip_then _ _ _ (λ x y z looks kept. runs-or-broke-then g.K.Behaviours.gives c.args.system.now x y z looks kept.runs) _ _ _
-      c.register_by_first.ensures.looks c.pairs_in_parallel-of_senders.ensures.those.keeps;
+      zip_then _ _ _ (λ x y z ran kept. ran-then g.K.Behaviours.gives c.args.system.now x y z ran kept.runs) _ _ _
+      c.in_ok-run_from_once.ensures.worked.ran c.settle.ensures.ended.keeps;
 }
 
-pub returns-clause-ran : goal.returns-clause-ran
-returns-clause-ran g c =
-    let of = c.pairs_in_parallel-of_senders.result in
-    ok_first _ of.1 of.0 c.first_error.result c.first_error.ensures
-    (on_ok_weaker _
-    (zip_then _ _ _ (λ x y z looks worked. (worked-then g.K.Behaviours.gives c.args.system.now x y z looks worked).2) _ _ _ c.register_by_first.ensures.looks)
-    c.pairs_in_parallel-of_senders.ensures.those.done)
-
 pub returns-clause-keeps : goal.returns-clause-keeps
-returns-clause-keeps g c = c.pairs_in_parallel-of_senders.ensures.these.keeps
+returns-clause-keeps g c =
+    subst (λ l. AllZip (KeepsPair c.args.system.now.gates g.S.Source.gives g.S.Source.takes_back) (pairs c.args.senders.now c.args.sources.now)
+    (pairs l c.run_from_once.new.sources)) (sym c.settle.ensures.others.1) c.run_from_once.ensures.keeps
 
 pub returns-clause-done : goal.returns-clause-done
 returns-clause-done g c =
-    let of = c.pairs_in_parallel-of_senders.result in
-    ok_rest _ of.1 of.0 c.first_error.result c.first_error.ensures c.pairs_in_parallel-of_senders.ensures.these.done
+    on_ok c.settle.result
+    (subst (λ l. AllZip (IsPairDone c.args.system.now.gates g.S.Source.gives g.S.Source.takes_back) (pairs c.args.senders.now c.args.sources.now)
+    (pairs l c.run_from_once.new.sources)) (sym c.settle.ensures.others.1) c.in_ok-run_from_once.ensures.done)
 
 pub returns-clause-fault : goal.returns-clause-fault
 returns-clause-fault g c =
-    let of = c.pairs_in_parallel-of_senders.result in let did = c.pairs_in_parallel-of_senders.ensures in let gates = c.args.system.now.gates in
-    breaks-beside g.K.Behaviours.gives c.args.system.now (IsPairDone gates g.S.Source.gives g.S.Source.takes_back) (λ error o n. BreaksPair gates o n error)
-    _ _ _ _ _ of.1 of.0 c.first_error.result c.register_by_first.ensures.looks c.first_error.ensures did.those.done did.those.fails did.these.fails
+    err-weaker _ _ c.settle.result (λ error failed. inl failed)
+    (run-fails g.K.Behaviours.gives c.args.system.now _ _ _ c.in_ok-run_from_once.ensures.worked.ran c.settle.result c.settle.ensures.ended)
+
+pub returns-clause-worked : goal.returns-clause-worked
+returns-clause-worked g c =
+    let gives = g.K.Behaviours.gives in let system = c.args.system.now in let before = c.in_ok-run_from_once.ensures.worked in
+    let ended = c.settle.ensures.ended in
+    on_ok_weaker c.settle.result
+    (λ worked. (
+    let done = done-after gives system _ _ worked in record {
+      discharged = done.0;
+      settled = first-still gives system _ _ before.settled ended.keeps done.0;
+      empty = done.1;
+      ran = ran-of gives system _ _ (worked-then gives system _ _ _ before.ran worked);
+    }
+    ))
+    ended.done
+
+pub returns-clause-at_rest : goal.returns-clause-at_rest
+returns-clause-at_rest g c =
+    let gives = g.K.Behaviours.gives in let system = c.args.system.now in let actors = actors_of system.gates in
+    let ended = c.settle.ensures.ended in let once = c.run_from_once in
+    let none : c.settle.new.jobs ≡ [] = c.settle.ensures.others.0 ∙ c.deref_mut.ensures.value ∙ c.new-no_jobs.ensures.items in
+    let kept = zip_then _ _ _ (λ x y z p kept. obligations-then actors (handle_caller x.registrar) (handle_caller y.registrar) (handle_caller z.registrar) p kept.obligations)
+    _ _ _ once.ensures.keeps_handles.obligations ended.keeps in
+    let senders_done = zip-firsts _ (λ (x y : OutsideSender). OwesNobody system.gates y
+    × KeepsObligations actors (sender_caller x.registrar) (sender_caller y.registrar)) (λ a b done. (done.nobody, done.obligations)) _ _ _ _
+    c.requires.same_count once.auto.senders c.in_ok-run_from_once.ensures.done in
+    both-ok c.settle.result
+    (λ worked rests. record {
+      no_claim =
+          subst (IsAtRest system c.settle.new.handles) (ap (λ l. map (λ job. job.sender) l ++ c.settle.new.senders) none) rests;
+      no_obligation = λ before. (
+        all-by _ _ _ _ (λ x y p owed none. none-owed actors (handle_caller x.registrar) (handle_caller y.registrar) p owed none) _ _ kept before.0
+            (done-after gives system _ _ worked).0,
+        subst (λ l. All (λ (s : OutsideSender). HasNoObligationTo actors (sender_caller s.registrar)) l) (sym c.settle.ensures.others.1)
+            (all-done _ (λ (s : OutsideSender). AreDischargedOrOwed actors (sender_caller s.registrar))
+            (λ (s : OutsideSender). HasNoObligationTo actors (sender_caller s.registrar))
+            (λ x y done owed. none-owed actors (sender_caller x.registrar) (sender_caller y.registrar) done.1 owed done.0) _ _ senders_done before.1),
+      );
+    })
+    ended.done c.settle.ensures.at_rest

@@ -7,5 +7,5 @@ use Rattle.mb_dispatch.proofs.settling.settle.Given as goal
 
 abbrev pub invariant-loop : goal.invariant-loop
 invariant-loop g l =
-    (l.jobs ≡ l.fn.jobs) × AllZip (KeepsHandle g.K.Behaviours.gives l.system) l.fn.handles l.handles
+    (l.jobs ≡ l.fn.jobs) × (l.senders ≡ l.fn.senders) × AllZip (KeepsHandle g.K.Behaviours.gives l.system) l.fn.handles l.handles
     × AllZip (λ o n. HasWorked g.K.Behaviours.gives l.system (pass_view o.registrar.pass) n) l.fn.handles l.handles
