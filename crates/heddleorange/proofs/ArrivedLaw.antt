@@ -35,7 +35,7 @@ use Rattle.heddleorange.proofs.Identified.{number-at}
 use Rattle.heddleorange.proofs.Started.{ending, planned-child, prepared-spawned, spawned-due, started}
 use Rattle.heddleorange.proofs.TimesTold.{told-as-watched}
 
-ended-true : (p : Phase) → phase_is p Ended ≡ true → p ≡ Ended
+pub ended-true : (p : Phase) → phase_is p Ended ≡ true → p ≡ Ended
 ended-true Fresh is = absurd (cc is)
 ended-true Live is = absurd (cc is)
 ended-true Broken is = absurd (cc is)
@@ -45,12 +45,12 @@ ended-true Ended is = refl
 module _ (after : ℕ → List Message → ℤ) (gives : ℕ → Moment → Reply → Type 0) (plan : Plan) (orders : List (List Order)) (report : Report)
     (story : IsReportOfRun after gives plan orders report) where
   -- What is known of the actor of a place of the report.
-  record IsKnown (id : ℕ) (a : ActorReport) : Type 0 where
-    who : Identity
-    at : slice_get (actors_in plan) id ≡ Some who
-    number : who.this.0 ≡ id
-    is : IsReportOf after gives who a
-    gets : GetsAskedFor (asked_for plan orders report) who a
+  pub record IsKnown (id : ℕ) (a : ActorReport) : Type 0 where
+    pub who : Identity
+    pub at : slice_get (actors_in plan) id ≡ Some who
+    pub number : who.this.0 ≡ id
+    pub is : IsReportOf after gives who a
+    pub gets : GetsAskedFor (asked_for plan orders report) who a
 
   known-as : (id : ℕ) (who : Identity) (a : ActorReport) → slice_get (actors_in plan) id ≡ Some who → slice_get report.actors.items id ≡ Some a
       → IsReportOf after gives who a
@@ -58,7 +58,7 @@ module _ (after : ℕ → List Message → ℤ) (gives : ℕ → Moment → Repl
       let e = from-mapped (λ (e : DirectoryEntry). e.who) story.directory id who (ap (λ l. slice_get l id) story.planned.who ∙ at) in
       subst (λ w. IsReportOf after gives w a) e.2 (story.whole.actors id e.0 a e.1 here).0
 
-  known : (id : ℕ) (a : ActorReport) → slice_get report.actors.items id ≡ Some a → IsKnown id a
+  pub known : (id : ℕ) (a : ActorReport) → slice_get report.actors.items id ≡ Some a → IsKnown id a
   known id a here =
       let named = length-mapped (λ (e : DirectoryEntry). e.who) story.directory in let planned = ap length story.planned.who in
       let many = story.whole.same_count.0 in let lt = within report.actors.items id a here in
@@ -96,7 +96,7 @@ module _ (after : ℕ → List Message → ℤ) (gives : ℕ → Moment → Repl
         (omega (arith, all, most, least))
 
     -- an actor that has ended applied a Terminate
-    was-ending : a.phase ≡ Ended → has_ending a.journal.entries ≡ true
+    pub was-ending : a.phase ≡ Ended → has_ending a.journal.entries ≡ true
     was-ending ended =
         let is : phase k.who a.journal.entries ≡ Ended = sym k.is.phase_is ∙ ended in
         subst (λ p. endings_agree p (has_ending a.journal.entries)) is (agrees k.who a.journal.entries).1

@@ -90,7 +90,7 @@ unnumbered measure (m ∷ pushed) number = ap (λ n. measure m + n) (unnumbered 
 
 module _ (to : ℕ) (measure : SysMsg → ℕ) where
   -- what reports come to is what their journals have to send
-  reported-due : (whos : List Identity) (reports : List ActorReport)
+  pub reported-due : (whos : List Identity) (reports : List ActorReport)
       → reported (due_to to measure) whos reports ≡ total (measure_to to measure) (due_by whos reports)
   reported-due [] reports = refl
   reported-due (who ∷ whos) [] = refl
@@ -100,10 +100,10 @@ module _ (to : ℕ) (measure : SysMsg → ℕ) where
 
   module _ (whos : List Identity) where
     -- Seats that put this into the list, and gave nothing back.
-    record HavePut (many : ℕ) (vs : List View) : Type 0 where
-      all_put : total (put to measure whos) vs ≡ many
-      none_back : total (back to measure whos) vs ≡ 0
-      none_taken : total (taken to measure whos) vs ≡ 0
+    pub record HavePut (many : ℕ) (vs : List View) : Type 0 where
+      pub all_put : total (put to measure whos) vs ≡ many
+      pub none_back : total (back to measure whos) vs ≡ 0
+      pub none_taken : total (taken to measure whos) vs ≡ 0
 
     nobody : HavePut 0 []
     nobody = record { all_put = refl; none_back = refl; none_taken = refl }
@@ -218,11 +218,11 @@ module _ {A K : Type 0} (gives : ℕ → Moment → Reply → Type 0) (plan : Pl
     (begun : IsBegun gives plan first) (system : now.system ≡ first.system) (right : length orders ≡ plan.senders)
     (sent : HaveSent first.system.gates orders first.senders.items now.senders.items)
     (runs : AllOnlyRuns gives (origin_of first.system.gates) plan.throughput first.handles.items now.handles.items) where
-  as_many : length first.senders.items ≡ length orders
+  pub as_many : length first.senders.items ≡ length orders
   as_many = (senders-there gives plan first begun).0 ∙ sym right
 
   -- there are still no passes but those of the handles and senders
-  whole-still : IsWhole (shares_of now)
+  pub whole-still : IsWhole (shares_of now)
   whole-still =
       let handles = handles-shares gives (origin_of first.system.gates) plan.throughput first.handles.items now.handles.items runs in
       let senders = shares-kept first.system.gates orders first.senders.items now.senders.items as_many sent in
@@ -237,7 +237,7 @@ module _ {A K : Type 0} (gives : ℕ → Moment → Reply → Type 0) (plan : Pl
     abbrev whos : List Identity
     whos = actors_in plan
 
-    first-handles : HavePut to measure whos (measure_to to measure (0, Create)) (map of-handle first.handles.items)
+    pub first-handles : HavePut to measure whos (measure_to to measure (0, Create)) (map of-handle first.handles.items)
     first-handles =
         let rest = new-handles-put to measure whos first.system.gates 1 begun.others begun.others_are in
         let create = measure_to to measure (0, Create) in
@@ -246,7 +246,7 @@ module _ {A K : Type 0} (gives : ℕ → Moment → Reply → Type 0) (plan : Pl
         subst (λ n. HavePut to measure whos n (map of-handle first.handles.items)) (let same : create + 0 ≡ create = omega arith in same)
         (subst (λ l. HavePut to measure whos (create + 0) (map of-handle l)) (sym begun.handles_are) all)
 
-    first-senders : HavePut to measure whos 0 (map of-sender first.senders.items)
+    pub first-senders : HavePut to measure whos 0 (map of-sender first.senders.items)
     first-senders = new-senders-put to measure whos first.system.gates most_actors begun.outside first.senders.items begun.senders
 
     -- all that came into the list, and all that the journals have to send

@@ -79,10 +79,10 @@ module _ (pushed : List SysMsg) (few : length pushed < 2 ^ 64) where
   IsPut m = IsAmong m (numbered 0 pushed)
 
   -- What was put into the list begins with what came, which has all numbers below the next.
-  record BeginsWith (sofar : List SysMsg) (next : ℕ) : Type 0 where
-    rest : List SysMsg
-    joined : pushed ≡ sofar ++ rest
-    many : length sofar ≡ next
+  pub record BeginsWith (sofar : List SysMsg) (next : ℕ) : Type 0 where
+    pub rest : List SysMsg
+    pub joined : pushed ≡ sofar ++ rest
+    pub many : length sofar ≡ next
 
   nothing-yet : BeginsWith [] 0
   nothing-yet = record { rest = pushed; joined = refl; many = refl }
@@ -107,7 +107,7 @@ module _ (pushed : List SysMsg) (few : length pushed < 2 ^ 64) where
             many = omega (arith, new, many, long);
           }
 
-  begins-with : (journal : List Entry) → Each IsPut (system_entries journal) → BeginsWith (came journal) (next_number journal)
+  pub begins-with : (journal : List Entry) → Each IsPut (system_entries journal) → BeginsWith (came journal) (next_number journal)
   unfolding next_number
   begins-with [] each = nothing-yet
   begins-with (Handled envelope reading outcome ∷ before) each = begins-with before each
@@ -116,7 +116,7 @@ module _ (pushed : List SysMsg) (few : length pushed < 2 ^ 64) where
       one-more (came before) (next_number before) number m (begins-with before each.1) each.0
 
   -- where as many came as were put into the list, these came
-  all-came : (journal : List Entry) → Each IsPut (system_entries journal) → length pushed % 2 ^ 64 ≡ next_number journal % 2 ^ 64 → came journal ≡ pushed
+  pub all-came : (journal : List Entry) → Each IsPut (system_entries journal) → length pushed % 2 ^ 64 ≡ next_number journal % 2 ^ 64 → came journal ≡ pushed
   all-came journal each all =
       let begins = begins-with journal each in let many = begins.many in
       let long = ap length begins.joined ∙ length-append (came journal) begins.rest in

@@ -42,6 +42,7 @@ pub mod PutAll
 pub mod EndActs
 pub mod EndNotices
 pub mod AskedFor
+pub mod Answered
 pub mod OneMessage
 pub mod AskedLaw
 pub mod Came
@@ -50,6 +51,10 @@ pub mod EndsTold
 pub mod TimesTold
 pub mod EndsDue
 pub mod ArrivedLaw
+pub mod Watches
+pub mod Unwatches
+pub mod WatchCame
+pub mod AskersTold
 pub mod PassedOn
 pub mod AddingOne
 pub mod AddingAll

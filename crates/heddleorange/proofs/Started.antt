@@ -116,7 +116,7 @@ none-after_death : (e : Entry) → after_death e [] ≡ []
 none-after_death (System number (system.Died x) (Applied a effects)) = refl
 none-after_death e = refl
 
-none-lasting_aside : (number : ℕ) (m : SysMsg) → lasting_effects (System number m SetAside) ≡ []
+pub none-lasting_aside : (number : ℕ) (m : SysMsg) → lasting_effects (System number m SetAside) ≡ []
 none-lasting_aside number system.Terminate = refl
 none-lasting_aside number (system.Died x) = refl
 none-lasting_aside number m = refl
@@ -139,7 +139,7 @@ module _ (who : Identity) (gives : Moment → Reply → Type 0) (before : List E
   not-last : (phase_is (phase who before) Ending && false) ≡ false
   not-last = and-false (phase_is (phase who before) Ending)
 
-  none-lasting : (m : SysMsg) (a : Option Answer) (effects : List Effect) → is_start (System number m (Applied a effects)) before ≡ false
+  pub none-lasting : (m : SysMsg) (a : Option Answer) (effects : List Effect) → is_start (System number m (Applied a effects)) before ≡ false
       → is_restart who (System number m (Applied a effects)) before ≡ false
       → IsGiven who gives before (call_of who before (System number m (Applied a effects))) a effects
       → lasting_effects (System number m (Applied a effects)) ≡ []
@@ -233,7 +233,7 @@ module _ (who : Identity) (gives : Moment → Reply → Type 0) where
 abbrev IsSent : List Act → ActorId → Type 0
 IsSent list child = Contains (messages_of list) (child.0, system.Create)
 
-messages-append : (a b : List Act) → messages_of (a ++ b) ≡ messages_of a ++ messages_of b
+pub messages-append : (a b : List Act) → messages_of (a ++ b) ≡ messages_of a ++ messages_of b
 messages-append [] b = refl
 messages-append (Tell to told ∷ a) b = messages-append a b
 messages-append (Sys to m ∷ a) b = ap (λ l. (to.0, m) ∷ l) (messages-append a b)
@@ -303,14 +303,14 @@ is-create-true (system.Watch w) is = absurd (cc is)
 is-create-true (system.Unwatch w) is = absurd (cc is)
 is-create-true (system.Died x) is = absurd (cc is)
 
-broken-true : (p : Phase) → phase_is p Broken ≡ true → p ≡ Broken
+pub broken-true : (p : Phase) → phase_is p Broken ≡ true → p ≡ Broken
 broken-true Fresh is = absurd (cc is)
 broken-true Live is = absurd (cc is)
 broken-true Broken is = refl
 broken-true Ending is = absurd (cc is)
 broken-true Ended is = absurd (cc is)
 
-not-true : (b : Bool) → not b ≡ true → b ≡ false
+pub not-true : (b : Bool) → not b ≡ true → b ≡ false
 not-true true is = absurd (cc is)
 not-true false is = refl
 
@@ -333,7 +333,7 @@ module _ (who : Identity) (gives : Moment → Reply → Type 0) (child : ActorId
 
     module _ (number : ℕ) (a : Option Answer) (effects : List Effect) where
       -- a start
-      started-fresh : (m : SysMsg) → closed who before ≡ false → is_start (System number m (Applied a effects)) before ≡ true
+      pub started-fresh : (m : SysMsg) → closed who before ≡ false → is_start (System number m (Applied a effects)) before ≡ true
           → (m ≡ system.Create) × (phase who before ≡ Fresh)
       started-fresh m alive starts =
           let both = and_parts (applies is_create (System number m (Applied a effects))) (not (has_start before)) starts in (
@@ -341,7 +341,7 @@ module _ (who : Identity) (gives : Moment → Reply → Type 0) (child : ActorId
             fresh-then (phase who before) (unstarted who gives before lawful (not-true (has_start before) both.1)).at_rest alive,
           )
 
-      start-acts : (m : SysMsg) → (m ≡ system.Create) × (phase who before ≡ Fresh)
+      pub start-acts : (m : SysMsg) → (m ≡ system.Create) × (phase who before ≡ Fresh)
           → acts who before (System number m (Applied a effects)) ≡ create_acts who before a effects
       unfolding acts
       start-acts m is =

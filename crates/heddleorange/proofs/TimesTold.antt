@@ -243,3 +243,11 @@ module _ (x : ActorId) where
     pub told-as-watched : (journal : List Entry) → AreLawful who gives journal → times_told x journal ≤ times_watched x journal
     unfolding ends_in
     told-as-watched journal lawful = let all = in-all journal lawful in omega (arith, all)
+
+    -- whom the actor never asked to watch, it does not watch
+    pub not-watching : (journal : List Entry) → AreLawful who gives journal → times_watched x journal ≡ 0 → has (watching who journal) x ≡ false
+    not-watching journal lawful never = let all = in-all journal lawful in away (has (watching who journal) x) (omega (arith, all, never))
+      where
+        away : (b : Bool) → ◌≡◌ {A = ℕ} (if b then 1 else 0) 0 → b ≡ false
+        away true none = absurd (omega (arith, none))
+        away false none = refl

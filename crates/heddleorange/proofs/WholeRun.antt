@@ -46,6 +46,7 @@ use Rattle.mb_shutdown.specs.Belonging.{AreAnswers, AreThere, HasAllSeen, direct
 use Rattle.mb_shutdown.specs.Refused.{HasHomesReturned}
 use Rattle.mb_shutdown.proofs.Parts.{part-trans}
 use Rattle.mb_startup.proofs.There.{handles-there, length-numbers, number-at, senders-there}
+use Rattle.heddleorange.specs.Answered.{AnswersWatches}
 use Rattle.heddleorange.specs.Asked.{AllGetAskedFor}
 use Rattle.heddleorange.specs.Notices.{EachNoticeIsTrue}
 use Rattle.heddleorange.specs.Sent.{HaveSent}
@@ -188,8 +189,8 @@ module _ {A K : Type 0} (gives : ℕ → Moment → Reply → Type 0) (plan : Pl
         → HasHomesReturned gives now report
         → ((id : ℕ) (a : ActorReport) → slice_get report.actors.items id ≡ Some a → ReleasesAddUp id a.journal.entries (views_of now))
         → CountsAllPutBy plan report (views_of now) → AllGetAskedFor plan orders report → EachNoticeIsTrue report
-        → IsReportOfRun after gives plan orders report
-    story after report log answers saw runs seen answered whole letters handles_seen senders_seen home releases put asked notices =
+        → AnswersWatches plan report (views_of now) → IsReportOfRun after gives plan orders report
+    story after report log answers saw runs seen answered whole letters handles_seen senders_seen home releases put asked notices watches =
         let knows = λ (s : OutsideSender). pass_view s.registrar.pass in
         let knew = λ (e : WorkerHandle A K). pass_view e.registrar.pass in
         let IsTold = λ (v : View). IsPart v.log log × ReportExtendsAll report v in record {
@@ -233,6 +234,7 @@ module _ {A K : Type 0} (gives : ℕ → Moment → Reply → Type 0) (plan : Pl
           );
           asked = asked;
           notices = notices;
+          answers = watches;
           keep_letters = keep-letters report letters
               (whole.same_count.1
               ∙ ap (λ k. length (directory_of now) + k) (answered.length_is ∙ ap (λ s. s.senders) system ∙ begun.numbers.1));

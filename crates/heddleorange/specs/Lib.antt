@@ -3,6 +3,7 @@ pub mod BrokenOff
 pub mod LastRun
 pub mod Workers
 pub mod Asked
+pub mod Answered
 pub mod Arrived
 pub mod WholeRun
 pub mod Remains

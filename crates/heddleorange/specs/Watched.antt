@@ -1,5 +1,5 @@
 -- Who is told of an actor's end, and how often (`akka.actor.dungeon.DeathWatch`).
-use Rattle.std.specs.Prelude.{◌≡◌, ◌⊎◌, ◌+◌, ◌≤◌, ℕ, Bool, true, false, if◌then◌else◌, Contains, List, [], ◌∷◌, Some, count_by, slice_get}
+use Rattle.std.specs.Prelude.{◌≡◌, ◌⊎◌, ◌+◌, ◌≤◌, ◌<◌, ℕ, Bool, true, false, if◌then◌else◌, Contains, List, [], ◌∷◌, Some, count_by, length, slice_get}
 use Rattle.mb_actor.specs.ActorList.{has, is_same}
 use Rattle.mb_actor.specs.declared.effect.Effect.{Effect}
 use Rattle.mb_actor.specs.declared.effect.Effect.TheVariants as effect
@@ -7,15 +7,20 @@ use Rattle.mb_actor.specs.declared.message.Message.{Message}
 use Rattle.mb_actor.specs.declared.message.Message.TheVariants as message
 use Rattle.mb_actor.specs.declared.phase.Phase.TheVariants.{Ended}
 use Rattle.mb_build.specs.Planned.{actors_in}
+use Rattle.mb_ghost.specs.Summed.{total}
+use Rattle.mb_journal.specs.Aside.{ever_aside}
 use Rattle.mb_journal.specs.Effects.{lasting_effects}
 use Rattle.mb_journal.specs.Entry.{Entry}
 use Rattle.mb_journal.specs.Identity.{Identity}
+use Rattle.mb_journal.specs.Life.{has_ending}
 use Rattle.mb_journal.specs.Watching.{watchers}
 use Rattle.mb_msg.specs.declared.id.ActorId.{ActorId}
 use Rattle.mb_msg.specs.declared.plan.Plan.{Plan}
-use Rattle.mb_msg.specs.declared.system.SysMsg.TheVariants.{Died}
+use Rattle.mb_msg.specs.declared.system.SysMsg.{SysMsg}
+use Rattle.mb_msg.specs.declared.system.SysMsg.TheVariants.{Died, Watch}
 use Rattle.mb_report.specs.declared.report.ActorReport.{ActorReport}
 use Rattle.mb_report.specs.declared.report.Report.{Report}
+use Rattle.heddleorange.specs.Answered.{end_of}
 use Rattle.heddleorange.specs.Arrived.{entered}
 use Rattle.heddleorange.specs.Reading.{handled_messages}
 
@@ -55,3 +60,38 @@ times_watched x (e ∷ before) = times_watched x before + watches_in x (lasting_
 abbrev pub EachTerminatedIsAskedFor : Report → Type 0
 EachTerminatedIsAskedFor report = (id : ℕ) (a : ActorReport) (x : ActorId) → slice_get report.actors.items id ≡ Some a
     → times_told x a.journal.entries ≤ times_watched x a.journal.entries
+
+-- How many of these effects stop watching this actor.
+abbrev pub unwatches_in : ActorId → List Effect → ℕ
+unwatches_in x [] = 0
+unwatches_in x (effect.Unwatch y ∷ effects) = (if is_same x y then 1 else 0) + unwatches_in x effects
+unwatches_in x (_ ∷ effects) = unwatches_in x effects
+
+-- How often the actor with this journal asked to stop watching this one.
+abbrev pub times_unwatched : ActorId → List Entry → ℕ
+times_unwatched x [] = 0
+times_unwatched x (e ∷ before) = times_unwatched x before + unwatches_in x (lasting_effects e)
+
+-- The message may have come into the actor's list, and the actor ended before its turn: it has no entry, and the report counts more dead system messages
+-- of the actor than were set aside.
+abbrev pub MayBeLeftOver : ActorReport → SysMsg → Type 0
+MayBeLeftOver a message = (length (ever_aside a.journal.entries) < a.dead_system) × (Contains (entered a.journal.entries) message → ⊥)
+
+-- Whoever asked to watch an actor that has ended, and never to stop watching it, is told of that end, whether it asked before the end or after it: the
+-- notice has an entry in its journal. That is so unless it is ending or has ended itself, or its Watch may have been left over in the other's list.
+abbrev pub EachThatAsksIsTold : Report → Type 0
+EachThatAsksIsTold report = (watcher x : ActorId) (b a : ActorReport) → slice_get report.actors.items watcher.0 ≡ Some b
+    → slice_get report.actors.items x.0 ≡ Some a → a.phase ≡ Ended → 0 < times_watched x b.journal.entries → times_unwatched x b.journal.entries ≡ 0
+    → (has_ending b.journal.entries ≡ true) ⊎ (Contains (entered b.journal.entries) (Died x) ⊎ MayBeLeftOver a (Watch watcher))
+
+-- How often the notice that this actor has ended has an entry in the journal.
+abbrev pub times_noticed : ActorId → List Entry → ℕ
+times_noticed x journal = total (end_of x.0) (entered journal)
+
+-- The parent of an actor that has ended is told of the end in any case. If it asked to watch the actor, and its Watch did not come to it before the end, it
+-- is told twice. That is so unless the parent has ended, or its Watch may have been left over in the other's list.
+abbrev pub EachParentThatAsksIsToldAgain : Plan → Report → Type 0
+EachParentThatAsksIsToldAgain plan report = (watcher x : ActorId) (who : Identity) (b a : ActorReport) → slice_get (actors_in plan) x.0 ≡ Some who
+    → who.parent ≡ Some watcher → slice_get report.actors.items watcher.0 ≡ Some b → slice_get report.actors.items x.0 ≡ Some a → a.phase ≡ Ended
+    → 0 < times_watched x b.journal.entries → (Contains (entered a.journal.entries) (Watch watcher) → ⊥)
+    → (b.phase ≡ Ended) ⊎ ((2 ≤ times_noticed x b.journal.entries) ⊎ MayBeLeftOver a (Watch watcher))

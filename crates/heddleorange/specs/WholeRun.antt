@@ -27,6 +27,7 @@ use Rattle.mb_build.specs.Planned.{IsDirectoryOf, actors_in}
 use Rattle.mb_msg.specs.declared.order.Order.{Order}
 use Rattle.mb_shutdown.specs.ReportedHomes.{IsOfHomes}
 use Rattle.mb_dispatch.specs.Runs.{OnlyRuns}
+use Rattle.heddleorange.specs.Answered.{AnswersWatches}
 use Rattle.heddleorange.specs.Asked.{AllGetAskedFor}
 use Rattle.heddleorange.specs.Notices.{EachNoticeIsTrue}
 use Rattle.heddleorange.specs.Workers.{AreNewViews}
@@ -71,7 +72,8 @@ CountsAllPutBy plan report vs = (id : ℕ) (who : Identity) (a : ActorReport) �
 -- these gates, by the plan's throughput. The journal of each actor is what came of an empty one in the cells that these handles and senders gave back, so
 -- what these runs added. What came into an actor's list of system messages is what these handles and senders put there, the answers for lists that had ended
 -- too. But for such answers it is what orders, entries of journals and the start of the guardian asked for; into the list of an actor which has ended came
--- no more than that. Each notice of an end that came to an actor is of an actor that has ended. As much is kept of each sender's dead letters as the plan says of journals.
+-- no more than that. Each notice of an end that came to an actor is of an actor that has ended. Each Watch that an actor has to send came into the list
+-- that it was for, or was answered by such a notice. As much is kept of each sender's dead letters as the plan says of journals.
 pub record IsReportOfRun (after : ℕ → List Message → ℤ) (gives : ℕ → Moment → Reply → Type 0) (plan : Plan) (orders : List (List Order)) (report : Report)
     : Type 0 where
   pub directory : List DirectoryEntry
@@ -96,6 +98,7 @@ pub record IsReportOfRun (after : ℕ → List Message → ℤ) (gives : ℕ →
   pub created : (number : ℕ) × IsPart (Pushed 0 number Create ∷ []) log
   pub asked : AllGetAskedFor plan orders report
   pub notices : EachNoticeIsTrue report
+  pub answers : AnswersWatches plan report (handles ++ knew)
   pub keep_letters : All (λ (s : SenderReport). s.dead.retention ≡ retention_of plan.journal) report.senders.items
   pub did : (place : ℕ) (of : List Order) (postings : List SentEnvelope) (view : View) → slice_get orders place ≡ Some of
       → slice_get outside place ≡ Some postings → slice_get knew place ≡ Some view → DidOrders of postings view

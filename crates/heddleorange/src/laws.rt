@@ -18,7 +18,7 @@ ghost use Rattle.heddleorange.specs.Arrived.{EachSpawnedIsStarted, EachStopArriv
 ghost use Rattle.heddleorange.specs.Asked.{EachIsAskedFor};
 ghost use Rattle.heddleorange.specs.Notices.{EachNoticeIsTrue, EachTerminatedIsTrue};
 ghost use Rattle.heddleorange.specs.Reading.{handled_messages};
-ghost use Rattle.heddleorange.specs.Watched.{EachTerminatedIsAskedFor, EachWatcherIsTold};
+ghost use Rattle.heddleorange.specs.Watched.{EachParentThatAsksIsToldAgain, EachTerminatedIsAskedFor, EachThatAsksIsTold, EachWatcherIsTold};
 ghost use Rattle.heddleorange.specs.WholeRun.{IsReportOfRun, after_at, gives_at};
 
 use mb_actor::{Actor, Behaviours};
@@ -91,6 +91,20 @@ pub fn each_watcher_is_told_once<A: Actor>()
     ensures asked_for { (actors : List A) (plan : Plan) (orders : List (List Order)) (report : Report)
         → IsReportOfRun (after_at actors A.after) (gives_at actors A.gives) plan orders report
         → EachTerminatedIsAskedFor report }
+{}
+
+/// A law: in a run, whoever asks to watch an actor that ends is told of the end, also if it asks after the end (Akka's
+/// `EmptyLocalActorRef` answers such a `Watch` with a `DeathWatchNotification`). That is so unless it asks to stop
+/// watching it, is ending, or has ended. So it is of a parent, which is told of the end in any case: it is told once more. The law
+/// leaves open only a `Watch` that may have been left over in the other's list, of which the report counts a dead system
+/// message.
+pub fn whoever_asks_to_watch_is_told<A: Actor>()
+    ensures told { (actors : List A) (plan : Plan) (orders : List (List Order)) (report : Report)
+        → IsReportOfRun (after_at actors A.after) (gives_at actors A.gives) plan orders report
+        → EachThatAsksIsTold report }
+    ensures told_again { (actors : List A) (plan : Plan) (orders : List (List Order)) (report : Report)
+        → IsReportOfRun (after_at actors A.after) (gives_at actors A.gives) plan orders report
+        → EachParentThatAsksIsToldAgain plan report }
 {}
 
 /// A law: in a run, the guardian is started, unless it has ended.

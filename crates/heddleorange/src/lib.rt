@@ -46,6 +46,7 @@ pub use laws::{
     each_notice_of_an_end_is_true, each_spawned_actor_is_started, each_stop_arrives,
     each_system_message_asked_for_arrives, each_system_message_is_asked_for,
     each_watcher_is_told_once, the_guardian_is_started, what_actors_send_is_asked_for,
+    whoever_asks_to_watch_is_told,
 };
 pub use mb_actor::{Actor, Answer, CallPermit, Effect, Message, Outbox, OutboxError, Phase};
 pub use mb_build::PlanError;

@@ -3,6 +3,7 @@ use Rattle.mb_gate.specs.Accessors.{actors_of}
 use Rattle.mb_shutdown.proofs.Wholly.{of-whole}
 use Rattle.heddleorange.specs.Remains.{IsBrokenOff}
 use Rattle.heddleorange.proofs.AnyBreak.{off-first}
+use Rattle.heddleorange.proofs.Answered.{all-watches-answered}
 use Rattle.heddleorange.proofs.AskedFor.{all-get-asked, all-notices-true, all-put-counted, all-released}
 use Rattle.heddleorange.proofs.GoingOn.{busy-of, complete-on, complete-read, full-broke, gone-on, not-empty, own-some, somebody-broke, together-on, together-read, told-broken, within-gone}
 use Rattle.heddleorange.proofs.Breaking.{own-handles}
@@ -21,7 +22,9 @@ returns-in-Ok-clause-story g c = λ plan orders right was.
     (all-get-asked gives plan orders ran.first c.loop.built ran.begun ran.system right ran.sent ran.runs c.in-Ok.report
     handle.report.whole.2.2.same_count.0 handle.adds_up.put handle.adds_up.releases (λ id e a is here. (handle.report.whole.2.2.actors id e a is here).0.phase_is) handle.report.seen.0 handle.report.seen.1)
     (all-notices-true gives plan orders ran.first c.loop.built ran.begun ran.system right ran.sent ran.runs g.K.Behaviours.after
-    c.in-Ok.report handle.report.whole.2.2.same_count.0 handle.adds_up.put (λ id e a is here. (handle.report.whole.2.2.actors id e a is here).0) handle.report.seen.0))
+    c.in-Ok.report handle.report.whole.2.2.same_count.0 handle.adds_up.put (λ id e a is here. (handle.report.whole.2.2.actors id e a is here).0) handle.report.seen.0)
+    (all-watches-answered gives plan orders ran.first c.loop.built ran.begun ran.system right ran.sent ran.runs c.in-Ok.report
+    handle.report.whole.2.2.same_count.0 handle.adds_up.releases handle.report.seen.0 handle.report.seen.1))
 
 pub left_to_run-requires-clause-whole : goal.left_to_run-requires-clause-whole
 left_to_run-requires-clause-whole g c =
