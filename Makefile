@@ -93,7 +93,7 @@ trial-trace-forms:
 trial-pages:
 	tools/try_pages $(TRACE)
 trial-outcomes:
-	tools/check_outcomes $(EXPLORE)
+	tools/check_outcomes $(EXPLORE) $(PROGRAM)
 trial-allocations:
 	@if command -v "$${CC:-cc}" > /dev/null; then $(MAKE) --no-print-directory refuse; else echo 'no C compiler: no allocation was refused'; fi
 trial-model:
