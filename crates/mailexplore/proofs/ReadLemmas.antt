@@ -36,7 +36,7 @@ unused-items actor_entries no_items = All-nil IsUnused
 unused-items actor_entries (item d items) =
     All-cons IsUnused (scripted_of actor_entries d) (map_items (scripted_of actor_entries) items) refl (unused-items actor_entries items)
 
-all-unused : (text : List ℕ) (scenario : ScenarioData) → IsReadAs text scenario → All IsUnused scenario.scripts
+pub all-unused : (text : List ℕ) (scenario : ScenarioData) → IsReadAs text scenario → All IsUnused scenario.scripts
 all-unused text scenario read = subst (λ (s : ScenarioData). All IsUnused s.scripts) (sym read.2.1) (unused-items _ _)
 
 -- what is said of the actor of each number, where these are all scripts

@@ -1,5 +1,5 @@
 -- The system that a text describes.
-use Rattle.std.specs.Prelude.{ℕ, ℤ, ◌-◌, ◌==◌, pos, List, [], Option, Some, None, filter, map, option_map, slice_get}
+use Rattle.std.specs.Prelude.{◌≡◌, ℕ, ℤ, ◌-◌, ◌==◌, pos, List, [], Option, Some, None, filter, map, option_map, slice_get}
 use Rattle.std.specs.List.{range_with_len}
 use Rattle.std.specs.Option.{option_map_or}
 use Rattle.mb_actor.specs.Behaviour.{Moment, Reply}
@@ -8,6 +8,8 @@ use Rattle.mb_msg.specs.declared.order.Order.{Order}
 use Rattle.mb_msg.specs.declared.order.SenderOrder.{SenderOrder}
 use Rattle.mb_scenario.specs.Plans.{ScenarioData, scenario_of}
 use Rattle.mb_script.specs.Script.{Scripted, after_of, gives_of}
+use Rattle.mb_script.specs.declared.operation.Operation.{Operation}
+use Rattle.mb_script.specs.declared.script.Hooks.{Hooks}
 use Rattle.toml.specs.Parse.{parse_document}
 
 -- the scenario of a text, if the text is a document
@@ -47,3 +49,11 @@ after_in text number = after_script (slice_get (scripts_in text) (number - 1))
 -- what a call of the actor of each number may give
 abbrev pub gives_in : List ℕ → ℕ → Moment → Reply → Type 0
 gives_in text number = gives_script (slice_get (scripts_in text) (number - 1))
+
+-- no message came to this actor yet
+abbrev pub IsAtStart : Scripted → Type 0
+IsAtStart s = s.state ≡ s.script.initial
+
+-- what is done at the hooks
+abbrev pub hooks_data : Hooks → List Operation × List Operation × List Operation × Option (List Operation)
+hooks_data h = (h.start.items, h.restart.items, h.stop.items, option_map (λ operations. operations.items) h.terminated)

@@ -1,73 +1,80 @@
 //! What the program prints of a text.
 use crate::failure::Failure;
+use crate::lines::{add_outcome, has_line};
+use crate::options::Options;
 use crate::text_setup::TextSetup;
-use mb_explore::{Explored, Limits, Outcome, explore};
-use mb_msg::ActorId;
-use mb_scenario::read;
-use mb_world::Choice;
+use mb_explore::{Explored, Outcome, explore};
 use std::alloc::{AllocError, Global};
 
-/// Each report that some order of the steps of the text's scenario leads to.
-pub(crate) fn answer(alloc: Global, text: Vec<u8>, limits: Limits) -> Result<String, Failure> {
-    let scenario = read(alloc, &text)?;
-    let setup = TextSetup { text };
-    let explored = explore(alloc, &setup, &scenario.names, limits)?;
-    Ok(text_of(alloc, &explored, &scenario.names)?)
+/// What is asked for of the text's scenario: each report that some order of its steps leads to, or one of them.
+pub(crate) fn answer(alloc: Global, text: Vec<u8>, options: &Options) -> Result<String, Failure> {
+    let setup = TextSetup::read(alloc, text)?;
+    let explored = explore(alloc, &setup, setup.names(), options.limits)?;
+    match &options.find {
+        Some(line) => Ok(found_text(alloc, &explored, setup.names(), line.as_str())?),
+        None => Ok(listed_text(alloc, &explored, setup.names(), options.show)?),
+    }
 }
 
-/// A part for each report, and a last line.
-fn text_of(alloc: Global, explored: &Explored, names: &[String]) -> Result<String, AllocError> {
+/// A part for each report, up to so many, and a last line.
+fn listed_text(
+    alloc: Global,
+    explored: &Explored,
+    names: &[String],
+    show: u64,
+) -> Result<String, AllocError> {
     let mut text = String::new(alloc);
+    let mut shown = 0_u64;
     for outcome in &explored.outcomes {
-        add_outcome(alloc, &mut text, outcome, names)?;
+        if shown < show {
+            add_outcome(alloc, &mut text, outcome, names)?;
+            shown += 1;
+        }
     }
-    if explored.is_complete {
-        text.push_str("complete\n")?;
-    } else {
-        text.push_str(&format!(in alloc; "stopped after {} steps\n", explored.steps)?)?;
+    let more = (explored.outcomes.len() as u64).saturating_sub(shown);
+    if more > 0 {
+        text.push_str(&format!(in alloc; "reports that are not shown: {more}\n")?)?;
     }
+    add_end(alloc, &mut text, explored)?;
     Ok(text)
 }
 
-/// How many orders lead to a report, one of them, the report, and an empty line.
-fn add_outcome(
+/// The part of the report that has such a line and to which the fewest steps lead, and a last line.
+fn found_text(
     alloc: Global,
-    text: &mut String,
-    outcome: &Outcome,
+    explored: &Explored,
     names: &[String],
-) -> Result<(), AllocError> {
-    text.push_str(&format!(in alloc; "orders {}:", outcome.orders)?)?;
-    for choice in &outcome.schedule {
-        add_choice(alloc, text, *choice, names)?;
+    line: &str,
+) -> Result<String, AllocError> {
+    let mut text = String::new(alloc);
+    match shortest_with(&explored.outcomes, line) {
+        Some(outcome) => add_outcome(alloc, &mut text, outcome, names)?,
+        None => text.push_str("no report that was found has such a line\n")?,
     }
-    text.push_str("\n")?;
-    text.push_str(&outcome.text)?;
-    text.push_str("\n")
+    add_end(alloc, &mut text, explored)?;
+    Ok(text)
 }
 
-/// A step, in words.
-fn add_choice(
-    alloc: Global,
-    text: &mut String,
-    choice: Choice,
-    names: &[String],
-) -> Result<(), AllocError> {
-    match choice {
-        Choice::Send(sender) => text.push_str(&format!(in alloc; " send {sender}")?),
-        Choice::Run(actor) => {
-            text.push_str(" run ")?;
-            text.push_str(name_of(actor, names))
+/// Of the reports with such a line the first to which the fewest steps lead.
+fn shortest_with<'a>(outcomes: &'a [Outcome], line: &str) -> Option<&'a Outcome> {
+    let mut shortest: Option<&'a Outcome> = None;
+    for outcome in outcomes {
+        let is_shorter = match shortest {
+            Some(other) => outcome.schedule.len() < other.schedule.len(),
+            None => true,
+        };
+        if is_shorter && has_line(outcome.text.as_str(), line) {
+            shortest = Some(outcome);
         }
     }
+    shortest
 }
 
-/// The name of an actor.
-fn name_of(actor: ActorId, names: &[String]) -> &str {
-    if actor.0 == 0 {
-        return "guardian";
-    }
-    match names.get(actor.0 as usize - 1) {
-        Some(name) => name.as_str(),
-        None => "?",
+/// Whether all orders were tried.
+fn add_end(alloc: Global, text: &mut String, explored: &Explored) -> Result<(), AllocError> {
+    if explored.is_complete {
+        text.push_str("complete\n")
+    } else {
+        text.push_str(&format!(in alloc; "stopped after {} steps\n", explored.steps)?)
     }
 }

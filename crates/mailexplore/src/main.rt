@@ -2,7 +2,9 @@
 #![tactic(auto)]
 
 mod answer;
+mod copies;
 mod failure;
+mod lines;
 mod options;
 mod running;
 mod text_setup;

@@ -3,8 +3,7 @@ ghost use Rattle.std.specs.Prelude.{◌≡◌, false};
 
 use crate::answer::answer;
 use crate::failure::{Failure, print_failure};
-use crate::options::limits_of;
-use mb_explore::Limits;
+use crate::options::{Options, options_of};
 use mb_streams::{ProgramError, TrackedStream, read_input};
 use std::alloc::{AllocError, Global};
 use std::env;
@@ -41,10 +40,10 @@ fn text_for<T: Env + AllocGlobal, R: Read>(
 ) -> Result<String, Failure>
     requires working { reader.old.failed ≡ false }
 {
-    match limits(rt, alloc) {
-        Ok(limits) => {
+    match options(rt, alloc) {
+        Ok(options) => {
             let text = read_input(alloc, reader)?;
-            answer(alloc, text, limits)
+            answer(alloc, text, &options)
         }
         Err(failure) => asked_text(alloc, failure),
     }
@@ -64,11 +63,11 @@ fn asked_text(alloc: Global, failure: Failure) -> Result<String, Failure> {
 }
 
 /// What the arguments say.
-fn limits<T: Env + AllocGlobal>(rt: &T, alloc: Global) -> Result<Limits, Failure> {
+fn options<T: Env + AllocGlobal>(rt: &T, alloc: Global) -> Result<Options, Failure> {
     match env::args(rt) {
         Ok(words) => {
             let words: Vec<String> = words.collect(alloc)?;
-            limits_of(alloc, &words)
+            options_of(alloc, &words)
         }
         Err(error) => match error.kind() {
             ErrorKind::OutOfMemory => Err(Failure::from(AllocError)),

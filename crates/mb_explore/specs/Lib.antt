@@ -2,3 +2,5 @@ pub mod Added
 pub mod Errors
 pub mod Orders
 pub mod Outcomes
+pub mod Search
+pub mod Ways

@@ -1,36 +1,40 @@
 //! The reports that were found.
 ghost use Rattle.std.specs.Prelude.{◌≡◌, ◌<◌, length, map, string_bytes, Contains, IfOk, MatchOption, slice_get, Some};
-ghost use Rattle.mb_explore.specs.Added.{IsAdded, text_of};
+ghost use Rattle.mb_explore.specs.Added.{IsAdded, IsShorter, text_of};
 
 use crate::outcome::Outcome;
 use mb_world::Choice;
-use std::alloc::{AllocError, AllocFailed};
+use std::alloc::AllocFailed;
 
-/// Counts one more order of steps that leads to this report, and adds the report if it is new. The only error: memory was refused.
+/// So many more orders of steps lead to this report, and this is the shortest of them. Adds the report if it is new. The only error: memory was
+/// refused.
 pub(crate) fn add(
     outcomes: &mut Vec<Outcome>,
     text: String,
     schedule: Vec<Choice>,
+    orders: u64,
 ) -> Result<(), AllocFailed<Outcome>>
     ensures { IfOk result (λ _. IsAdded outcomes.old.items outcomes.new.items (string_bytes text) schedule.items) }
 {
     if let Some(place) = place_of(outcomes, text.as_str()) {
-        count(&mut outcomes[place]);
+        meet(&mut outcomes[place], schedule, orders);
         return Ok(());
     }
     outcomes.push(Outcome {
         text,
         schedule,
-        orders: 1,
+        orders,
     })
 }
 
-/// Counts one more order of steps.
-fn count(outcome: &mut Outcome)
-    ensures text { outcome.new.text ≡ outcome.old.text }
-    ensures schedule { outcome.new.schedule ≡ outcome.old.schedule }
+/// Counts so many more orders of steps, and keeps the shorter order.
+fn meet(outcome: &mut Outcome, schedule: Vec<Choice>, orders: u64)
+    ensures { IsShorter outcome.old outcome.new schedule.items }
 {
-    outcome.orders = outcome.orders.saturating_add(1);
+    outcome.orders = outcome.orders.saturating_add(orders);
+    if schedule.len() < outcome.schedule.len() {
+        outcome.schedule = schedule;
+    }
 }
 
 /// Where a report with this text stands.

@@ -29,7 +29,7 @@ pub(crate) fn replay<A: Actor, K: Behaviours, S: Setup<A>>(
 }
 
 /// A new system, in which the actors are registered for execution that have something to do. Its errors are those of its parts.
-fn begin<A: Actor, K: Behaviours, S: Setup<A>>(
+pub(crate) fn begin<A: Actor, K: Behaviours, S: Setup<A>>(
     alloc: Global,
     setup: &S,
 ) -> Result<World<A, K>, ExploreError>

@@ -1,3 +1,4 @@
+pub mod Alike
 pub mod Behaves
 pub mod Choices
 pub mod Dispatched

@@ -7,6 +7,8 @@ use Rattle.mb_cell.specs.CellView.{CellView}
 use Rattle.mb_world.specs.Dispatched.{cell_mark, marks_of}
 use Rattle.mb_world.specs.MailboxView.{MailboxView}
 use Rattle.mb_world.specs.Running.{Continues}
+use Rattle.mb_msg.specs.declared.dead_letter.DeadLetter.{DeadLetter}
+use Rattle.mb_world.specs.declared.send_log.SendLog.{SendLog}
 use Rattle.mb_world.specs.declared.choice.Choice.{Choice}
 use Rattle.mb_world.specs.declared.choice.Choice.TheVariants.{Send, Run}
 
@@ -16,12 +18,22 @@ pub record Sender : Type 0 where
   pub place : ℕ
   pub done : ℕ
 
--- a running system: the cells and the mailboxes of all actors, by their numbers; the senders outside, by theirs; and the actors that are registered
--- for execution, in the order in which they were
+-- how many envelopes a sender has sent, and those of them that were refused when they were sent, in order
+pub record Answered : Type 0 where
+  pub sent : ℕ
+  pub dead : List DeadLetter
+
+-- that of a sender's log
+abbrev pub log_of : SendLog → Answered
+log_of log = record { sent = log.sent; dead = log.dead.items }
+
+-- a running system: the cells and the mailboxes of all actors, by their numbers; the senders outside, by theirs; what each sender was answered, first
+-- the actors and then those outside; and the actors that are registered for execution, in the order in which they were
 pub record WorldView : Type 0 where
   pub cells : List CellView
   pub mailboxes : List MailboxView
   pub senders : List Sender
+  pub answered : List Answered
   pub registered : List ActorId
 
 -- the cells are those of the actors that are numbered on from this number, in order

@@ -277,7 +277,7 @@ impl Dispatcher {
 }
 
 /// Where an actor stands among these.
-fn place_of(actors: &VecDeque<ActorId>, actor: ActorId) -> Option<usize>
+pub(crate) fn place_of(actors: &VecDeque<ActorId>, actor: ActorId) -> Option<usize>
     ensures { MatchOption result (Contains actors.now.items actor → ⊥)
         (λ place. (place < length actors.now.items) × (slice_index_or actors.now.items place actor ≡ actor)) }
 {

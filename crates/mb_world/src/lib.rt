@@ -5,14 +5,17 @@
 //! for execution is run. So every order in which threads can take these steps can be tried.
 #![tactic(auto)]
 
+mod alike;
 mod building;
 mod choice;
 mod choices;
+mod compared;
 mod dispatcher;
 mod ending;
 mod mailbox;
 mod numbered_cell;
 mod order_queue;
+mod progress;
 mod running;
 mod send_log;
 mod state_key;

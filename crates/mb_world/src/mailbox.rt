@@ -3,6 +3,7 @@ ghost use Rattle.std.specs.Prelude.{◌≡◌, ◌++◌, ◌∷◌, [], ◌+◌,
 ghost use Rattle.mb_message_queue.specs.MessageQueue.{Gives};
 ghost use Rattle.mb_world.specs.Dispatched.{mark_of};
 
+use crate::compared::{Compared, are_equal, are_systems_equal};
 use mb_dead_letters::KeptList;
 use mb_ghost::Log;
 use mb_message_queue::{EnqueueError, MessageQueue};
@@ -292,4 +293,28 @@ impl Mailbox {
     {
         &self.system
     }
+}
+
+impl Compared for Mailbox {
+    ghost use Rattle.mb_world.specs.Alike.{Contents, contents_of};
+
+    ghost Part = { Contents };
+
+    ghost part = { contents_of };
+
+    fn is_same(&self, other: &Mailbox) -> bool {
+        self.is_closed == other.is_closed
+            && self.is_suspended == other.is_suspended
+            && self.is_scheduled == other.is_scheduled
+            && are_equal(self.envelopes(), other.envelopes())
+            && are_systems_equal(&self.system, &other.system)
+            && are_kept_equal(&self.cleaned, &other.cleaned)
+    }
+}
+
+/// Whether two lists have the same items, and keep them.
+fn are_kept_equal(one: &KeptList<Envelope>, other: &KeptList<Envelope>) -> bool
+    ensures { IsTrue result → one.now.items ≡ other.now.items }
+{
+    one.is_kept() && other.is_kept() && are_equal(one.kept(), other.kept())
 }

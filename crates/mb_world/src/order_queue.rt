@@ -75,4 +75,20 @@ impl OrderQueue {
     {
         (self.place, self.done)
     }
+
+    /// Its orders.
+    pub(crate) fn orders(&self) -> &[Order]
+        ensures { result.now ≡ self.now.orders }
+    {
+        &self.orders
+    }
+
+    /// How many sends it has made.
+    pub(crate) fn made(&self) -> u64 {
+        let mut made = u64::from(self.done);
+        for order in self.orders.iter().take(self.place) {
+            made = made.saturating_add(u64::from(order.times));
+        }
+        made
+    }
 }

@@ -30,8 +30,8 @@ pub struct World<A: Actor, K: Behaviours> {
 }
 
 impl<A: Actor, K: Behaviours> Model for World<A, K> {
-    ghost use Rattle.std.specs.Prelude.{◌≡◌, ◌+◌, ◌≤◌, length};
-    ghost use Rattle.mb_world.specs.World.{WorldView, IsAtRest};
+    ghost use Rattle.std.specs.Prelude.{◌≡◌, ◌+◌, ◌≤◌, length, map};
+    ghost use Rattle.mb_world.specs.World.{WorldView, IsAtRest, log_of};
 
     ghost Value = { WorldView };
 
@@ -39,6 +39,7 @@ impl<A: Actor, K: Behaviours> Model for World<A, K> {
       cells = w.cells.items;
       mailboxes = w.dispatcher.mailboxes.items;
       senders = w.senders.items;
+      answered = map log_of w.dispatcher.logs.items;
       registered = w.dispatcher.claims.items;
     } };
 
