@@ -16,9 +16,9 @@ use Rattle.mb_cell.specs.CellView.{CellView, with_entry}
 use Rattle.mb_report.specs.declared.report.ActorReport.{ActorReport}
 use Rattle.mb_causal_order.specs.Merged.{AreInOrder, IsCaused, IsMerged, IsSentBefore}
 use Rattle.mb_causal_order.specs.Places.{earliest, entries_of, entry_at, journal_of, entries_placed}
-use Rattle.mb_causal_order.specs.Replayed.{AnswersByCells, AppliesEntry, IsAccounted, IsReady, IsReplayed, IsSentFor, outstanding}
+use Rattle.mb_causal_order.specs.Replayed.{AnswersByCells, AppliesEntry, CoversByCells, IsAccounted, IsReady, IsReplayed, IsSentFor, outstanding}
 use Rattle.mb_causal_order.specs.Sent.{acts_at, acts_of_entry, sent}
-use Rattle.mb_causal_order.specs.SystemMessages.{HasAnswered, comes, is_of_new, messages_come, messages_sent, sends, sent_from_outside}
+use Rattle.mb_causal_order.specs.SystemMessages.{Covers, HasAnswered, comes, is_of_new, messages_come, messages_sent, sends, sent_from_outside}
 use Rattle.mb_causal_order.specs.declared.outstanding.Row.{Row}
 use Rattle.mb_causal_order.specs.declared.place.Place.{Place}
 use Rattle.mb_causal_order.proofs.Order.{come-more, earliest-more, journal-at, length-earliest, one_if, sent-next, entries_placed-more}
@@ -30,6 +30,15 @@ pub answers : (who : List Identity) (orders : List SenderOrder) (actors : List A
 answers who orders actors order cells rows test accounted closed = record {
   watch = closed.watch;
   create = λ a x d within parent. closed.create a x (get_or cells x.0 d).who (accounted.each x.0 d within).same_actor parent;
+}
+
+-- what is covered by the actors is so by the cells
+pub covers-by_cells : (who : List Identity) (orders : List SenderOrder) (actors : List ActorReport) (order : List Place) (cells : List CellView) (rows : List Row)
+    (test covering : ℕ → SysMsg → Bool) → IsAccounted who orders actors order cells rows → Covers who test covering → CoversByCells cells test covering
+covers-by_cells who orders actors order cells rows test covering accounted covers = record {
+  same = covers.same;
+  watch = covers.watch;
+  create = λ a x d within parent. covers.create a x (get_or cells x.0 d).who (accounted.each x.0 d within).same_actor parent;
 }
 
 -- the message of an actor's next entry was sent, if it is outstanding
@@ -195,6 +204,17 @@ module _ (who : List Identity) (orders : List SenderOrder) (actors : List ActorR
       let sent_here = ap (λ l. count_by (sends test) l) acts-here in
       omega (arith, old, step, come, come_here, sent, sent_here)
 
+  all_sent-more : (test covering : ℕ → SysMsg → Bool) → Covers who test covering → messages_sent who actors test (place ∷ order) + sent_from_outside orders test
+      ≤ outstanding test rest + messages_come actors covering (place ∷ order)
+  all_sent-more test covering covers =
+      let old = accounted.all_sent test covering covers in
+      let step = applies.kept no_cell test covering (covers-by_cells who orders actors order cells rows test covering accounted covers) in
+      let come = come-more actors covering place order in
+      let come_here = ap one_if (comes-here covering) in
+      let sent = sum_by-cons (λ (p : Place). count_by (sends test) (acts_at who actors p)) place order in
+      let sent_here = ap (λ l. count_by (sends test) l) acts-here in
+      omega (arith, old, step, come, come_here, sent, sent_here)
+
   within-here : entries_placed a (place ∷ order) ≤ length (journal_of actors a)
   within-here = omega (arith, entries_placed-more a place order true (eq-eqb a a refl), has_more)
 
@@ -211,6 +231,8 @@ module _ (who : List Identity) (orders : List SenderOrder) (actors : List ActorR
     as_many = ap length (applies.cells no_cell) ∙ (length-set cells a (next_cell no_cell) ∙ accounted.as_many);
     each = λ b d inside. each-more b d inside (a == b) refl;
     sent = sent-more;
+    all_sent = all_sent-more;
+    no_others = accounted.no_others;
   }
 
 -- an entry was taken, and its place was put at the end
@@ -244,9 +266,10 @@ taken-accounted who orders actors items new_items cells new rows rest a r e inde
 pub accounted-first : (who : List Identity) (orders : List SenderOrder) (actors : List ActorReport) (order : List Place) (cells : List CellView)
     (rows : List Row) → order ≡ [] → length cells ≡ length actors →
     ((a : ℕ) (d : CellView) → a < length cells → IsReplayed (slice_get who a) [] (get_or cells a d)) →
-    ((test : ℕ → SysMsg → Bool) → outstanding test rows ≤ sent_from_outside orders test) → IsAccounted who orders actors order cells rows
+    ((test : ℕ → SysMsg → Bool) → outstanding test rows ≡ sent_from_outside orders test) → length who ≡ length actors →
+    IsAccounted who orders actors order cells rows
 unfolding AreInOrder
-accounted-first who orders actors order cells rows none as_many each outside =
+accounted-first who orders actors order cells rows none as_many each outside many =
     subst (λ (l : List Place). IsAccounted who orders actors l cells rows) (sym none)
     (record {
       in_order = tt;
@@ -254,6 +277,8 @@ accounted-first who orders actors order cells rows none as_many each outside =
       within = λ a. omega arith;
       each = each;
       sent = λ test closed. (let all = outside test in omega (arith, all));
+      all_sent = λ test covering covers. (let all = outside test in omega (arith, all));
+      no_others = λ x past. slice_get_past who x (omega (arith, many, past));
     })
 
 -- no act of a cell is left

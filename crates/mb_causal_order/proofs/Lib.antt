@@ -2,5 +2,10 @@ pub mod Order
 pub mod NoCell
 pub mod Counting
 pub mod Planned
+pub mod ByActor
+pub mod SameMessage
+pub mod Complete
+pub mod Missing
 pub mod Accounted
+pub mod Unready
 pub mod Told

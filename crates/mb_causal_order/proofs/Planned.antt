@@ -9,6 +9,7 @@ use Rattle.mb_msg.specs.declared.plan.Plan.{Plan}
 use Rattle.mb_build.specs.Identities.{guardian, planned, planned_from}
 use Rattle.mb_build.specs.Planned.{actors_in}
 use Rattle.mb_build.specs.Unstarted.{unstarted}
+use Rattle.mb_build.proofs.CellLemmas.{length-planned}
 use Rattle.mb_cell.specs.CellView.{CellView}
 use Rattle.mb_journal.specs.Identity.{Identity}
 use Rattle.mb_causal_order.specs.Replayed.{IsReplayed}
@@ -81,3 +82,12 @@ module _ (plan : Plan) (parents : List ActorId) (are : parents ≡ map (λ (a : 
           let at : suc place ≡ a = (let n = ap length pushed ∙ length_push cells c in omega (arith, within, n, last, as_many)) in
           subst (λ (x : CellView). IsReplayed (slice_get (actors_in plan) a) [] x) (sym (get_or_push cells c d a (omega (arith, at, as_many))))
           (subst (λ (n : ℕ). IsReplayed (slice_get (actors_in plan) n) [] c) at (fresh (actors_in plan) (suc place) _ c there own))
+
+-- the actors of a plan are one more than it has
+pub actors-many : (plan : Plan) → length (actors_in plan) ≡ length plan.actors.items + 1
+actors-many plan =
+    let parents = length-map plan.actors.items (λ (a : ActorPlan). a.parent) in
+    let strategies = length-map plan.actors.items (λ (a : ActorPlan). a.strategy) in
+    let others = length-planned (length plan.actors.items + 1) plan.journal plan.journal_limit (map (λ (a : ActorPlan). a.parent) plan.actors.items) 1
+    (map (λ (a : ActorPlan). a.parent) plan.actors.items) (map (λ (a : ActorPlan). a.strategy) plan.actors.items) (strategies ∙ sym parents) in
+    omega (arith, others, parents)

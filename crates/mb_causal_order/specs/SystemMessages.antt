@@ -58,3 +58,10 @@ pub record HasAnswered (who : List Identity) (test : ℕ → SysMsg → Bool) : 
   pub watch : (a x : ActorId) → test a.0 (system.Died x) ≡ true → test x.0 (system.Watch a) ≡ true
   pub create : (a x : ActorId) (child : Identity) → slice_get who x.0 ≡ Some child → child.parent ≡ Some a → test a.0 (system.Died x) ≡ true
       → test x.0 system.Create ≡ true
+
+-- the second test is passed by each message that passes the first, and by each Died that may answer one that does
+pub record Covers (who : List Identity) (test covering : ℕ → SysMsg → Bool) : Type 0 where
+  pub same : (to : ℕ) (m : SysMsg) → test to m ≡ true → covering to m ≡ true
+  pub watch : (a x : ActorId) → test x.0 (system.Watch a) ≡ true → covering a.0 (system.Died x) ≡ true
+  pub create : (a x : ActorId) (child : Identity) → slice_get who x.0 ≡ Some child → child.parent ≡ Some a → test x.0 system.Create ≡ true
+      → covering a.0 (system.Died x) ≡ true

@@ -1,17 +1,19 @@
 //! Making the order.
-ghost use Rattle.std.specs.Prelude.{ℕ, ◌≡◌, ◌<◌, ◌≤◌, [], IfOk, IfSome, IsTrue, List, get_or, length, reverse};
+ghost use Rattle.std.specs.Prelude.{ℕ, ◌≡◌, ◌+◌, ◌<◌, ◌≤◌, ◌↔◌, ◌++◌, [], ◌∷◌, All, IfOk, IfSome, IsTrue, List, false, true, get_or, length, reverse};
 ghost use Rattle.mb_msg.specs.declared.order.SenderOrder.{SenderOrder as Sending};
 ghost use Rattle.mb_actor.specs.declared.effect.Effect.{Effect};
 ghost use Rattle.mb_journal.specs.Identity.{Identity};
 ghost use Rattle.mb_journal.specs.JournalView.{entry_with};
 ghost use Rattle.mb_cell.specs.CellView.{CellView};
-ghost use Rattle.mb_build.specs.Planned.{actors_in};
-ghost use Rattle.mb_causal_order.specs.Merged.{IsCaused, IsEndedBefore, IsMerged, IsSentBefore};
+ghost use Rattle.mb_causal_order.specs.Answer.{IsAnswer, IsOfPlan};
+ghost use Rattle.mb_causal_order.specs.Coming.{AreFewer, MayComeBehind};
+ghost use Rattle.mb_causal_order.specs.Merged.{IsCaused, IsEndedBefore, IsSentBefore};
 ghost use Rattle.mb_causal_order.specs.Places.{journal_of, entries_placed};
 ghost use Rattle.mb_causal_order.specs.Replayed.{IsReady};
 ghost use Rattle.mb_causal_order.specs.ReplayOf.{IsReplayOf};
 ghost use Rattle.mb_causal_order.specs.declared.place.Place.{Place};
 
+use crate::outcome::MergedOrder;
 use crate::place::Place;
 use crate::replay::Replay;
 use mb_journal::Received;
@@ -22,7 +24,7 @@ use std::alloc::{AllocError, Global};
 
 /// One order of the entries of all journals in which each journal's own order is kept and what caused an entry stands before it; of the
 /// actors whose next entry may come next, the one of the lowest number goes first. `sends` is what senders outside the actors were to
-/// send. `None` where no such order is found: so where a journal keeps no entries, or the plan is none that a system is built from.
+/// send. Where there is no such order, or none was made, the answer says why.
 ///
 /// The only error: memory was refused.
 pub fn merged_order(
@@ -30,48 +32,63 @@ pub fn merged_order(
     plan: &Plan,
     sends: &[SenderOrder],
     actors: &[ActorReport],
-) -> Result<Option<Vec<Place>>, AllocError>
+) -> Result<MergedOrder, AllocError>
     requires few { length actors.now ≤ 64 }
-    ensures { IfOk result (λ found. IfSome found (λ order. IsMerged (actors_in plan.now) sends.now actors.now (reverse order.items))) }
+    ensures { IfOk result (λ answer. IsAnswer plan.now sends.now actors.now answer) }
 {
-    if plan.actors.len() >= 64 || actors.len() != plan.actors.len() + 1 {
-        return Ok(None);
+    if !is_of_plan(plan, actors) {
+        return Ok(MergedOrder::NotOfPlan);
     }
-    if plan.journal_limit > ENTRIES {
-        return Ok(None);
+    if !are_kept(actors) {
+        return Ok(MergedOrder::NotKept);
     }
-    let mut replay = Replay::new(alloc, plan, sends, actors)?;
+    let Some(first) = Replay::new(alloc, plan, sends, actors)? else {
+        return Ok(MergedOrder::NotRemade);
+    };
+    let mut replay = first;
     let mut order = Vec::new(alloc);
-    for _taken in 0..entries_of(actors) {
+    for _taken in 0..u64::MAX {
         let Some(number) = next_actor(actors, &replay) else {
-            return Ok(None);
+            if has_all(actors, &replay) {
+                return Ok(MergedOrder::Found(order));
+            }
+            return Ok(MergedOrder::NoOrder);
         };
         if !take(actors, number, &mut replay, &mut order)? {
-            return Ok(None);
+            return Ok(MergedOrder::NotRemade);
         }
     }
-    if has_all(actors, &replay) {
-        Ok(Some(order))
-    } else {
-        Ok(None)
-    }
+    Ok(MergedOrder::NotRemade)
 }
 
-/// How many entries all journals have together, or fewer past `u64::MAX`.
-fn entries_of(actors: &[ActorReport]) -> u64 {
-    let mut entries: u64 = 0;
+/// Whether a system with these actors is built from the plan.
+pub(crate) fn is_of_plan(plan: &Plan, actors: &[ActorReport]) -> bool
+    ensures { IsTrue result ↔ IsOfPlan plan.now actors.now }
+{
+    plan.actors.len() < 64 && actors.len() == plan.actors.len() + 1 && plan.journal_limit <= ENTRIES
+}
+
+/// Whether all journals keep their entries.
+pub(crate) fn are_kept(actors: &[ActorReport]) -> bool
+    ensures { IsTrue result ↔ All (λ actor. actor.journal.retention.keeps_all ≡ true) actors.now }
+{
     for actor in actors {
-        entries = entries.saturating_add(actor.journal.len() as u64);
+        if !actor.journal.is_kept() {
+            return false;
+        }
     }
-    entries
+    true
 }
 
 /// The actor of the lowest number whose next entry may come next; `None` where there is none.
 fn next_actor(actors: &[ActorReport], replay: &Replay<'_>) -> Option<usize>
     requires all_cells { length replay.now.cells.items ≡ length actors.now }
     requires few { length actors.now ≤ 64 }
-    ensures { (who : List Identity) (sends : List Sending) (order : List Place) → IsReplayOf who sends actors.now order replay.now
+    requires kept { All (λ actor. actor.journal.retention.keeps_all ≡ true) actors.now }
+    ensures ready { (who : List Identity) (sends : List Sending) (order : List Place) → IsReplayOf who sends actors.now order replay.now
         → IfSome result (λ a. IsReady who sends actors.now order a) }
+    ensures lowest { (who : List Identity) (sends : List Sending) (before order : List Place) (b : ℕ) → IsReplayOf who sends actors.now order replay.now
+        → b < length actors.now → IfSome result (λ a. b < a) → MayComeBehind who sends actors.now before order b → ⊥ }
 {
     for number in 0..actors.len() {
         if is_ready(actors, number, replay) {
@@ -86,8 +103,11 @@ fn is_ready(actors: &[ActorReport], number: usize, replay: &Replay<'_>) -> bool
     requires an_actor { number < length actors.now }
     requires all_cells { length replay.now.cells.items ≡ length actors.now }
     requires few { length actors.now ≤ 64 }
-    ensures { (who : List Identity) (sends : List Sending) (order : List Place) → IsReplayOf who sends actors.now order replay.now
+    requires kept { All (λ actor. actor.journal.retention.keeps_all ≡ true) actors.now }
+    ensures ready { (who : List Identity) (sends : List Sending) (order : List Place) → IsReplayOf who sends actors.now order replay.now
         → IsTrue result → IsReady who sends actors.now order number }
+    ensures unready { result ≡ false → (who : List Identity) (sends : List Sending) (before order : List Place) → IsReplayOf who sends actors.now order replay.now
+        → MayComeBehind who sends actors.now before order number → ⊥ }
 {
     let journal = &actors[number].journal;
     let index = replay.entries(number);
@@ -103,8 +123,10 @@ fn is_ready(actors: &[ActorReport], number: usize, replay: &Replay<'_>) -> bool
 /// Whether the envelope that came was sent, or the actor of whose end the message tells has ended; true of other messages.
 fn is_caused(actors: &[ActorReport], replay: &Replay<'_>, arrival: Received) -> bool
     requires all_cells { length replay.now.cells.items ≡ length actors.now }
-    ensures { (who : List Identity) (sends : List Sending) (order : List Place) → IsReplayOf who sends actors.now order replay.now → IsTrue result
+    ensures caused { (who : List Identity) (sends : List Sending) (order : List Place) → IsReplayOf who sends actors.now order replay.now → IsTrue result
         → (effects : List Effect) → IsCaused who actors.now order (entry_with arrival effects) }
+    ensures uncaused { result ≡ false → (who : List Identity) (sends : List Sending) (before order : List Place) → IsReplayOf who sends actors.now order replay.now
+        → AreFewer before order → (effects : List Effect) → IsCaused who actors.now before (entry_with arrival effects) → ⊥ }
 {
     match arrival {
         Received::Handled { envelope, .. } => has_sent(actors, replay, envelope),
@@ -117,8 +139,10 @@ fn is_caused(actors: &[ActorReport], replay: &Replay<'_>, arrival: Received) -> 
 /// Whether the actor of whose end the message tells has ended; true of other messages.
 fn has_ended(actors: &[ActorReport], replay: &Replay<'_>, message: SysMsg) -> bool
     requires all_cells { length replay.now.cells.items ≡ length actors.now }
-    ensures { (who : List Identity) (sends : List Sending) (order : List Place) → IsReplayOf who sends actors.now order replay.now → IsTrue result
+    ensures ended { (who : List Identity) (sends : List Sending) (order : List Place) → IsReplayOf who sends actors.now order replay.now → IsTrue result
         → IsEndedBefore actors.now order message }
+    ensures unended { result ≡ false → (who : List Identity) (sends : List Sending) (before order : List Place) → IsReplayOf who sends actors.now order replay.now
+        → AreFewer before order → IsEndedBefore actors.now before message → ⊥ }
 {
     match message {
         SysMsg::Died(id) => is_past(actors, replay, id.0 as usize),
@@ -136,8 +160,10 @@ fn has_ended(actors: &[ActorReport], replay: &Replay<'_>, message: SysMsg) -> bo
 /// Whether all entries of the actor of this number were taken; true of a number that no actor has.
 fn is_past(actors: &[ActorReport], replay: &Replay<'_>, number: usize) -> bool
     requires all_cells { length replay.now.cells.items ≡ length actors.now }
-    ensures { (who : List Identity) (sends : List Sending) (order : List Place) → IsReplayOf who sends actors.now order replay.now → IsTrue result
+    ensures past { (who : List Identity) (sends : List Sending) (order : List Place) → IsReplayOf who sends actors.now order replay.now → IsTrue result
         → number < length actors.now → entries_placed number order ≡ length (journal_of actors.now number) }
+    ensures within { result ≡ false → (who : List Identity) (sends : List Sending) (order : List Place) → IsReplayOf who sends actors.now order replay.now
+        → (number < length actors.now) × (entries_placed number order < length (journal_of actors.now number)) }
 {
     if number >= actors.len() {
         return true;
@@ -149,17 +175,20 @@ fn is_past(actors: &[ActorReport], replay: &Replay<'_>, number: usize) -> bool
 /// Whether the sender of the envelope, if it is an actor, has sent it.
 fn has_sent(actors: &[ActorReport], replay: &Replay<'_>, envelope: Envelope) -> bool
     requires all_cells { length replay.now.cells.items ≡ length actors.now }
-    ensures { (who : List Identity) (sends : List Sending) (order : List Place) → IsReplayOf who sends actors.now order replay.now → IsTrue result
+    ensures sent { (who : List Identity) (sends : List Sending) (order : List Place) → IsReplayOf who sends actors.now order replay.now → IsTrue result
         → IsSentBefore who actors.now order envelope }
+    ensures unsent { result ≡ false → (who : List Identity) (sends : List Sending) (before order : List Place) → IsReplayOf who sends actors.now order replay.now
+        → AreFewer before order → IsSentBefore who actors.now before envelope → ⊥ }
 {
     let by = envelope.by.0 as usize;
     if by >= actors.len() {
         return true;
     }
-    envelope.number < replay.told(by)
+    (envelope.number as u128) < replay.told(by)
 }
 
-/// Takes the next entry of the actor of this number. It answers `false` where no cell makes this entry. The only error: memory was refused.
+/// Takes the next entry of the actor of this number. It answers `false` where no cell makes this entry, or more messages are sent than are
+/// counted. The only error: memory was refused.
 fn take(
     actors: &[ActorReport],
     number: usize,
@@ -170,9 +199,11 @@ fn take(
     requires few { length actors.now ≤ 64 }
     requires all_cells { length replay.old.cells.items ≡ length actors.now }
     requires carried_out { (d : CellView) → (get_or replay.old.cells.items number d).acts ≡ [] }
-    ensures { IfOk result (λ is_taken. IsTrue is_taken → (who : List Identity) (sends : List Sending)
+    ensures replayed { IfOk result (λ is_taken. IsTrue is_taken → (who : List Identity) (sends : List Sending)
         → IsReplayOf who sends actors.now (reverse order.old.items) replay.old → IsReady who sends actors.now (reverse order.old.items) number
         → IsReplayOf who sends actors.now (reverse order.new.items) replay.new) }
+    ensures placed { IfOk result (λ is_taken. IsTrue is_taken → (d : CellView)
+        → order.new.items ≡ order.old.items ++ record { actor = number; index = length (get_or replay.old.cells.items number d).journal } ∷ []) }
 {
     let journal = &actors[number].journal;
     let index = replay.entries(number);
@@ -192,8 +223,10 @@ fn take(
 /// Whether all entries of all journals were taken.
 fn has_all(actors: &[ActorReport], replay: &Replay<'_>) -> bool
     requires all_cells { length replay.now.cells.items ≡ length actors.now }
-    ensures { IsTrue result → (a : ℕ) (d : CellView) → a < length actors.now
+    ensures all { IsTrue result → (a : ℕ) (d : CellView) → a < length actors.now
         → length (get_or replay.now.cells.items a d).journal ≡ length (journal_of actors.now a) }
+    ensures some_left { result ≡ false → ((a : ℕ) (d : CellView) → a < length actors.now
+        → length (get_or replay.now.cells.items a d).journal ≡ length (journal_of actors.now a)) → ⊥ }
 {
     for number in 0..actors.len() {
         if replay.entries(number) != actors[number].journal.len() {

@@ -1,5 +1,5 @@
 //! The journals given to cells once more: what the entries so far sent, and what of it came.
-ghost use Rattle.std.specs.Prelude.{◌≡◌, ◌+◌, ◌<◌, ◌≤◌, ◌==◌, ◌&&◌, true, ℕ, Bool, List, [], ◌∷◌, IfOk, IsTrue, OnOk, count_by, length, get_or, set, if◌then◌else◌, slice_get, Some};
+ghost use Rattle.std.specs.Prelude.{◌≡◌, ◌+◌, ◌<◌, ◌≤◌, ◌^◌, ◌==◌, ◌&&◌, ◌⊎◌, true, false, ℕ, Bool, List, [], ◌∷◌, IfOk, IfSome, IsTrue, count_by, length, get_or, set, if◌then◌else◌, slice_get, Some};
 ghost use Rattle.mb_msg.specs.Limits.{most_entries};
 ghost use Rattle.mb_msg.specs.declared.system.SysMsg.{SysMsg as Message};
 ghost use Rattle.mb_actor.specs.declared.effect.Effect.{Effect};
@@ -8,9 +8,9 @@ ghost use Rattle.mb_journal.specs.JournalView.{entry_of, entry_with};
 ghost use Rattle.mb_build.specs.Planned.{actors_in};
 ghost use Rattle.mb_cell.specs.CellView.{CellView};
 ghost use Rattle.mb_supervision.specs.ActQueue.{act_of};
-ghost use Rattle.mb_causal_order.specs.Replayed.{AnswersByCells, AppliesEntry, IsReplayed, outstanding};
+ghost use Rattle.mb_causal_order.specs.Replayed.{AnswersByCells, AppliesEntry, CoversByCells, HasNoRow, IsMissing, IsReplayed, IsUnsent, outstanding};
 ghost use Rattle.mb_causal_order.specs.Sent.{sent};
-ghost use Rattle.mb_causal_order.specs.SystemMessages.{is_of_new, sends, sent_from_outside};
+ghost use Rattle.mb_causal_order.specs.SystemMessages.{is_of_new, sends, sent_from_outside, stops};
 
 use crate::outstanding::Outstanding;
 use crate::planned_cells::planned_cells;
@@ -30,25 +30,27 @@ pub(crate) struct Replay<'a> {
 }
 
 impl<'a> Replay<'a> {
-    /// Before all entries: outstanding is what no entry sends. The only error: memory was refused.
+    /// Before all entries: outstanding is what no entry sends; `None` where that is more than is counted. The only error: memory was refused.
     pub(crate) fn new(
         alloc: Global,
         plan: &Plan,
         sends: &[SenderOrder],
         actors: &'a [ActorReport],
-    ) -> Result<Self, AllocError>
+    ) -> Result<Option<Self>, AllocError>
         requires few { length plan.now.actors.items < 64 }
         requires as_many { length actors.now ≡ length plan.now.actors.items + 1 }
         requires limit { plan.now.journal_limit ≤ most_entries }
-        ensures as_many { IfOk result (λ replay. length replay.cells.items ≡ length actors.now) }
-        ensures unstarted { IfOk result (λ replay. (a : ℕ) (d : CellView) → a < length replay.cells.items →
-            IsReplayed (slice_get (actors_in plan.now) a) [] (get_or replay.cells.items a d)) }
-        ensures outside { IfOk result (λ replay. (test : ℕ → Message → Bool) →
-            outstanding test replay.outstanding.rows.items ≤ sent_from_outside sends.now test) }
+        ensures as_many { IfOk result (λ made. IfSome made (λ replay. length replay.cells.items ≡ length actors.now)) }
+        ensures unstarted { IfOk result (λ made. IfSome made (λ replay. (a : ℕ) (d : CellView) → a < length replay.cells.items →
+            IsReplayed (slice_get (actors_in plan.now) a) [] (get_or replay.cells.items a d))) }
+        ensures outside { IfOk result (λ made. IfSome made (λ replay. (test : ℕ → Message → Bool) →
+            outstanding test replay.outstanding.rows.items ≡ sent_from_outside sends.now test)) }
     {
         let cells = planned_cells(alloc, plan, actors)?;
-        let outstanding = sent_by_outside(alloc, sends)?;
-        Ok(Replay { cells, outstanding })
+        let Some(outstanding) = sent_by_outside(alloc, sends)? else {
+            return Ok(None);
+        };
+        Ok(Some(Replay { cells, outstanding }))
     }
 
     /// How many entries the actor has so far.
@@ -59,10 +61,12 @@ impl<'a> Replay<'a> {
         self.cells[actor].entries()
     }
 
-    /// How many envelopes the actor has sent so far, or fewer past `u64::MAX`.
-    pub(crate) fn told(&self, actor: usize) -> u64
+    /// How many envelopes the actor has sent so far, or fewer past `u128::MAX`.
+    pub(crate) fn told(&self, actor: usize) -> u128
         requires present { actor < length self.now.cells.items }
-        ensures { (d : CellView) → result ≤ sent (Some (get_or self.now.cells.items actor d).who) (get_or self.now.cells.items actor d).journal }
+        ensures most { (d : CellView) → result ≤ sent (Some (get_or self.now.cells.items actor d).who) (get_or self.now.cells.items actor d).journal }
+        ensures least { (d : CellView) → (get_or self.now.cells.items actor d).acts ≡ [] →
+            (sent (Some (get_or self.now.cells.items actor d).who) (get_or self.now.cells.items actor d).journal ≤ result) ⊎ (2 ^ 64 ≤ result) }
     {
         self.cells[actor].told()
     }
@@ -71,9 +75,11 @@ impl<'a> Replay<'a> {
     pub(crate) fn is_sent(&self, to: usize, arrival: Received) -> bool
         requires present { to < length self.now.cells.items }
         requires few { length self.now.cells.items ≤ 64 }
-        ensures { IsTrue result → (effects : List Effect) (d : CellView) (test : ℕ → Message → Bool) → AnswersByCells self.now.cells.items test →
+        ensures sent { IsTrue result → (effects : List Effect) (d : CellView) (test : ℕ → Message → Bool) → AnswersByCells self.now.cells.items test →
             (if is_of_new (test to) (get_or self.now.cells.items to d).journal (Some (entry_with arrival effects)) then 1 else 0)
             ≤ outstanding test self.now.outstanding.rows.items }
+        ensures unsent { result ≡ false → (effects : List Effect) (d : CellView) →
+            IsUnsent self.now.cells.items self.now.outstanding.rows.items to (get_or self.now.cells.items to d).journal (entry_with arrival effects) }
     {
         match arrival {
             Received::System {
@@ -90,9 +96,11 @@ impl<'a> Replay<'a> {
     fn is_outstanding(&self, to: usize, number: u64, message: SysMsg) -> bool
         requires present { to < length self.now.cells.items }
         requires few { length self.now.cells.items ≤ 64 }
-        ensures { IsTrue result → (d : CellView) (test : ℕ → Message → Bool) → AnswersByCells self.now.cells.items test →
+        ensures sent { IsTrue result → (d : CellView) (test : ℕ → Message → Bool) → AnswersByCells self.now.cells.items test →
             (if (number == next_number (get_or self.now.cells.items to d).journal) && test to message then 1 else 0)
             ≤ outstanding test self.now.outstanding.rows.items }
+        ensures unsent { result ≡ false → (d : CellView) → (number ≡ next_number (get_or self.now.cells.items to d).journal)
+            × IsMissing self.now.cells.items self.now.outstanding.rows.items to message }
     {
         if number != self.cells[to].next_number() {
             return true;
@@ -105,8 +113,12 @@ impl<'a> Replay<'a> {
     /// or the Create that came too late.
     fn sent_for(&self, to: usize, message: SysMsg) -> (u16, SysMsg)
         requires few { to < 64 }
-        ensures { (test : ℕ → Message → Bool) → AnswersByCells self.now.cells.items test → test to message ≡ true →
+        ensures answers { (test : ℕ → Message → Bool) → AnswersByCells self.now.cells.items test → test to message ≡ true →
             test result.0 result.1 ≡ true }
+        ensures covered { (test covering : ℕ → Message → Bool) → CoversByCells self.now.cells.items test covering →
+            test result.0 result.1 ≡ true → covering to message ≡ true }
+        ensures first { HasNoRow self.now.outstanding.rows.items result.0 result.1 →
+            IsMissing self.now.cells.items self.now.outstanding.rows.items to message }
     {
         let receiver = to as u16;
         let SysMsg::Died(ended) = message else {
@@ -127,8 +139,10 @@ impl<'a> Replay<'a> {
 
     /// Whether this is the parent of that actor.
     fn is_parent(&self, parent: ActorId, child: ActorId) -> bool
-        ensures { IsTrue result → (d : CellView) → (child.0 < length self.now.cells.items)
+        ensures parent { IsTrue result → (d : CellView) → (child.0 < length self.now.cells.items)
             × ((get_or self.now.cells.items child.0 d).who.parent ≡ Some parent) }
+        ensures other { result ≡ false → (d : CellView) → child.0 < length self.now.cells.items →
+            (get_or self.now.cells.items child.0 d).who.parent ≡ Some parent → ⊥ }
     {
         let number = child.0 as usize;
         if number >= self.cells.len() {
@@ -140,8 +154,8 @@ impl<'a> Replay<'a> {
         }
     }
 
-    /// Goes past the next entry of the actor. It answers `false` where its message was not sent, or no cell makes this entry. The only
-    /// error: memory was refused.
+    /// Goes past the next entry of the actor. It answers `false` where its message was not sent, no cell makes this entry, or more messages
+    /// are sent than are counted. The only error: memory was refused.
     pub(crate) fn apply(&mut self, actor: usize, entry: &EntryRef<'_>) -> Result<bool, AllocError>
         requires present { actor < length self.old.cells.items }
         requires few { length self.old.cells.items ≤ 64 }
@@ -156,8 +170,7 @@ impl<'a> Replay<'a> {
         if !cell.give(entry)? {
             return Ok(false);
         }
-        send_all(cell, &mut self.outstanding)?;
-        Ok(true)
+        send_all(cell, &mut self.outstanding)
     }
 
     /// The system message comes to the actor, if it was sent; other things come too.
@@ -168,6 +181,10 @@ impl<'a> Replay<'a> {
         ensures taken { IsTrue result → (effects : List Effect) (d : CellView) (test : ℕ → Message → Bool) → AnswersByCells self.old.cells.items test →
             outstanding test self.new.outstanding.rows.items
             + (if is_of_new (test actor) (get_or self.old.cells.items actor d).journal (Some (entry_with arrival effects)) then 1 else 0) ≤ outstanding test self.old.outstanding.rows.items }
+        ensures kept { IsTrue result → (effects : List Effect) (d : CellView) (test covering : ℕ → Message → Bool) →
+            CoversByCells self.old.cells.items test covering → outstanding test self.old.outstanding.rows.items
+            ≤ outstanding test self.new.outstanding.rows.items
+            + (if is_of_new (covering actor) (get_or self.old.cells.items actor d).journal (Some (entry_with arrival effects)) then 1 else 0) }
     {
         match arrival {
             Received::System {
@@ -188,6 +205,9 @@ impl<'a> Replay<'a> {
         ensures taken { IsTrue result → (d : CellView) (test : ℕ → Message → Bool) → AnswersByCells self.old.cells.items test →
             outstanding test self.new.outstanding.rows.items
             + (if (number == next_number (get_or self.old.cells.items actor d).journal) && test actor message then 1 else 0) ≤ outstanding test self.old.outstanding.rows.items }
+        ensures kept { IsTrue result → (d : CellView) (test covering : ℕ → Message → Bool) → CoversByCells self.old.cells.items test covering →
+            outstanding test self.old.outstanding.rows.items ≤ outstanding test self.new.outstanding.rows.items
+            + (if (number == next_number (get_or self.old.cells.items actor d).journal) && covering actor message then 1 else 0) }
     {
         if number != self.cells[actor].next_number() {
             return true;
@@ -197,43 +217,61 @@ impl<'a> Replay<'a> {
     }
 }
 
-/// Carries out the acts of a cell, as far as they send system messages. The only error: memory was refused.
-fn send_all(cell: &mut ReplayedCell<'_>, messages: &mut Outstanding) -> Result<(), AllocError>
-    ensures cell { OnOk result (cell.new ≡ record cell.old { acts = [] }) }
-    ensures sent { OnOk result ((test : ℕ → Message → Bool) → outstanding test messages.new.rows.items
-        ≤ outstanding test messages.old.rows.items + count_by (sends test) cell.old.acts) }
+/// Carries out the acts of a cell, as far as they send system messages. It answers `false` where these are more than are counted. The only error:
+/// memory was refused.
+fn send_all(cell: &mut ReplayedCell<'_>, messages: &mut Outstanding) -> Result<bool, AllocError>
+    ensures cell { IfOk result (λ fits. IsTrue fits → cell.new ≡ record cell.old { acts = [] }) }
+    ensures sent { IfOk result (λ fits. IsTrue fits → (test : ℕ → Message → Bool) → outstanding test messages.new.rows.items
+        ≡ outstanding test messages.old.rows.items + count_by (sends test) cell.old.acts) }
 {
     while let Some(act) = cell.next_act() {
-        send(act, messages)?;
+        if !send(act, messages)? {
+            return Ok(false);
+        }
     }
-    Ok(())
+    Ok(true)
 }
 
-/// Carries out an act, if it sends a system message. The only error: memory was refused.
-fn send(act: Act, messages: &mut Outstanding) -> Result<(), AllocError>
-    ensures { OnOk result ((test : ℕ → Message → Bool) → outstanding test messages.new.rows.items
-        ≤ outstanding test messages.old.rows.items + count_by (sends test) (act_of act ∷ [])) }
+/// Carries out an act, if it sends a system message. It answers `false` where these are more than are counted. The only error: memory was refused.
+fn send(act: Act, messages: &mut Outstanding) -> Result<bool, AllocError>
+    ensures { IfOk result (λ fits. IsTrue fits → (test : ℕ → Message → Bool) → outstanding test messages.new.rows.items
+        ≡ outstanding test messages.old.rows.items + count_by (sends test) (act_of act ∷ [])) }
 {
     match act {
         Act::Sys(to, node) => messages.send(to.0, node.msg(), 1),
-        Act::Tell(_, _) | Act::SuspendSelf | Act::ResumeSelf | Act::CloseSelf => Ok(()),
+        Act::Tell(_, _) | Act::SuspendSelf | Act::ResumeSelf | Act::CloseSelf => Ok(true),
     }
 }
 
-/// The system messages that no entry sends. The only error: memory was refused.
-fn sent_by_outside(alloc: Global, sends: &[SenderOrder]) -> Result<Outstanding, AllocError>
-    ensures { IfOk result (λ sent. (test : ℕ → Message → Bool) → outstanding test sent.rows.items ≤ sent_from_outside sends.now test) }
+/// The system messages that no entry sends; `None` where they are more than are counted. The only error: memory was refused.
+fn sent_by_outside(alloc: Global, sends: &[SenderOrder]) -> Result<Option<Outstanding>, AllocError>
+    ensures { IfOk result (λ made. IfSome made (λ sent. (test : ℕ → Message → Bool) →
+        outstanding test sent.rows.items ≡ sent_from_outside sends.now test)) }
 {
     let mut outstanding = Outstanding::new(alloc);
-    outstanding.send(0, SysMsg::Create, 1)?;
+    if !outstanding.send(0, SysMsg::Create, 1)? {
+        return Ok(None);
+    }
     for order in sends {
-        if let OrderKind::Stop = order.order.what {
-            outstanding.send(
-                order.order.to.0,
-                SysMsg::Terminate,
-                order.order.times as u64,
-            )?;
+        if !send_stops(&mut outstanding, order)? {
+            return Ok(None);
         }
     }
-    Ok(outstanding)
+    Ok(Some(outstanding))
+}
+
+/// Sends the stops of an order, if it is one to stop. It answers `false` where these are more than are counted. The only error: memory was
+/// refused.
+fn send_stops(messages: &mut Outstanding, order: &SenderOrder) -> Result<bool, AllocError>
+    ensures { IfOk result (λ fits. IsTrue fits → (test : ℕ → Message → Bool) →
+        outstanding test messages.new.rows.items ≡ outstanding test messages.old.rows.items + stops test order.now) }
+{
+    match order.order.what {
+        OrderKind::Stop => messages.send(
+            order.order.to.0,
+            SysMsg::Terminate,
+            order.order.times as u64,
+        ),
+        OrderKind::Tell(_) => Ok(true),
+    }
 }

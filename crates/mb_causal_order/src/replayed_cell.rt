@@ -1,5 +1,5 @@
 //! The cell of an actor whose journal is replayed.
-ghost use Rattle.std.specs.Prelude.{◌≡◌, ◌≤◌, ◌++◌, [], ◌∷◌, IfNone, IfOk, List, IsTrue, length, map, option_to_list, Some};
+ghost use Rattle.std.specs.Prelude.{◌≡◌, ◌≤◌, ◌^◌, ◌⊎◌, ◌++◌, [], ◌∷◌, IfNone, IfOk, List, IsTrue, length, map, option_to_list, Some};
 ghost use Rattle.mb_journal.specs.Aside.{next_number};
 ghost use Rattle.mb_journal.specs.Entry.{Entry};
 ghost use Rattle.mb_journal.specs.JournalView.{entry_of};
@@ -24,12 +24,12 @@ pub(crate) struct ReplayedCell<'a> {
     this: u16,
     /// The number of the next new system message.
     next: u64,
-    /// How many envelopes the actor has sent, or fewer past `u64::MAX`.
-    told: u64,
+    /// How many envelopes the actor has sent, or fewer past `u128::MAX`.
+    told: u128,
 }
 
 impl<'a> Model for ReplayedCell<'a> {
-    ghost use Rattle.std.specs.Prelude.{◌≡◌, ◌≤◌, ◌+◌, count_by, Some};
+    ghost use Rattle.std.specs.Prelude.{◌≡◌, ◌≤◌, ◌+◌, ◌^◌, ◌⊎◌, count_by, Some};
     ghost use Rattle.mb_journal.specs.Aside.{next_number as number_of_next};
     ghost use Rattle.mb_cell.specs.CellView.{CellView};
     ghost use Rattle.mb_causal_order.specs.Sent.{is_tell, sent as sent_by};
@@ -39,7 +39,8 @@ impl<'a> Model for ReplayedCell<'a> {
     ghost view = { λ s. s.cell };
 
     ghost invariant = { λ s. (s.next ≡ number_of_next s.cell.journal) × (s.cell.who.this.0 ≡ s.this)
-        × (s.told + count_by is_tell s.cell.acts ≤ sent_by (Some s.cell.who) s.cell.journal) };
+        × (s.told + count_by is_tell s.cell.acts ≤ sent_by (Some s.cell.who) s.cell.journal)
+        × ((sent_by (Some s.cell.who) s.cell.journal ≤ s.told + count_by is_tell s.cell.acts) ⊎ (2 ^ 64 ≤ s.told)) };
 }
 
 impl<'a> ReplayedCell<'a> {
@@ -66,9 +67,10 @@ impl<'a> ReplayedCell<'a> {
         self.cell.journal().len()
     }
 
-    /// How many envelopes the actor has sent, or fewer past `u64::MAX`.
-    pub(crate) fn told(&self) -> u64
-        ensures { result ≤ sent (Some self.now.who) self.now.journal }
+    /// How many envelopes the actor has sent, or fewer past `u128::MAX`.
+    pub(crate) fn told(&self) -> u128
+        ensures most { result ≤ sent (Some self.now.who) self.now.journal }
+        ensures least { self.now.acts ≡ [] → (sent (Some self.now.who) self.now.journal ≤ result) ⊎ (2 ^ 64 ≤ result) }
     {
         self.told
     }

@@ -10,7 +10,9 @@ pub enum EntryOrder {
     Turns,
     /// Of a run on threads, one that agrees with what caused what.
     Causes,
-    /// Of a run on threads where no such order was found: actor by actor.
+    /// Of a run on threads where there is no such order: actor by actor.
+    Unordered,
+    /// Of a run on threads where no such order was found, though there may be one: actor by actor.
     Actors,
     /// Of a quiet run whose turns do not have each entry once: actor by actor.
     Uncovered,
@@ -23,6 +25,9 @@ impl EntryOrder {
             EntryOrder::Turns => None,
             EntryOrder::Causes => Some(
                 "on threads: one order that agrees with what caused what, not that of the clock",
+            ),
+            EntryOrder::Unordered => Some(
+                "on threads: there is no order that agrees with what caused what; each actor by itself",
             ),
             EntryOrder::Actors => Some(
                 "on threads: no order found that agrees with what caused what; each actor by itself",

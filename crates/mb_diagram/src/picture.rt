@@ -31,8 +31,18 @@ pub struct Picture<'a> {
     pub report: &'a Report,
     /// All entries of the run, from top to bottom, also those that are not shown.
     pub entries: &'a [PictureEntry<'a>],
+    /// For each of them the place of the entry that sent the system message that came; `None` of what came from outside, and of envelopes.
+    /// Where no causes are known, it is empty.
+    pub causes: &'a [Option<usize>],
     /// In which order they are. A picture of a run on threads says it.
     pub order: EntryOrder,
     /// The dead letters that are shown.
     pub letters: &'a [DeadLetter],
+}
+
+impl<'a> Picture<'a> {
+    /// Where the entry stands that sent the system message that came by the entry at this place.
+    pub(crate) fn system_cause(&self, place: usize) -> Option<usize> {
+        self.causes.get(place).copied().unwrap_or(None)
+    }
 }

@@ -68,7 +68,7 @@ impl<'a> Rows<'a> {
         picture: &Picture<'a>,
         sent: &SentEnvelopes,
     ) -> Result<Self, AllocError> {
-        let mut sources = Sources::new(alloc, picture.report)?;
+        let sources = Sources::new(alloc, picture.report)?;
         let letters = letters_in_order(alloc, picture, sent)?;
         let mut next_letter = 0;
         let mut rows = Rows {
@@ -77,8 +77,7 @@ impl<'a> Rows<'a> {
         };
         for (place, entry) in picture.entries.iter().enumerate() {
             next_letter = rows.add_letters(&letters, next_letter, place)?;
-            let source = sources.of(entry);
-            sources.note(entry);
+            let source = sources.of(picture, place, entry);
             if entry.is_shown {
                 rows.add(*entry, source)?;
             }

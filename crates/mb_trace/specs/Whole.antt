@@ -2,6 +2,7 @@
 use Rattle.std.specs.Prelude.{◌≡◌, List, [], ◌++◌, ℕ, codes, map, reverse, string_bytes, Option, Some, None}
 use Rattle.std.specs.Borrow.{Bor}
 use Rattle.mb_build.specs.Planned.{actors_in}
+use Rattle.mb_causal_order.specs.Coming.{IsByLowest}
 use Rattle.mb_causal_order.specs.Merged.{IsMerged}
 use Rattle.mb_causal_order.specs.declared.place.Place.{Place}
 use Rattle.mb_trace.specs.Coverage.{CoverJournals}
@@ -31,9 +32,13 @@ abbrev pub journals_text : Trace → Filter → List ℕ → List ℕ
 journals_text trace f why =
     why ++ parts_text (names_in trace) (codes "actor") f f.limit (journal_parts (steps_in trace) 0 trace.report.now.actors.items)
 
--- of a run on threads no order was found
+-- of a run on threads there is no order
 abbrev pub not_ordered : List ℕ
-not_ordered = codes "on threads: no order found that agrees with what caused what; each actor by itself, in the order of its journal\n"
+not_ordered = codes "on threads: there is no order that agrees with what caused what; each actor by itself, in the order of its journal\n"
+
+-- of a run on threads no order was found
+abbrev pub not_found : List ℕ
+not_found = codes "on threads: no order found that agrees with what caused what; each actor by itself, in the order of its journal\n"
 
 -- the turns of a quiet run do not cover the journals
 abbrev pub not_covered : List ℕ
@@ -44,12 +49,15 @@ pub data HasTurns (trace : Trace) (f : Filter) (turns : List TurnLength) : List 
   by_turn : CoverJournals turns trace.report.now.actors.items → HasTurns trace f turns (turns_text trace f turns)
   by_actor : (CoverJournals turns trace.report.now.actors.items → ⊥) → HasTurns trace f turns (journals_text trace f not_covered)
 
--- the text has the entries of a run on threads: in an order of all in which each journal's order is kept and causes come first, or actor
--- by actor
+-- the text has the entries of a run on threads: in the order of all in which each journal's order is kept, causes come first, and the actor of the
+-- lowest number goes first of those whose next entry may come; or actor by actor, below a line that says that there is no order only if there is none
 pub data HasEntries (trace : Trace) (f : Filter) : List ℕ → Type 0 where
   in_order : (places : List Place) → IsMerged (actors_in trace.plan.now) trace.sends.now trace.report.now.actors.items (reverse places)
+      → IsByLowest (actors_in trace.plan.now) trace.sends.now trace.report.now.actors.items (reverse places)
       → HasEntries trace f (order_text trace f places)
-  by_actor : HasEntries trace f (journals_text trace f not_ordered)
+  without_order : ((places : List Place) → IsMerged (actors_in trace.plan.now) trace.sends.now trace.report.now.actors.items places → ⊥)
+      → HasEntries trace f (journals_text trace f not_ordered)
+  by_actor : HasEntries trace f (journals_text trace f not_found)
 
 -- the text has the entries of the run: of a quiet run by its turns, which a run on threads does not have
 abbrev pub IsOfEntries : Trace → Filter → Option (Bor (List TurnLength)) → List ℕ → Type 0

@@ -13,7 +13,7 @@ use crate::parts::{write_entry, write_title};
 use crate::step::TraceStep;
 use crate::steps::TraceSteps;
 use crate::trace::Trace;
-use mb_causal_order::{Place, merged_order};
+use mb_causal_order::{MergedOrder, Place, merged_order};
 use mb_msg::ActorId;
 use std::alloc::Global;
 use std::io::Write;
@@ -22,11 +22,16 @@ use std::io::Write;
 const ON_THREADS: &str =
     "on threads: one order that agrees with what caused what, not that of the clock\n";
 
-/// The first line where no such order is found.
+/// The first line where there is no such order.
 const NOT_ORDERED: &str =
+    "on threads: there is no order that agrees with what caused what; each actor by itself, in the order of its journal\n";
+
+/// The first line where no such order is found, though there may be one.
+const NOT_FOUND: &str =
     "on threads: no order found that agrees with what caused what; each actor by itself, in the order of its journal\n";
 
-/// Writes the entries of a run on threads: in one order in which each stands after what caused it, or where none is found actor by actor.
+/// Writes the entries of a run on threads: in one order in which each stands after what caused it; actor by actor where there is none, or none is
+/// found.
 pub(crate) fn write_on_threads<W: Write>(
     alloc: Global,
     trace: &Trace<'_>,
@@ -36,8 +41,11 @@ pub(crate) fn write_on_threads<W: Write>(
     ensures { (entries : List ℕ) × HasEntries trace.now filter.now entries × IsWritten (W.contents out.old) (W.contents out.new) result entries }
 {
     match merged_order(alloc, trace.plan, trace.sends, &trace.report.actors)? {
-        Some(order) => write_in_order(alloc, trace, filter, &order, out),
-        None => write_by_actor(alloc, trace, filter, NOT_ORDERED, out),
+        MergedOrder::Found(order) => write_in_order(alloc, trace, filter, &order, out),
+        MergedOrder::NoOrder => write_by_actor(alloc, trace, filter, NOT_ORDERED, out),
+        MergedOrder::NotKept | MergedOrder::NotOfPlan | MergedOrder::NotRemade => {
+            write_by_actor(alloc, trace, filter, NOT_FOUND, out)
+        }
     }
 }
 

@@ -2,6 +2,7 @@
 use Rattle.std.proofs.Common.{◌≡◌, ◌∙◌, Bool, false, List, ap, subst, sym}
 use Rattle.std.specs.Prelude.{IsTrue}
 use Rattle.std.proofs.lemmas.Bool.{both_ways}
+use Rattle.mb_diagram.specs.declared.order.EntryOrder.TheVariants.{Uncovered}
 use Rattle.mb_report.specs.declared.report.ActorReport.{ActorReport}
 use Rattle.mb_trace.specs.Coverage.{CoverJournals}
 use Rattle.mb_trace.specs.declared.trace.Trace.{Trace}
@@ -17,8 +18,8 @@ not-covered turns actors reported answer same is says cover = both_ways answer i
 
 -- then the parts are the journals
 pub by-journals : (trace : Trace) (turns parts : List TurnLength) (actors : List ActorReport) → actors ≡ trace.report.now.actors.items
-    → parts ≡ journal_lengths 0 actors → (CoverJournals turns trace.report.now.actors.items → ⊥) → HasTurnOrder trace turns (part_steps trace parts)
+    → parts ≡ journal_lengths 0 actors → (CoverJournals turns trace.report.now.actors.items → ⊥) → HasTurnOrder trace turns Uncovered (part_steps trace parts)
 by-journals trace turns parts actors same are none =
-    subst (HasTurnOrder trace turns)
+    subst (HasTurnOrder trace turns Uncovered)
     (sym (ap (part_steps trace) are ∙ (ap (λ (l : List ActorReport). part_steps trace (journal_lengths 0 l)) same ∙ journals-all trace)))
     (by_actor none)

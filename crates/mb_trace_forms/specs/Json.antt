@@ -1,6 +1,7 @@
 -- The whole trace as lines of JSON (this project's own profile).
 use Rattle.std.specs.Prelude.{ℕ, ◌≡◌, List, ◌++◌}
 use Rattle.std.specs.List.{flat_map}
+use Rattle.mb_diagram.specs.declared.order.EntryOrder.{EntryOrder}
 use Rattle.mb_trace.specs.Steps.{Step}
 use Rattle.mb_trace.specs.Text.{shown}
 use Rattle.mb_trace.specs.Whole.{names_in}
@@ -21,6 +22,7 @@ entries_json names f limit steps = flat_map (step_json names) (shown f limit ste
 
 -- the text is the trace as lines of JSON: those of its entries, in the order of the text, and then of what stands at the end
 pub record IsJson (trace : Trace) (f : Filter) (text : List ℕ) : Type 0 where
+  pub order : EntryOrder
   pub steps : List Step
-  pub are_entries : AreEntries trace trace.turns steps
+  pub are_entries : AreEntries trace trace.turns order steps
   pub text_is : text ≡ entries_json (names_in trace) f f.limit steps ++ rest_json (names_in trace) f trace.report.now

@@ -3,8 +3,11 @@ use Rattle.std.specs.Prelude.{ℕ, ◌+◌, nat_lt, Bool, List, [], ◌∷◌, l
 use Rattle.std.specs.Borrow.{Bor}
 use Rattle.std.specs.List.{flat_map}
 use Rattle.mb_build.specs.Planned.{actors_in}
+use Rattle.mb_causal_order.specs.Coming.{IsByLowest}
 use Rattle.mb_causal_order.specs.Merged.{IsMerged}
 use Rattle.mb_causal_order.specs.declared.place.Place.{Place}
+use Rattle.mb_diagram.specs.declared.order.EntryOrder.{EntryOrder}
+use Rattle.mb_diagram.specs.declared.order.EntryOrder.TheVariants.{Actors, Causes, Turns, Uncovered, Unordered}
 use Rattle.mb_report.specs.declared.report.ActorReport.{ActorReport}
 use Rattle.mb_trace.specs.Coverage.{CoverJournals}
 use Rattle.mb_trace.specs.Steps.{Step, steps_in}
@@ -20,22 +23,28 @@ all_steps parts = flat_map (λ (p : Part). p.steps) parts
 abbrev pub part_steps : Trace → List TurnLength → List Step
 part_steps trace parts = all_steps (turn_parts (steps_in trace) [] parts)
 
--- the entries of a run on threads: in an order of all in which each journal's order is kept and causes come first, or actor by actor
-pub data HasOrder (trace : Trace) : List Step → Type 0 where
+-- the entries of a run on threads, with the order that they are said to be in: that of all in which each journal's order is kept, causes come first,
+-- and the actor of the lowest number goes first of those whose next entry may come; or actor by actor, said to be so since there is no such order only if
+-- there is none
+pub data HasOrder (trace : Trace) : EntryOrder → List Step → Type 0 where
   in_order : (places : List Place) → IsMerged (actors_in trace.plan.now) trace.sends.now trace.report.now.actors.items (reverse places)
-      → HasOrder trace (steps_at (steps_in trace) [] places)
-  by_actor : HasOrder trace (all_steps (journal_parts (steps_in trace) 0 trace.report.now.actors.items))
+      → IsByLowest (actors_in trace.plan.now) trace.sends.now trace.report.now.actors.items (reverse places)
+      → HasOrder trace Causes (steps_at (steps_in trace) [] places)
+  without_order : ((places : List Place) → IsMerged (actors_in trace.plan.now) trace.sends.now trace.report.now.actors.items places → ⊥)
+      → HasOrder trace Unordered (all_steps (journal_parts (steps_in trace) 0 trace.report.now.actors.items))
+  by_actor : HasOrder trace Actors (all_steps (journal_parts (steps_in trace) 0 trace.report.now.actors.items))
 
--- the entries of a quiet run: turn by turn exactly if these turns have each entry of each journal once, else actor by actor
-pub data HasTurnOrder (trace : Trace) (turns : List TurnLength) : List Step → Type 0 where
-  by_turn : CoverJournals turns trace.report.now.actors.items → HasTurnOrder trace turns (part_steps trace turns)
+-- the entries of a quiet run, with the order that they are said to be in: turn by turn exactly if these turns have each entry of each journal once, else
+-- actor by actor
+pub data HasTurnOrder (trace : Trace) (turns : List TurnLength) : EntryOrder → List Step → Type 0 where
+  by_turn : CoverJournals turns trace.report.now.actors.items → HasTurnOrder trace turns Turns (part_steps trace turns)
   by_actor : (CoverJournals turns trace.report.now.actors.items → ⊥)
-      → HasTurnOrder trace turns (all_steps (journal_parts (steps_in trace) 0 trace.report.now.actors.items))
+      → HasTurnOrder trace turns Uncovered (all_steps (journal_parts (steps_in trace) 0 trace.report.now.actors.items))
 
--- these are the entries of the run, in the order of its text: of a quiet run by its turns, which a run on threads does not have
-abbrev pub AreEntries : Trace → Option (Bor (List TurnLength)) → List Step → Type 0
-AreEntries trace (Some turns) steps = HasTurnOrder trace turns.now steps
-AreEntries trace None steps = HasOrder trace steps
+-- these are the entries of the run, in the order of its text, which is said: of a quiet run by its turns, which a run on threads does not have
+abbrev pub AreEntries : Trace → Option (Bor (List TurnLength)) → EntryOrder → List Step → Type 0
+AreEntries trace (Some turns) order steps = HasTurnOrder trace turns.now order steps
+AreEntries trace None order steps = HasOrder trace order steps
 
 -- the place is of one of this many actors
 abbrev pub is_among : ℕ → Place → Bool

@@ -1,5 +1,6 @@
 //! A trace as lines of JSON.
 ghost use Rattle.std.specs.Prelude.{ℕ, List, OnOk, map, string_bytes, take};
+ghost use Rattle.mb_diagram.specs.declared.order.EntryOrder.{EntryOrder as Order};
 ghost use Rattle.mb_trace.specs.Cursors.{left_of};
 ghost use Rattle.mb_trace.specs.Output.{IsWritten};
 ghost use Rattle.mb_trace.specs.Steps.{Step, step_data};
@@ -42,7 +43,7 @@ fn write_entries<W: Write>(
     filter: &Filter<'_>,
     out: &mut W,
 ) -> Result<(), TraceError>
-    ensures { (steps : List Step) × AreEntries trace.now trace.now.turns steps
+    ensures { (order : Order) × (steps : List Step) × AreEntries trace.now trace.now.turns order steps
         × IsWritten (W.contents out.old) (W.contents out.new) result (entries_json (names_in trace.now) filter.now filter.now.limit steps) }
 {
     match trace.turns {
@@ -59,7 +60,7 @@ fn write_turns<W: Write>(
     turns: &[TurnLength],
     out: &mut W,
 ) -> Result<(), TraceError>
-    ensures { (steps : List Step) × HasTurnOrder trace.now turns.now steps
+    ensures { (order : Order) × (steps : List Step) × HasTurnOrder trace.now turns.now order steps
         × IsWritten (W.contents out.old) (W.contents out.new) result (entries_json (names_in trace.now) filter.now filter.now.limit steps) }
 {
     let actors: &[ActorReport] = &trace.report.actors;
@@ -77,7 +78,7 @@ fn write_on_threads<W: Write>(
     filter: &Filter<'_>,
     out: &mut W,
 ) -> Result<(), TraceError>
-    ensures { (steps : List Step) × HasOrder trace.now steps
+    ensures { (order : Order) × (steps : List Step) × HasOrder trace.now order steps
         × IsWritten (W.contents out.old) (W.contents out.new) result (entries_json (names_in trace.now) filter.now filter.now.limit steps) }
 {
     let order = order_on_threads(alloc, trace)?;

@@ -2,7 +2,7 @@
 ghost use Rattle.std.specs.Prelude.{◌≡◌, ◌≤◌, IfOk, filter, length, map};
 ghost use Rattle.mb_trace_forms.specs.Order.{AreEntries, HasOrder, HasTurnOrder, is_among, journal_lengths, part_steps, single};
 
-use mb_causal_order::{Place, merged_order};
+use mb_causal_order::{MergedOrder, Place, merged_order};
 use mb_diagram::EntryOrder;
 use mb_msg::ActorId;
 use mb_report::ActorReport;
@@ -19,9 +19,9 @@ pub(crate) struct ShownOrder {
 }
 
 /// The order of the text: the turns of a quiet run; of a run on threads one that agrees with what caused what. Where the turns do not have
-/// each entry once, or no order is found, it is actor by actor. The only error: memory was refused.
+/// each entry once, there is no such order or none is found, it is actor by actor. The only error: memory was refused.
 pub(crate) fn order_of(alloc: Global, trace: &Trace<'_>) -> Result<ShownOrder, AllocError>
-    ensures { IfOk result (λ order. AreEntries trace.now trace.now.turns (part_steps trace.now order.parts.items)) }
+    ensures { IfOk result (λ order. AreEntries trace.now trace.now.turns order.kind (part_steps trace.now order.parts.items)) }
 {
     match trace.turns {
         Some(turns) => order_of_turns(alloc, trace, turns),
@@ -35,7 +35,7 @@ fn order_of_turns(
     trace: &Trace<'_>,
     turns: &[TurnLength],
 ) -> Result<ShownOrder, AllocError>
-    ensures { IfOk result (λ order. HasTurnOrder trace.now turns.now (part_steps trace.now order.parts.items)) }
+    ensures { IfOk result (λ order. HasTurnOrder trace.now turns.now order.kind (part_steps trace.now order.parts.items)) }
 {
     let actors: &[ActorReport] = &trace.report.actors;
     if cover_journals(turns, actors) {
@@ -52,15 +52,19 @@ fn order_of_turns(
 
 /// The order of a run on threads.
 pub(crate) fn order_on_threads(alloc: Global, trace: &Trace<'_>) -> Result<ShownOrder, AllocError>
-    ensures { IfOk result (λ order. HasOrder trace.now (part_steps trace.now order.parts.items)) }
+    ensures { IfOk result (λ order. HasOrder trace.now order.kind (part_steps trace.now order.parts.items)) }
 {
     let actors: &[ActorReport] = &trace.report.actors;
     match merged_order(alloc, trace.plan, trace.sends, actors)? {
-        Some(places) => Ok(ShownOrder {
+        MergedOrder::Found(places) => Ok(ShownOrder {
             parts: entries_at(alloc, &places, actors.len())?,
             kind: EntryOrder::Causes,
         }),
-        None => Ok(ShownOrder {
+        MergedOrder::NoOrder => Ok(ShownOrder {
+            parts: journals_of(alloc, actors)?,
+            kind: EntryOrder::Unordered,
+        }),
+        MergedOrder::NotKept | MergedOrder::NotOfPlan | MergedOrder::NotRemade => Ok(ShownOrder {
             parts: journals_of(alloc, actors)?,
             kind: EntryOrder::Actors,
         }),

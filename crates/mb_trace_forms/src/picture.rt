@@ -1,8 +1,9 @@
 //! A trace as a picture.
 use crate::letters::letters_of;
 use crate::order::order_of;
+use mb_causal_order::{Place, system_causes};
 use mb_diagram::{Picture, PictureEntry};
-use mb_report::report_text;
+use mb_report::{ActorReport, report_text};
 use mb_trace::{Filter, Trace, TraceError, TraceStep, TraceSteps, TurnLength};
 use std::alloc::{AllocError, Global};
 use std::io::Write;
@@ -20,10 +21,12 @@ pub fn write_svg<W: Write>(
     let order = order_of(alloc, trace)?;
     let entries = entries_of(alloc, trace, filter, &order.parts)?;
     let letters = letters_of(alloc, filter, trace.report)?;
+    let causes = causes_of(alloc, trace, &entries)?;
     let picture = Picture {
         names: trace.names,
         report: trace.report,
         entries: &entries,
+        causes: &causes,
         order: order.kind,
         letters: &letters,
     };
@@ -43,16 +46,38 @@ pub fn write_html<W: Write>(
     let order = order_of(alloc, trace)?;
     let entries = entries_of(alloc, trace, filter, &order.parts)?;
     let letters = letters_of(alloc, filter, trace.report)?;
+    let causes = causes_of(alloc, trace, &entries)?;
     let picture = Picture {
         names: trace.names,
         report: trace.report,
         entries: &entries,
+        causes: &causes,
         order: order.kind,
         letters: &letters,
     };
     let report = report_of(alloc, trace)?;
     mb_diagram::write_html(alloc, out, &picture, report.as_str())?;
     Ok(())
+}
+
+/// For each entry the place of the one that sent its system message; none where the journals are not those of a run.
+fn causes_of(
+    alloc: Global,
+    trace: &Trace<'_>,
+    entries: &[PictureEntry<'_>],
+) -> Result<Vec<Option<usize>>, AllocError> {
+    let mut places = Vec::with_capacity(alloc, entries.len())?;
+    for entry in entries {
+        places.push(Place {
+            actor: entry.actor.0 as usize,
+            index: entry.index,
+        })?;
+    }
+    let actors: &[ActorReport] = &trace.report.actors;
+    match system_causes(alloc, trace.plan, trace.sends, actors, &places)? {
+        Some(causes) => Ok(causes),
+        None => Ok(Vec::new(alloc)),
+    }
 }
 
 /// The text of the report, which has an actor for each name and the guardian; of any other it is empty.

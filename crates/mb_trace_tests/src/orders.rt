@@ -1,6 +1,6 @@
 //! The merged order of journals that were made by hand. What is wanted was found by hand too.
 use mb_actor::{Answer, Effect, Phase};
-use mb_causal_order::{Place, merged_order};
+use mb_causal_order::{MergedOrder, Place, merged_order};
 use mb_dead_letters::KeptList;
 use mb_journal::Journal;
 use mb_msg::{
@@ -111,13 +111,13 @@ fn tell(to: u16) -> Effect {
     }
 }
 
-/// The order of what came to the guardian and the actors 1 and 2; `None` where none is found.
+/// The order of what came to the guardian and the actors 1 and 2.
 fn order_of(
     alloc: Global,
     guardian: &[Came<'_>],
     first: &[Came<'_>],
     second: &[Came<'_>],
-) -> Result<Option<Vec<Place>>, AllocError> {
+) -> Result<MergedOrder, AllocError> {
     let plan = plan(alloc).ok_or(AllocError)?;
     let stop = SenderOrder {
         from: 0,
@@ -135,8 +135,8 @@ fn order_of(
 }
 
 /// Whether it is this order, each place as the number of the actor and the place in its journal.
-fn is_order(found: &Option<Vec<Place>>, wanted: &[(usize, usize)]) -> bool {
-    let Some(found) = found else {
+fn is_order(found: &MergedOrder, wanted: &[(usize, usize)]) -> bool {
+    let MergedOrder::Found(found) = found else {
         return false;
     };
     if found.len() != wanted.len() {
@@ -179,7 +179,12 @@ fn there_is_no_order_of_entries_that_are_not_kept(rt: HostRuntime) -> Result<(),
         let first = actor(alloc, &[]).ok_or(AllocError)?;
         let second = actor(alloc, &[]).ok_or(AllocError)?;
         let found = merged_order(alloc, &plan, &[], &[guardian, first, second])?;
-        assert!(rt; found.is_some() == (mode == JournalMode::Kept));
+        let is_wanted = match found {
+            MergedOrder::Found(_) => mode == JournalMode::Kept,
+            MergedOrder::NotKept => mode == JournalMode::Counted,
+            MergedOrder::NoOrder | MergedOrder::NotOfPlan | MergedOrder::NotRemade => false,
+        };
+        assert!(rt; is_wanted);
     }
     Ok(())
 }
@@ -227,7 +232,7 @@ fn journals_of_no_run_have_no_order(rt: HostRuntime) -> Result<(), Fail> {
         &[Came::Start(&[]), Came::Envelope(user(2, 0, 1), &[tell(2)])],
         &[Came::Start(&[]), Came::Envelope(user(1, 0, 2), &[tell(1)])],
     )?;
-    assert!(rt; found.is_none());
+    assert!(rt; matches!(found, MergedOrder::NoOrder));
     Ok(())
 }
 
@@ -260,7 +265,7 @@ fn a_message_that_nobody_sent_has_no_place(rt: HostRuntime) -> Result<(), Fail> 
         &[Came::Start(&[]), Came::System(SysMsg::Suspend)],
         &[Came::Start(&[])],
     )?;
-    assert!(rt; found.is_none());
+    assert!(rt; matches!(found, MergedOrder::NoOrder));
     Ok(())
 }
 
@@ -273,6 +278,6 @@ fn an_entry_that_no_cell_makes_has_no_place(rt: HostRuntime) -> Result<(), Fail>
         &[Came::Start(&[])],
         &[Came::Start(&[])],
     )?;
-    assert!(rt; found.is_none());
+    assert!(rt; matches!(found, MergedOrder::NotRemade));
     Ok(())
 }

@@ -14,6 +14,7 @@ fn drawn(alloc: Global, is_page: bool, order: EntryOrder) -> Option<Vec<u8>> {
         names: &names,
         report: &report,
         entries: &entries,
+        causes: &[],
         order,
         letters: &letters,
     };
@@ -91,6 +92,7 @@ fn a_picture_of_threads_says_its_order(rt: HostRuntime) -> Result<(), Fail> {
     for (order, said, found) in [
         (EntryOrder::Turns, 0, 0),
         (EntryOrder::Causes, 1, 0),
+        (EntryOrder::Unordered, 1, 0),
         (EntryOrder::Actors, 1, 1),
     ] {
         let svg = drawn(rt.alloc(), false, order).ok_or(AllocError)?;

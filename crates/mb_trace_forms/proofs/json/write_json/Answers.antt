@@ -10,11 +10,11 @@ returns-in_err-write_entries g c =
     let trace = c.args.trace.now in
     let f = c.args.filter.now in
     let told = c.in_err-write_entries.ensures in
-    let lines = entries_json (names_in trace) f f.limit told.0 in
+    let lines = entries_json (names_in trace) f f.limit told.1 in
     let rest = rest_json (names_in trace) f trace.report.now in (
       lines ++ rest,
-      record { steps = told.0; are_entries = told.1; text_is = refl },
-      err-written _ _ _ c.from_residual.result _ c.from_residual.ensures.1 (begins-first _ _ lines rest told.2),
+      record { order = told.0; steps = told.1; are_entries = told.2; text_is = refl },
+      err-written _ _ _ c.from_residual.result _ c.from_residual.ensures.1 (begins-first _ _ lines rest told.3),
     )
 
 pub returns : goal.returns
@@ -22,9 +22,9 @@ returns g c =
     let trace = c.args.trace.now in
     let f = c.args.filter.now in
     let told = c.in_ok-write_entries.ensures in
-    let lines = entries_json (names_in trace) f f.limit told.0 in
+    let lines = entries_json (names_in trace) f f.limit told.1 in
     let rest = rest_json (names_in trace) f trace.report.now in (
       lines ++ rest,
-      record { steps = told.0; are_entries = told.1; text_is = refl },
-      written-second _ _ _ c.write_rest.result lines rest told.2 c.write_rest.ensures,
+      record { order = told.0; steps = told.1; are_entries = told.2; text_is = refl },
+      written-second _ _ _ c.write_rest.result lines rest told.3 c.write_rest.ensures,
     )

@@ -1,4 +1,5 @@
 use Rattle.std.proofs.Common.{List, subst, sym}
+use Rattle.mb_diagram.specs.declared.order.EntryOrder.TheVariants.{Turns}
 use Rattle.mb_trace.specs.Coverage.{CoverJournals}
 use Rattle.mb_trace.specs.declared.trace.TurnLength.{TurnLength}
 use Rattle.mb_trace_forms.specs.Order.{HasTurnOrder, part_steps}
@@ -10,7 +11,7 @@ pub returns-then-cover_journals : goal.returns-then-cover_journals
 returns-then-cover_journals c =
     let trace = c.args.trace.now in
     let turns = c.args.turns.now in
-    subst (λ (l : List TurnLength). HasTurnOrder trace turns (part_steps trace l)) (sym c.in_ok-from_slice.ensures.items)
+    subst (λ (l : List TurnLength). HasTurnOrder trace turns Turns (part_steps trace l)) (sym c.in_ok-from_slice.ensures.items)
     (by_turn (subst (CoverJournals turns) c.deref-actors.ensures.value (c.cover_journals.ensures.0 c.if-cover_journals.true)))
 
 pub returns : goal.returns

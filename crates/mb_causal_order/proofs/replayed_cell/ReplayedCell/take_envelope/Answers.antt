@@ -3,7 +3,7 @@ use Rattle.mb_journal.specs.Aside.{next_number}
 use Rattle.mb_journal.specs.Identity.{Identity}
 use Rattle.mb_cell.specs.CellView.{CellView, with_entry}
 use Rattle.mb_cell.proofs.NumberLemmas.{numbered_envelope}
-use Rattle.mb_causal_order.proofs.Told.{told-more}
+use Rattle.mb_causal_order.proofs.Told.{all_told-more, told-more}
 use Rattle.mb_causal_order.proofs.replayed_cell.ReplayedCell.take_envelope.Goals as goal
 
 -- the cell has an entry more, and no room is counted on
@@ -16,6 +16,7 @@ invariant_of-self c =
       c.self.invariant.0 ∙ numbered_envelope _ _ _ _ c.apply_envelope.ensures.taken ∙ ap (λ (s : CellView). next_number s.journal) (sym c.forget_room.ensures),
       ap (λ (w : Identity). w.this.0) who ∙ c.self.invariant.1,
       told-more c.self.inside.cell _ _ _ (added c) c.self.invariant.2,
+      all_told-more c.self.inside.cell _ _ _ (added c) (ap (λ (s : CellView). s.acts) c.self.view_is ∙ c.requires.carried_out) c.self.invariant.3,
     )
 
 pub returns : goal.returns

@@ -2,7 +2,7 @@ use Rattle.std.proofs.Common.{◌<◌, ap, ◌∙◌, subst}
 use Rattle.mb_journal.specs.Identity.{Identity}
 use Rattle.mb_cell.specs.CellView.{CellView}
 use Rattle.mb_cell.proofs.NumberLemmas.{numbered_front}
-use Rattle.mb_causal_order.proofs.Told.{told-more}
+use Rattle.mb_causal_order.proofs.Told.{all_told-more, told-more}
 use Rattle.mb_causal_order.proofs.replayed_cell.ReplayedCell.take_front.Goals as goal
 
 pub invariant_of-self : goal.invariant_of-self
@@ -12,4 +12,5 @@ invariant_of-self c =
           ∙ numbered_front _ _ _ _ c.apply_system.ensures.taken (subst (λ n. c.in-Some.due < n) c.self.invariant.0 c.if-due-self.false),
       ap (λ (w : Identity). w.this.0) who ∙ c.self.invariant.1,
       told-more c.self.inside.cell _ _ _ c.apply_system.ensures.taken.adds c.self.invariant.2,
+      all_told-more c.self.inside.cell _ _ _ c.apply_system.ensures.taken.adds (ap (λ (s : CellView). s.acts) c.self.view_is ∙ c.requires.carried_out) c.self.invariant.3,
     )
