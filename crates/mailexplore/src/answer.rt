@@ -1,19 +1,42 @@
 //! What the program prints of a text.
 use crate::failure::Failure;
-use crate::lines::{add_outcome, has_line};
+use crate::lines::{add_outcome, add_steps, has_line};
 use crate::options::Options;
+use crate::schedule::schedule_of;
 use crate::text_setup::TextSetup;
-use mb_explore::{Explored, Outcome, explore};
+use mb_explore::{Explored, Outcome, explore, replay_report};
 use std::alloc::{AllocError, Global};
 
-/// What is asked for of the text's scenario: each report that some order of its steps leads to, or one of them.
+/// What is asked for of the text's scenario: each report that some order of its steps leads to, one of them, or the one that these steps lead to.
 pub(crate) fn answer(alloc: Global, text: Vec<u8>, options: &Options) -> Result<String, Failure> {
     let setup = TextSetup::read(alloc, text)?;
+    if let Some(steps) = &options.schedule {
+        return replayed_text(alloc, &setup, steps.as_str());
+    }
     let explored = explore(alloc, &setup, setup.names(), options.limits)?;
     match &options.find {
         Some(line) => Ok(found_text(alloc, &explored, setup.names(), line.as_str())?),
         None => Ok(listed_text(alloc, &explored, setup.names(), options.show)?),
     }
+}
+
+/// The report after these steps, and the steps that are possible then.
+fn replayed_text(alloc: Global, setup: &TextSetup, steps: &str) -> Result<String, Failure> {
+    let schedule = schedule_of(alloc, steps, setup.names())?;
+    let replayed = replay_report(alloc, setup, setup.names(), &schedule)?;
+    let mut text = String::new(alloc);
+    text.push_str(replayed.text.as_str())?;
+    if replayed.made < schedule.len() {
+        text.push_str(&format!(in alloc; "step {} is not possible\n", replayed.made + 1)?)?;
+    }
+    if replayed.choices.is_empty() {
+        text.push_str("over\n")?;
+    } else {
+        text.push_str("possible:")?;
+        add_steps(alloc, &mut text, &replayed.choices, setup.names())?;
+        text.push_str("\n")?;
+    }
+    Ok(text)
 }
 
 /// A part for each report, up to so many, and a last line.

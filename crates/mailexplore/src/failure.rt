@@ -17,6 +17,8 @@ pub(crate) enum Failure {
     Words(clap::Error),
     /// Some word is not UTF-8.
     NotUtf8,
+    /// The words of the schedule do not name steps.
+    Steps,
 }
 
 impl From<ProgramError> for Failure {
@@ -76,6 +78,10 @@ pub(crate) fn print_failure<E: Write>(alloc: Global, errors: &mut E, failure: &F
         }
         Failure::NotUtf8 => {
             print(errors, "mailexplore: 12 BadScenario arguments: not UTF-8\n");
+            2
+        }
+        Failure::Steps => {
+            print(errors, "mailexplore: 12 BadScenario schedule: not steps\n");
             2
         }
     }

@@ -7,6 +7,7 @@ mod failure;
 mod lines;
 mod options;
 mod running;
+mod schedule;
 mod text_setup;
 
 use crate::running::explore_program;

@@ -19,6 +19,8 @@ pub(crate) struct Options {
     pub(crate) show: u64,
     /// The words that a line of the report is to have, if one report is searched.
     pub(crate) find: Option<String>,
+    /// The order of steps that is made, if one is asked for.
+    pub(crate) schedule: Option<String>,
 }
 
 /// Reads the words, of which the first is the program's own path. Without matches the failure has clap's text: of `--help`, of `--version`,
@@ -36,7 +38,8 @@ fn command<'a>(alloc: Global) -> Result<clap::Command<'a>, AllocError> {
         .arg(steps_argument(alloc)?)?
         .arg(outcomes_argument(alloc)?)?
         .arg(show_argument(alloc)?)?
-        .arg(find_argument(alloc)?)
+        .arg(find_argument(alloc)?)?
+        .arg(schedule_argument(alloc)?)
 }
 
 fn steps_argument<'a>(alloc: Global) -> Result<Arg<'a>, AllocError> {
@@ -74,6 +77,14 @@ fn find_argument<'a>(alloc: Global) -> Result<Arg<'a>, AllocError> {
         .overrides_with("find")
 }
 
+fn schedule_argument<'a>(alloc: Global) -> Result<Arg<'a>, AllocError> {
+    Arg::new(alloc, "schedule")
+        .long("schedule")
+        .value_name("STEPS")
+        .help("Only the report after these steps, as 'run guardian send 0'")
+        .overrides_with("schedule")
+}
+
 /// What these matches say.
 fn options_in(alloc: Global, matches: &ArgMatches<'_>) -> Result<Options, AllocError> {
     Ok(Options {
@@ -83,6 +94,7 @@ fn options_in(alloc: Global, matches: &ArgMatches<'_>) -> Result<Options, AllocE
         },
         show: matches.get_one::<u64>("show").unwrap_or(u64::MAX),
         find: text_in(alloc, matches, "find")?,
+        schedule: text_in(alloc, matches, "schedule")?,
     })
 }
 

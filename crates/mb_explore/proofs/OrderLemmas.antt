@@ -1,7 +1,8 @@
 -- Orders of steps that go on.
-use Rattle.std.proofs.Common.{◌≡◌, List, [], ◌∷◌, ◌++◌, ℕ, ◌<◌, zero, suc, ◌+◌, length, map, get_or, take, refl, sym, ap, subst, ◌∙◌, arith}
+use Rattle.std.proofs.Common.{Some, slice_get, ◌≡◌, List, [], ◌∷◌, ◌++◌, ℕ, ◌<◌, zero, suc, ◌+◌, length, map, get_or, take, refl, sym, ap, subst, ◌∙◌, arith}
 use Rattle.std.specs.List.{Contains}
 use Rattle.std.proofs.lemmas.List.{take_more}
+use Rattle.std.proofs.lemmas.Option.{slice_get-get_or}
 use Rattle.mb_world.specs.Choices.{IsPossible}
 use Rattle.mb_world.specs.World.{Steps, WorldView}
 use Rattle.mb_world.specs.declared.choice.Choice.{Choice}
@@ -23,6 +24,17 @@ leads-along first last next order place within choice at leads possible steps =
     subst (λ (l : List Choice). LeadsTo first l next)
     (ap (λ (c : Choice). take place order ++ c ∷ []) at ∙ sym (take_more order place choice within))
     (leads-more first last next (take place order) choice leads possible steps)
+
+-- a step of an order that is not listed is not possible, where all that are possible are listed
+pub stops-at : (last : WorldView) (order choices listed : List Choice) (place : ℕ) (d : Choice) → place < length order → listed ≡ choices →
+    ((c : Choice) → IsPossible last c → Contains choices c) → (Contains listed (get_or order place d) → ⊥) →
+    (next : Choice) × (slice_get order place ≡ Some next) × (IsPossible last next → ⊥)
+stops-at last order choices listed place d within is each none = (
+  get_or order place d,
+  slice_get-get_or order place d within,
+  λ possible. none (subst (λ l. Contains l (get_or order place d)) (sym is) (each (get_or order
+      place d) possible)),
+)
 
 contains-map-at : {X Y : Type 0} (f : X → Y) (xs : List X) (k : ℕ) (x : X) → k < length xs → get_or xs k x ≡ x → Contains (map f xs) (f x)
 contains-map-at f [] k x lt is = absurd (omega arith)

@@ -13,11 +13,13 @@ mod links;
 mod outcome;
 mod outcomes;
 mod replay;
+mod replayed;
 mod search;
 mod setup;
 mod waiting;
 
 pub use explore_error::ExploreError;
 pub use outcome::{Explored, Limits, Outcome};
+pub use replayed::{Replayed, replay_report};
 pub use search::explore;
 pub use setup::{Setup, SystemParts};

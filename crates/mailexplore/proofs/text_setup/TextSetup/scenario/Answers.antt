@@ -1,6 +1,3 @@
-use Rattle.std.proofs.Common.{List, ℕ, sym, subst}
-use Rattle.mb_scenario.specs.Plans.{ScenarioData}
-use Rattle.mb_scenario.specs.Reading.{IsReadAs}
 use Rattle.mb_scenario.specs.View.{scenario_data}
 use Rattle.mailexplore.proofs.ReadLemmas.{all-unused}
 use Rattle.mailexplore.proofs.text_setup.TextSetup.scenario.Goals as goal
